@@ -35,13 +35,13 @@ _swd() {
         words='--resync --overrun --help -h'
         ;;
     load)
-        words='--format --tries --resume --remote --memory --base --plan --help -h'
+        words='--format --tries --resume --report --remote --memory --base --plan --help -h'
         ;;
     verify)
-        words='--format --tries --resume --remote --memory --base --plan --help -h'
+        words='--format --tries --resume --report --remote --memory --base --plan --help -h'
         ;;
     dump)
-        words='--format --tries --resume --remote --memory --base --plan --help -h'
+        words='--format --tries --resume --report --remote --memory --base --plan --help -h'
         ;;
     esac
     case $before in

@@ -23,7 +23,7 @@ use Rattle.swd_image.specs.Sessions.{AreDone, Call, Calls, Fails, FailsAs, MadeA
 use Rattle.swd_image.specs.Sessions.{none, more}
 use Rattle.swd_image.specs.Sessions.{words_told}
 use Rattle.swd_image.specs.declared.fault.ImageFault.{ImageFault}
-use Rattle.swd_image.specs.declared.fault.ImageFault.TheVariants.{Range, Memory, Stopped, BusFault as FaultAt}
+use Rattle.swd_image.specs.declared.fault.ImageFault.TheVariants.{Range, Memory, Stopped, Report, BusFault as FaultAt}
 use Rattle.swd_image.proofs.ChainLemmas.{AllIn, AllTell, Held, Kept, chain_keeps, all_later}
 
 -- ---- answers
@@ -199,6 +199,7 @@ module _ {W : Type 0} (port : W → Port) (plan : W → List Mark) (lawful : W �
   fails_after s t u xs ys vs Memory h f = tt
   fails_after s t u xs ys vs (Stopped end) h f = after s t u xs ys vs _ h f
   fails_after s t u xs ys vs (FaultAt at) h f = after s t u xs ys vs _ h f
+  fails_after s t u xs ys vs Report h f = after s t u xs ys vs _ h f
 
   -- and where more was to come
   pub fails_before : (s u : W) (xs ys : List Access) (fault : ImageFault)
@@ -208,6 +209,7 @@ module _ {W : Type 0} (port : W → Port) (plan : W → List Mark) (lawful : W �
   fails_before s u xs ys Memory f = tt
   fails_before s u xs ys (Stopped end) f = sooner s u xs ys _ f
   fails_before s u xs ys (FaultAt at) f = sooner s u xs ys _ f
+  fails_before s u xs ys Report f = sooner s u xs ys _ f
 
   -- a call more, of a list and its words
   pub reads_more : (s t u : W) (list : List Access) (words now : List ℕ) (batch : Listed) (run : Done)

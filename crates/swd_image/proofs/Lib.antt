@@ -4,3 +4,4 @@ pub mod CallLemmas
 pub mod ImageLemmas
 pub mod LoadLemmas
 pub mod DumpLemmas
+pub mod ReportLemmas

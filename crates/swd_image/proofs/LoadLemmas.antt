@@ -14,7 +14,7 @@ use Rattle.swd_port.specs.Port.{Port}
 use Rattle.swd_host.specs.Chains.{AreReads}
 use Rattle.swd_host.specs.Reports.{IsAtRest}
 use Rattle.swd_image.specs.declared.fault.ImageFault.{ImageFault}
-use Rattle.swd_image.specs.declared.fault.ImageFault.TheVariants.{Range, Memory, Stopped, BusFault as FaultAt}
+use Rattle.swd_image.specs.declared.fault.ImageFault.TheVariants.{Range, Memory, Stopped, Report, BusFault as FaultAt}
 use Rattle.swd_image.specs.Bytes.{word_in, word_of, words_at}
 use Rattle.swd_image.specs.Images.{IsLoaded}
 use Rattle.swd_image.specs.Lists.{edge_list, edge_words, last_word, load_list, loaded_word, needs_head, needs_tail}
@@ -194,6 +194,7 @@ module _ {W : Type 0} (port : W → Port) (plan : W → List Mark) (lawful : W �
     fails_early Memory fits f = fits
     fails_early (Stopped end) fits f = (fits, inl f)
     fails_early (FaultAt at) fits f = (fits, inl f)
+    fails_early Report fits f = (fits, inl f)
 
     pub fails_late : (fault : ImageFault) → addr + length bytes ≤ 2 ^ 32 → (head tail : ℕ) (reached : W)
         → ReadsAs port plan lawful tries resumes (edge_list addr (length bytes))
@@ -205,4 +206,6 @@ module _ {W : Type 0} (port : W → Port) (plan : W → List Mark) (lawful : W �
     fails_late (Stopped end) fits head tail reached edges f =
         (fits, inr (record { head = head; tail = tail; reached = reached; edges = edges; writes = f }))
     fails_late (FaultAt at) fits head tail reached edges f =
+        (fits, inr (record { head = head; tail = tail; reached = reached; edges = edges; writes = f }))
+    fails_late Report fits head tail reached edges f =
         (fits, inr (record { head = head; tail = tail; reached = reached; edges = edges; writes = f }))

@@ -5,7 +5,7 @@ use Rattle.swd_port.specs.declared.mark.Mark.{Mark}
 use Rattle.swd_port.specs.Port.{Port}
 use Rattle.swd_host.specs.Reports.{IsAtRest}
 use Rattle.swd_image.specs.declared.fault.ImageFault.{ImageFault}
-use Rattle.swd_image.specs.declared.fault.ImageFault.TheVariants.{Range, Memory, Stopped, BusFault as FaultAt}
+use Rattle.swd_image.specs.declared.fault.ImageFault.TheVariants.{Range, Memory, Stopped, Report, BusFault as FaultAt}
 use Rattle.swd_image.specs.declared.verifying.ByteDifference.{ByteDifference}
 use Rattle.swd_image.specs.Bytes.{bytes_at, bytes_of}
 use Rattle.swd_image.specs.Images.{DiffersAt}
@@ -34,6 +34,8 @@ module _ {W : Type 0} (port : W → Port) (plan : W → List Mark) (lawful : W �
       (addr + count ≤ 2 ^ 32) × FailsAs port plan lawful tries resumes (dump_list addr count) s t (Stopped end)
   DumpFails addr count s t (FaultAt at) =
       (addr + count ≤ 2 ^ 32) × FailsAs port plan lawful tries resumes (dump_list addr count) s t (FaultAt at)
+  DumpFails addr count s t Report =
+      (addr + count ≤ 2 ^ 32) × FailsAs port plan lawful tries resumes (dump_list addr count) s t Report
 
 -- the bytes are the image's, or this is the first one that differs
 abbrev pub Compares : ℕ → List ℕ → List ℕ → Option ByteDifference → Type 0

@@ -4,7 +4,7 @@ use Rattle.swd_port.specs.declared.mark.Mark.{Mark}
 use Rattle.swd_port.specs.Port.{Port}
 use Rattle.swd_host.specs.Reports.{IsAtRest}
 use Rattle.swd_image.specs.declared.fault.ImageFault.{ImageFault}
-use Rattle.swd_image.specs.declared.fault.ImageFault.TheVariants.{Range, Memory, Stopped, BusFault as FaultAt}
+use Rattle.swd_image.specs.declared.fault.ImageFault.TheVariants.{Range, Memory, Stopped, Report, BusFault as FaultAt}
 use Rattle.swd_image.specs.Images.{IsLoaded}
 use Rattle.swd_image.specs.Lists.{edge_list, edge_words, load_list}
 use Rattle.swd_image.specs.Sessions.{FailsAs, MadeAll, ReadsAs}
@@ -45,3 +45,5 @@ module _ {W : Type 0} (port : W → Port) (plan : W → List Mark) (lawful : W �
   LoadFails (FaultAt at) = (addr + length bytes ≤ 2 ^ 32)
       × (FailsAs port plan lawful tries resumes (edge_list addr (length bytes)) s t (FaultAt at)
       ⊎ FailsLate (FaultAt at))
+  LoadFails Report = (addr + length bytes ≤ 2 ^ 32)
+      × (FailsAs port plan lawful tries resumes (edge_list addr (length bytes)) s t Report ⊎ FailsLate Report)

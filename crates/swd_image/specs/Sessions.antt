@@ -13,7 +13,7 @@ use Rattle.swd_script.specs.Scripts.{Listed}
 use Rattle.swd_script.specs.Laws.{IsBatch}
 use Rattle.swd_run.specs.Sessions.{Done, GoesOn, most_begun}
 use Rattle.swd_image.specs.declared.fault.ImageFault.{ImageFault}
-use Rattle.swd_image.specs.declared.fault.ImageFault.TheVariants.{Range, Memory, Stopped, BusFault as FaultAt}
+use Rattle.swd_image.specs.declared.fault.ImageFault.TheVariants.{Range, Memory, Stopped, Report, BusFault as FaultAt}
 
 -- ANSWERS
 -- the access succeeded: the answer to a read is a word, that to a write is written
@@ -95,3 +95,4 @@ module _ {W : Type 0} (port : W → Port) (plan : W → List Mark) (lawful : W �
   FailsAs list s u (Stopped end) = Fails list s u (λ batch run. (run.told.ended ≡ end) × (end ≢ All))
   FailsAs list s u (FaultAt at) =
       Fails list s u (λ batch run. (run.told.ended ≡ All) × (first_failed batch.accesses run.told.answers ≡ Some at))
+  FailsAs list s u Report = Fails list s u (λ batch run. Unit {0})

@@ -1,18 +1,22 @@
 //! Makes one call, and requires each of its accesses to succeed.
-ghost use Rattle.std.specs.Prelude.{◌≡◌, IfErr, IfOk, None, length};
+ghost use Rattle.std.specs.Prelude.{◌≡◌, IfErr, IfOk, None, Some, length};
+ghost use Rattle.swd_host.specs.Reports.{told_of};
 ghost use Rattle.swd_port.specs.PlainMemory.{address};
 ghost use Rattle.swd_port.specs.declared.wire.Due.TheVariants.{Nothing};
 ghost use Rattle.swd_host.specs.declared.outcome.End.TheVariants.{All};
 ghost use Rattle.swd_script.specs.Readers.{listed};
 ghost use Rattle.swd_script.specs.Laws.{IsBatch};
-ghost use Rattle.swd_run.specs.Sessions.{done_of};
+ghost use Rattle.swd_run.specs.Records.{held};
+ghost use Rattle.swd_run.specs.Sessions.{Done};
+ghost use Rattle.swd_image.specs.Reports.{MakesOne, ReportsTo, fault_of};
 ghost use Rattle.swd_image.specs.Sessions.{AreDone, Call, FailsAs, first_failed, is_done};
 
 use crate::fault::ImageFault;
 use std::alloc::Allocator;
-use swd_host::End;
+use std::io::Write;
+use swd_host::{End, Report};
 use swd_port::{Access, Answer, Wire};
-use swd_run::{Resumed, run_on};
+use swd_run::{run_on, run_on_reporting};
 use swd_script::Batch;
 
 // Returns whether an access succeeded: a read has a word, a write is written.
@@ -46,35 +50,73 @@ fn first_failed(accesses: &[Access], answers: &[Answer]) -> Option<u32>
     None
 }
 
-/// Makes one call, and resumes it up to `resumes` times. Returns `Stopped` if it ended early, `BusFault` if one of its
-/// accesses met a bus error, and `Memory` if out of memory.
-pub(crate) fn run_call<W: Wire, A: Allocator + Copy>(
+// Makes one call, and resumes it up to `resumes` times. Writes its report meanwhile, if there is a writer for it.
+fn make_call<W: Wire, O: Write, A: Allocator + Copy>(
     alloc: A,
     wire: &mut W,
     batch: &Batch<A>,
     tries: u32,
     resumes: u32,
-) -> Result<Resumed<A>, ImageFault>
+    report: &mut Option<O>,
+) -> Result<Report<A>, ImageFault>
     requires batch { IsBatch (listed batch.now) }
+    requires plain { batch.now.until ≡ None }
     requires due { (W.port wire.old).link.due ≡ Nothing }
-    ensures call { IfOk result (λ resumed. Call W.port W.plan W.lawful tries resumes (listed batch.now) wire.old
-        (done_of resumed) wire.new) }
-    ensures all { IfOk result (λ resumed. (done_of resumed).told.ended ≡ All) }
-    ensures done { IfOk result (λ resumed. AreDone (listed batch.now).accesses (done_of resumed).told.answers) }
-    ensures due { IfOk result (λ resumed. (W.port wire.new).link.due ≡ Nothing) }
+    ensures call { IfOk result (λ made. MakesOne W.port W.plan W.lawful tries resumes (listed batch.now) wire.old
+        wire.new (told_of made) (held O.contents report.old) (held O.contents report.new)) }
     ensures fault { IfErr result (FailsAs W.port W.plan W.lawful tries resumes (listed batch.now).accesses wire.old
         wire.new) }
+    ensures report { IfErr result (λ fault. ReportsTo W.port W.plan W.lawful tries resumes
+        (listed batch.now).accesses (Some fault) wire.old wire.new (held O.contents report.old)
+        (held O.contents report.new)) }
     ensures plan { W.plan wire.new ≡ W.plan wire.old }
 {
-    let Some(resumed) = run_on(alloc, wire, batch, tries, resumes) else {
+    let Some(writer) = report else {
+        return match run_on(alloc, wire, batch, tries, resumes) {
+            Some(resumed) => Ok(resumed.report),
+            None => Err(ImageFault::Memory),
+        };
+    };
+    let Some(reported) = run_on_reporting(alloc, wire, batch, tries, resumes, writer) else {
         return Err(ImageFault::Memory);
     };
-    let ended = resumed.report.ended;
+    match reported.written {
+        Ok(_) => Ok(reported.report),
+        Err(_) => Err(ImageFault::Report),
+    }
+}
+
+/// Makes one call, and resumes it up to `resumes` times. Writes its report meanwhile, if there is a writer for it.
+/// Returns the answers of the call, `Stopped` if it ended early, `BusFault` if one of its accesses met a bus error,
+/// `Report` if the writer failed, and `Memory` if out of memory.
+pub(crate) fn run_call<W: Wire, O: Write, A: Allocator + Copy>(
+    alloc: A,
+    wire: &mut W,
+    batch: &Batch<A>,
+    tries: u32,
+    resumes: u32,
+    report: &mut Option<O>,
+) -> Result<Vec<Answer, A>, ImageFault>
+    requires batch { IsBatch (listed batch.now) }
+    requires plain { batch.now.until ≡ None }
+    requires due { (W.port wire.old).link.due ≡ Nothing }
+    ensures call { IfOk result (λ answers. (run : Done) × (run.told.answers ≡ answers.items)
+        × Call W.port W.plan W.lawful tries resumes (listed batch.now) wire.old run wire.new
+        × (run.told.ended ≡ All) × AreDone (listed batch.now).accesses run.told.answers) }
+    ensures due { IfOk result (λ answers. (W.port wire.new).link.due ≡ Nothing) }
+    ensures fault { IfErr result (FailsAs W.port W.plan W.lawful tries resumes (listed batch.now).accesses wire.old
+        wire.new) }
+    ensures report { ReportsTo W.port W.plan W.lawful tries resumes (listed batch.now).accesses (fault_of result)
+        wire.old wire.new (held O.contents report.old) (held O.contents report.new) }
+    ensures plan { W.plan wire.new ≡ W.plan wire.old }
+{
+    let made = make_call(alloc, wire, batch, tries, resumes, report)?;
+    let ended = made.ended;
     let End::All = ended else {
         return Err(ImageFault::Stopped(ended));
     };
-    match first_failed(batch.accesses.as_slice(), resumed.report.answers.as_slice()) {
+    match first_failed(batch.accesses.as_slice(), made.answers.as_slice()) {
         Some(addr) => Err(ImageFault::BusFault(addr)),
-        None => Ok(resumed),
+        None => Ok(made.answers),
     }
 }

@@ -1,14 +1,17 @@
 //! Reads a range of bytes.
-ghost use Rattle.std.specs.Prelude.{◌≡◌, ◌+◌, ◌*◌, ◌<◌, ◌≤◌, IfErr, IfOk, length};
+ghost use Rattle.std.specs.Prelude.{◌≡◌, ◌≢◌, ◌+◌, ◌*◌, ◌<◌, ◌≤◌, IfErr, IfOk, Some, length};
 ghost use Rattle.swd_port.specs.declared.wire.Due.TheVariants.{Nothing};
-ghost use Rattle.swd_image.specs.declared.fault.ImageFault.TheVariants.{Memory};
+ghost use Rattle.swd_image.specs.declared.fault.ImageFault.TheVariants.{Memory, Report};
 ghost use Rattle.swd_image.specs.Bytes.{byte_in, bytes_of};
+ghost use Rattle.swd_run.specs.Records.{held};
 ghost use Rattle.swd_image.specs.Dumps.{DumpFails, Dumps};
+ghost use Rattle.swd_image.specs.Reports.{DumpReports, fault_of};
 
 use crate::fault::ImageFault;
 use crate::range::{word_count, word_of};
 use crate::reading::read_words;
 use std::alloc::Allocator;
+use std::io::Write;
 use swd_port::Wire;
 
 // Returns byte `place % 4` of a word, the least significant byte first.
@@ -67,6 +70,37 @@ pub fn dump<W: Wire, A: Allocator + Copy>(
         wire.new) }
     ensures due { IfOk result (λ bytes. (W.port wire.new).link.due ≡ Nothing) }
     ensures fault { IfErr result (DumpFails W.port W.plan W.lawful tries resumes addr count wire.old wire.new) }
+    ensures unreported { fault_of result ≢ Some Report }
+    ensures plan { W.plan wire.new ≡ W.plan wire.old }
+{
+    let mut none: Option<Vec<u8>> = None;
+    dump_reporting(alloc, wire, addr, count, tries, resumes, &mut none)
+}
+
+/// Reads bytes as [`dump`] does. Writes the reports of its calls to the writer `report`, if there is one: for each call
+/// the lines that `swd run` writes, each at the latest 1,024 lines after it is known, and all before the next call.
+///
+/// # Errors
+///
+/// Returns the errors of [`dump`]. The reports of all calls are written then, with that of the call that failed. Returns
+/// `Report` if the writer failed or took no bytes. The call that was in progress went on to its end, and no call was
+/// made after it.
+pub fn dump_reporting<W: Wire, O: Write, A: Allocator + Copy>(
+    alloc: A,
+    wire: &mut W,
+    addr: u32,
+    count: u64,
+    tries: u32,
+    resumes: u32,
+    report: &mut Option<O>,
+) -> Result<Vec<u8, A>, ImageFault>
+    requires { (W.port wire.old).link.due ≡ Nothing }
+    ensures dumps { IfOk result (λ bytes. Dumps W.port W.plan W.lawful tries resumes addr count bytes.items wire.old
+        wire.new) }
+    ensures due { IfOk result (λ bytes. (W.port wire.new).link.due ≡ Nothing) }
+    ensures fault { IfErr result (DumpFails W.port W.plan W.lawful tries resumes addr count wire.old wire.new) }
+    ensures report { DumpReports W.port W.plan W.lawful tries resumes addr count (fault_of result) wire.old wire.new
+        (held O.contents report.old) (held O.contents report.new) }
     ensures plan { W.plan wire.new ≡ W.plan wire.old }
 {
     if (1 << 32) - (addr as u64) < count {
@@ -74,6 +108,6 @@ pub fn dump<W: Wire, A: Allocator + Copy>(
     }
     let first = word_of(addr);
     let many = word_count(addr, count);
-    let words = read_words(alloc, wire, first, many, tries, resumes)?;
+    let words = read_words(alloc, wire, first, many, tries, resumes, report)?;
     bytes_of(alloc, words.as_slice(), addr % 4, count)
 }

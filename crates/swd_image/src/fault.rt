@@ -18,4 +18,8 @@ pub enum ImageFault {
     /// no call was made after it.
     #[error("bus error at {0:08x}")]
     BusFault(u32),
+    /// The writer of the reports failed, or took no bytes. Exactly the first bytes of the reports were written, and not
+    /// all. The call whose report it was went on to its end, and no call was made after it.
+    #[error("write failed")]
+    Report,
 }

@@ -11,7 +11,7 @@ mod reading;
 mod verifying;
 mod writing;
 
-pub use dumping::dump;
+pub use dumping::{dump, dump_reporting};
 pub use fault::ImageFault;
-pub use loading::load;
-pub use verifying::{ByteDifference, verify};
+pub use loading::{load, load_reporting};
+pub use verifying::{ByteDifference, verify, verify_reporting};

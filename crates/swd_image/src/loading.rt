@@ -1,8 +1,11 @@
 //! Loads images.
-ghost use Rattle.std.specs.Prelude.{◌≡◌, ◌+◌, ◌%◌, ◌≤◌, ◌<◌, ◌^◌, IfErr, IfOk, OnOk};
+ghost use Rattle.std.specs.Prelude.{◌≡◌, ◌≢◌, ◌+◌, ◌%◌, ◌≤◌, ◌<◌, ◌^◌, IfErr, IfOk, OnOk, Some};
 ghost use Rattle.swd_port.specs.declared.wire.Due.TheVariants.{Nothing};
+ghost use Rattle.swd_run.specs.Records.{held};
+ghost use Rattle.swd_image.specs.declared.fault.ImageFault.TheVariants.{Report};
 ghost use Rattle.swd_image.specs.Lists.{edge_list, edge_words, read_if, word_if};
 ghost use Rattle.swd_image.specs.Loads.{LoadFails, Loads};
+ghost use Rattle.swd_image.specs.Reports.{LoadReports, ReportsTo, fault_of};
 ghost use Rattle.swd_image.specs.Sessions.{FailsAs, ReadsAs};
 
 use crate::fault::ImageFault;
@@ -10,16 +13,19 @@ use crate::range::{last_word, needs_head, needs_tail, word_count, word_of};
 use crate::reading::read_words;
 use crate::writing::{Edges, write_words};
 use std::alloc::Allocator;
+use std::io::Write;
 use swd_port::Wire;
 
-// Reads the word at an address if it is needed, and otherwise returns 0.
-fn read_word<W: Wire, A: Allocator + Copy>(
+// Reads the word at an address if it is needed, and otherwise returns 0. Writes the report of the call meanwhile, if
+// there is a writer for it.
+fn read_word<W: Wire, O: Write, A: Allocator + Copy>(
     alloc: A,
     wire: &mut W,
     at: u32,
     needed: bool,
     tries: u32,
     resumes: u32,
+    report: &mut Option<O>,
 ) -> Result<u32, ImageFault>
     requires aligned { at % 4 ≡ 0 }
     requires due { (W.port wire.old).link.due ≡ Nothing }
@@ -27,23 +33,27 @@ fn read_word<W: Wire, A: Allocator + Copy>(
         (word_if needed word) wire.old wire.new) }
     ensures due { OnOk result ((W.port wire.new).link.due ≡ Nothing) }
     ensures fault { IfErr result (FailsAs W.port W.plan W.lawful tries resumes (read_if needed at) wire.old wire.new) }
+    ensures report { ReportsTo W.port W.plan W.lawful tries resumes (read_if needed at) (fault_of result) wire.old
+        wire.new (held O.contents report.old) (held O.contents report.new) }
     ensures plan { W.plan wire.new ≡ W.plan wire.old }
 {
     if !needed {
         return Ok(0);
     }
-    let words = read_words(alloc, wire, at, 1, tries, resumes)?;
+    let words = read_words(alloc, wire, at, 1, tries, resumes, report)?;
     Ok(words[0])
 }
 
 // Reads the words that a range covers only in part: the first one, the last one, both or neither.
-fn read_edges<W: Wire, A: Allocator + Copy>(
+// Writes the reports of the calls meanwhile, if there is a writer for them.
+fn read_edges<W: Wire, O: Write, A: Allocator + Copy>(
     alloc: A,
     wire: &mut W,
     addr: u32,
     len: u64,
     tries: u32,
     resumes: u32,
+    report: &mut Option<O>,
 ) -> Result<Edges, ImageFault>
     requires range { addr + len ≤ 2 ^ 32 }
     requires due { (W.port wire.old).link.due ≡ Nothing }
@@ -51,12 +61,22 @@ fn read_edges<W: Wire, A: Allocator + Copy>(
         (edge_words addr len edges.head edges.tail) wire.old wire.new) }
     ensures due { OnOk result ((W.port wire.new).link.due ≡ Nothing) }
     ensures fault { IfErr result (FailsAs W.port W.plan W.lawful tries resumes (edge_list addr len) wire.old wire.new) }
+    ensures report { ReportsTo W.port W.plan W.lawful tries resumes (edge_list addr len) (fault_of result) wire.old
+        wire.new (held O.contents report.old) (held O.contents report.new) }
     ensures plan { W.plan wire.new ≡ W.plan wire.old }
 {
     let first = needs_head(addr, len);
-    let head = read_word(alloc, wire, word_of(addr), first, tries, resumes)?;
+    let head = read_word(alloc, wire, word_of(addr), first, tries, resumes, report)?;
     let last = needs_tail(addr, len);
-    let tail = read_word(alloc, wire, last_word(addr, len), last, tries, resumes)?;
+    let tail = read_word(
+        alloc,
+        wire,
+        last_word(addr, len),
+        last,
+        tries,
+        resumes,
+        report,
+    )?;
     Ok(Edges { head, tail })
 }
 
@@ -88,16 +108,46 @@ pub fn load<W: Wire, A: Allocator + Copy>(
     ensures loads { OnOk result (Loads W.port W.plan W.lawful tries resumes addr bytes.now wire.old wire.new) }
     ensures due { OnOk result ((W.port wire.new).link.due ≡ Nothing) }
     ensures fault { IfErr result (LoadFails W.port W.plan W.lawful tries resumes addr bytes.now wire.old wire.new) }
+    ensures unreported { fault_of result ≢ Some Report }
+    ensures plan { W.plan wire.new ≡ W.plan wire.old }
+{
+    let mut none: Option<Vec<u8>> = None;
+    load_reporting(alloc, wire, addr, bytes, tries, resumes, &mut none)
+}
+
+/// Loads an image as [`load`] does. Writes the reports of its calls to the writer `report`, if there is one: for each
+/// call the lines that `swd run` writes, each at the latest 1,024 lines after it is known, and all before the next call.
+///
+/// # Errors
+///
+/// Returns the errors of [`load`]. The reports of all calls are written then, with that of the call that failed. Returns
+/// `Report` if the writer failed or took no bytes. The call that was in progress went on to its end, and no call was
+/// made after it.
+pub fn load_reporting<W: Wire, O: Write, A: Allocator + Copy>(
+    alloc: A,
+    wire: &mut W,
+    addr: u32,
+    bytes: &[u8],
+    tries: u32,
+    resumes: u32,
+    report: &mut Option<O>,
+) -> Result<(), ImageFault>
+    requires { (W.port wire.old).link.due ≡ Nothing }
+    ensures loads { OnOk result (Loads W.port W.plan W.lawful tries resumes addr bytes.now wire.old wire.new) }
+    ensures due { OnOk result ((W.port wire.new).link.due ≡ Nothing) }
+    ensures fault { IfErr result (LoadFails W.port W.plan W.lawful tries resumes addr bytes.now wire.old wire.new) }
+    ensures report { LoadReports W.port W.plan W.lawful tries resumes addr bytes.now (fault_of result) wire.old
+        wire.new (held O.contents report.old) (held O.contents report.new) }
     ensures plan { W.plan wire.new ≡ W.plan wire.old }
 {
     let len = bytes.len() as u64;
     if (1 << 32) - (addr as u64) < len {
         return Err(ImageFault::Range);
     }
-    let edges = read_edges(alloc, wire, addr, len, tries, resumes)?;
+    let edges = read_edges(alloc, wire, addr, len, tries, resumes, report)?;
     let first = word_of(addr);
     let count = word_count(addr, len);
     write_words(
-        alloc, wire, addr, bytes, edges, first, count, tries, resumes,
+        alloc, wire, addr, bytes, edges, first, count, tries, resumes, report,
     )
 }

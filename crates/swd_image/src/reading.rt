@@ -4,11 +4,14 @@ ghost use Rattle.swd_port.specs.PlainMemory.{reads};
 ghost use Rattle.swd_port.specs.declared.wire.Due.TheVariants.{Nothing};
 ghost use Rattle.swd_script.specs.Readers.{listed};
 ghost use Rattle.swd_image.specs.declared.fault.ImageFault.TheVariants.{Memory};
+ghost use Rattle.swd_run.specs.Records.{held};
+ghost use Rattle.swd_image.specs.Reports.{ReportsTo, fault_of};
 ghost use Rattle.swd_image.specs.Sessions.{FailsAs, ReadsAs, word_told, words_told};
 
 use crate::calls::run_call;
 use crate::fault::ImageFault;
 use std::alloc::Allocator;
+use std::io::Write;
 use swd_port::{Answer, MOST_ACCESSES, Wire, push_reads};
 use swd_script::Batch;
 
@@ -60,14 +63,16 @@ fn push_words<A: Allocator>(words: &mut Vec<u32, A>, answers: &[Answer]) -> Resu
     Ok(())
 }
 
-/// Reads `count` words from `first` on, in blocks of at most 65,536 words, a call for each.
-pub(crate) fn read_words<W: Wire, A: Allocator + Copy>(
+/// Reads `count` words from `first` on, in blocks of at most 65,536 words, a call for each. Writes the reports of the
+/// calls meanwhile, if there is a writer for them.
+pub(crate) fn read_words<W: Wire, O: Write, A: Allocator + Copy>(
     alloc: A,
     wire: &mut W,
     first: u32,
     count: u32,
     tries: u32,
     resumes: u32,
+    report: &mut Option<O>,
 ) -> Result<Vec<u32, A>, ImageFault>
     requires aligned { first % 4 ≡ 0 }
     requires range { first + 4 * count ≤ 2 ^ 32 }
@@ -76,6 +81,8 @@ pub(crate) fn read_words<W: Wire, A: Allocator + Copy>(
         wire.old wire.new) }
     ensures due { IfOk result (λ words. (W.port wire.new).link.due ≡ Nothing) }
     ensures fault { IfErr result (FailsAs W.port W.plan W.lawful tries resumes (reads first count) wire.old wire.new) }
+    ensures report { ReportsTo W.port W.plan W.lawful tries resumes (reads first count) (fault_of result) wire.old
+        wire.new (held O.contents report.old) (held O.contents report.new) }
     ensures plan { W.plan wire.new ≡ W.plan wire.old }
 {
     let mut words = Vec::new(alloc);
@@ -83,8 +90,8 @@ pub(crate) fn read_words<W: Wire, A: Allocator + Copy>(
     while done < count {
         let many = (count - done).min(MOST_ACCESSES);
         let batch = block_at(alloc, first + 4 * done, many)?;
-        let resumed = run_call(alloc, wire, &batch, tries, resumes)?;
-        push_words(&mut words, resumed.report.answers.as_slice())?;
+        let answers = run_call(alloc, wire, &batch, tries, resumes, report)?;
+        push_words(&mut words, answers.as_slice())?;
         done += many;
     }
     Ok(words)

@@ -1,11 +1,15 @@
 //! Verifies an image: compares a target's memory with it.
-ghost use Rattle.std.specs.Prelude.{◌≡◌, ◌+◌, ◌≤◌, ◌^◌, IfErr, IfOk, length};
+ghost use Rattle.std.specs.Prelude.{◌≡◌, ◌≢◌, ◌+◌, ◌≤◌, ◌^◌, IfErr, IfOk, Some, length};
 ghost use Rattle.swd_port.specs.declared.wire.Due.TheVariants.{Nothing};
+ghost use Rattle.swd_run.specs.Records.{held};
+ghost use Rattle.swd_image.specs.declared.fault.ImageFault.TheVariants.{Report};
 ghost use Rattle.swd_image.specs.Dumps.{Compares, DumpFails, Verifies};
+ghost use Rattle.swd_image.specs.Reports.{DumpReports, fault_of};
 
-use crate::dumping::dump;
+use crate::dumping::dump_reporting;
 use crate::fault::ImageFault;
 use std::alloc::Allocator;
+use std::io::Write;
 use swd_port::Wire;
 
 /// A byte of the memory that differs from the image.
@@ -59,8 +63,46 @@ pub fn verify<W: Wire, A: Allocator + Copy>(
     ensures due { IfOk result (λ difference. (W.port wire.new).link.due ≡ Nothing) }
     ensures fault { IfErr result (DumpFails W.port W.plan W.lawful tries resumes addr (length bytes.now) wire.old
         wire.new) }
+    ensures unreported { fault_of result ≢ Some Report }
     ensures plan { W.plan wire.new ≡ W.plan wire.old }
 {
-    let found = dump(alloc, wire, addr, bytes.len() as u64, tries, resumes)?;
+    let mut none: Option<Vec<u8>> = None;
+    verify_reporting(alloc, wire, addr, bytes, tries, resumes, &mut none)
+}
+
+/// Reads and compares the range of an image as [`verify`] does. Writes the reports of the reads to the writer `report`,
+/// as [`dump_reporting`](crate::dump_reporting) does, if there is one.
+///
+/// # Errors
+///
+/// Returns the errors of [`dump_reporting`](crate::dump_reporting). Nothing was compared then.
+pub fn verify_reporting<W: Wire, O: Write, A: Allocator + Copy>(
+    alloc: A,
+    wire: &mut W,
+    addr: u32,
+    bytes: &[u8],
+    tries: u32,
+    resumes: u32,
+    report: &mut Option<O>,
+) -> Result<Option<ByteDifference>, ImageFault>
+    requires { (W.port wire.old).link.due ≡ Nothing }
+    ensures verifies { IfOk result (λ difference. Verifies W.port W.plan W.lawful tries resumes addr bytes.now
+        difference wire.old wire.new) }
+    ensures due { IfOk result (λ difference. (W.port wire.new).link.due ≡ Nothing) }
+    ensures fault { IfErr result (DumpFails W.port W.plan W.lawful tries resumes addr (length bytes.now) wire.old
+        wire.new) }
+    ensures report { DumpReports W.port W.plan W.lawful tries resumes addr (length bytes.now) (fault_of result)
+        wire.old wire.new (held O.contents report.old) (held O.contents report.new) }
+    ensures plan { W.plan wire.new ≡ W.plan wire.old }
+{
+    let found = dump_reporting(
+        alloc,
+        wire,
+        addr,
+        bytes.len() as u64,
+        tries,
+        resumes,
+        report,
+    )?;
     Ok(first_difference(addr, bytes, found.as_slice()))
 }

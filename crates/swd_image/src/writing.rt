@@ -5,11 +5,14 @@ ghost use Rattle.swd_script.specs.Readers.{listed};
 ghost use Rattle.swd_image.specs.declared.fault.ImageFault.TheVariants.{Memory};
 ghost use Rattle.swd_image.specs.Images.{image_byte};
 ghost use Rattle.swd_image.specs.Lists.{edge_word, loaded_word, writes};
+ghost use Rattle.swd_run.specs.Records.{held};
+ghost use Rattle.swd_image.specs.Reports.{ReportsTo, fault_of};
 ghost use Rattle.swd_image.specs.Sessions.{FailsAs, MadeAll};
 
 use crate::calls::run_call;
 use crate::fault::ImageFault;
 use std::alloc::Allocator;
+use std::io::Write;
 use swd_port::{Access, MOST_ACCESSES, Wire};
 use swd_script::Batch;
 
@@ -92,7 +95,8 @@ fn writes_at<A: Allocator + Copy>(
 }
 
 /// Writes `count` words of the image from `first` on, each word once, in calls of at most 65,536 writes.
-pub(crate) fn write_words<W: Wire, A: Allocator + Copy>(
+/// Writes the reports of the calls meanwhile, if there is a writer for them.
+pub(crate) fn write_words<W: Wire, O: Write, A: Allocator + Copy>(
     alloc: A,
     wire: &mut W,
     addr: u32,
@@ -102,6 +106,7 @@ pub(crate) fn write_words<W: Wire, A: Allocator + Copy>(
     count: u32,
     tries: u32,
     resumes: u32,
+    report: &mut Option<O>,
 ) -> Result<(), ImageFault>
     requires aligned { first % 4 ≡ 0 }
     requires range { first + 4 * count ≤ 2 ^ 32 }
@@ -111,13 +116,16 @@ pub(crate) fn write_words<W: Wire, A: Allocator + Copy>(
     ensures due { OnOk result ((W.port wire.new).link.due ≡ Nothing) }
     ensures fault { IfErr result (FailsAs W.port W.plan W.lawful tries resumes
         (writes (loaded_word addr bytes.now edges.head edges.tail) first count) wire.old wire.new) }
+    ensures report { ReportsTo W.port W.plan W.lawful tries resumes
+        (writes (loaded_word addr bytes.now edges.head edges.tail) first count) (fault_of result) wire.old wire.new
+        (held O.contents report.old) (held O.contents report.new) }
     ensures plan { W.plan wire.new ≡ W.plan wire.old }
 {
     let mut done = 0;
     while done < count {
         let many = (count - done).min(MOST_ACCESSES);
         let batch = writes_at(alloc, addr, bytes, edges, first + 4 * done, many)?;
-        let _ = run_call(alloc, wire, &batch, tries, resumes)?;
+        let _ = run_call(alloc, wire, &batch, tries, resumes, report)?;
         done += many;
     }
     Ok(())

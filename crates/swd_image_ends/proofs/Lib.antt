@@ -5,3 +5,4 @@ pub mod RemotePieceLemmas
 pub mod ApartLemmas
 pub mod MemoryLemmas
 pub mod AddressLemmas
+pub mod PieceReportLemmas

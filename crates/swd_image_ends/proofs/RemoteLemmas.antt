@@ -1,15 +1,18 @@
 -- What came of an image over a wire to the outside that had no call before, by the calls that are noted there.
-use Rattle.std.proofs.Common.{◌≡◌, ℕ, List, [], Option, Result, Ok, Err, length, subst}
+use Rattle.std.proofs.Common.{◌≡◌, ℕ, List, [], ◌++◌, Option, Result, Ok, Err, length, subst}
 use Rattle.std.specs.Prelude.{OnOk, IfOk, IfErr}
+use Rattle.swd_port.specs.declared.access.Access.{Access}
 use Rattle.swd_port.specs.declared.call.Call.{Call}
 use Rattle.swd_port.specs.Port.{Port}
 use Rattle.swd_port.specs.Stories.{port_at, FitsStory}
 use Rattle.swd_image.specs.declared.fault.ImageFault.{ImageFault}
 use Rattle.swd_image.specs.declared.verifying.ByteDifference.{ByteDifference}
 use Rattle.swd_image.specs.Dumps.{DumpFails, Dumps, Verifies}
+use Rattle.swd_image.specs.Lists.{dump_list, edge_list, load_list}
 use Rattle.swd_image.specs.Loads.{LoadFails, Loads}
+use Rattle.swd_image.specs.Reports.{DumpReports, LoadReports, ReportsTo}
 use Rattle.swd_image_ends.specs.RemoteImages.{DumpsRemote, LoadsRemote, VerifiesRemote}
-use Rattle.swd_image_ends.proofs.WireLemmas.{dump_fails_by, dumps_by, load_fails_by, loads_by, verifies_by}
+use Rattle.swd_image_ends.proofs.WireLemmas.{dump_fails_by, dumps_by, load_fails_by, loads_by, reports_by, verifies_by}
 
 module _ {W : Type 0} (calls_in : W → List Call) (story : ℕ → Port) (tries resumes addr : ℕ) (Over : List Call → Type 0)
     (s t : W) (begins : calls_in s ≡ []) (over : Over (calls_in t)) where
@@ -75,3 +78,29 @@ module _ {W : Type 0} (calls_in : W → List Call) (story : ℕ → Port) (tries
     over,
   )
   verify_came bytes (Err fault) verifies fails = (calls_in t, dump_failed (length bytes) fault fails, over)
+
+module _ {W : Type 0} (calls_in : W → List Call) (story : ℕ → Port) (tries resumes addr : ℕ) (s t : W)
+    (begins : calls_in s ≡ []) (fault : Option ImageFault) (a b : Option (Option (List ℕ))) where
+  came_to : (list : List Access)
+      → ReportsTo (λ w. port_at story (calls_in w)) (λ w. []) (λ w. FitsStory story (calls_in w)) tries resumes list fault
+      s t a b
+      → ReportsTo (port_at story) (λ calls. []) (FitsStory story) tries resumes list fault [] (calls_in t) a b
+  came_to list h =
+      subst (λ calls. ReportsTo (port_at story) (λ calls. []) (FitsStory story) tries resumes list fault calls
+      (calls_in t) a b) begins
+      (reports_by calls_in (port_at story) (λ calls. []) (FitsStory story) tries resumes list fault s t a b h)
+
+  -- what a writer gets of a load over a wire, it gets of the calls that are noted there
+  pub load_reported : (bytes : List ℕ)
+      → LoadReports (λ w. port_at story (calls_in w)) (λ w. []) (λ w. FitsStory story (calls_in w)) tries resumes addr
+      bytes fault s t a b
+      → LoadReports (port_at story) (λ calls. []) (FitsStory story) tries resumes addr bytes fault [] (calls_in t) a b
+  load_reported bytes h =
+      (h.0, h.1, came_to (edge_list addr (length bytes) ++ load_list addr bytes h.0 h.1) h.2)
+
+  -- and what it gets of a dump
+  pub dump_reported : (count : ℕ)
+      → DumpReports (λ w. port_at story (calls_in w)) (λ w. []) (λ w. FitsStory story (calls_in w)) tries resumes addr
+      count fault s t a b
+      → DumpReports (port_at story) (λ calls. []) (FitsStory story) tries resumes addr count fault [] (calls_in t) a b
+  dump_reported count h = came_to (dump_list addr count) h

@@ -9,7 +9,9 @@ use Rattle.swd_image.specs.declared.fault.ImageFault.{ImageFault}
 use Rattle.swd_image.specs.declared.verifying.ByteDifference.{ByteDifference}
 use Rattle.swd_image_files.specs.Images.{Bytes}
 use Rattle.swd_image_ends.specs.Pieces.{LoadFailsAt, LoadsAll, LoadsEach, VerifiesAll, VerifiesEach, VerifyFailsAt}
+use Rattle.swd_image_ends.specs.PieceReports.{LoadsReported, VerifiesReported}
 use Rattle.swd_image_ends.specs.RemotePieces.{LoadsPiecesRemote, VerifiesPiecesRemote}
+use Rattle.swd_image_ends.proofs.PieceReportLemmas.{loads_reported_by, verifies_reported_by}
 use Rattle.swd_image_ends.proofs.WireLemmas.{dump_fails_by, load_fails_by, loads_by, verifies_by}
 
 module _ {W V : Type 0} (by : W → V) (port : V → Port) (plan : V → List Mark) (lawful : V → Type 0) (tries resumes : ℕ)
@@ -122,3 +124,26 @@ module _ {W : Type 0} (calls_in : W → List Call) (story : ℕ → Port) (tries
         fails),
     over,
   )
+
+module _ {W : Type 0} (calls_in : W → List Call) (story : ℕ → Port) (tries resumes : ℕ) (s t : W)
+    (begins : calls_in s ≡ []) (a b : Option (Option (List ℕ))) (pieces : List Bytes) where
+  -- what a writer gets of a load of pieces over a wire, it gets of the calls that are noted there
+  pub load_pieces_reported : (fault : Option ImageFault)
+      → LoadsReported (λ w. port_at story (calls_in w)) (λ w. []) (λ w. FitsStory story (calls_in w)) tries resumes
+      pieces fault s t a b
+      → LoadsReported (port_at story) (λ calls. []) (FitsStory story) tries resumes pieces fault [] (calls_in t) a b
+  load_pieces_reported fault h =
+      subst (λ calls. LoadsReported (port_at story) (λ calls. []) (FitsStory story) tries resumes pieces fault calls
+      (calls_in t) a b) begins
+      (loads_reported_by calls_in (port_at story) (λ calls. []) (FitsStory story) tries resumes pieces fault s t a b h)
+
+  -- and what it gets of a verification
+  pub verify_pieces_reported : (result : Result (Option ByteDifference) ImageFault)
+      → VerifiesReported (λ w. port_at story (calls_in w)) (λ w. []) (λ w. FitsStory story (calls_in w)) tries resumes
+      pieces result s t a b
+      → VerifiesReported (port_at story) (λ calls. []) (FitsStory story) tries resumes pieces result [] (calls_in t) a b
+  verify_pieces_reported result h =
+      subst (λ calls. VerifiesReported (port_at story) (λ calls. []) (FitsStory story) tries resumes pieces result calls
+      (calls_in t) a b) begins
+      (verifies_reported_by calls_in (port_at story) (λ calls. []) (FitsStory story) tries resumes pieces result s t a b
+      h)

@@ -1,20 +1,22 @@
 -- The calls of images over wires are calls over all that the wires are known by.
-use Rattle.std.proofs.Common.{◌≡◌, ℕ, List, Option, Some, inl, inr, ap}
+use Rattle.std.proofs.Common.{◌≡◌, ℕ, List, Option, None, Some, inl, inr, ap}
 use Rattle.std.specs.Prelude.{◌≢◌, length}
 use Rattle.swd_port.specs.declared.access.Access.{Access}
 use Rattle.swd_port.specs.declared.access.Answer.{Answer}
 use Rattle.swd_port.specs.declared.mark.Mark.{Mark}
 use Rattle.swd_port.specs.Port.{Port}
+use Rattle.swd_host.specs.declared.outcome.End.{End}
 use Rattle.swd_host.specs.declared.outcome.End.TheVariants.{All}
 use Rattle.swd_script.specs.Scripts.{Listed}
 use Rattle.swd_run.specs.Sessions.{Done}
 use Rattle.swd_run.proofs.EngineLemmas.{goes_by}
 use Rattle.swd_image.specs.declared.fault.ImageFault.{ImageFault}
-use Rattle.swd_image.specs.declared.fault.ImageFault.TheVariants.{Range, Memory, Stopped, BusFault as FaultAt}
+use Rattle.swd_image.specs.declared.fault.ImageFault.TheVariants.{Range, Memory, Stopped, Report, BusFault as FaultAt}
 use Rattle.swd_image.specs.declared.verifying.ByteDifference.{ByteDifference}
 use Rattle.swd_image.specs.Dumps.{DumpFails, Dumps, Verifies}
 use Rattle.swd_image.specs.Lists.{dump_list, edge_list}
 use Rattle.swd_image.specs.Loads.{FailsLate, LoadFails, Loads}
+use Rattle.swd_image.specs.Reports.{Reported, ReportsTo, none as no_call, more as call_more}
 use Rattle.swd_image.specs.Sessions.{Call, Calls, Fails, FailsAs, MadeAll, ReadsAs, first_failed, none, more}
 
 module _ {W V : Type 0} (by : W → V) (port : V → Port) (plan : V → List Mark) (lawful : V → Type 0) (tries resumes : ℕ)
@@ -78,6 +80,7 @@ module _ {W V : Type 0} (by : W → V) (port : V → Port) (plan : V → List Ma
     fails_as_by list s t (FaultAt at) fails =
         fails_by list s t (λ batch run. (run.told.ended ≡ All) × (first_failed batch.accesses run.told.answers ≡ Some at))
         fails
+    fails_as_by list s t Report fails = fails_by list s t (λ batch run. Unit {0}) fails
 
     -- a load is
     pub loads_by : (addr : ℕ) (bytes : List ℕ) (s t : W)
@@ -116,6 +119,9 @@ module _ {W V : Type 0} (by : W → V) (port : V → Port) (plan : V → List Ma
     load_fails_by addr bytes s t (FaultAt at) (fits, inl early) =
         (fits, inl (fails_as_by (edge_list addr (length bytes)) s t (FaultAt at) early))
     load_fails_by addr bytes s t (FaultAt at) (fits, inr late) = (fits, inr (late_by addr bytes s t (FaultAt at) late))
+    load_fails_by addr bytes s t Report (fits, inl early) =
+        (fits, inl (fails_as_by (edge_list addr (length bytes)) s t Report early))
+    load_fails_by addr bytes s t Report (fits, inr late) = (fits, inr (late_by addr bytes s t Report late))
 
     -- a dump is
     pub dumps_by : (addr count : ℕ) (bytes : List ℕ) (s t : W)
@@ -141,6 +147,8 @@ module _ {W V : Type 0} (by : W → V) (port : V → Port) (plan : V → List Ma
         (fails.0, fails_as_by (dump_list addr count) s t (Stopped end) fails.1)
     dump_fails_by addr count s t (FaultAt at) fails =
         (fails.0, fails_as_by (dump_list addr count) s t (FaultAt at) fails.1)
+    dump_fails_by addr count s t Report fails =
+        (fails.0, fails_as_by (dump_list addr count) s t Report fails.1)
 
     -- a verification is
     pub verifies_by : (addr : ℕ) (bytes : List ℕ) (difference : Option ByteDifference) (s t : W)
@@ -152,3 +160,46 @@ module _ {W V : Type 0} (by : W → V) (port : V → Port) (plan : V → List Ma
       tells = verifies.tells;
       memory = verifies.memory;
     }
+
+    reported_by : (s : W) (ended : End) (list : List Access) (text : List ℕ) (t : W)
+        → Reported (λ w. port (by w)) (λ w. plan (by w)) (λ w. lawful (by w)) tries resumes s ended list text t
+        → Reported port plan lawful tries resumes (by s) ended list text (by t)
+    reported_by s ended list text t no_call = no_call
+    reported_by s ended list text t
+        (call_more {list = before} {text = earlier} {t = u} {u = v} {batch = batch} {run = run} prior call plain) =
+        call_more (reported_by s All before earlier u prior) (call_by batch u run v call) plain
+
+    -- what a writer gets of calls is
+    pub reports_by : (list : List Access) (fault : Option ImageFault) (s t : W) (a b : Option (Option (List ℕ)))
+        → ReportsTo (λ w. port (by w)) (λ w. plan (by w)) (λ w. lawful (by w)) tries resumes list fault s t a b
+        → ReportsTo port plan lawful tries resumes list fault (by s) (by t) a b
+    reports_by list fault s t None b h = h
+    reports_by list fault s t (Some start) b h = (
+      h.0,
+      h.1,
+      record {
+        ended = h.2.ended;
+        made = h.2.made;
+        rest = h.2.rest;
+        text = h.2.text;
+        calls = reported_by s h.2.ended h.2.made h.2.text t h.2.calls;
+        split = h.2.split;
+        whole = h.2.whole;
+        stopped = h.2.stopped;
+        writes = h.2.writes;
+        fails = λ e. (let f = h.2.fails e in record {
+          list = f.list;
+          before = f.before;
+          reached = by f.reached;
+          calls = reported_by s All f.list f.before f.reached f.calls;
+          batch = f.batch;
+          run = f.run;
+          last = call_by f.batch f.reached f.run t f.last;
+          is = f.is;
+          middle = f.middle;
+          gone = f.gone;
+          told = f.told;
+          stops = f.stops;
+        });
+      },
+    )

@@ -5,3 +5,4 @@ pub mod Pieces
 pub mod RemotePieces
 pub mod Laws
 pub mod Memories
+pub mod PieceReports

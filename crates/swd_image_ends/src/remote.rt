@@ -1,27 +1,31 @@
 //! Makes the calls of an image at a target behind OpenOCD's remote_bitbang characters.
-ghost use Rattle.std.specs.Prelude.{◌≡◌};
+ghost use Rattle.std.specs.Prelude.{◌≡◌, [], length};
+ghost use Rattle.swd_port.specs.Stories.{FitsStory, port_at};
+ghost use Rattle.swd_run.specs.Records.{held};
+ghost use Rattle.swd_image.specs.Reports.{DumpReports, LoadReports, fault_of};
 ghost use Rattle.swd_remote.specs.WholeRuns.{GoesOver};
 ghost use Rattle.swd_image_ends.specs.RemoteImages.{DumpsRemote, LoadsRemote, VerifiesRemote};
 
 use std::alloc::Allocator;
 use std::io::{Read, Write};
 use std::marker::Brand;
-use swd_image::{ByteDifference, ImageFault, dump, load, verify};
+use swd_image::{ByteDifference, ImageFault, dump_reporting, load_reporting, verify_reporting};
 use swd_port::{Outside, Story, Tied};
 use swd_remote::{Beginning, Kept, Line};
 
-/// Loads an image by `swd_image::load` at the target behind a remote_bitbang server, and then sends `Q`. Returns the
-/// connection too, with the error that ended it, if any.
+/// Loads an image by `swd_image::load_reporting` at the target behind a remote_bitbang server, and then sends `Q`. Returns
+/// the connection too, with the error that ended it, if any.
 ///
 /// Whatever comes back, the load ends unless the connection blocks, and its result matches the calls that were made. For
 /// every story with which the replies are consistent, the memory contains the image if the result is `Ok`. Up to the
 /// first I/O error, exactly the characters of these calls and `Q` are sent, and exactly the levels that they ask for are
-/// read. Nothing is sent after that error.
+/// read. Nothing is sent after that error. The writer `report`, if there is one, gets the reports of the calls while they
+/// go on.
 ///
 /// # Errors
 ///
-/// Returns the errors of `swd_image::load`.
-pub fn load_remote<P: Story, R: Read, W: Write, A: Allocator + Copy>(
+/// Returns the errors of `swd_image::load_reporting`.
+pub fn load_remote<P: Story, R: Read, W: Write, O: Write, A: Allocator + Copy>(
     alloc: A,
     reader: R,
     writer: W,
@@ -29,15 +33,17 @@ pub fn load_remote<P: Story, R: Read, W: Write, A: Allocator + Copy>(
     bytes: &[u8],
     tries: u32,
     resumes: u32,
+    report: &mut Option<O>,
 ) -> (Result<(), ImageFault>, Line<R, W>)
     ensures { LoadsRemote P.at tries resumes addr
-        (λ calls. ∥ GoesOver R.remaining W.contents (W.contents writer) (R.remaining reader) result.1 calls ∥₁)
-        bytes.now result.0 }
+        (λ calls. ∥ GoesOver R.remaining W.contents (W.contents writer) (R.remaining reader) result.1 calls ∥₁
+        × LoadReports (port_at P.at) (λ calls. []) (FitsStory P.at) tries resumes addr bytes.now (fault_of result.0) []
+        calls (held O.contents report.old) (held O.contents report.new)) bytes.now result.0 }
 {
-    load_begun::<P, Brand, R, W, A>(alloc, reader, writer, addr, bytes, tries, resumes)
+    load_begun::<P, Brand, R, W, O, A>(alloc, reader, writer, addr, bytes, tries, resumes, report)
 }
 
-fn load_begun<P: Story, B: Beginning, R: Read, W: Write, A: Allocator + Copy>(
+fn load_begun<P: Story, B: Beginning, R: Read, W: Write, O: Write, A: Allocator + Copy>(
     alloc: A,
     reader: R,
     writer: W,
@@ -45,28 +51,31 @@ fn load_begun<P: Story, B: Beginning, R: Read, W: Write, A: Allocator + Copy>(
     bytes: &[u8],
     tries: u32,
     resumes: u32,
+    report: &mut Option<O>,
 ) -> (Result<(), ImageFault>, Line<R, W>)
     requires sent { B.sent ≡ W.contents writer }
     requires left { B.left ≡ R.remaining reader }
     ensures { LoadsRemote P.at tries resumes addr
-        (λ calls. ∥ GoesOver R.remaining W.contents B.sent B.left result.1 calls ∥₁) bytes.now result.0 }
+        (λ calls. ∥ GoesOver R.remaining W.contents B.sent B.left result.1 calls ∥₁
+        × LoadReports (port_at P.at) (λ calls. []) (FitsStory P.at) tries resumes addr bytes.now (fault_of result.0) []
+        calls (held O.contents report.old) (held O.contents report.new)) bytes.now result.0 }
 {
     let mut wire: Outside<Kept<R, W, B>, P, Tied> = Outside::begun(Kept::new(reader, writer));
-    let answer = load(alloc, &mut wire, addr, bytes, tries, resumes);
+    let answer = load_reporting(alloc, &mut wire, addr, bytes, tries, resumes, report);
     (answer, wire.into_transport().hang_up())
 }
 
-/// Reads `count` bytes from `addr` on by `swd_image::dump` at the target behind a remote_bitbang server, and then sends
-/// `Q`. Returns the connection too, with the error that ended it, if any.
+/// Reads `count` bytes from `addr` on by `swd_image::dump_reporting` at the target behind a remote_bitbang server, and then
+/// sends `Q`. Returns the connection too, with the error that ended it, if any.
 ///
 /// Whatever comes back, the dump ends unless the connection blocks, and its result matches the calls that were made. For
-/// every story with which the replies are consistent, the bytes are the memory's. What is sent and read is as for
-/// [`load_remote`].
+/// every story with which the replies are consistent, the bytes are the memory's. What is sent, read and written to
+/// `report` is as for [`load_remote`].
 ///
 /// # Errors
 ///
-/// Returns the errors of `swd_image::dump`.
-pub fn dump_remote<P: Story, R: Read, W: Write, A: Allocator + Copy>(
+/// Returns the errors of `swd_image::dump_reporting`.
+pub fn dump_remote<P: Story, R: Read, W: Write, O: Write, A: Allocator + Copy>(
     alloc: A,
     reader: R,
     writer: W,
@@ -74,15 +83,17 @@ pub fn dump_remote<P: Story, R: Read, W: Write, A: Allocator + Copy>(
     count: u64,
     tries: u32,
     resumes: u32,
+    report: &mut Option<O>,
 ) -> (Result<Vec<u8, A>, ImageFault>, Line<R, W>)
     ensures { DumpsRemote P.at tries resumes addr
-        (λ calls. ∥ GoesOver R.remaining W.contents (W.contents writer) (R.remaining reader) result.1 calls ∥₁)
-        count result.0 (λ bytes. bytes.items) }
+        (λ calls. ∥ GoesOver R.remaining W.contents (W.contents writer) (R.remaining reader) result.1 calls ∥₁
+        × DumpReports (port_at P.at) (λ calls. []) (FitsStory P.at) tries resumes addr count (fault_of result.0) []
+        calls (held O.contents report.old) (held O.contents report.new)) count result.0 (λ bytes. bytes.items) }
 {
-    dump_begun::<P, Brand, R, W, A>(alloc, reader, writer, addr, count, tries, resumes)
+    dump_begun::<P, Brand, R, W, O, A>(alloc, reader, writer, addr, count, tries, resumes, report)
 }
 
-fn dump_begun<P: Story, B: Beginning, R: Read, W: Write, A: Allocator + Copy>(
+fn dump_begun<P: Story, B: Beginning, R: Read, W: Write, O: Write, A: Allocator + Copy>(
     alloc: A,
     reader: R,
     writer: W,
@@ -90,29 +101,33 @@ fn dump_begun<P: Story, B: Beginning, R: Read, W: Write, A: Allocator + Copy>(
     count: u64,
     tries: u32,
     resumes: u32,
+    report: &mut Option<O>,
 ) -> (Result<Vec<u8, A>, ImageFault>, Line<R, W>)
     requires sent { B.sent ≡ W.contents writer }
     requires left { B.left ≡ R.remaining reader }
     ensures { DumpsRemote P.at tries resumes addr
-        (λ calls. ∥ GoesOver R.remaining W.contents B.sent B.left result.1 calls ∥₁) count result.0
+        (λ calls. ∥ GoesOver R.remaining W.contents B.sent B.left result.1 calls ∥₁
+        × DumpReports (port_at P.at) (λ calls. []) (FitsStory P.at) tries resumes addr count (fault_of result.0) []
+        calls (held O.contents report.old) (held O.contents report.new)) count result.0
         (λ bytes. bytes.items) }
 {
     let mut wire: Outside<Kept<R, W, B>, P, Tied> = Outside::begun(Kept::new(reader, writer));
-    let answer = dump(alloc, &mut wire, addr, count, tries, resumes);
+    let answer = dump_reporting(alloc, &mut wire, addr, count, tries, resumes, report);
     (answer, wire.into_transport().hang_up())
 }
 
-/// Reads the range of an image by `swd_image::verify` at the target behind a remote_bitbang server, and then sends `Q`.
-/// Returns the first byte that differs from the image, if any, and the connection with the error that ended it, if any.
+/// Reads the range of an image by `swd_image::verify_reporting` at the target behind a remote_bitbang server, and then
+/// sends `Q`. Returns the first byte that differs from the image, if any, and the connection with the error that ended it,
+/// if any.
 ///
 /// Whatever comes back, the verification ends unless the connection blocks, and its result matches the calls that were
-/// made. For every story with which the replies are consistent, it holds for the bytes of the memory. What is sent and
-/// read is as for [`load_remote`].
+/// made. For every story with which the replies are consistent, it holds for the bytes of the memory. What is sent,
+/// read and written to `report` is as for [`load_remote`].
 ///
 /// # Errors
 ///
-/// Returns the errors of `swd_image::verify`.
-pub fn verify_remote<P: Story, R: Read, W: Write, A: Allocator + Copy>(
+/// Returns the errors of `swd_image::verify_reporting`.
+pub fn verify_remote<P: Story, R: Read, W: Write, O: Write, A: Allocator + Copy>(
     alloc: A,
     reader: R,
     writer: W,
@@ -120,15 +135,17 @@ pub fn verify_remote<P: Story, R: Read, W: Write, A: Allocator + Copy>(
     bytes: &[u8],
     tries: u32,
     resumes: u32,
+    report: &mut Option<O>,
 ) -> (Result<Option<ByteDifference>, ImageFault>, Line<R, W>)
     ensures { VerifiesRemote P.at tries resumes addr
-        (λ calls. ∥ GoesOver R.remaining W.contents (W.contents writer) (R.remaining reader) result.1 calls ∥₁)
-        bytes.now result.0 }
+        (λ calls. ∥ GoesOver R.remaining W.contents (W.contents writer) (R.remaining reader) result.1 calls ∥₁
+        × DumpReports (port_at P.at) (λ calls. []) (FitsStory P.at) tries resumes addr (length bytes.now)
+        (fault_of result.0) [] calls (held O.contents report.old) (held O.contents report.new)) bytes.now result.0 }
 {
-    verify_begun::<P, Brand, R, W, A>(alloc, reader, writer, addr, bytes, tries, resumes)
+    verify_begun::<P, Brand, R, W, O, A>(alloc, reader, writer, addr, bytes, tries, resumes, report)
 }
 
-fn verify_begun<P: Story, B: Beginning, R: Read, W: Write, A: Allocator + Copy>(
+fn verify_begun<P: Story, B: Beginning, R: Read, W: Write, O: Write, A: Allocator + Copy>(
     alloc: A,
     reader: R,
     writer: W,
@@ -136,13 +153,16 @@ fn verify_begun<P: Story, B: Beginning, R: Read, W: Write, A: Allocator + Copy>(
     bytes: &[u8],
     tries: u32,
     resumes: u32,
+    report: &mut Option<O>,
 ) -> (Result<Option<ByteDifference>, ImageFault>, Line<R, W>)
     requires sent { B.sent ≡ W.contents writer }
     requires left { B.left ≡ R.remaining reader }
     ensures { VerifiesRemote P.at tries resumes addr
-        (λ calls. ∥ GoesOver R.remaining W.contents B.sent B.left result.1 calls ∥₁) bytes.now result.0 }
+        (λ calls. ∥ GoesOver R.remaining W.contents B.sent B.left result.1 calls ∥₁
+        × DumpReports (port_at P.at) (λ calls. []) (FitsStory P.at) tries resumes addr (length bytes.now)
+        (fault_of result.0) [] calls (held O.contents report.old) (held O.contents report.new)) bytes.now result.0 }
 {
     let mut wire: Outside<Kept<R, W, B>, P, Tied> = Outside::begun(Kept::new(reader, writer));
-    let answer = verify(alloc, &mut wire, addr, bytes, tries, resumes);
+    let answer = verify_reporting(alloc, &mut wire, addr, bytes, tries, resumes, report);
     (answer, wire.into_transport().hang_up())
 }

@@ -1,6 +1,10 @@
 //! Loads and verifies images of several pieces at a target behind OpenOCD's remote_bitbang characters.
-ghost use Rattle.std.specs.Prelude.{◌≡◌};
+ghost use Rattle.std.specs.Prelude.{◌≡◌, []};
+ghost use Rattle.swd_port.specs.Stories.{FitsStory, port_at};
+ghost use Rattle.swd_run.specs.Records.{held};
+ghost use Rattle.swd_image.specs.Reports.{fault_of};
 ghost use Rattle.swd_remote.specs.WholeRuns.{GoesOver};
+ghost use Rattle.swd_image_ends.specs.PieceReports.{LoadsReported, VerifiesReported};
 ghost use Rattle.swd_image_ends.specs.Pieces.{pieces_in};
 ghost use Rattle.swd_image_ends.specs.RemotePieces.{LoadsPiecesRemote, VerifiesPiecesRemote};
 
@@ -18,41 +22,49 @@ use swd_remote::{Beginning, Kept, Line};
 ///
 /// Whatever comes back, the load ends unless the connection blocks, and its result matches the calls that were made. For
 /// every story with which the replies are consistent, the memory contains the image if the result is `Ok`. What is sent
-/// and read is as for [`load_remote`](crate::load_remote).
+/// and read is as for [`load_remote`](crate::load_remote). The writer `report`, if there is one, gets the reports of the
+/// calls while they go on.
 ///
 /// # Errors
 ///
 /// Returns the errors of [`load_pieces`].
-pub fn load_pieces_remote<P: Story, R: Read, W: Write, A: Allocator + Copy>(
+pub fn load_pieces_remote<P: Story, R: Read, W: Write, O: Write, A: Allocator + Copy>(
     alloc: A,
     reader: R,
     writer: W,
     image: &Image<A>,
     tries: u32,
     resumes: u32,
+    report: &mut Option<O>,
 ) -> (Result<(), ImageFault>, Line<R, W>)
     ensures { LoadsPiecesRemote P.at tries resumes
-        (λ calls. ∥ GoesOver R.remaining W.contents (W.contents writer) (R.remaining reader) result.1 calls ∥₁)
+        (λ calls. ∥ GoesOver R.remaining W.contents (W.contents writer) (R.remaining reader) result.1 calls ∥₁
+        × LoadsReported (port_at P.at) (λ calls. []) (FitsStory P.at) tries resumes (pieces_in image.now)
+        (fault_of result.0) [] calls (held O.contents report.old) (held O.contents report.new))
         (pieces_in image.now) result.0 }
 {
-    load_begun::<P, Brand, R, W, A>(alloc, reader, writer, image, tries, resumes)
+    load_begun::<P, Brand, R, W, O, A>(alloc, reader, writer, image, tries, resumes, report)
 }
 
-fn load_begun<P: Story, B: Beginning, R: Read, W: Write, A: Allocator + Copy>(
+fn load_begun<P: Story, B: Beginning, R: Read, W: Write, O: Write, A: Allocator + Copy>(
     alloc: A,
     reader: R,
     writer: W,
     image: &Image<A>,
     tries: u32,
     resumes: u32,
+    report: &mut Option<O>,
 ) -> (Result<(), ImageFault>, Line<R, W>)
     requires sent { B.sent ≡ W.contents writer }
     requires left { B.left ≡ R.remaining reader }
     ensures { LoadsPiecesRemote P.at tries resumes
-        (λ calls. ∥ GoesOver R.remaining W.contents B.sent B.left result.1 calls ∥₁) (pieces_in image.now) result.0 }
+        (λ calls. ∥ GoesOver R.remaining W.contents B.sent B.left result.1 calls ∥₁
+        × LoadsReported (port_at P.at) (λ calls. []) (FitsStory P.at) tries resumes (pieces_in image.now)
+        (fault_of result.0) [] calls (held O.contents report.old) (held O.contents report.new))
+        (pieces_in image.now) result.0 }
 {
     let mut wire: Outside<Kept<R, W, B>, P, Tied> = Outside::begun(Kept::new(reader, writer));
-    let answer = load_pieces(alloc, &mut wire, image, tries, resumes);
+    let answer = load_pieces(alloc, &mut wire, image, tries, resumes, report);
     (answer, wire.into_transport().hang_up())
 }
 
@@ -62,40 +74,48 @@ fn load_begun<P: Story, B: Beginning, R: Read, W: Write, A: Allocator + Copy>(
 ///
 /// Whatever comes back, the verification ends unless the connection blocks, and its result matches the calls that were
 /// made. For every story with which the replies are consistent, it holds for the bytes of the memory. What is sent and
-/// read is as for [`load_remote`](crate::load_remote).
+/// read is as for [`load_remote`](crate::load_remote). The writer `report`, if there is one, gets the reports of the calls
+/// while they go on.
 ///
 /// # Errors
 ///
 /// Returns the errors of [`verify_pieces`].
-pub fn verify_pieces_remote<P: Story, R: Read, W: Write, A: Allocator + Copy>(
+pub fn verify_pieces_remote<P: Story, R: Read, W: Write, O: Write, A: Allocator + Copy>(
     alloc: A,
     reader: R,
     writer: W,
     image: &Image<A>,
     tries: u32,
     resumes: u32,
+    report: &mut Option<O>,
 ) -> (Result<Option<ByteDifference>, ImageFault>, Line<R, W>)
     ensures { VerifiesPiecesRemote P.at tries resumes
-        (λ calls. ∥ GoesOver R.remaining W.contents (W.contents writer) (R.remaining reader) result.1 calls ∥₁)
+        (λ calls. ∥ GoesOver R.remaining W.contents (W.contents writer) (R.remaining reader) result.1 calls ∥₁
+        × VerifiesReported (port_at P.at) (λ calls. []) (FitsStory P.at) tries resumes (pieces_in image.now) result.0 []
+        calls (held O.contents report.old) (held O.contents report.new))
         (pieces_in image.now) result.0 }
 {
-    verify_begun::<P, Brand, R, W, A>(alloc, reader, writer, image, tries, resumes)
+    verify_begun::<P, Brand, R, W, O, A>(alloc, reader, writer, image, tries, resumes, report)
 }
 
-fn verify_begun<P: Story, B: Beginning, R: Read, W: Write, A: Allocator + Copy>(
+fn verify_begun<P: Story, B: Beginning, R: Read, W: Write, O: Write, A: Allocator + Copy>(
     alloc: A,
     reader: R,
     writer: W,
     image: &Image<A>,
     tries: u32,
     resumes: u32,
+    report: &mut Option<O>,
 ) -> (Result<Option<ByteDifference>, ImageFault>, Line<R, W>)
     requires sent { B.sent ≡ W.contents writer }
     requires left { B.left ≡ R.remaining reader }
     ensures { VerifiesPiecesRemote P.at tries resumes
-        (λ calls. ∥ GoesOver R.remaining W.contents B.sent B.left result.1 calls ∥₁) (pieces_in image.now) result.0 }
+        (λ calls. ∥ GoesOver R.remaining W.contents B.sent B.left result.1 calls ∥₁
+        × VerifiesReported (port_at P.at) (λ calls. []) (FitsStory P.at) tries resumes (pieces_in image.now) result.0 []
+        calls (held O.contents report.old) (held O.contents report.new))
+        (pieces_in image.now) result.0 }
 {
     let mut wire: Outside<Kept<R, W, B>, P, Tied> = Outside::begun(Kept::new(reader, writer));
-    let answer = verify_pieces(alloc, &mut wire, image, tries, resumes);
+    let answer = verify_pieces(alloc, &mut wire, image, tries, resumes, report);
     (answer, wire.into_transport().hang_up())
 }

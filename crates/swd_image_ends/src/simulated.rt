@@ -1,14 +1,18 @@
 //! Loads, verifies and dumps images at a simulated target.
 ghost use Rattle.std.specs.Prelude.{◌≡◌, ◌≤◌, ◌+◌, ◌^◌, IfErr, IfOk, OnOk};
 ghost use Rattle.swd_host.specs.Reports.{IsAtRest};
+ghost use Rattle.swd_run.specs.Records.{held};
+ghost use Rattle.swd_image.specs.Reports.{DumpReports, fault_of};
 ghost use Rattle.swd_image.specs.Dumps.{DumpFails, Dumps};
 ghost use Rattle.swd_target.specs.Benches.{plan_of, port_of};
 ghost use Rattle.swd_image_ends.specs.Memories.{DumpsMemory, LoadsMemory, VerifiesMemory, AnyWire};
+ghost use Rattle.swd_image_ends.specs.PieceReports.{LoadsReported, VerifiesReported};
 ghost use Rattle.swd_image_ends.specs.Pieces.{LoadFailsAt, LoadsAll, VerifiesAll, VerifyFailsAt, pieces_in};
 
 use crate::pieces::{load_pieces, verify_pieces};
 use std::alloc::Allocator;
-use swd_image::{ByteDifference, ImageFault, dump};
+use std::io::Write;
+use swd_image::{ByteDifference, ImageFault, dump_reporting};
 use swd_image_files::Image;
 use swd_target::Bench;
 
@@ -20,12 +24,13 @@ use swd_target::Bench;
 /// # Errors
 ///
 /// Returns the errors of [`load_pieces`](crate::load_pieces).
-pub fn load_simulated<A: Allocator + Copy>(
+pub fn load_simulated<O: Write, A: Allocator + Copy>(
     alloc: A,
     bench: &mut Bench<A>,
     image: &Image<A>,
     tries: u32,
     resumes: u32,
+    report: &mut Option<O>,
 ) -> Result<(), ImageFault>
     requires { IsAtRest (port_of bench.old) }
     ensures memory { OnOk result (LoadsMemory (pieces_in image.now) (port_of bench.old).target.memory
@@ -34,9 +39,11 @@ pub fn load_simulated<A: Allocator + Copy>(
         bench.new) }
     ensures fault { IfErr result (LoadFailsAt port_of plan_of AnyWire tries resumes (pieces_in image.now) bench.old
         bench.new) }
+    ensures report { LoadsReported port_of plan_of AnyWire tries resumes (pieces_in image.now) (fault_of result)
+        bench.old bench.new (held O.contents report.old) (held O.contents report.new) }
     ensures plan { plan_of bench.new ≡ plan_of bench.old }
 {
-    load_pieces(alloc, bench, image, tries, resumes)
+    load_pieces(alloc, bench, image, tries, resumes, report)
 }
 
 /// Compares the memory with the pieces of an image by [`verify_pieces`](crate::verify_pieces) at a simulated target at
@@ -47,12 +54,13 @@ pub fn load_simulated<A: Allocator + Copy>(
 /// # Errors
 ///
 /// Returns the errors of [`verify_pieces`](crate::verify_pieces).
-pub fn verify_simulated<A: Allocator + Copy>(
+pub fn verify_simulated<O: Write, A: Allocator + Copy>(
     alloc: A,
     bench: &mut Bench<A>,
     image: &Image<A>,
     tries: u32,
     resumes: u32,
+    report: &mut Option<O>,
 ) -> Result<Option<ByteDifference>, ImageFault>
     requires { IsAtRest (port_of bench.old) }
     ensures memory { IfOk result (λ difference. VerifiesMemory (pieces_in image.now) difference
@@ -61,25 +69,28 @@ pub fn verify_simulated<A: Allocator + Copy>(
         difference bench.old bench.new) }
     ensures fault { IfErr result (VerifyFailsAt port_of plan_of AnyWire tries resumes (pieces_in image.now) bench.old
         bench.new) }
+    ensures report { VerifiesReported port_of plan_of AnyWire tries resumes (pieces_in image.now) result bench.old
+        bench.new (held O.contents report.old) (held O.contents report.new) }
     ensures plan { plan_of bench.new ≡ plan_of bench.old }
 {
-    verify_pieces(alloc, bench, image, tries, resumes)
+    verify_pieces(alloc, bench, image, tries, resumes, report)
 }
 
-/// Reads `count` bytes from `addr` on by `swd_image::dump` at a simulated target at rest.
+/// Reads `count` bytes from `addr` on by `swd_image::dump_reporting` at a simulated target at rest.
 ///
 /// The result is the bytes of the memory, and no word of it changes.
 ///
 /// # Errors
 ///
-/// Returns the errors of `swd_image::dump`.
-pub fn dump_simulated<A: Allocator + Copy>(
+/// Returns the errors of `swd_image::dump_reporting`.
+pub fn dump_simulated<O: Write, A: Allocator + Copy>(
     alloc: A,
     bench: &mut Bench<A>,
     addr: u32,
     count: u64,
     tries: u32,
     resumes: u32,
+    report: &mut Option<O>,
 ) -> Result<Vec<u8, A>, ImageFault>
     requires { IsAtRest (port_of bench.old) }
     ensures memory { IfOk result (λ bytes. DumpsMemory addr count bytes.items (port_of bench.old).target.memory
@@ -87,7 +98,9 @@ pub fn dump_simulated<A: Allocator + Copy>(
     ensures calls { IfOk result (λ bytes. Dumps port_of plan_of AnyWire tries resumes addr count bytes.items bench.old
         bench.new) }
     ensures fault { IfErr result (DumpFails port_of plan_of AnyWire tries resumes addr count bench.old bench.new) }
+    ensures report { DumpReports port_of plan_of AnyWire tries resumes addr count (fault_of result) bench.old bench.new
+        (held O.contents report.old) (held O.contents report.new) }
     ensures plan { plan_of bench.new ≡ plan_of bench.old }
 {
-    dump(alloc, bench, addr, count, tries, resumes)
+    dump_reporting(alloc, bench, addr, count, tries, resumes, report)
 }

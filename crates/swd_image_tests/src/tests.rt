@@ -7,6 +7,7 @@ mod expect;
 mod loads;
 mod long;
 mod memory;
+mod reports;
 
 use std::alloc::{Allocator, Global};
 use std::test::Fail;

@@ -26,5 +26,6 @@ pub fn flash<R: Read, W: Write>(
     addr: u32,
     bytes: &[u8],
 ) -> (Result<(), ImageFault>, Line<R, W>) {
-    load_remote::<Untold, _, _, _>(alloc, levels, characters, addr, bytes, 8, 0)
+    let mut none: Option<Vec<u8>> = None;
+    load_remote::<Untold, _, _, _, _>(alloc, levels, characters, addr, bytes, 8, 0, &mut none)
 }

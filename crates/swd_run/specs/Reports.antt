@@ -16,7 +16,7 @@ use Rattle.swd_host.specs.Reports.{Told}
 use Rattle.swd_script.specs.declared.batch.Until.{Until}
 use Rattle.swd_script.specs.Scripts.{Listed}
 use Rattle.swd_run.specs.declared.going_on.Stop.{Stop}
-use Rattle.swd_run.specs.Sessions.{Done}
+use Rattle.swd_run.specs.Sessions.{Done, GoesOn, most_begun}
 use Rattle.swd_port.specs.declared.mark.Mark.{Mark}
 use Rattle.swd_port.specs.Port.{Port}
 use Rattle.swd_run.specs.Unfoldings.{BatchRuns, Performs, never_came, reads_of}
@@ -118,6 +118,15 @@ pub record HasWritten (start now : Option (List ℕ)) (all : List ℕ) (told : �
 abbrev pub WritesOn : Result ℕ ℕ → Option (List ℕ) → Option (List ℕ) → List ℕ → Type 0
 WritesOn (Ok told) start now all = HasWritten start now all told
 WritesOn (Err told) start now all = Stopped told start now all
+
+-- One run of a batch that is no `until`, from the wire s to the wire t, whose last call has this report. A writer had
+-- the contents `old`, and has `new` now: all of the run's report was written, or exactly its first bytes and not all.
+pub record ReportsRun {W : Type 0} (port : W → Port) (plan : W → List Mark) (lawful : W → Type 0) (tries resumes : ℕ)
+    (batch : Listed) (s t : W) (old new : Option (List ℕ)) (told : Told) (written : Result ℕ ℕ) : Type 0 where
+  pub run : Done
+  pub last : run.told ≡ told
+  pub goes : GoesOn port plan lawful (most_begun batch) tries resumes batch s run t
+  pub writes : WritesOn written old new (run_report batch 1 run)
 
 -- The runs of a batch, from the wire s to the wire t, of which the last one has this report. A writer had the contents
 -- `old`, and has `new` now: all of the batch's report was written, or exactly its first bytes and not all.

@@ -8,7 +8,7 @@ ghost use Rattle.swd_script.specs.Readers.{listed};
 ghost use Rattle.swd_script.specs.Laws.{IsBatch};
 ghost use Rattle.swd_run.specs.declared.going_on.Stop.{Stop as StopType};
 ghost use Rattle.swd_run.specs.Reporting.{Goes};
-ghost use Rattle.swd_run.specs.Reports.{IsReported, lines_from};
+ghost use Rattle.swd_run.specs.Reports.{IsReported, ReportsRun, lines_from};
 ghost use Rattle.swd_run.specs.Sessions.{GoesOn, most_begun};
 ghost use Rattle.swd_run.specs.Unfoldings.{IsCutShort};
 
@@ -23,15 +23,17 @@ use swd_io::Block;
 use swd_port::{Answer, Wire};
 use swd_script::{Batch, Until};
 
-/// What the runs of a batch came to.
+/// The result of the runs of a batch whose report was written.
 #[derive(Drop)]
-pub(crate) struct Reported<A: Allocator> {
-    /// The report of the last one.
-    pub(crate) report: Report<A>,
+pub struct ReportedRun<A: Allocator> {
+    /// The report of the last one, with the answers of all its calls.
+    pub report: Report<A>,
     /// The number of bytes of the batch's report that were written, at most 2^64 - 1: all of them, or if the writer
     /// failed, the first ones.
-    pub(crate) written: Result<u64, u64>,
+    pub written: Result<u64, u64>,
 }
+
+pub(crate) type Reported<A> = ReportedRun<A>;
 
 // Performs the accesses of a batch, and appends the lines of its run to a report.
 fn run_reporting<W: Wire, O: Write, A: Allocator>(
@@ -89,19 +91,21 @@ fn put_run<W: Wire, O: Write, A: Allocator>(
     run_reporting(wire, batch, tries, resumes, &mut report)
 }
 
-// Performs a batch that is no `until`. Writes its report while it goes on.
-fn report_run<W: Wire, O: Write, A: Allocator + Copy>(
+/// Performs the accesses of a batch that is no `until` over a wire, as [`run_on`](crate::run_on) does, and writes their
+/// report meanwhile: each line at the latest 1,024 lines after it is known. The run goes on to its end where the writer
+/// fails. Returns `None` if an allocation fails. Nothing was sent then, and nothing written.
+pub fn run_on_reporting<W: Wire, O: Write, A: Allocator + Copy>(
     alloc: A,
     wire: &mut W,
     batch: &Batch<A>,
     tries: u32,
     resumes: u32,
     report: &mut O,
-) -> Option<Reported<A>>
+) -> Option<ReportedRun<A>>
     requires batch { IsBatch (listed batch.now) }
     requires plain { batch.now.until ≡ None }
     requires due { (W.port wire.old).link.due ≡ Nothing }
-    ensures reported { IfSome result (λ reported. IsReported W.port W.plan W.lawful tries resumes (listed batch.now)
+    ensures reports { IfSome result (λ reported. ReportsRun W.port W.plan W.lawful tries resumes (listed batch.now)
         wire.old wire.new (O.contents report.old) (O.contents report.new) (told_of reported.report)
         reported.written) }
     ensures unsent { IfNone result (wire.new ≡ wire.old) }
@@ -114,7 +118,7 @@ fn report_run<W: Wire, O: Write, A: Allocator + Copy>(
     let mut block = Block::new(report, 0);
     let ending = put_run(wire, batch, tries, resumes, &mut block, &mut answers);
     let written = finish(&mut block, &ending, answers.len());
-    Some(Reported {
+    Some(ReportedRun {
         report: ending.with(answers),
         written,
     })
@@ -143,7 +147,7 @@ fn report_until<W: Wire, O: Write, A: Allocator + Copy>(
 {
     let performed = perform(alloc, wire, batch, until, tries, resumes)?;
     let written = write_run(report, batch, &performed);
-    Some(Reported {
+    Some(ReportedRun {
         report: performed.last.report,
         written,
     })
@@ -173,6 +177,6 @@ pub(crate) fn report_batch<W: Wire, O: Write, A: Allocator + Copy>(
 {
     match batch.until {
         Some(until) => report_until(alloc, wire, batch, until, tries, resumes, report),
-        None => report_run(alloc, wire, batch, tries, resumes, report),
+        None => run_on_reporting(alloc, wire, batch, tries, resumes, report),
     }
 }

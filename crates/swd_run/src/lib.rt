@@ -21,6 +21,7 @@ mod trace_file;
 mod traced;
 mod verified;
 
+pub use batch_runs::{ReportedRun, run_on_reporting};
 pub use counting::count_accesses;
 pub use engine::{Finished, run_batches};
 pub use fault::{EngineFault, RunFault, TextsFault};

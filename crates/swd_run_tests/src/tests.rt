@@ -39,6 +39,11 @@ struct Ran {
     text: Vec<u8>,
 }
 
+/// No writer of a report.
+fn no_report() -> Option<Vec<u8>> {
+    None
+}
+
 // A run that ended so, in which no word differed and no access met a bus error.
 fn ended<F>(ended: End) -> Result<Finished, F> {
     Ok(Finished {

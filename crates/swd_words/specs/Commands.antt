@@ -193,7 +193,8 @@ with_target_options app =
 -- the options of each command over an image
 abbrev pub with_image_options : App → App
 with_image_options app =
-    with_target_options (with_rule (with_rule (with_rule app format_rule) tries_rule) resume_rule)
+    with_target_options
+    (with_rule (with_rule (with_rule (with_rule app format_rule) tries_rule) resume_rule) report_rule)
 
 -- the commands `load` and `verify`
 abbrev pub over_image : Text → App
@@ -306,6 +307,7 @@ pub record IsImageOf (image : ImageLine) (name : Text) (rows : List Row) : Type 
   pub file : Some (string_bytes image.file) ≡ first_of (codes "FILE") rows
   pub tries : AreTries image.tries (first_of (codes "tries") rows)
   pub resumes : AreResumes image.resumes (first_of (codes "resume") rows)
+  pub report : option_map string_bytes image.report ≡ first_of (codes "report") rows
   pub target : IsTargetIn image.memory rows
   pub format : IsFormatOf image.format (string_bytes image.file) (first_of (codes "format") rows)
 

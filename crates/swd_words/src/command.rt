@@ -135,6 +135,8 @@ pub struct ImageLine {
     pub tries: u32,
     /// How often a call is resumed after a lost acknowledgement, at most 1,000 times.
     pub resumes: u32,
+    /// The file to which the reports of the calls are written, if they are to be.
+    pub report: Option<String>,
     /// The memory of the simulated target, or `None` for a target behind the standard streams.
     pub memory: Option<MemoryLine>,
 }

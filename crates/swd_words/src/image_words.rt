@@ -11,8 +11,8 @@ use crate::command::{ImageAction, ImageLine, LineFault};
 use crate::format_words::{FORMAT_FORM, format_arg, format_in};
 use crate::memory_words::{target_in, with_target_options};
 use crate::words::{
-    RESUMES_RANGE, TRIES_RANGE, owned, refused, resume_arg, resumes_in, tries_arg, tries_in,
-    unknown, with_arg, with_sub,
+    RESUMES_RANGE, TRIES_RANGE, owned, refused, report_arg, resume_arg, resumes_in, tries_arg,
+    tries_in, unknown, with_arg, with_sub,
 };
 use clap::error::ErrorKind;
 use clap::{Arg, ArgMatches, Command};
@@ -42,6 +42,11 @@ With --memory the target is simulated. The memory's FILE has its bytes from
 overwritten after a load, however the run ended. The plan is one of swd run, and
 injects faults.
 
+--report FILE has the lines of swd run for each access of the load: the reads of
+the partial words, and then up to 65,536 writes in a call. FILE is overwritten,
+and written while the load goes on, so after a load that was killed it shows
+which words were certainly written. With - it is appended to standard error.
+
 A line on standard error has the result, or the first error of FILE:
   swd: loaded 65536 bytes at 20000000
   swd: loaded 1234 bytes in 3 pieces
@@ -57,6 +62,8 @@ FILE and ADDR are as for swd load, and so are --remote and --memory, whose FILE
 is only read. The pieces of FILE are read and compared in its order,
 up to the first one that differs.
 
+--report FILE is as for swd load. A call has up to 65,536 reads.
+
 A line on standard error has the result, or the first byte that differs:
   swd: verified 65536 bytes at 20000000
   swd: verified 1234 bytes in 3 pieces
@@ -70,8 +77,8 @@ const DUMP_ABOUT: &str = "Dump a target's memory to a file";
 const DUMP_AFTER: &str = "\
 BYTES is 1 to 10 decimal digits, and ADDR 1 to 8 hexadecimal digits, after an
 optional 0x. --remote and --memory are as for swd load; the memory's FILE is
-only read. FILE has the format of its name or of --format, as for swd load. In a
-hex or srec file the addresses are the target's.
+only read. --report is as for swd verify. FILE has the format of its name or of
+--format, as for swd load. In a hex or srec file the addresses are the target's.
 
 FILE is overwritten once all bytes are read; otherwise it is unchanged. A line
 on standard error has the result:
@@ -119,7 +126,9 @@ fn with_options<'a>(alloc: Global, command: Command<'a>) -> Result<Command<'a>, 
     let format = with_arg(command, format_arg(alloc))?;
     let tries = with_arg(format, tries_arg(alloc))?;
     let resume = with_arg(tries, resume_arg(alloc))?;
-    with_target_options(alloc, resume)
+    let help = "Write the report of the calls to FILE, - is stderr";
+    let report = with_arg(resume, report_arg(alloc, help))?;
+    with_target_options(alloc, report)
 }
 
 // Returns the command `load` or `verify`.
@@ -239,6 +248,9 @@ pub(crate) fn image_line(
     let Some(resumes) = resumes_in(matches.get_str("resume")) else {
         return Err(refused(alloc, ErrorKind::InvalidValue, RESUMES_RANGE));
     };
+    let Ok(report) = owned(alloc, matches.get_str("report")) else {
+        return Err(LineFault::Memory);
+    };
     let memory = target_in(alloc, matches)?;
     let Some(format) = format_in(matches.get_str("format"), file.as_str()) else {
         return Err(refused(alloc, ErrorKind::InvalidValue, FORMAT_FORM));
@@ -250,6 +262,7 @@ pub(crate) fn image_line(
         format,
         tries,
         resumes,
+        report,
         memory,
     })
 }

@@ -242,15 +242,15 @@ pub(crate) fn remote_arg<'a>(alloc: Global) -> Arg<'a>
         .help("The target is a remote_bitbang server on the streams")
 }
 
-// Returns the option for the report's file.
-fn report_arg<'a>(alloc: Global) -> Arg<'a>
+/// Returns the option for the report's file.
+pub(crate) fn report_arg<'a>(alloc: Global, help: &'a str) -> Arg<'a>
     ensures rule { rule_of result ≡ report_rule }
     ensures local { result.global ≡ false }
 {
     Arg::new(alloc, "report")
         .long("report")
         .value_name("FILE")
-        .help("With --remote: write the report to FILE, - is stderr")
+        .help(help)
 }
 
 // Returns the flag for the lines on standard error that say how far the run is.
@@ -352,7 +352,8 @@ fn run_command<'a>(alloc: Global) -> Result<Command<'a>, AllocError>
 {
     let here = run_here(alloc)?;
     let remote = with_arg(here, remote_arg(alloc))?;
-    let report = with_arg(remote, report_arg(alloc))?;
+    let help = "With --remote: write the report to FILE, - is stderr";
+    let report = with_arg(remote, report_arg(alloc, help))?;
     with_arg(report, progress_arg(alloc))
 }
 

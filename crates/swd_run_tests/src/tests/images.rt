@@ -1,6 +1,7 @@
 //! Images over a served line, and the files that they come from.
 use super::expect::{expect_at, expect_eq, expect_eq_at};
 use super::line::{BASE, Cut, End, Task, Untold, plain, server_of, transfers};
+use super::no_report;
 use linked_list_allocator::LocalHeap;
 use std::test::Fail;
 use swd_fakes::FailingReader;
@@ -27,10 +28,10 @@ fn an_image_goes_over_a_line_and_back(rt: HostRuntime) -> Result<(), Fail> {
     for piece in [usize::MAX, 7, 1] {
         let server = server_of(rt.alloc(), &plain(&[]), Cut::Never, piece)?;
         let end = End { server: &server };
-        let (answer, line) = load_remote::<Untold, _, _, _>(rt.alloc(), end, end, AT, IMAGE, 8, 0);
+        let (answer, line) = load_remote::<Untold, _, _, _, _>(rt.alloc(), end, end, AT, IMAGE, 8, 0, &mut no_report());
         expect_eq_at(&rt, &piece, &answer, &Ok(()));
         expect_eq_at(&rt, &piece, &line.fault, &None);
-        let (answer, line) = dump_remote::<Untold, _, _, _>(rt.alloc(), end, end, BASE, 8, 8, 0);
+        let (answer, line) = dump_remote::<Untold, _, _, _, _>(rt.alloc(), end, end, BASE, 8, 8, 0, &mut no_report());
         expect_eq_at(
             &rt,
             &piece,
@@ -44,7 +45,7 @@ fn an_image_goes_over_a_line_and_back(rt: HostRuntime) -> Result<(), Fail> {
             expected: 0xc4,
         };
         for (bytes, difference) in [(IMAGE, None), (OTHER, Some(different))] {
-            let (answer, line) = verify_remote::<Untold, _, _, _>(
+            let (answer, line) = verify_remote::<Untold, _, _, _, _>(
                 rt.alloc(),
                 end,
                 end,
@@ -52,6 +53,7 @@ fn an_image_goes_over_a_line_and_back(rt: HostRuntime) -> Result<(), Fail> {
                 bytes,
                 8,
                 0,
+                &mut no_report(),
             );
             expect_eq_at(&rt, &piece, &answer, &Ok(difference));
             expect_eq_at(&rt, &piece, &line.fault, &None);
@@ -65,7 +67,7 @@ fn an_image_goes_over_a_line_and_back(rt: HostRuntime) -> Result<(), Fail> {
 fn a_load_over_a_line_is_logged(rt: HostRuntime) -> Result<(), Fail> {
     let server = server_of(rt.alloc(), &plain(&[]), Cut::Never, usize::MAX)?;
     let end = End { server: &server };
-    let (answer, _) = load_remote::<Untold, _, _, _>(rt.alloc(), end, end, AT, IMAGE, 8, 0);
+    let (answer, _) = load_remote::<Untold, _, _, _, _>(rt.alloc(), end, end, AT, IMAGE, 8, 0, &mut no_report());
     expect_eq(&rt, &answer, &Ok(()));
     let wanted = [
         (true, BASE, 0),
@@ -162,7 +164,7 @@ fn an_image_ends_at_what_it_meets(rt: HostRuntime) -> Result<(), Fail> {
         };
         let server = server_of(rt.alloc(), &task, cut, usize::MAX)?;
         let end = End { server: &server };
-        let (answer, line) = load_remote::<Untold, _, _, _>(
+        let (answer, line) = load_remote::<Untold, _, _, _, _>(
             rt.alloc(),
             end,
             end,
@@ -170,6 +172,7 @@ fn an_image_ends_at_what_it_meets(rt: HostRuntime) -> Result<(), Fail> {
             IMAGE,
             8,
             resumes,
+            &mut no_report(),
         );
         expect_eq_at(&rt, &name, &answer, &wanted);
         expect_eq_at(&rt, &name, &line.fault, &fault);

@@ -1,9 +1,13 @@
-use Rattle.std.proofs.Common.{subst}
+use Rattle.std.proofs.Common.{◌≡◌, ◌∙◌, ◌++◌, [], ℕ, Bool, List, None, ap, ap₂, refl, subst, sym}
+use Rattle.std.proofs.lemmas.List.{append-nil}
 use Rattle.std.proofs.lemmas.Result.{err_from_is_err_and}
+use Rattle.swd_port.specs.declared.access.Access.{Access}
+use Rattle.swd_run.specs.Records.{held}
 use Rattle.swd_image.specs.Bytes.{word_of}
-use Rattle.swd_image.specs.Lists.{last_word, needs_head, needs_tail, read_if, word_if}
+use Rattle.swd_image.specs.Lists.{edge_list, last_word, needs_head, needs_tail, read_if, word_if}
 use Rattle.swd_image.specs.Sessions.{FailsAs, ReadsAs}
 use Rattle.swd_image.proofs.CallLemmas.{fails_after, reads_append}
+use Rattle.swd_image.proofs.ReportLemmas.{to_after, to_front}
 use Rattle.swd_image.proofs.loading.read_edges.Goals as goal
 
 pub returns-in_err-tail-clause-fault : goal.returns-in_err-tail-clause-fault
@@ -45,3 +49,53 @@ returns-clause-read g c =
     (subst (λ a. Reads (read_if t a) (word_if t c.in_ok-tail.tail) r u) c.last_word.ensures
     (subst (λ b. Reads (read_if b c.last_word.result) (word_if b c.in_ok-tail.tail) r u) c.needs_tail-last.ensures
     c.in_ok-tail.ensures.read))
+
+-- the reads of both edges, by the words and tests that were computed
+edges : (a b : ℕ) (m n : Bool) (c d : Bool) (x y : ℕ) → m ≡ c → n ≡ d → a ≡ x → b ≡ y
+    → read_if c x ++ read_if d y ≡ read_if m a ++ read_if n b
+edges a b m n c d x y e f g i =
+    ap₂ (λ (xs ys : List Access). xs ++ ys) (sym (ap₂ read_if e g)) (sym (ap₂ read_if f i))
+
+pub returns-in_err-head-clause-report : goal.returns-in_err-head-clause-report
+returns-in_err-head-clause-report g c =
+    let addr = c.args.addr in
+    let len = c.args.len in
+    let p = err_from_is_err_and c.from_residual.result c.from_residual.ensures.1 in
+    rw (p.1, p.2) (to_front g.W.Wire.port g.W.Wire.plan g.W.Wire.lawful c.args.tries c.args.resumes c.args.wire.now
+    c.read_word.new.wire (read_if c.needs_head-first.result c.word_of.result)
+    (read_if (needs_tail addr len) (last_word addr len)) (edge_list addr len) _
+    (held g.O.Write.contents c.args.report.now) (held g.O.Write.contents c.read_word.new.report)
+    c.in_err-head.ensures.report
+    (edges c.word_of.result (last_word addr len) c.needs_head-first.result (needs_tail addr len) (needs_head addr len)
+    (needs_tail addr len) (word_of addr) (last_word addr len) c.needs_head-first.ensures refl c.word_of.ensures refl))
+
+pub returns-in_err-tail-clause-report : goal.returns-in_err-tail-clause-report
+returns-in_err-tail-clause-report g c =
+    let addr = c.args.addr in
+    let len = c.args.len in
+    let last = read_if c.needs_tail-last.result c.last_word.result in
+    let first = read_if c.needs_head-first.result c.word_of.result in
+    let p = err_from_is_err_and c.from_residual-in_err-tail.result c.from_residual-in_err-tail.ensures.1 in
+    rw (p.1, p.2) (to_after g.W.Wire.port g.W.Wire.plan g.W.Wire.lawful c.args.tries c.args.resumes c.args.wire.now
+    c.read_word.new.wire c.read_word-2.new.wire first last [] (edge_list addr len) _
+    (held g.O.Write.contents c.args.report.now) (held g.O.Write.contents c.read_word.new.report)
+    (held g.O.Write.contents c.read_word-2.new.report) c.in_ok-head.ensures.report c.in_err-tail.ensures.report
+    (edges c.word_of.result c.last_word.result c.needs_head-first.result c.needs_tail-last.result (needs_head addr len)
+    (needs_tail addr len) (word_of addr) (last_word addr len) c.needs_head-first.ensures c.needs_tail-last.ensures
+    c.word_of.ensures c.last_word.ensures
+    ∙ ap (λ l. first ++ l) (sym (append-nil last))) (λ e. refl))
+
+pub returns-clause-report : goal.returns-clause-report
+returns-clause-report g c =
+    let addr = c.args.addr in
+    let len = c.args.len in
+    let last = read_if c.needs_tail-last.result c.last_word.result in
+    let first = read_if c.needs_head-first.result c.word_of.result in
+    to_after g.W.Wire.port g.W.Wire.plan g.W.Wire.lawful c.args.tries c.args.resumes c.args.wire.now
+    c.read_word.new.wire c.read_word-2.new.wire first last [] (edge_list addr len) None
+    (held g.O.Write.contents c.args.report.now) (held g.O.Write.contents c.read_word.new.report)
+    (held g.O.Write.contents c.read_word-2.new.report) c.in_ok-head.ensures.report c.in_ok-tail.ensures.report
+    (edges c.word_of.result c.last_word.result c.needs_head-first.result c.needs_tail-last.result (needs_head addr len)
+    (needs_tail addr len) (word_of addr) (last_word addr len) c.needs_head-first.ensures c.needs_tail-last.ensures
+    c.word_of.ensures c.last_word.ensures
+    ∙ ap (λ l. first ++ l) (sym (append-nil last))) (λ e. refl)

@@ -2,7 +2,9 @@ use Rattle.std.proofs.Common.{◌≡◌, ℕ, [], ◌∷◌, List, ap, arith, ge
 use Rattle.swd_port.specs.PlainMemory.{reads}
 use Rattle.swd_image.specs.Lists.{read_if, word_if}
 use Rattle.swd_image.specs.Sessions.{ReadsAs, none}
+use Rattle.swd_run.specs.Records.{held}
 use Rattle.swd_image.proofs.LoadLemmas.{reads_many}
+use Rattle.swd_image.proofs.ReportLemmas.{to_nothing}
 use Rattle.swd_image.proofs.loading.read_word.Goals as goal
 
 one_item : (xs : List ℕ) (x : ℕ) → length xs ≡ 1 → x ≡ get_or xs 0 x → xs ≡ x ∷ []
@@ -36,3 +38,9 @@ returns-clause-read g c =
     (subst (λ l. ReadsAs g.W.Wire.port g.W.Wire.plan g.W.Wire.lawful c.args.tries c.args.resumes (reads c.args.at 1) l
     s t)
     (one_item c.in_ok-words.words.items word l c.index.ensures) c.in_ok-words.ensures.read)
+
+pub returns-then-not-needed-clause-report : goal.returns-then-not-needed-clause-report
+returns-then-not-needed-clause-report g c =
+    to_nothing g.W.Wire.port g.W.Wire.plan g.W.Wire.lawful c.args.tries c.args.resumes c.args.wire.now
+    (read_if c.args.needed c.args.at) (held g.O.Write.contents c.args.report.now)
+    (ap (λ b. read_if b c.args.at) c.if-not-needed.true)

@@ -1,8 +1,13 @@
-use Rattle.std.proofs.Common.{Option, None, Some}
-use Rattle.std.specs.Prelude.{IfNone}
+use Rattle.std.proofs.Common.{◌≡◌, ◌∙◌, ap, ap₂, ℕ, List, Option, None, Result, Some, subst, sym}
+use Rattle.std.specs.Prelude.{IfNone, IfSome}
+use Rattle.swd_port.specs.declared.mark.Mark.{Mark}
+use Rattle.swd_port.specs.Port.{Port}
+use Rattle.swd_host.specs.Reports.{Told, told_of}
 use Rattle.swd_script.specs.Readers.{listed}
-use Rattle.swd_run.specs.Sessions.{unsent}
-use Rattle.swd_run.proofs.UnfoldingLemmas.{cut_first}
+use Rattle.swd_script.specs.Scripts.{Listed}
+use Rattle.swd_run.specs.Reports.{IsReported, ReportsRun, WritesOn, run_report}
+use Rattle.swd_run.specs.Sessions.{Done, unsent}
+use Rattle.swd_run.proofs.UnfoldingLemmas.{cut_first, performed_once}
 use Rattle.swd_run.proofs.batch_runs.report_batch.Goals as goal
 
 -- what follows where there is nothing
@@ -10,9 +15,39 @@ if_none : {X P Q : Type 0} (answer : Option X) → (P → Q) → IfNone answer P
 if_none None f p = f p
 if_none (Some x) f p = tt
 
+-- what follows where there is something
+if_some : {X : Type 0} {P Q : X → Type 0} (answer : Option X) → ((x : X) → P x → Q x) → IfSome answer P
+    → IfSome answer Q
+if_some None f p = tt
+if_some (Some x) f p = f x p
+
 pub returns-in-None-clause-cut : goal.returns-in-None-clause-cut
 returns-in-None-clause-cut g c =
-    if_none c.report_run.result
+    if_none c.run_on_reporting.result
     (λ same. cut_first g.W.Wire.port g.W.Wire.plan g.W.Wire.lawful c.args.tries c.args.resumes
-    (listed c.args.batch.now) c.args.wire.now c.requires.batch c.report_run.new.wire (unsent same) (λ plain. same))
-    c.report_run.ensures.unsent
+    (listed c.args.batch.now) c.args.wire.now c.requires.batch c.run_on_reporting.new.wire (unsent same)
+    (λ plain. same)) c.run_on_reporting.ensures.unsent
+
+module _ {W : Type 0} (port : W → Port) (plan : W → List Mark) (lawful : W → Type 0) (tries resumes : ℕ)
+    (batch : Listed) (s t : W) (old new : Option (List ℕ)) (told : Told) (written : Result ℕ ℕ) where
+  -- the report of one run is that of a batch that is no `until`
+  reported_once : batch.until ≡ None → ReportsRun port plan lawful tries resumes batch s t old new told written
+      → IsReported port plan lawful tries resumes batch s t old new told written
+  reported_once plain h =
+      let (runs, last_is, reads, performs) = performed_once port plan lawful tries resumes batch s h.run t plain h.goes
+      in
+      record {
+        runs = runs;
+        last = ap (λ (run : Done). run.told) last_is ∙ h.last;
+        performs = performs;
+        writes = subst (WritesOn written old new)
+            (ap₂ (λ (n : ℕ) (run : Done). run_report batch n run) (sym reads) (sym last_is)) h.writes;
+      }
+
+pub returns-in-None-clause-reported : goal.returns-in-None-clause-reported
+returns-in-None-clause-reported g c =
+    if_some c.run_on_reporting.result
+    (λ reported h. reported_once g.W.Wire.port g.W.Wire.plan g.W.Wire.lawful c.args.tries c.args.resumes
+    (listed c.args.batch.now) c.args.wire.now c.run_on_reporting.new.wire (g.O.Write.contents c.args.report.now)
+    (g.O.Write.contents c.run_on_reporting.new.report) (told_of reported.report) reported.written c.in-None.is h)
+    c.run_on_reporting.ensures.reports

@@ -21,10 +21,11 @@ returns c = record {
   resumes = subst (λ (word : Option Text). AreResumes c.in-Some-resumes_in.resumes word)
       (c.get_str-4.ensures ∙ first_value-rows (found_of c.args.matches.now) (codes "resume"))
       c.in-Some-resumes_in.ensures;
+  report = c.in-Ok.ensures ∙ c.get_str-5.ensures ∙ first_value-rows (found_of c.args.matches.now) (codes "report");
   target = c.in_ok-memory.ensures;
   format = subst (λ (file : Text). IsFormatOf c.in-Some-format_in.format file
       (first_of (codes "format") (rows_of (found_of c.args.matches.now)))) c.as_str.ensures.value
       (subst (λ (word : Option Text). IsFormatOf c.in-Some-format_in.format c.as_str.result.now word)
-      (c.get_str-5.ensures ∙ first_value-rows (found_of c.args.matches.now) (codes "format"))
+      (c.get_str-6.ensures ∙ first_value-rows (found_of c.args.matches.now) (codes "format"))
       c.in-Some-format_in.ensures);
 }

@@ -1,12 +1,15 @@
-use Rattle.std.proofs.Common.{◌∙◌, ◌%◌, ap, arith, length, subst}
+use Rattle.std.proofs.Common.{◌∙◌, ◌%◌, Some, ap, arith, length, subst}
 use Rattle.std.proofs.lemmas.Result.{IfOk-weaker}
 use Rattle.swd_port.specs.PlainMemory.{reads}
 use Rattle.swd_port.proofs.ReadLists.{length_reads}
+use Rattle.swd_run.specs.Records.{held}
+use Rattle.swd_image.specs.declared.fault.ImageFault.TheVariants.{Range}
 use Rattle.swd_image.specs.Bytes.{bytes_of, word_of}
 use Rattle.swd_image.specs.Sessions.{ReadsAs}
 use Rattle.swd_image.proofs.DumpLemmas.{dumped, enough}
 use Rattle.swd_image.proofs.LoadLemmas.{reads_many}
-use Rattle.swd_image.proofs.dumping.dump.Goals as goal
+use Rattle.swd_image.proofs.ReportLemmas.{to_none}
+use Rattle.swd_image.proofs.dumping.dump_reporting.Goals as goal
 
 pub bytes_of-requires : goal.bytes_of-requires
 bytes_of-requires g c = λ some.
@@ -31,3 +34,8 @@ returns-clause-dumps g c =
     dumped g.W.Wire.port g.W.Wire.plan g.W.Wire.lawful c.args.tries c.args.resumes c.args.addr c.args.count s t
     bytes.items words (omega arith) all
     (is ∙ ap (λ l. bytes_of l (c.args.addr % 4) c.args.count) c.as_slice.ensures.value)) c.bytes_of.ensures.bytes
+
+pub returns-then-addr-count-clause-report : goal.returns-then-addr-count-clause-report
+returns-then-addr-count-clause-report g c =
+    to_none g.W.Wire.port g.W.Wire.plan g.W.Wire.lawful c.args.tries c.args.resumes c.args.wire.now _ (Some Range)
+    (held g.O.Write.contents c.args.report.now) (λ e. absurd cc) (λ end e. cc) (λ e. cc)

@@ -1,6 +1,6 @@
 use Rattle.std.proofs.Common.{◌∙◌, ◌%◌, ap, length}
 use Rattle.swd_image.proofs.DumpLemmas.{length_bytes}
-use Rattle.swd_image.proofs.verifying.verify.Goals as goal
+use Rattle.swd_image.proofs.verifying.verify_reporting.Goals as goal
 
 pub first_difference-requires-clause-same : goal.first_difference-requires-clause-same
 first_difference-requires-clause-same g c =
