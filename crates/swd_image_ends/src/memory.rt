@@ -26,9 +26,9 @@ fn put_word<A: Allocator>(memory: &mut Memory<A>, addr: u32, word: u32)
     }
 }
 
-/// Returns the memory of these bytes from address `base` on: their words, the least significant byte first, and no other
-/// word. Its log has the transfers that put the words there, and room for `spare` more, as far as a log may have 2^32 - 1
-/// in all. Returns `None` if out of memory.
+/// Returns the memory of these bytes from address `base` on: their words, the least significant byte first, and no
+/// other word. Its log has the transfers that put the words there, and room for `spare` more, as far as a log may have
+/// 2^32 - 1 in all. Returns `None` if out of memory.
 pub fn memory_with<A: Allocator + Copy>(
     alloc: A,
     base: u32,

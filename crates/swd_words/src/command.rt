@@ -19,7 +19,8 @@ pub enum Line {
     /// `swd run SCRIPT [--plan FILE]` or `swd run SCRIPT --remote --report FILE`. Both take `[--tries N] [--resume N]
     /// [--trace FILE] [--accesses FILE] [--strict]` too.
     Run(RunLine),
-    /// `swd target MEMORY [--plan FILE] [--log FILE] [--trace FILE]`. MEMORY is SCRIPT, or `--memory FILE [--base ADDR]`.
+    /// `swd target MEMORY [--plan FILE] [--log FILE] [--trace FILE]`. MEMORY is SCRIPT or
+    /// `--memory FILE [--base ADDR]`.
     Target(TargetLine),
     /// `swd load ADDR FILE TARGET [--format FORMAT] [--tries N] [--resume N]`, the same with `verify`, or
     /// `swd dump ADDR BYTES FILE TARGET [--format FORMAT] [--tries N] [--resume N]`. TARGET is `--remote` or

@@ -1,5 +1,5 @@
-//! The options for the target of `swd load`, `swd verify` and `swd dump`: behind the standard streams, or simulated. And
-//! those for the memory that `swd target` serves.
+//! The options for the target of `swd load`, `swd verify` and `swd dump`: behind the standard streams, or simulated.
+//! And those for the memory that `swd target` serves.
 ghost use Rattle.std.specs.Prelude.{◌≡◌, ◌%◌, IfOk, IfSome, None, false, true};
 ghost use Rattle.std.specs.Option.{option_map};
 ghost use Rattle.clap.specs.Words.{app_of, found_of, rows_of, rule_of};

@@ -2,8 +2,8 @@ use Rattle.std.proofs.Common.{rules, ◌≡◌, ◌-◌, ◌^◌, min, [], ◌�
 use Rattle.swd_port.specs.declared.access.Transfer.{Transfer}
 use Rattle.swd_clocked.specs.Marked.{tally_of, cycles_of}
 use Rattle.swd_ends.specs.TargetLogs.{counts_line, transfer_lines}
-use Rattle.swd_ends.specs.LiveFiles.{AddsIf, AddsRestIf, first_characters, first_lines, log_at, trace_at, transfers_at, whole_log}
-use Rattle.swd_ends.specs.LiveFiles.{whole_trace}
+use Rattle.swd_ends.specs.LiveFiles.{AddsIf, AddsRestIf, first_characters, first_lines, log_at, trace_at, transfers_at}
+use Rattle.swd_ends.specs.LiveFiles.{whole_log, whole_trace}
 use Rattle.swd_ends.proofs.LiveLemmas.{finishes_if, lines_joined, take_whole, text_joined}
 use Rattle.swd_ends.proofs.live_files.LiveFiles.finish.Goals as goal
 
