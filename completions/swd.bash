@@ -29,7 +29,7 @@ _swd() {
         words='--plan --tries --resume --trace --accesses --strict --remote --report --help -h'
         ;;
     target)
-        words='--plan --log --trace --help -h'
+        words='--memory --base --plan --log --trace --help -h'
         ;;
     draw)
         words='--resync --overrun --help -h'

@@ -36,6 +36,8 @@ complete -c swd -n '__fish_seen_subcommand_from run' -l remote -d 'The target is
 complete -c swd -n '__fish_seen_subcommand_from run' -l report -r -F -d 'With --remote: write the report to FILE, - is stderr'
 complete -c swd -n '__fish_seen_subcommand_from run' -s h -l help -d 'Print help'
 complete -c swd -n '__fish_seen_subcommand_from target' -F
+complete -c swd -n '__fish_seen_subcommand_from target' -l memory -r -F -d 'In place of SCRIPT: FILE has the memory (overwrites it)'
+complete -c swd -n '__fish_seen_subcommand_from target' -l base -x -d 'With --memory: its address, hexadecimal; else 20000000'
 complete -c swd -n '__fish_seen_subcommand_from target' -l plan -r -F -d 'Inject faults by the plan in FILE'
 complete -c swd -n '__fish_seen_subcommand_from target' -l log -r -F -d 'Write the log to FILE (overwrites it)'
 complete -c swd -n '__fish_seen_subcommand_from target' -l trace -r -F -d 'Write the trace to FILE (overwrites it)'

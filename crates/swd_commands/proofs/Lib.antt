@@ -1,3 +1,4 @@
 pub mod RecordLemmas
 pub mod ImageLemmas
 pub mod SimulatedLemmas
+mod ServedLemmas

@@ -103,7 +103,7 @@ Performs (Draw draw) status text left old new = PerformsDraw draw status text le
 Performs (Encode file) status text left old new =
     (answer : Result (Unit {0}) EncodeFault) × Encodes answer text old new × (status ≡ status_of (is_ok answer))
 Performs (Run run) status text left old new = PerformsWhere run.remote run status text old new
--- the script of a target can't be standard input, which comes from the debugger
+-- the script or the memory of a target can't be standard input, which comes from the debugger
 Performs (Target target) status text left old new = NotOpened status old new
 -- nor can the file of an image, since standard input is the target's
 Performs (Image image) status text left old new = NotOpened status old new

@@ -7,6 +7,8 @@ mod decode_command;
 mod draw_command;
 mod image_command;
 mod image_file;
+mod memory_file;
+mod memory_target;
 mod noted;
 mod open_files;
 mod program;

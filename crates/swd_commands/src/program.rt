@@ -1,12 +1,13 @@
 //! Carries out the program's arguments.
 ghost use Rattle.std.specs.Prelude.{◌≡◌, ◌≢◌, ◌⊎◌, IfNone, IfSome, Some, codes};
-ghost use Rattle.swd_commands.specs.Inputs.{IsStandard, named};
+ghost use Rattle.swd_commands.specs.Inputs.{IsStandard, named, served_file};
 ghost use Rattle.swd_commands.specs.Statuses.{AnswersOver, Performs, PerformsOver, PerformsRun, PerformsUnder};
 ghost use Rattle.swd_commands.specs.Statuses.{status_of_run};
 
 use crate::decode_command::perform_decode;
 use crate::draw_command::perform_draw;
 use crate::image_command::perform_image;
+use crate::memory_target::perform_memory_target;
 use crate::noted::{Noted, Seen};
 use crate::open_files::{Files, Identity};
 use crate::reason::texts_status;
@@ -24,7 +25,7 @@ use std::io::{Read, Write};
 use swd_bits::one_text;
 use swd_run::{Finished, Records, RunFault, run_text};
 use swd_text::encode_text;
-use swd_words::{DecodeLine, DrawLine, Line, LineFault, RunLine, line};
+use swd_words::{DecodeLine, DrawLine, Line, LineFault, RunLine, ServedMemory, line};
 
 /// Carries out the arguments, the program's name first, and returns the status. Standard output gets the requested
 /// text and nothing else.
@@ -89,6 +90,16 @@ fn print_help<O: Write + KeepsError, E: Write>(error: &Error, output: &mut O, er
     FAULT
 }
 
+// Returns the file of a served memory.
+fn served_file(memory: &ServedMemory) -> &str
+    ensures { result.now ≡ served_file memory.now }
+{
+    match memory {
+        ServedMemory::Script(texts) => texts.script.as_str(),
+        ServedMemory::File(memory) => memory.file.as_str(),
+    }
+}
+
 // Returns the file that a command reads, such as the script of a run, or the file of a dump. Returns `None` for standard
 // input: without a name, and for `-`.
 fn file_of(line: &Line) -> Option<&str>
@@ -104,7 +115,7 @@ fn file_of(line: &Line) -> Option<&str>
             None => return None,
         },
         Line::Run(run) => run.script.as_str(),
-        Line::Target(target) => target.script.as_str(),
+        Line::Target(target) => served_file(&target.memory),
         Line::Image(image) => image.file.as_str(),
     };
     if name == "-" { None } else { Some(name) }
@@ -132,13 +143,22 @@ fn carry_out<I: Read + KeepsError, F: Files, O: Write + KeepsError, E: Write>(
         );
         return status;
     }
+    if let Line::Target(target) = line
+        && let ServedMemory::File(memory) = &target.memory
+    {
+        return perform_memory_target(alloc, target, memory, input, files, output, errors);
+    }
     match files.open(name) {
         Ok(opened) => {
             let source = Some(opened.identity);
             let mut file = Watched::new(opened.file);
-            if let Line::Target(target) = line {
+            if let Line::Target(target) = line
+                && let ServedMemory::Script(texts) = &target.memory
+            {
                 let script = &mut file;
-                return perform_target(alloc, target, script, source, input, files, output, errors);
+                return perform_target(
+                    alloc, target, texts, script, source, input, files, output, errors,
+                );
             }
             if let Line::Run(run) = line
                 && run.remote
@@ -200,7 +220,12 @@ fn make_call<R: Read + KeepsError, F: Files, O: Write + KeepsError, E: Write>(
             tell(errors, "SCRIPT is a file: standard input is the target's")
         }
         Line::Run(run) => perform_run(alloc, run, input, source, files, output, errors),
-        Line::Target(_) => tell(errors, "SCRIPT is a file: standard input is the debugger's"),
+        Line::Target(target) => match &target.memory {
+            ServedMemory::Script(_) => {
+                tell(errors, "SCRIPT is a file: standard input is the debugger's")
+            }
+            ServedMemory::File(_) => tell(errors, "cannot open -: it has to be a file"),
+        },
         Line::Image(image) if image.memory.is_some() => tell(errors, "FILE has to be a file"),
         Line::Image(_) => tell(errors, "FILE is a file: standard input is the target's"),
     }
@@ -226,6 +251,7 @@ fn perform_run<S: Read + KeepsError, F: Files, O: Write + KeepsError, E: Write>(
             plan: None,
             written: None,
             trace: None,
+            memory: None,
         };
         return perform_under(
             alloc,
@@ -245,6 +271,7 @@ fn perform_run<S: Read + KeepsError, F: Files, O: Write + KeepsError, E: Write>(
                 plan: Some(opened.identity),
                 written: None,
                 trace: None,
+                memory: None,
             };
             let mut plan = Watched::new(opened.file);
             perform_under(alloc, run, script, &mut plan, read, files, output, errors)

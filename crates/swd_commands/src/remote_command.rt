@@ -83,6 +83,7 @@ pub fn perform_remote<
         plan: None,
         written: None,
         trace: None,
+        memory: None,
     };
     let report = match open_report(files, name.as_str(), read) {
         Ok(report) => report,

@@ -116,11 +116,16 @@ fn tell_full<E: Write>(errors: &mut E, finished: Finished) {
     if let Some(room) = finished.full
         && finished.bus_fault
     {
-        let _ = writeln!(
-            errors,
-            "swd: the target's room of {room} transfers is used up: later accesses meet a bus error"
-        );
+        tell_used_up(errors, room as usize);
     }
+}
+
+/// Prints that a simulated target's room for so many transfers is used up.
+pub fn tell_used_up<E: Write>(errors: &mut E, room: usize) {
+    let _ = writeln!(
+        errors,
+        "swd: the target's room of {room} transfers is used up: later accesses meet a bus error"
+    );
 }
 
 // Prints the script's line number, the address, and both words.

@@ -1,6 +1,5 @@
 //! Performs `swd load`, `swd verify` and `swd dump` at a simulated target, whose memory is in a file.
 ghost use Rattle.std.specs.Prelude.{◌≡◌, ◌+◌, ◌≤◌, ◌^◌, [], ℕ, IfErr, IfOk, List, None, Option};
-ghost use Rattle.swd_io.specs.Pieces.{IsText};
 ghost use Rattle.swd_host.specs.Reports.{IsAtRest};
 ghost use Rattle.swd_target.specs.Benches.{port_of};
 ghost use Rattle.swd_target.specs.Marks.{IsPlan};
@@ -8,38 +7,24 @@ ghost use Rattle.swd_image_ends.specs.Memories.{IsWhole};
 ghost use Rattle.swd_image_ends.specs.Pieces.{pieces_in};
 ghost use Rattle.swd_commands.specs.Images.{ArePiecesOf};
 ghost use Rattle.swd_commands.specs.Simulated.{DumpsOver, LoadsOver, SimulatesAction, SimulatesImage, Simulates};
-ghost use Rattle.swd_commands.specs.Simulated.{SimulatesDump, SimulatesLoad, SimulatesVerify, VerifiesOver, WritesBack};
+ghost use Rattle.swd_commands.specs.Simulated.{SimulatesDump, SimulatesLoad, SimulatesVerify, VerifiesOver};
 
 use crate::image_command::{loaded_status, reached, verified_status};
 use crate::image_file::{read_opened_image, write_image_file};
-use crate::noted::{Noted, Seen};
+use crate::memory_file::{Plan, read_memory, read_noted, write_back};
 use crate::open_files::{Files, Identity};
-use crate::reason::plan_status;
-use crate::report::{FAULT, cannot_open, cannot_use};
-use crate::streams::{Stream, tell_failure, tell_failure_or};
+use crate::report::{cannot_open, cannot_use};
 use crate::trace::{
     TargetFiles, open_apart, open_apart_to_write, open_memory, open_memory_again, open_plan,
 };
 use crate::watched::{KeepsError, Watched};
 use std::alloc::Allocator;
 use std::io::{Read, Write};
-use swd_image_ends::{
-    FileFault, dump_simulated, load_simulated, memory_bytes, read_file, simulated_target,
-    verify_simulated,
-};
+use swd_image_ends::{dump_simulated, load_simulated, simulated_target, verify_simulated};
 use swd_image_files::Image;
-use swd_io::{Unread, send};
 use swd_port::Mark;
-use swd_script::read_plan;
-use swd_target::{Bench, Memory};
+use swd_target::Bench;
 use swd_words::{ImageAction, ImageLine, MemoryLine};
-
-// The marks of a plan, and its file, if one is named.
-#[derive(Drop)]
-struct Plan<A: Allocator> {
-    marks: Vec<Mark, A>,
-    identity: Option<Identity>,
-}
 
 /// Opens the memory's file, and performs a command over an image at the simulated target that has it. Returns the
 /// status.
@@ -117,37 +102,6 @@ fn simulate_action<F: Files, E: Write, A: Allocator + Copy>(
     }
 }
 
-// Reads the bytes of a memory. At an error it prints a line with the file's name and returns the status 2.
-fn read_memory<R: Read + KeepsError, E: Write, A: Allocator + Copy>(
-    alloc: A,
-    memory: &MemoryLine,
-    reader: &mut R,
-    errors: &mut E,
-) -> Result<Vec<u8, A>, u8>
-    ensures text { IfOk result (λ bytes. IsText (R.remaining reader.old) bytes.items) }
-    ensures whole { IfOk result (λ bytes. IsWhole memory.now.base bytes.items) }
-    ensures status { IfErr result (λ status. status ≡ 2) }
-{
-    let name = memory.file.as_str();
-    let most = (1 << 32) - memory.base as u64;
-    let bytes = match read_file(alloc, reader, most) {
-        Ok(bytes) => bytes,
-        Err(Unread::Consumer(FileFault::TooLong)) => {
-            return Err(cannot_use(errors, name, &"the memory extends past ffffffff"));
-        }
-        Err(unread) => {
-            if tell_failure(errors, [Stream::read(name, reader)].as_slice()) {
-                return Err(FAULT);
-            }
-            return Err(cannot_use(errors, name, &unread));
-        }
-    };
-    if bytes.len() % 4 != 0 {
-        return Err(cannot_use(errors, name, &"its length is no multiple of 4"));
-    }
-    Ok(bytes)
-}
-
 // Reads the plan. Without one no faults are injected. At an error it prints a line and returns the status 2.
 fn read_marks<F: Files, E: Write, A: Allocator + Copy>(
     alloc: A,
@@ -177,31 +131,6 @@ fn read_marks<F: Files, E: Write, A: Allocator + Copy>(
             identity: Some(opened.identity),
         }),
         Err(status) => Err(status),
-    }
-}
-
-// Reads a plan. At an error it prints a line and returns the status 2.
-fn read_noted<R: Read + KeepsError, E: Write, A: Allocator + Copy>(
-    alloc: A,
-    name: &str,
-    reader: &mut R,
-    errors: &mut E,
-) -> Result<Vec<Mark, A>, u8>
-    ensures legal { IfOk result (λ marks. IsPlan marks.items) }
-    ensures status { IfErr result (λ status. status ≡ 2) }
-{
-    let mut plan = Noted {
-        reader,
-        seen: Seen::new(),
-    };
-    match read_plan(alloc, &mut plan) {
-        Ok(marks) => Ok(marks),
-        Err(Unread::Consumer(fault)) => Err(plan_status(errors, fault, &plan.seen)),
-        Err(Unread::Reader) => Err(tell_failure_or(
-            errors,
-            [Stream::read(name, &plan)].as_slice(),
-            "read failed",
-        )),
     }
 }
 
@@ -318,36 +247,6 @@ fn load_over<F: Files, E: Write, A: Allocator + Copy>(
     match write_back(alloc, memory, bench.memory(), count, files, file, errors) {
         Ok(()) => loaded_status(errors, answer, None, [].as_slice(), image.addr, whole),
         Err(status) => status,
-    }
-}
-
-// Truncates the file of a memory, and writes its bytes. At an error it prints a line and returns the status 2.
-fn write_back<F: Files, E: Write, A: Allocator + Copy>(
-    alloc: A,
-    memory: &MemoryLine,
-    after: &Memory<A>,
-    count: u64,
-    files: &F,
-    file: &mut F::Made,
-    errors: &mut E,
-) -> Result<(), u8>
-    requires { memory.now.base + count ≤ 2 ^ 32 }
-    ensures { WritesBack after.now memory.now.base count result (F.Made.Write.contents file.old)
-        (F.Made.Write.contents file.new) }
-{
-    let name = memory.file.as_str();
-    let Some(bytes) = memory_bytes(alloc, after, memory.base, count) else {
-        return Err(cannot_use(errors, name, &"no memory"));
-    };
-    if let Err(why) = files.cut_off(file) {
-        return Err(cannot_open(errors, name, &why));
-    }
-    match send(file, bytes.as_slice()) {
-        Ok(()) => Ok(()),
-        Err(unsent) => {
-            let streams = [Stream::failed(name, unsent.error)];
-            Err(tell_failure_or(errors, streams.as_slice(), "write failed"))
-        }
     }
 }
 

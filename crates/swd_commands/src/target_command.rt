@@ -1,5 +1,5 @@
 //! Performs `swd target`: a simulated target on the standard streams.
-ghost use Rattle.std.specs.Prelude.{◌≡◌, ℕ, true, false, List, Option};
+ghost use Rattle.std.specs.Prelude.{◌≡◌, ℕ, IfErr, IfOk, is_some, true, false, List, Option};
 ghost use Rattle.swd_bitbang.specs.Traces.{is_cut_off};
 ghost use Rattle.swd_commands.specs.Targets.{IsServedStatus, ServesHost};
 
@@ -14,7 +14,7 @@ use std::alloc::Allocator;
 use std::io::{Read, Write};
 use swd_bitbang::{Served, Trace};
 use swd_ends::{LiveFiles, TargetFault, read_target, serve_logged};
-use swd_words::TargetLine;
+use swd_words::{ScriptLine, TargetLine};
 
 /// Opens the plan, and serves a host at the script's target. Without a plan no faults are injected. Returns the
 /// status: 0 or 2.
@@ -28,6 +28,7 @@ pub fn perform_target<
 >(
     alloc: A,
     target: &TargetLine,
+    texts: &ScriptLine,
     script: &mut S,
     source: Option<Identity>,
     input: &mut I,
@@ -38,17 +39,19 @@ pub fn perform_target<
     ensures { (plan : Option (List ℕ)) × ServesHost A result (S.remaining script.old) plan (I.remaining input.old)
         (I.remaining input.new) (O.contents output.old) (O.contents output.new) }
 {
-    let Some(name) = &target.plan else {
+    let Some(name) = &texts.plan else {
         let mut nothing = Watched::new([].as_slice());
         let read = Sources {
             script: source,
             plan: None,
             written: None,
             trace: None,
+            memory: None,
         };
         return serve_under(
             alloc,
             target,
+            texts,
             script,
             &mut nothing,
             read,
@@ -66,10 +69,11 @@ pub fn perform_target<
                 plan: Some(opened.identity),
                 written: None,
                 trace: None,
+                memory: None,
             };
             let plan = &mut Watched::new(opened.file);
             serve_under(
-                alloc, target, script, plan, read, input, files, output, errors,
+                alloc, target, texts, script, plan, read, input, files, output, errors,
             )
         }
         Err(why) => cannot_open(errors, name.as_str(), &why),
@@ -88,6 +92,7 @@ fn serve_under<
 >(
     alloc: A,
     target: &TargetLine,
+    texts: &ScriptLine,
     script: &mut S,
     plan: &mut P,
     read: Sources,
@@ -99,22 +104,11 @@ fn serve_under<
     ensures { ServesHost A result (S.remaining script.old) (P.remaining plan.old) (I.remaining input.old)
         (I.remaining input.new) (O.contents output.old) (O.contents output.new) }
 {
-    let log = match open_record(files, &target.log, read) {
-        Ok(log) => log,
-        Err(why) => return cannot_open_record(errors, &target.log, &why),
+    let (log, trace) = match open_session(target, files, read, errors) {
+        Ok(opened) => opened,
+        Err(status) => return status,
     };
-    let beside = Sources {
-        written: log.as_ref().map(|log| log.identity),
-        ..read
-    };
-    let trace = match open_record(files, &target.trace, beside) {
-        Ok(trace) => trace,
-        Err(why) => return cannot_open_record(errors, &target.trace, &why),
-    };
-    let kept = match &trace {
-        Some(_) => Trace::new(alloc),
-        None => Trace::none(alloc),
-    };
+    let kept = trace_for(alloc, &trace);
     let mut script = Noted {
         reader: script,
         seen: Seen::new(),
@@ -125,7 +119,6 @@ fn serve_under<
     };
     match read_target(alloc, &mut script, &mut plan, kept) {
         Ok(pins) => {
-            let (log, trace) = (file_alone(log), file_alone(trace));
             let (served, pins, files) = serve_logged(input, output, pins, log, trace);
             let done = are_complete(&files, pins.trace());
             let (log, trace) = files.into_writers();
@@ -133,27 +126,62 @@ fn serve_under<
             served_status(errors, served, done, streams.as_slice())
         }
         Err(fault) => {
-            let streams = text_streams(target, &script, &plan);
+            let streams = text_streams(texts, &script, &plan);
             let (script, plan) = (&script.seen, &plan.seen);
             target_status(errors, fault, script, plan, streams.as_slice())
         }
     }
 }
 
+/// Opens the files of the log and the trace of a session, as far as they are named, and truncates them. At an error it
+/// prints a line and returns the status 2.
+pub fn open_session<F: Files, E: Write>(
+    target: &TargetLine,
+    files: &F,
+    read: Sources,
+    errors: &mut E,
+) -> Result<(Option<Watched<F::Made>>, Option<Watched<F::Made>>), u8>
+    ensures ok { IfOk result (λ opened. (is_some opened.0 ≡ is_some target.now.log)
+        × (is_some opened.1 ≡ is_some target.now.trace)) }
+    ensures err { IfErr result (λ status. status ≡ 2) }
+{
+    let log = match open_record(files, &target.log, read) {
+        Ok(log) => log,
+        Err(why) => return Err(cannot_open_record(errors, &target.log, &why)),
+    };
+    let beside = Sources {
+        written: log.as_ref().map(|log| log.identity),
+        ..read
+    };
+    let trace = match open_record(files, &target.trace, beside) {
+        Ok(trace) => trace,
+        Err(why) => return Err(cannot_open_record(errors, &target.trace, &why)),
+    };
+    Ok((file_alone(log), file_alone(trace)))
+}
+
+/// Returns an empty trace for the bits of a session. It keeps them if there is a file for them.
+pub fn trace_for<M, A: Allocator>(alloc: A, file: &Option<M>) -> Trace<A> {
+    match file {
+        Some(_) => Trace::new(alloc),
+        None => Trace::none(alloc),
+    }
+}
+
 // Returns the streams of the script and the plan.
 fn text_streams<'a, S: KeepsError, P: KeepsError>(
-    target: &'a TargetLine,
+    texts: &'a ScriptLine,
     script: &S,
     plan: &P,
 ) -> [Stream<'a>; 2] {
     [
-        Stream::read(target.script.as_str(), script),
-        Stream::read(name_or_nothing(&target.plan), plan),
+        Stream::read(texts.script.as_str(), script),
+        Stream::read(name_or_nothing(&texts.plan), plan),
     ]
 }
 
-// Returns the streams of a session, in the order of their lines.
-fn served_streams<'a, I: KeepsError, O: KeepsError, M: KeepsError>(
+/// Returns the streams of a session, in the order of their lines.
+pub fn served_streams<'a, I: KeepsError, O: KeepsError, M: KeepsError>(
     target: &'a TargetLine,
     input: &I,
     output: &O,
@@ -168,16 +196,21 @@ fn served_streams<'a, I: KeepsError, O: KeepsError, M: KeepsError>(
     ]
 }
 
-// Returns whether both files were written completely, and the trace isn't truncated.
-fn are_complete<M, A: Allocator>(files: &LiveFiles<M>, kept: &Trace<A>) -> bool
+/// Returns whether both files were written completely, and the trace isn't truncated.
+pub fn are_complete<M, A: Allocator>(files: &LiveFiles<M>, kept: &Trace<A>) -> bool
     ensures { result ≡ true → is_cut_off kept.now ≡ false }
 {
     files.are_whole() && !kept.is_cut()
 }
 
-// Returns the status of a session, and prints what failed. `done`: its log and its trace were written completely, and
-// the trace isn't truncated.
-fn served_status<E: Write>(errors: &mut E, served: Served, done: bool, streams: &[Stream<'_>]) -> u8
+/// Returns the status of a session, and prints what failed. `done`: its log and its trace were written completely, and
+/// the trace isn't truncated.
+pub fn served_status<E: Write>(
+    errors: &mut E,
+    served: Served,
+    done: bool,
+    streams: &[Stream<'_>],
+) -> u8
     ensures { IsServedStatus served (done ≡ true) result }
 {
     match served {

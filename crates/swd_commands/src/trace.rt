@@ -22,6 +22,8 @@ pub struct Sources {
     pub written: Option<Identity>,
     /// The trace's file, if it is open already.
     pub trace: Option<Identity>,
+    /// The file of a served target's memory, if there is one.
+    pub memory: Option<Identity>,
 }
 
 // Returns the error for a file that may not be used.
@@ -48,8 +50,8 @@ fn named_file(name: &str) -> io::Result<()>
 }
 
 /// Opens the file that a trace or the accesses are written to, and truncates it. Before it truncates, it checks that
-/// the file is neither the script, nor the plan, nor another file that is written, nor standard output. The contract
-/// leaves out the standard streams.
+/// the file is neither the script, nor the plan, nor the memory, nor another file that is written, nor standard output.
+/// The contract leaves out the standard streams.
 ///
 /// # Errors
 ///
@@ -68,6 +70,9 @@ pub fn open_trace<F: Files>(files: &F, name: &str, read: Sources) -> io::Result<
     let identity = Some(trace.identity);
     if identity == script || identity == read.plan {
         return Err(refusal("it is the script or the plan"));
+    }
+    if identity == read.memory {
+        return Err(refusal("it is the memory"));
     }
     if identity == read.written || identity == read.trace || identity == output {
         return Err(refusal("it is another output"));
@@ -219,6 +224,46 @@ pub fn open_memory<F: Files>(files: &F, name: &str) -> io::Result<Opened<F::File
 {
     named_file(name)?;
     files.open(name)
+}
+
+/// Opens the file of a served target's memory for reading. It has to differ from the standard streams: two are the
+/// debugger's, and the third gets the errors. The contract leaves that out.
+///
+/// # Errors
+///
+/// Returns an error if it is one of these under any name, or may be. Also for `-`, and if the file can't be opened.
+pub fn open_served_memory<F: Files>(files: &F, name: &str) -> io::Result<Opened<F::File>>
+    ensures { OnOk result (name.now ≢ codes "-") }
+{
+    let memory = open_memory(files, name)?;
+    let input = known(files.standard_input(), "standard input is unknown")?;
+    let output = known(files.standard_output(), "standard output is unknown")?;
+    let errors = known(files.standard_error(), "standard error is unknown")?;
+    let identity = Some(memory.identity);
+    if identity == input || identity == output || identity == errors {
+        return Err(refusal("it is a standard stream"));
+    }
+    Ok(memory)
+}
+
+/// Opens the file of a served target's plan. It has to differ from the memory's and from standard input, which is the
+/// debugger's. The contract leaves out standard input.
+///
+/// # Errors
+///
+/// Returns an error if it is one of these under any name, or may be, and if it can't be opened.
+pub fn open_served_plan<F: Files>(
+    files: &F,
+    name: &str,
+    memory: Identity,
+) -> io::Result<Opened<F::File>>
+    ensures { IfOk result (λ plan. memory ≢ plan.identity) }
+{
+    let plan = open_plan(files, name, None)?;
+    if memory == plan.identity {
+        return Err(refusal("it is read already"));
+    }
+    Ok(plan)
 }
 
 /// Opens the file of a memory for writing, too, and doesn't truncate it.

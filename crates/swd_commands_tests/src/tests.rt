@@ -22,6 +22,7 @@ mod drawings;
 mod expect;
 mod image_files;
 mod images;
+mod memory_target;
 mod plan;
 mod reasons;
 mod remote;

@@ -1,6 +1,6 @@
 -- Files that are written while a session goes on. For `LiveFile` and `LiveFiles`.
-use Rattle.std.proofs.Common.{◌≡◌, ℕ, ◌+◌, ◌-◌, ◌^◌, ◌≤◌, ◌<◌, min, Bool, true, false, List, [], ◌∷◌, ◌++◌, length, take, drop}
-use Rattle.std.proofs.Common.{Option, Some, None, Result, Ok, Err, IfOk, OnOk, IfErr, refl, sym, ap, subst, ◌∙◌, arith}
+use Rattle.std.proofs.Common.{◌≡◌, ℕ, zero, suc, ◌+◌, ◌-◌, ◌^◌, ◌≤◌, ◌<◌, min, Bool, true, false, List, [], ◌∷◌, ◌++◌}
+use Rattle.std.proofs.Common.{length, take, drop, Option, Some, None, Result, Ok, Err, IfOk, OnOk, IfErr, refl, sym, ap, subst, ◌∙◌, arith}
 use Rattle.std.proofs.Common.{append_assoc, append-nil, take-append-drop}
 use Rattle.std.proofs.KnownBytes.{Appends-trans}
 use Rattle.std.proofs.lemmas.List.{length-append, length-drop, take-append-le}
@@ -189,3 +189,12 @@ pub grew : {X : Type 0} (xs ys : List X) → Grows xs ys → length xs ≤ lengt
 grew xs ys g =
     let len : length ys ≡ length xs + length g.0 = ap length g.1 ∙ length-append xs g.0 in
     omega arith
+
+dropped : {X : Type 0} (n : ℕ) (xs more : List X) → (rest : List X) × (drop n (xs ++ more) ≡ drop n xs ++ rest)
+dropped zero xs more = (more, refl)
+dropped (suc n) [] more = (drop (suc n) more, refl)
+dropped (suc n) (x ∷ xs) more = dropped n xs more
+
+-- and so does what follows its first entries
+pub grows_behind : {X : Type 0} (n : ℕ) (xs ys : List X) → Grows xs ys → Grows (drop n xs) (drop n ys)
+grows_behind n xs ys g = let rest = dropped n xs g.0 in (rest.0, ap (drop n) g.1 ∙ rest.1)

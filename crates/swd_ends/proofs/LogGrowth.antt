@@ -49,7 +49,7 @@ use Rattle.swd_bitbang.specs.Traces as traces
 use Rattle.swd_bitbang.specs.Steps.{Steps, Passes as PassesBy, ShowsBy, SeesBy, driven}
 use Rattle.swd_bitbang.specs.Sessions.{Session}
 use Rattle.swd_bitbang.specs.Watching.{Reaches}
-use Rattle.swd_ends.specs.LiveFiles.{Grows, IsSound, is_sound, log_at, trace_at}
+use Rattle.swd_ends.specs.LiveFiles.{Grows, IsSound, is_sound, trace_at, transfers_at}
 
 -- LISTS
 
@@ -364,7 +364,7 @@ marked_grows drive answer s t sound h = elim (cases_lt 0 s.unseen)
 
 -- the log and the trace at later pins, and their frame
 pub record Grew {A : Type 0} (s t : Pins A) : Type 0 where
-  pub log : Grows (log_at s) (log_at t)
+  pub log : Grows (transfers_at s) (transfers_at t)
   pub trace : Grows (trace_at s) (trace_at t)
   pub sound : is_sound t
 
@@ -424,7 +424,7 @@ session_grows (byte ∷ text) levels s t sound h =
     let first = stepped _ h.3.sign s h.0 sound h.3.steps in
     let rest = session_grows text h.2 h.0 t first.sound h.4 in
     record {
-      log = grows_on _ (log_at h.0) _ first.log rest.log;
+      log = grows_on _ (transfers_at h.0) _ first.log rest.log;
       trace = grows_on _ (trace_at h.0) _ first.trace rest.trace;
       sound = rest.sound;
     }

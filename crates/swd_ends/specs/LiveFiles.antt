@@ -1,6 +1,8 @@
 -- The files of a served target, written while the session goes on: its log and its trace. When they are written is this
 -- project's choice.
-use Rattle.std.specs.Prelude.{ℕ, ◌≡◌, ◌≤◌, Bool, true, false, List, [], ◌∷◌, ◌++◌, length, take, Option, Some, None}
+use Rattle.std.specs.Prelude.{ℕ, ◌≡◌, ◌≤◌, Bool, true, false, List, [], ◌∷◌, ◌++◌, length, take, drop, Option, Some}
+use Rattle.std.specs.Prelude.{None}
+use Rattle.std.proofs.Common.{◌∙◌, refl}
 use Rattle.std.specs.Io.KnownBytes.{Appends}
 use Rattle.swd_io.specs.Blocks.{Stopped}
 use Rattle.swd_port.specs.declared.access.Transfer.{Transfer}
@@ -11,7 +13,7 @@ use Rattle.swd_bitbang.specs.declared.pins.Pins.{Pins}
 use Rattle.swd_bitbang.specs.Traces.{kept_text}
 use Rattle.swd_ends.specs.declared.live_file.LiveFile.{LiveFile}
 use Rattle.swd_ends.specs.declared.live_files.LiveFiles.{LiveFiles}
-use Rattle.swd_ends.specs.TargetLogs.{transfer_lines, log_of}
+use Rattle.swd_ends.specs.TargetLogs.{transfer_lines, log_from}
 
 -- the file has a whole text; or its writer failed, and it has exactly the first bytes of it, not all of them
 abbrev pub HasBy : Bool → Option (List ℕ) → Option (List ℕ) → List ℕ → Type 0
@@ -36,16 +38,19 @@ pub record Stands {M : Type 0} (contents : M → Option (List ℕ)) (start : Opt
 abbrev pub IsCurrent : {M : Type 0} → ℕ → LiveFile M → Type 0
 IsCurrent size file = file.failed ≡ false → file.done ≡ size
 
--- the transfers of the target at these pins, and the characters of their trace
-abbrev pub log_at : {A : Type 0} → Pins A → List Transfer
-log_at pins = (state_of pins.target).memory.log
+-- the transfers of the target at these pins; those behind so many first ones; and the characters of the pins' trace
+abbrev pub transfers_at : {A : Type 0} → Pins A → List Transfer
+transfers_at pins = (state_of pins.target).memory.log
+
+abbrev pub log_at : {A : Type 0} → ℕ → Pins A → List Transfer
+log_at skipped pins = drop skipped (transfers_at pins)
 
 abbrev pub trace_at : {A : Type 0} → Pins A → List ℕ
 trace_at pins = kept_text pins.trace
 
 -- the text of the first transfers, and of the first characters
-abbrev pub first_lines : {A : Type 0} → Pins A → ℕ → List ℕ
-first_lines pins n = transfer_lines (take n (log_at pins))
+abbrev pub first_lines : {A : Type 0} → ℕ → Pins A → ℕ → List ℕ
+first_lines skipped pins n = transfer_lines (take n (log_at skipped pins))
 
 abbrev pub first_characters : {A : Type 0} → Pins A → ℕ → List ℕ
 first_characters pins n = take n (trace_at pins)
@@ -79,8 +84,9 @@ KeepsIf contents text later size later_size old new = ⊥
 pub record Followed {A M : Type 0} (contents : M → Option (List ℕ)) (before after : LiveFiles M × Pins A) : Type 0
   where
     pub sound : is_sound after.1
-    pub log : KeepsIf contents (first_lines before.1) (first_lines after.1) (length (log_at before.1))
-        (length (log_at after.1)) before.0.log after.0.log
+    pub skipped : after.0.skipped ≡ before.0.skipped
+    pub log : KeepsIf contents (first_lines before.0.skipped before.1) (first_lines after.0.skipped after.1)
+        (length (log_at before.0.skipped before.1)) (length (log_at after.0.skipped after.1)) before.0.log after.0.log
     pub trace : KeepsIf contents (first_characters before.1) (first_characters after.1) (length (trace_at before.1))
         (length (trace_at after.1)) before.0.trace after.0.trace
 
@@ -106,9 +112,9 @@ AddsIf contents more None None = Unit {0}
 AddsIf contents more (Some old) (Some new) = Adds contents more old new
 AddsIf contents more old new = ⊥
 
--- the whole log, and the whole trace, which ends with a line feed
-abbrev pub whole_log : {A : Type 0} → Pins A → List ℕ
-whole_log pins = log_of pins.target
+-- the whole log behind so many transfers, and the whole trace, which ends with a line feed
+abbrev pub whole_log : {A : Type 0} → ℕ → Pins A → List ℕ
+whole_log skipped pins = log_from skipped pins.target
 
 abbrev pub whole_trace : {A : Type 0} → Pins A → List ℕ
 whole_trace pins = trace_at pins ++ 10 ∷ []
@@ -170,7 +176,8 @@ keeps_on contents text later last size next end (Some a) (Some b) None f g = abs
 pub follows_nowhere : {A M : Type 0} (contents : M → Option (List ℕ)) (a : LiveFiles M × Pins A) → Follows contents a a
 follows_nowhere contents a = λ sound. record {
   sound = sound;
-  log = keeps_none contents (first_lines a.1) (length (log_at a.1)) a.0.log;
+  skipped = refl;
+  log = keeps_none contents (first_lines a.0.skipped a.1) (length (log_at a.0.skipped a.1)) a.0.log;
   trace = keeps_none contents (first_characters a.1) (length (trace_at a.1)) a.0.trace;
 }
 
@@ -182,8 +189,10 @@ follows_further contents a b c f g = λ sound.
     let next = g first.sound in
     record {
       sound = next.sound;
-      log = keeps_on contents (first_lines a.1) (first_lines b.1) (first_lines c.1) (length (log_at a.1))
-          (length (log_at b.1)) (length (log_at c.1)) a.0.log b.0.log c.0.log first.log next.log;
+      skipped = next.skipped ∙ first.skipped;
+      log = keeps_on contents (first_lines a.0.skipped a.1) (first_lines b.0.skipped b.1) (first_lines c.0.skipped c.1)
+          (length (log_at a.0.skipped a.1)) (length (log_at b.0.skipped b.1)) (length (log_at c.0.skipped c.1))
+          a.0.log b.0.log c.0.log first.log next.log;
       trace = keeps_on contents (first_characters a.1) (first_characters b.1) (first_characters c.1)
           (length (trace_at a.1)) (length (trace_at b.1)) (length (trace_at c.1)) a.0.trace b.0.trace c.0.trace
           first.trace next.trace;

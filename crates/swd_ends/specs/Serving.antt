@@ -1,6 +1,7 @@
 -- The simulated target of a script and a plan, for an external host.
 use Rattle.std.specs.Prelude.{ℕ, ◌≡◌, List, [], ◌∷◌, Option, None, true, false}
 use Rattle.swd_port.specs.declared.mark.Mark.{Mark}
+use Rattle.swd_port.specs.PlainMemory.{PlainMemory}
 use Rattle.swd_port.specs.Port.{made_target}
 use Rattle.swd_clocked.specs.declared.marked.MarkedClocked.{MarkedClocked}
 use Rattle.swd_clocked.specs.Frames.{idle}
@@ -12,9 +13,9 @@ use Rattle.swd_ends.specs.declared.serving.TargetFault.{TargetFault}
 use Rattle.swd_ends.specs.declared.serving.TargetFault.TheVariants.{Texts, Memory, Accesses}
 use Rattle.swd_run.specs.Running.{AreRead, AreUnread, IsScript, IsPlan, memory_of}
 
--- a target before its first cycle, with the memory of a script and the marks of a plan
-pub record IsMade {A : Type 0} (script : Meaning) (marks : List Mark) (target : MarkedClocked A) : Type 0 where
-  pub state : state_of target ≡ made_target 0x2ba0_1477 (memory_of script)
+-- a target before its first cycle, with this memory and the marks of a plan
+pub record IsMade {A : Type 0} (memory : PlainMemory) (marks : List Mark) (target : MarkedClocked A) : Type 0 where
+  pub state : state_of target ≡ made_target 0x2ba0_1477 memory
   -- a transfer takes effect at once, TAR wraps at the end of a kilobyte, and a value that is unknown is 0
   pub choices : (simulation_of target).quirks ≡ record { wrap = true; late = false; filler = 0 }
   pub frame : frame_in target ≡ idle
@@ -43,7 +44,7 @@ pub record Simulates {A : Type 0} (script plan : Option (List ℕ)) (trace : Tra
   pub marks : List Mark
   pub read : AreRead script plan meaning marks
   pub no_access : IsBare meaning.batches
-  pub made : IsMade meaning marks pins.target
+  pub made : IsMade (memory_of meaning) marks pins.target
   pub rests : IsAtRest trace pins
 
 -- the script has an access or further calls

@@ -1,6 +1,6 @@
 -- The log of a served target: a line for each transfer, and one with the numbers of cycles and requests. The format is
 -- this project's choice.
-use Rattle.std.specs.Prelude.{ℕ, ◌-◌, ◌^◌, min, List, [], ◌∷◌, ◌++◌, codes, if◌then◌else◌}
+use Rattle.std.specs.Prelude.{ℕ, ◌-◌, ◌^◌, min, List, [], ◌∷◌, ◌++◌, drop, codes, if◌then◌else◌}
 use Rattle.std.specs.Fmt.{decimal}
 use Rattle.swd_bits.specs.Listing.{hex8}
 use Rattle.swd_port.specs.declared.access.Transfer.{Transfer}
@@ -24,6 +24,7 @@ transfer_lines (t ∷ transfers) = (transfer_line t ++ 10 ∷ []) ++ transfer_li
 abbrev pub log_text : List Transfer → ℕ → ℕ → List ℕ
 log_text transfers cycles requests = transfer_lines transfers ++ (counts_line cycles requests ++ 10 ∷ [])
 
--- the log of a target
-abbrev pub log_of : {A : Type 0} → MarkedClocked A → List ℕ
-log_of target = log_text (state_of target).memory.log (cycles_of target) (min (tally_of target).asked (2 ^ 64 - 1))
+-- the log of a target, behind so many transfers
+abbrev pub log_from : {A : Type 0} → ℕ → MarkedClocked A → List ℕ
+log_from skipped target =
+    log_text (drop skipped (state_of target).memory.log) (cycles_of target) (min (tally_of target).asked (2 ^ 64 - 1))

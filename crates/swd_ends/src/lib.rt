@@ -1,6 +1,6 @@
 //! The two ends of a remote_bitbang connection. [`run_remote`] runs a script at a target behind OpenOCD's characters.
-//! [`read_target`] makes the target of a script for an external host, and [`serve_logged`] serves that host and writes
-//! the target's log.
+//! [`read_target`] makes the target of a script for an external host, and [`target_pins`] that of a memory.
+//! [`serve_logged`] serves that host and writes the target's log.
 #![tactic(auto)]
 
 mod clocked_probe;
@@ -14,4 +14,4 @@ mod target_log;
 pub use clocked_probe::ClockedProbe;
 pub use live_files::{LiveFiles, serve_logged};
 pub use remote::{RemoteFault, run_remote, run_remote_script};
-pub use serving::{TargetFault, read_target};
+pub use serving::{TargetFault, read_target, target_pins};

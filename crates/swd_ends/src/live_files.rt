@@ -4,7 +4,7 @@ ghost use Rattle.swd_bitbang.specs.Sessions.{Serves};
 ghost use Rattle.swd_ends.specs.TargetLogs.{transfer_lines};
 ghost use Rattle.swd_ends.specs.LiveFiles.{AddsIf, AddsRestIf, FinishesIf, Follows, IsFreshIf, IsGiven, did_fail};
 ghost use Rattle.swd_ends.specs.LiveFiles.{first_characters, first_lines, follows_further, follows_nowhere, is_sound};
-ghost use Rattle.swd_ends.specs.LiveFiles.{log_at, trace_at, whole_log, whole_trace, writer_in};
+ghost use Rattle.swd_ends.specs.LiveFiles.{log_at, trace_at, transfers_at, whole_log, whole_trace, writer_in};
 
 use crate::live_file::LiveFile;
 use crate::target_log::counts_line;
@@ -16,6 +16,8 @@ use swd_port::Transfer;
 /// The files of a session: the log of its target, and the trace of its pins, each if it is wanted.
 #[derive(Debug, Drop)]
 pub struct LiveFiles<M> {
+    // How many transfers the target had made before the session. The log leaves them out.
+    skipped: usize,
     log: Option<LiveFile<M>>,
     trace: Option<LiveFile<M>>,
 }
@@ -27,6 +29,17 @@ fn fresh<M>(writer: Option<M>) -> Option<LiveFile<M>>
     match writer {
         Some(writer) => Some(LiveFile::new(writer)),
         None => None,
+    }
+}
+
+// Returns the transfers behind the first `skipped` of a log.
+fn transfers_since(log: &[Transfer], skipped: usize) -> &[Transfer]
+    ensures { result.now ≡ drop skipped log.now }
+{
+    if skipped <= log.len() {
+        &log[skipped..]
+    } else {
+        [].as_slice()
     }
 }
 
@@ -100,7 +113,10 @@ impl<A: Allocator, M: Write> Watch<A> for LiveFiles<M> {
 
     // Writes what isn't written yet.
     fn see(&mut self, pins: &Pins<A>) {
-        log_on(&mut self.log, pins.target().memory().log());
+        log_on(
+            &mut self.log,
+            transfers_since(pins.target().memory().log(), self.skipped),
+        );
         trace_on(&mut self.trace, pins.trace().text());
     }
 
@@ -112,13 +128,14 @@ impl<A: Allocator, M: Write> Watch<A> for LiveFiles<M> {
 impl<M: Write> LiveFiles<M> {
     // Writes what isn't written yet, and the last lines.
     fn finish<A: Allocator>(&mut self, pins: &Pins<A>)
-        ensures log { FinishesIf M.contents (first_lines pins.now) (length (log_at pins.now)) (whole_log pins.now)
-            self.old.log self.new.log }
+        ensures log { FinishesIf M.contents (first_lines self.old.skipped pins.now)
+            (length (log_at self.old.skipped pins.now)) (whole_log self.old.skipped pins.now) self.old.log self.new.log }
         ensures trace { FinishesIf M.contents (first_characters pins.now) (length (trace_at pins.now))
             (whole_trace pins.now) self.old.trace self.new.trace }
     {
         let target = pins.target();
-        log_on(&mut self.log, target.memory().log());
+        let log = transfers_since(target.memory().log(), self.skipped);
+        log_on(&mut self.log, log);
         trace_on(&mut self.trace, pins.trace().text());
         let counts = counts_line(target.cycles(), target.requests());
         end(&mut self.log, counts.as_str().as_bytes());
@@ -129,7 +146,8 @@ impl<M: Write> LiveFiles<M> {
 /// Serves a host as `serve` does, and writes the log of its target and the trace of its pins, each if there is a writer
 /// for it. After each piece of input, before the last of its answers are written and before the next read, the log has
 /// the line of each transfer that took effect so far, and the trace the bits of all cycles so far. At the end of the
-/// session the log gets its last line, and the trace its line feed.
+/// session the log gets its last line, and the trace its line feed. Transfers of the target from before the session have
+/// no line.
 ///
 /// If the writer of a file fails, nothing is retried, nothing more is written to this file, and the session goes on.
 /// The file then has exactly the first bytes of the whole one. [`LiveFiles::are_whole`] says whether no writer failed.
@@ -142,10 +160,11 @@ pub fn serve_logged<R: Read, W: Write, M: Write, A: Allocator>(
 ) -> (Served, Pins<A>, LiveFiles<M>)
     ensures session { Serves result.0 (R.remaining reader.old) (R.remaining reader.new)
         (W.contents writer.old) (W.contents writer.new) pins result.1 }
-    ensures log { is_sound pins → IsGiven M.contents (whole_log result.1) log result.2.log }
+    ensures log { is_sound pins → IsGiven M.contents (whole_log (length (transfers_at pins)) result.1) log result.2.log }
     ensures trace { is_sound pins → IsGiven M.contents (whole_trace result.1) trace result.2.trace }
 {
     let files = LiveFiles {
+        skipped: pins.target().memory().log().len(),
         log: fresh(log),
         trace: fresh(trace),
     };

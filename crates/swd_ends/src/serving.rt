@@ -1,14 +1,17 @@
-//! Makes the simulated target of a script and a plan for an external host.
+//! Makes the simulated target of a memory, or of a script, and a plan for an external host.
 ghost use Rattle.std.specs.Prelude.{◌≡◌, ◌↔◌, true, map, IfOk, IfErr};
 ghost use Rattle.swd_script.specs.Readers.{listed};
-ghost use Rattle.swd_ends.specs.Serving.{IsBare, IsTargetFault, Simulates};
+ghost use Rattle.swd_target.specs.Marks.{IsPlan};
+ghost use Rattle.swd_ends.specs.Serving.{IsAtRest, IsBare, IsMade, IsTargetFault, Simulates};
 
 use std::alloc::Allocator;
 use std::io::Read;
 use swd_bitbang::{Pins, Trace};
 use swd_clocked::MarkedClocked;
+use swd_port::Mark;
 use swd_run::{QUIRKS, Texts, TextsFault, read_texts, zero_memory};
 use swd_script::Batch;
+use swd_target::Memory;
 
 /// The error of making a target to serve.
 #[derive(Clone, Copy, Debug, PartialEq, Eq, Drop)]
@@ -19,6 +22,16 @@ pub enum TargetFault {
     Memory,
     /// The script has accesses or further calls. A target performs only those of its host.
     Accesses,
+}
+
+/// Returns the pins of a simulated target with this memory and a plan of these marks, before the host moved any. The
+/// target's choices are those of `swd run`. The pins record in `trace`.
+pub fn target_pins<A: Allocator>(memory: Memory<A>, plan: Vec<Mark, A>, trace: Trace<A>) -> Pins<A>
+    requires { IsPlan plan.items }
+    ensures made { IsMade memory plan.items result.target }
+    ensures rests { IsAtRest trace result }
+{
+    Pins::new(MarkedClocked::new(memory, QUIRKS, plan), trace)
 }
 
 /// Reads a script and a plan, and returns the pins of the simulated target that they describe, before the host moved
@@ -48,8 +61,7 @@ pub fn read_target<S: Read, P: Read, A: Allocator + Copy>(
     let Some(memory) = zero_memory(alloc, &script) else {
         return Err(TargetFault::Memory);
     };
-    let target = MarkedClocked::new(memory, QUIRKS, plan);
-    Ok(Pins::new(target, trace))
+    Ok(target_pins(memory, plan, trace))
 }
 
 // Returns whether there is exactly one call, without accesses.

@@ -1,5 +1,5 @@
 -- The memory of a simulated target as bytes, and what a load, a verification and a dump mean for it.
-use Rattle.std.specs.Prelude.{ℕ, ◌≡◌, ◌+◌, ◌≤◌, ◌%◌, ◌^◌, List, [], ◌∷◌, length, Option, is_some}
+use Rattle.std.specs.Prelude.{ℕ, ◌≡◌, ◌+◌, ◌<◌, ◌≤◌, ◌%◌, ◌^◌, List, [], ◌∷◌, length, Option, is_some}
 use Rattle.std.specs.FinMap.{get}
 use Rattle.std.specs.Int.{w32, from_le_bytes}
 use Rattle.swd_port.specs.PlainMemory.{PlainMemory}
@@ -21,6 +21,10 @@ pub record IsWhole (base : ℕ) (bytes : List ℕ) : Type 0 where
   pub aligned : base % 4 ≡ 0
   pub words : length bytes % 4 ≡ 0
   pub fits : base + length bytes ≤ 2 ^ 32
+
+-- a memory of so many words has room for this many transfers, if a log may have as many and the words
+abbrev pub HasRoom : ℕ → ℕ → PlainMemory → Type 0
+HasRoom words spare memory = 0 < words → words + spare < 2 ^ 32 → length memory.log + spare ≤ memory.room
 
 -- every state of a simulated target is lawful
 abbrev pub AnyWire : {W : Type 0} → W → Type 0

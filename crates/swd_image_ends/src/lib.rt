@@ -11,7 +11,7 @@ mod remote_pieces;
 mod simulated;
 
 pub use file::{FileFault, read_file};
-pub use memory::{memory_bytes, simulated_target};
+pub use memory::{memory_bytes, memory_with, simulated_target};
 pub use pieces::{load_pieces, verify_pieces};
 pub use remote::{dump_remote, load_remote, verify_remote};
 pub use remote_pieces::{load_pieces_remote, verify_pieces_remote};

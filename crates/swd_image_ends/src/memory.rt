@@ -1,12 +1,12 @@
 //! The memory of a simulated target as bytes.
-ghost use Rattle.std.specs.Prelude.{◌≡◌, ◌+◌, ◌%◌, ◌<◌, ◌≤◌, ◌^◌, IfSome, Some, length};
+ghost use Rattle.std.specs.Prelude.{◌≡◌, ◌+◌, ◌/◌, ◌%◌, ◌<◌, ◌≤◌, ◌^◌, IfSome, Some, length};
 ghost use Rattle.std.specs.FinMap.{get, insert};
 ghost use Rattle.swd_host.specs.Reports.{IsAtRest};
 ghost use Rattle.swd_image.specs.Bytes.{byte_at, bytes_at};
 ghost use Rattle.swd_target.specs.Benches.{plan_of, port_of};
 ghost use Rattle.swd_target.specs.Marks.{IsPlan};
 ghost use Rattle.swd_target.specs.MemoryWords.{words_from};
-ghost use Rattle.swd_image_ends.specs.Memories.{words_in};
+ghost use Rattle.swd_image_ends.specs.Memories.{HasRoom, words_in};
 
 use std::alloc::Allocator;
 use swd_port::{Access, Mark};
@@ -26,9 +26,10 @@ fn put_word<A: Allocator>(memory: &mut Memory<A>, addr: u32, word: u32)
     }
 }
 
-// Returns the memory of these bytes from `base` on. Its log has room for `spare` transfers, after those that put the
-// words there. Returns `None` if out of memory.
-fn memory_with<A: Allocator + Copy>(
+/// Returns the memory of these bytes from address `base` on: their words, the least significant byte first, and no
+/// other word. Its log has the transfers that put the words there, and room for `spare` more, as far as a log may have
+/// 2^32 - 1 in all. Returns `None` if out of memory.
+pub fn memory_with<A: Allocator + Copy>(
     alloc: A,
     base: u32,
     bytes: &[u8],
@@ -37,7 +38,8 @@ fn memory_with<A: Allocator + Copy>(
     requires aligned { base % 4 ≡ 0 }
     requires whole { length bytes.now % 4 ≡ 0 }
     requires fits { base + length bytes.now ≤ 2 ^ 32 }
-    ensures { IfSome result (λ memory. memory.words ≡ words_from base (words_in bytes.now)) }
+    ensures words { IfSome result (λ memory. memory.words ≡ words_from base (words_in bytes.now)) }
+    ensures room { IfSome result (λ memory. HasRoom (length bytes.now / 4) spare memory) }
 {
     let count = (bytes.len() / 4) as u32;
     if count == 0 {

@@ -14,6 +14,9 @@ use Rattle.swd_words.specs.declared.command.ImageAction.TheVariants.{Load, Verif
 use Rattle.swd_words.specs.declared.command.ImageLine.{ImageLine}
 use Rattle.swd_words.specs.declared.command.MemoryLine.{MemoryLine}
 use Rattle.swd_words.specs.declared.command.RunLine.{RunLine}
+use Rattle.swd_words.specs.declared.command.ScriptLine.{ScriptLine}
+use Rattle.swd_words.specs.declared.command.ServedMemory.{ServedMemory}
+use Rattle.swd_words.specs.declared.command.ServedMemory.TheVariants.{Script, File}
 use Rattle.swd_words.specs.declared.command.TargetLine.{TargetLine}
 use Rattle.swd_words.specs.declared.command.LineFault.{LineFault}
 use Rattle.swd_words.specs.declared.command.LineFault.TheVariants.{Clap, Memory}
@@ -159,11 +162,6 @@ run_app = with_rule (with_rule (with_rule run_here_app remote_rule) report_rule)
 abbrev pub log_rule : Rule
 log_rule = let rule = new_rule (codes "log") in record rule { long = Some (codes "log"); value_names = 1 }
 
--- the command `target`
-abbrev pub target_app : App
-target_app = with_rule (with_rule (with_rule (with_rule (new_app (codes "target")) script_rule) plan_rule) log_rule)
-    trace_rule
-
 -- the address of an image, the number of its bytes, and its file: each is required
 abbrev pub addr_rule : Rule
 addr_rule = let rule = new_rule (codes "ADDR") in record rule { required = true }
@@ -184,6 +182,17 @@ memory_rule = let rule = new_rule (codes "memory") in record rule { long = Some 
 
 abbrev pub base_rule : Rule
 base_rule = let rule = new_rule (codes "base") in record rule { long = Some (codes "base"); value_names = 1 }
+
+-- the script of a target, in place of which there may be --memory
+abbrev pub served_script_rule : Rule
+served_script_rule = new_rule (codes "SCRIPT")
+
+-- the command `target`: with the options for its memory, and with the files of a session
+abbrev pub over_memory : App
+over_memory = with_rule (with_rule (with_rule (new_app (codes "target")) served_script_rule) memory_rule) base_rule
+
+abbrev pub target_app : App
+target_app = with_rule (with_rule (with_rule over_memory plan_rule) log_rule) trace_rule
 
 -- the options for the target of an image
 abbrev pub with_target_options : App → App
@@ -262,13 +271,6 @@ pub record IsRunOf (run : RunLine) (rows : List Row) : Type 0 where
   pub report : option_map string_bytes run.report ≡ first_of (codes "report") rows
   pub progress : (run.progress ≡ true) ↔ (first_of (codes "progress") rows ≡ Some (codes "true"))
 
--- the script, the plan, the log and the trace that the arguments name
-pub record IsTargetOf (target : TargetLine) (rows : List Row) : Type 0 where
-  pub script : Some (string_bytes target.script) ≡ first_of (codes "SCRIPT") rows
-  pub plan : option_map string_bytes target.plan ≡ first_of (codes "plan") rows
-  pub log : option_map string_bytes target.log ≡ first_of (codes "log") rows
-  pub trace : option_map string_bytes target.trace ≡ first_of (codes "trace") rows
-
 -- what is done with an image, by the command's name; a dump's number of bytes is 1 to 10 decimal digits
 abbrev pub IsActionOf : ImageAction → Text → List Row → Type 0
 IsActionOf Load name rows = name ≡ codes "load"
@@ -291,6 +293,23 @@ pub record IsMemoryOf (memory : MemoryLine) (rows : List Row) : Type 0 where
   pub file : Some (string_bytes memory.file) ≡ first_of (codes "memory") rows
   pub base : IsBase memory.base (first_of (codes "base") rows)
   pub plan : option_map string_bytes memory.plan ≡ first_of (codes "plan") rows
+
+-- the script and the plan that the arguments name
+pub record IsScriptOf (script : ScriptLine) (rows : List Row) : Type 0 where
+  pub file : Some (string_bytes script.script) ≡ first_of (codes "SCRIPT") rows
+  pub plan : option_map string_bytes script.plan ≡ first_of (codes "plan") rows
+
+-- Exactly one of SCRIPT and --memory is given. Only with --memory there may be --base.
+abbrev pub IsServed : ServedMemory → List Row → Type 0
+IsServed (Script script) rows =
+    IsScriptOf script rows × (first_of (codes "memory") rows ≡ None) × (first_of (codes "base") rows ≡ None)
+IsServed (File memory) rows = (first_of (codes "SCRIPT") rows ≡ None) × IsMemoryOf memory rows
+
+-- the memory, the log and the trace that the arguments name
+pub record IsTargetOf (target : TargetLine) (rows : List Row) : Type 0 where
+  pub memory : IsServed target.memory rows
+  pub log : option_map string_bytes target.log ≡ first_of (codes "log") rows
+  pub trace : option_map string_bytes target.trace ≡ first_of (codes "trace") rows
 
 -- Exactly one of --remote and --memory is given: the target is behind the standard streams, or has this memory. Only
 -- with --memory there may be --base and --plan.

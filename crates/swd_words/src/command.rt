@@ -19,7 +19,8 @@ pub enum Line {
     /// `swd run SCRIPT [--plan FILE]` or `swd run SCRIPT --remote --report FILE`. Both take `[--tries N] [--resume N]
     /// [--trace FILE] [--accesses FILE] [--strict] [--progress]` too.
     Run(RunLine),
-    /// `swd target SCRIPT [--plan FILE] [--log FILE] [--trace FILE]`.
+    /// `swd target MEMORY [--plan FILE] [--log FILE] [--trace FILE]`. MEMORY is SCRIPT or
+    /// `--memory FILE [--base ADDR]`.
     Target(TargetLine),
     /// `swd load ADDR FILE TARGET [--format FORMAT] [--tries N] [--resume N]`, the same with `verify`, or
     /// `swd dump ADDR BYTES FILE TARGET [--format FORMAT] [--tries N] [--resume N]`. TARGET is `--remote` or
@@ -84,13 +85,29 @@ pub struct RunLine {
     pub progress: bool,
 }
 
-/// The arguments of `swd target`.
+/// The memory of a target that is served, and its plan.
 #[derive(Debug, Drop)]
-pub struct TargetLine {
+pub enum ServedMemory {
+    /// The zero words that a script describes.
+    Script(ScriptLine),
+    /// The bytes of a file, which the session overwrites.
+    File(MemoryLine),
+}
+
+/// The files of a script and of a plan.
+#[derive(Debug, Drop)]
+pub struct ScriptLine {
     /// The file of the script, which describes the target's memory.
     pub script: String,
     /// The file of the plan, if one is named.
     pub plan: Option<String>,
+}
+
+/// The arguments of `swd target`.
+#[derive(Debug, Drop)]
+pub struct TargetLine {
+    /// The target's memory, with its plan.
+    pub memory: ServedMemory,
     /// The file that the log is written to, if one is named.
     pub log: Option<String>,
     /// The file that the trace is written to, if one is named.
@@ -111,7 +128,7 @@ pub enum ImageAction {
 /// The memory of a simulated target.
 #[derive(Debug, Drop)]
 pub struct MemoryLine {
-    /// The file of its bytes, the byte at the lowest address first. A load overwrites it.
+    /// The file of its bytes, the byte at the lowest address first. A load overwrites it, and so does `swd target`.
     pub file: String,
     /// The address of the first byte, a multiple of 4.
     pub base: u32,

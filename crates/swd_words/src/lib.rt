@@ -11,6 +11,7 @@ mod target_words;
 mod words;
 
 pub use command::{
-    DecodeLine, DrawLine, ImageAction, ImageLine, Line, LineFault, MemoryLine, RunLine, TargetLine,
+    DecodeLine, DrawLine, ImageAction, ImageLine, Line, LineFault, MemoryLine, RunLine, ScriptLine,
+    ServedMemory, TargetLine,
 };
 pub use words::line;

@@ -1,4 +1,5 @@
 //! The options for the target of `swd load`, `swd verify` and `swd dump`: behind the standard streams, or simulated.
+//! And those for the memory that `swd target` serves.
 ghost use Rattle.std.specs.Prelude.{◌≡◌, ◌%◌, IfOk, IfSome, None, false, true};
 ghost use Rattle.std.specs.Option.{option_map};
 ghost use Rattle.clap.specs.Words.{app_of, found_of, rows_of, rule_of};
@@ -25,19 +26,19 @@ const TWO_TARGETS: &str = "--remote and --memory FILE are two targets: give one 
 
 const NO_MEMORY: &str = "--base ADDR and --plan FILE go with --memory FILE";
 
-// Returns the option for the file of a simulated memory.
-fn memory_arg<'a>(alloc: Global) -> Arg<'a>
+/// Returns the option for the file of a simulated memory.
+pub(crate) fn memory_arg<'a>(alloc: Global, help: &'a str) -> Arg<'a>
     ensures rule { rule_of result ≡ memory_rule }
     ensures local { result.global ≡ false }
 {
     Arg::new(alloc, "memory")
         .long("memory")
         .value_name("FILE")
-        .help("The target is simulated; FILE has its memory")
+        .help(help)
 }
 
-// Returns the option for the address of a simulated memory.
-fn base_arg<'a>(alloc: Global) -> Arg<'a>
+/// Returns the option for the address of a simulated memory.
+pub(crate) fn base_arg<'a>(alloc: Global) -> Arg<'a>
     ensures rule { rule_of result ≡ base_rule }
     ensures local { result.global ≡ false }
 {
@@ -57,13 +58,14 @@ pub(crate) fn with_target_options<'a>(
     ensures local { IfOk result (λ c. (out-Command c).has_globals ≡ false) }
 {
     let remote = with_arg(command, remote_arg(alloc))?;
-    let memory = with_arg(remote, memory_arg(alloc))?;
+    let help = "The target is simulated; FILE has its memory";
+    let memory = with_arg(remote, memory_arg(alloc, help))?;
     let base = with_arg(memory, base_arg(alloc))?;
     with_arg(base, plan_arg(alloc))
 }
 
-// Returns whether an option isn't given.
-fn is_missing(word: Option<&str>) -> bool
+/// Returns whether an argument isn't given.
+pub(crate) fn is_missing(word: Option<&str>) -> bool
     ensures { result ≡ true → option_map (λ s. s.now) word.entry ≡ None }
 {
     word.is_none()
@@ -83,8 +85,12 @@ fn base_in(word: Option<&str>) -> Option<u32>
     }
 }
 
-// Returns the simulated memory of the arguments.
-fn memory_line(alloc: Global, matches: &ArgMatches<'_>) -> Result<MemoryLine, LineFault>
+/// Returns the simulated memory of the arguments, or an error with the line `missing` where none is named.
+pub(crate) fn memory_line(
+    alloc: Global,
+    matches: &ArgMatches<'_>,
+    missing: &str,
+) -> Result<MemoryLine, LineFault>
     ensures { IfOk result (λ memory. IsMemoryOf memory (rows_of (found_of matches.now))) }
 {
     let Ok(memory) = owned(alloc, matches.get_str("memory")) else {
@@ -92,7 +98,7 @@ fn memory_line(alloc: Global, matches: &ArgMatches<'_>) -> Result<MemoryLine, Li
     };
     let Some(file) = memory else {
         let kind = ErrorKind::MissingRequiredArgument;
-        return Err(refused(alloc, kind, NO_TARGET));
+        return Err(refused(alloc, kind, missing));
     };
     let Ok(plan) = owned(alloc, matches.get_str("plan")) else {
         return Err(LineFault::Memory);
@@ -112,7 +118,7 @@ pub(crate) fn target_in(
     ensures { IfOk result (λ memory. IsTargetIn memory (rows_of (found_of matches.now))) }
 {
     if !is_asked_for(matches.get_str("remote")) {
-        return match memory_line(alloc, matches) {
+        return match memory_line(alloc, matches, NO_TARGET) {
             Ok(memory) => Ok(Some(memory)),
             Err(fault) => Err(fault),
         };

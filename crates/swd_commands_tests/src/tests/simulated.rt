@@ -26,26 +26,26 @@ const CUT_SECOND: &[u8] = b".\n.\n.\n.\n.\n.\n.\n.\n.\n.\n.\nmute 0\n";
 
 // What was written to a file since it was cut off.
 #[derive(Clone, Copy)]
-struct Page {
+pub(super) struct Page {
     bytes: [u8; 64],
     len: usize,
 }
 
-const EMPTY: Page = Page {
+pub(super) const EMPTY: Page = Page {
     bytes: [0; 64],
     len: 0,
 };
 
 impl Page {
-    fn text(&self) -> &[u8] {
+    pub(super) fn text(&self) -> &[u8] {
         self.bytes.get(..self.len).unwrap_or(b"")
     }
 }
 
 #[derive(Drop)]
-struct Pen<'a> {
-    page: &'a Cell<Page>,
-    is_full: bool,
+pub(super) struct Pen<'a> {
+    pub(super) page: &'a Cell<Page>,
+    pub(super) is_full: bool,
 }
 
 impl Write for Pen<'_> {
@@ -72,7 +72,7 @@ impl Write for Pen<'_> {
 
 // A file, or one that can't be read.
 #[derive(Drop)]
-enum Source {
+pub(super) enum Source {
     Text(&'static [u8]),
     Broken,
 }

@@ -1,8 +1,5 @@
-use Rattle.std.proofs.Common.{◌≡◌, Bool, true, false, map, sym, ap, ◌∙◌, subst}
-use Rattle.swd_port.specs.Port.{made_target}
+use Rattle.std.proofs.Common.{◌≡◌, Bool, true, false, map, sym, subst}
 use Rattle.swd_port.specs.PlainMemory.{PlainMemory}
-use Rattle.swd_target.specs.Simulations.{Simulation}
-use Rattle.swd_clocked.specs.declared.marked.MarkedClocked.{MarkedClocked}
 use Rattle.swd_script.specs.Readers.{listed, meaning}
 use Rattle.swd_script.proofs.TextLaws.{is_runnable, is_plan}
 use Rattle.swd_ends.specs.Serving.{IsBare, IsMade}
@@ -12,8 +9,8 @@ pub zero_memory-requires : goal.zero_memory-requires
 zero_memory-requires g c = let read = c.in-Ok.ensures.read in is_runnable read.script_text
     (meaning c.in-Ok.texts.script) read.means
 
-pub new-target-requires : goal.new-target-requires
-new-target-requires g c = let read = c.in-Ok.ensures.read in is_plan read.plan_text c.in-Ok.texts.plan.items read.plans
+pub target_pins-requires : goal.target_pins-requires
+target_pins-requires g c = let read = c.in-Ok.ensures.read in is_plan read.plan_text c.in-Ok.texts.plan.items read.plans
 
 apart : (b : Bool) → b ≡ true → b ≡ false → ⊥
 apart b e f = absurd cc
@@ -33,30 +30,14 @@ returns-then-not-is_bare-clause-fault g c =
 pub returns-clause-made : goal.returns-clause-made
 returns-clause-made g c =
     let script = c.in-Ok.texts.script in
-    let target = c.new-target.ensures in
     let marks = c.in-Ok.texts.plan.items in
-    let made : IsMade (meaning script) marks c.new-target.result = record {
-      state = target.state ∙ ap (λ (m : PlainMemory). made_target 731911287 m) c.in-Some.ensures;
-      choices = ap (λ (s : Simulation). s.quirks) target.exact;
-      frame = target.frame;
-      unseen = target.unseen;
-      plan = target.plan;
-      asked = target.requests;
-      cycles = target.cycles;
-    } in
-    let pins = c.new.ensures in
+    let pins = c.target_pins.ensures in
     record {
       meaning = meaning script;
       marks = marks;
       read = c.in-Ok.ensures.read;
       no_access = subst (λ batches. IsBare (map listed batches)) c.as_slice.ensures.value
           (c.is_bare.ensures.0 c.if-not-is_bare.false);
-      made = subst (λ (t : MarkedClocked _). IsMade (meaning script) marks t) (sym pins.target) made;
-      rests = record {
-        clock = pins.clock;
-        level = pins.level;
-        drives = pins.drives;
-        seen = pins.seen;
-        kept = pins.trace;
-      };
+      made = subst (λ (m : PlainMemory). IsMade m marks c.target_pins.result.target) c.in-Some.ensures pins.made;
+      rests = pins.rests;
     }

@@ -19,6 +19,7 @@ loop-index-init g c =
           ∙ ap (words_from c.args.base) (ap (λ n. replicate n 0) (sym (words_length c.args.bytes.now)) ∙ mixed_none ws);
       log = omega (arith, log);
       room = omega (arith, room, sum);
+      spare = λ few. omega (arith, room, sum, few);
       count = refl;
     }
 
@@ -51,6 +52,7 @@ loop-index-preserved g c =
     let inv = c.loop-index.invariant in
     let was_log = inv.log in
     let was_room = inv.room in
+    let was_spare = inv.spare in
     record {
       words = put.words ∙ ap (λ m. insert m at word) inv.words
           ∙ sym (words_from-set c.args.base (mixed i ws) i word at (omega (arith, many, low)) refl)
@@ -58,14 +60,22 @@ loop-index-preserved g c =
           (ap (set (mixed i ws) i) is ∙ mixed_next i ws low ∙ ap (λ n. mixed n ws) (sym (add-one i)));
       log = omega (arith, log, was_log);
       room = omega (arith, room, was_room);
+      spare = λ few. let enough = was_spare few in omega (arith, room, enough);
       count = refl;
     }
 
-pub returns : goal.returns
-returns g c =
+pub returns-clause-words : goal.returns-clause-words
+returns-clause-words g c =
     let ws : List ℕ = words_in c.args.bytes.now in
     let i : ℕ = c.loop-index.index in
     let count = words_length c.args.bytes.now in
     let test = c.loop-index-test.false in
     c.loop-index.invariant.words
     ∙ ap (words_from c.args.base) (mixed_all i ws (omega (arith, count, test)))
+
+pub returns-clause-room : goal.returns-clause-room
+returns-clause-room g c = λ some few.
+    let inv = c.loop-index.invariant in
+    let log = inv.log in
+    let enough = inv.spare few in
+    omega (arith, log, enough)

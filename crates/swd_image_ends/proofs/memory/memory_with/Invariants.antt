@@ -1,4 +1,4 @@
-use Rattle.std.proofs.Common.{◌≡◌, ◌/◌, ◌≤◌, length}
+use Rattle.std.proofs.Common.{◌≡◌, ◌+◌, ◌/◌, ◌^◌, ◌<◌, ◌≤◌, length}
 use Rattle.swd_target.specs.MemoryWords.{words_from}
 use Rattle.swd_image_ends.specs.Memories.{words_in}
 use Rattle.swd_image_ends.proofs.MemoryLemmas.{mixed}
@@ -9,5 +9,6 @@ invariant-loop-index g l = record {
   words : l.memory.words ≡ words_from l.base (mixed l.index (words_in l.bytes));
   log : length l.memory.log ≤ l.index;
   room : l.count ≤ l.memory.room;
+  spare : l.count + l.spare < 2 ^ 32 → l.count + l.spare ≤ l.memory.room;
   count : l.count ≡ length l.bytes / 4;
 }

@@ -3,7 +3,7 @@ use Rattle.swd_run.proofs.RunLemmas.{made_rests}
 use Rattle.swd_image_ends.proofs.memory.simulated_target.Goals as goal
 
 pub returns-clause-words : goal.returns-clause-words
-returns-clause-words g c = ap (λ x. x.target.memory.words) c.new.ensures.port ∙ c.in_ok-memory.ensures
+returns-clause-words g c = ap (λ x. x.target.memory.words) c.new.ensures.port ∙ c.in_ok-memory.ensures.words
 
 pub returns-clause-rests : goal.returns-clause-rests
 returns-clause-rests g c = made_rests _ _ c.new.ensures.port

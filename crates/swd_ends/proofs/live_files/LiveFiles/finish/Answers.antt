@@ -2,8 +2,8 @@ use Rattle.std.proofs.Common.{rules, ◌≡◌, ◌-◌, ◌^◌, min, [], ◌�
 use Rattle.swd_port.specs.declared.access.Transfer.{Transfer}
 use Rattle.swd_clocked.specs.Marked.{tally_of, cycles_of}
 use Rattle.swd_ends.specs.TargetLogs.{counts_line, transfer_lines}
-use Rattle.swd_ends.specs.LiveFiles.{AddsIf, AddsRestIf, first_characters, first_lines, log_at, trace_at, whole_log}
-use Rattle.swd_ends.specs.LiveFiles.{whole_trace}
+use Rattle.swd_ends.specs.LiveFiles.{AddsIf, AddsRestIf, first_characters, first_lines, log_at, trace_at, transfers_at}
+use Rattle.swd_ends.specs.LiveFiles.{whole_log, whole_trace}
 use Rattle.swd_ends.proofs.LiveLemmas.{finishes_if, lines_joined, take_whole, text_joined}
 use Rattle.swd_ends.proofs.live_files.LiveFiles.finish.Goals as goal
 
@@ -12,13 +12,15 @@ returns-clause-log g c =
     let contents = g.M.Write.contents in
     let t = c.args.pins.now in
     let target = c.target-target.result.now in
-    let log : c.log.result.now ≡ log_at t = search rules in
+    let n = c.args.self.now.skipped in
+    let all : c.log.result.now ≡ transfers_at t = search rules in
+    let log : c.transfers_since-log.result.now ≡ log_at n t = c.transfers_since-log.ensures ∙ ap (drop n) all in
     let last = counts_line (cycles_of t.target) (min (tally_of t.target).asked (2 ^ 64 - 1)) ++ 10 ∷ [] in
     let line : c.as_bytes.result.now ++ 10 ∷ [] ≡ last = search rules in
-    finishes_if contents (first_lines t) (λ n. transfer_lines (drop n (log_at t))) (length (log_at t)) last (whole_log t)
-    c.args.self.now.log c.log_on.new.file c.end.new.file (lines_joined (log_at t))
-    (ap (λ l. transfer_lines l ++ last) (take_whole (log_at t)))
-    (subst (λ (l : List Transfer). AddsRestIf contents (λ n. transfer_lines (drop n l)) (length l)
+    finishes_if contents (first_lines n t) (λ k. transfer_lines (drop k (log_at n t))) (length (log_at n t)) last
+    (whole_log n t) c.args.self.now.log c.log_on.new.file c.end.new.file (lines_joined (log_at n t))
+    (ap (λ l. transfer_lines l ++ last) (take_whole (log_at n t)))
+    (subst (λ (l : List Transfer). AddsRestIf contents (λ k. transfer_lines (drop k l)) (length l)
     c.args.self.now.log c.log_on.new.file) log c.log_on.ensures)
     (subst (λ x. AddsIf contents x c.log_on.new.file c.end.new.file) line c.end.ensures)
 

@@ -1,5 +1,5 @@
 use Rattle.swd_script.proofs.TextLaws.{is_plan}
-use Rattle.swd_commands.proofs.simulated_command.read_noted.Goals as goal
+use Rattle.swd_commands.proofs.memory_file.read_noted.Goals as goal
 
 pub returns-in-Ok-clause-legal : goal.returns-in-Ok-clause-legal
 returns-in-Ok-clause-legal g c =

@@ -1,0 +1,45 @@
+use Rattle.std.proofs.Common.{◌≡◌, ◌∙◌, ℕ, Result, ap, false, refl, subst, sym}
+use Rattle.swd_port.specs.PlainMemory.{PlainMemory}
+use Rattle.swd_clocked.specs.Marked.{state_of}
+use Rattle.swd_bitbang.specs.Traces.{is_cut_off}
+use Rattle.swd_commands.specs.MemoryTargets.{IsSessionStatus}
+use Rattle.swd_commands.specs.Simulated.{WritesBack}
+use Rattle.swd_commands.proofs.ServedLemmas.{served_so}
+use Rattle.swd_commands.proofs.memory_target.serve_over.Goals as goal
+
+pub returns-in-Ok : goal.returns-in-Ok
+returns-in-Ok g c =
+    let served = c.serve_logged-served in
+    let wrote = c.write_back.result in
+    record {
+      served = served.result.0;
+      after = served.result.1;
+      session = served.ensures.session;
+      wrote = wrote;
+      written = subst (λ (m : PlainMemory). WritesBack m c.args.memory.now.base c.args.count wrote
+          (g.F.Made.Write.contents c.args.file.now) (g.F.Made.Write.contents c.write_back.new.file))
+          (c.memory-after.ensures ∙ ap (λ t. (state_of t).memory) c.target-2.ensures) c.write_back.ensures;
+      is = subst (λ (w : Result (Unit {0}) ℕ). IsSessionStatus served.result.0
+          (is_cut_off served.result.1.trace ≡ false) w c.served_status.result)
+          (sym c.in-Ok.is)
+          (served_so served.result.0 _ _ _
+          (λ done. ap is_cut_off (sym c.trace.ensures) ∙ c.are_complete-done.ensures done)
+          c.served_status.ensures);
+    }
+
+pub returns : goal.returns
+returns g c =
+    let served = c.serve_logged-served in
+    let wrote = c.write_back.result in
+    record {
+      served = served.result.0;
+      after = served.result.1;
+      session = served.ensures.session;
+      wrote = wrote;
+      written = subst (λ (m : PlainMemory). WritesBack m c.args.memory.now.base c.args.count wrote
+          (g.F.Made.Write.contents c.args.file.now) (g.F.Made.Write.contents c.write_back.new.file))
+          (c.memory-after.ensures ∙ ap (λ t. (state_of t).memory) c.target-2.ensures) c.write_back.ensures;
+      is = subst (λ (w : Result (Unit {0}) ℕ). IsSessionStatus served.result.0
+          (is_cut_off served.result.1.trace ≡ false) w c.in-Err.status) (sym c.in-Err.is)
+          refl;
+    }
