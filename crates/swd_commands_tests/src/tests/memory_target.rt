@@ -166,28 +166,52 @@ fn run_at(alloc: Global, words: &[&str], ram: &'static [u8], session: &[u8]) -> 
 #[test]
 fn a_session_leaves_its_memory_in_the_file(rt: HostRuntime) {
     let rows: [(&[&str], &[u8], &[u8], bool); 5] = [
-        (&[], b"abcdefgh", b"\xef\xbe\xad\xdeefgh", true),
         (
-            &["--base", "0x1FFFFFFC"],
+            &["swd", "target", "--memory", "ram", "--log", "log"],
+            b"abcdefgh",
+            b"\xef\xbe\xad\xdeefgh",
+            true,
+        ),
+        (
+            &[
+                "swd",
+                "target",
+                "--memory",
+                "ram",
+                "--log",
+                "log",
+                "--base",
+                "0x1FFFFFFC",
+            ],
             b"abcdefgh",
             b"abcd\xef\xbe\xad\xde",
             true,
         ),
-        (&["--base", "20000004"], b"abcdefgh", b"abcdefgh", false),
-        (&[], b"", b"", false),
-        (&["--plan", "quiet"], b"\0\0\0\0", b"\xef\xbe\xad\xde", true),
+        (
+            &[
+                "swd", "target", "--memory", "ram", "--log", "log", "--base", "20000004",
+            ],
+            b"abcdefgh",
+            b"abcdefgh",
+            false,
+        ),
+        (
+            &["swd", "target", "--memory", "ram", "--log", "log"],
+            b"",
+            b"",
+            false,
+        ),
+        (
+            &[
+                "swd", "target", "--memory", "ram", "--log", "log", "--plan", "quiet",
+            ],
+            b"\0\0\0\0",
+            b"\xef\xbe\xad\xde",
+            true,
+        ),
     ];
-    for (more, ram, after, is_there) in rows {
-        let mut words = ["swd", "target", "--memory", "ram", "--log", "log", "--", ""];
-        let count = match more {
-            [option, value] => {
-                words[6] = *option;
-                words[7] = *value;
-                8
-            }
-            _ => 6,
-        };
-        let ran = run_at(rt.alloc(), &words[..count], ram, SESSION);
+    for (words, ram, after, is_there) in rows {
+        let ran = run_at(rt.alloc(), words, ram, SESSION);
         expect_eq_at(&rt, &words, &ran.memory.text(), &after);
         expect_eq_at(&rt, &words, &ran.errors.as_slice(), &b"".as_slice());
         expect_eq_at(&rt, &words, &(ran.log.text() == LOG), &is_there);
@@ -226,108 +250,112 @@ fn each_end_of_a_session_leaves_the_memory(rt: HostRuntime) {
 fn a_file_that_cannot_be_used_is_refused(rt: HostRuntime) {
     let rows: [(&[&str], &[u8], &[u8]); 19] = [
         (
-            &["ram"],
+            &["swd", "target", "--memory", "ram"],
             b"abc",
             b"swd: ram: its length is no multiple of 4\n",
         ),
         (
-            &["ram", "--base", "fffffffc"],
+            &["swd", "target", "--memory", "ram", "--base", "fffffffc"],
             b"abcdefgh",
             b"swd: ram: the memory extends past ffffffff\n",
         ),
         (
-            &["broken"],
+            &["swd", "target", "--memory", "broken"],
             b"abcd",
             b"swd: read failed: broken: broken pipe\n",
         ),
         (
-            &["nothing"],
+            &["swd", "target", "--memory", "nothing"],
             b"abcd",
             b"swd: cannot open nothing: entity not found\n",
         ),
         (
-            &["locked"],
+            &["swd", "target", "--memory", "locked"],
             b"abcd",
             b"swd: cannot open locked: permission denied\n",
         ),
         (
-            &["moved"],
+            &["swd", "target", "--memory", "moved"],
             b"abcd",
             b"swd: cannot open moved: it is another file now\n",
         ),
         (
-            &["-"],
+            &["swd", "target", "--memory", "-"],
             b"abcd",
             b"swd: cannot open -: it has to be a file\n",
         ),
         (
-            &["input"],
+            &["swd", "target", "--memory", "input"],
             b"abcd",
             b"swd: cannot open input: it is a standard stream\n",
         ),
         (
-            &["output"],
+            &["swd", "target", "--memory", "output"],
             b"abcd",
             b"swd: cannot open output: it is a standard stream\n",
         ),
         (
-            &["errors"],
+            &["swd", "target", "--memory", "errors"],
             b"abcd",
             b"swd: cannot open errors: it is a standard stream\n",
         ),
         (
-            &["ram", "--plan", "ram-again"],
+            &["swd", "target", "--memory", "ram", "--plan", "ram-again"],
             b"abcd",
             b"swd: cannot open ram-again: it is read already\n",
         ),
         (
-            &["ram", "--plan", "input"],
+            &["swd", "target", "--memory", "ram", "--plan", "input"],
             b"abcd",
             b"swd: cannot open input: it is read already\n",
         ),
         (
-            &["ram", "--plan", "wrong"],
+            &["swd", "target", "--memory", "ram", "--plan", "wrong"],
             b"abcd",
             b"swd: plan line 1: range: BIT is at most 32 for flip, at most 2 for mute\n",
         ),
         (
-            &["ram", "--log", "ram-again"],
+            &["swd", "target", "--memory", "ram", "--log", "ram-again"],
             b"abcd",
             b"swd: cannot open ram-again: it is the memory\n",
         ),
         (
-            &["ram", "--trace", "ram"],
+            &["swd", "target", "--memory", "ram", "--trace", "ram"],
             b"abcd",
             b"swd: cannot open ram: it is the memory\n",
         ),
         (
-            &["ram", "--log", "plan-again", "--plan", "plan"],
+            &[
+                "swd",
+                "target",
+                "--memory",
+                "ram",
+                "--log",
+                "plan-again",
+                "--plan",
+                "plan",
+            ],
             b"abcd",
             b"swd: cannot open plan-again: it is the script or the plan\n",
         ),
         (
-            &["ram", "--trace", "input"],
+            &["swd", "target", "--memory", "ram", "--trace", "input"],
             b"abcd",
             b"swd: cannot open input: it is the script or the plan\n",
         ),
         (
-            &["ram", "--trace", "output"],
+            &["swd", "target", "--memory", "ram", "--trace", "output"],
             b"abcd",
             b"swd: cannot open output: it is another output\n",
         ),
         (
-            &["ram", "--log", "-"],
+            &["swd", "target", "--memory", "ram", "--log", "-"],
             b"abcd",
             b"swd: cannot open -: it has to be a file\n",
         ),
     ];
-    for (more, ram, line) in rows {
-        let mut words = ["swd", "target", "--memory", "", "", "", "", ""];
-        for (place, word) in words[3..].iter_mut().zip(more) {
-            *place = *word;
-        }
-        let count = more.len().saturating_add(3).min(8);
-        let ran = run_at(rt.alloc(), &words[..count], ram, SESSION);
+    for (words, ram, line) in rows {
+        let ran = run_at(rt.alloc(), words, ram, SESSION);
         expect_eq_at(&rt, &words, &ran.errors.as_slice(), &line);
         expect_eq_at(&rt, &words, &ran.output.is_empty(), &true);
         expect_eq_at(&rt, &words, &ran.cuts, &0);
@@ -370,6 +398,20 @@ fn said_of(alloc: Global, words: &[&str]) -> Result<String, Fail> {
     }
 }
 
+// Whether these words are a target with the memory `ram` from 1000 on, and the plan `p`.
+fn has_that_memory(alloc: Global, words: &[&str]) -> bool {
+    match line(alloc, words) {
+        Ok(Line::Target(target)) => match &target.memory {
+            ServedMemory::File(memory) => {
+                let is_planned = matches!(&memory.plan, Some(plan) if plan.as_str() == "p");
+                memory.file.as_str() == "ram" && memory.base == 0x1000 && is_planned
+            }
+            ServedMemory::Script(_) => false,
+        },
+        _ => false,
+    }
+}
+
 #[test]
 fn a_target_has_one_memory(rt: HostRuntime) -> Result<(), Fail> {
     let rows: [(&[&str], &str); 4] = [
@@ -394,15 +436,6 @@ fn a_target_has_one_memory(rt: HostRuntime) -> Result<(), Fail> {
     let words = [
         "swd", "target", "--memory", "ram", "--base", "0x1000", "--plan", "p",
     ];
-    let Ok(Line::Target(target)) = line(rt.alloc(), words.as_slice()) else {
-        return Err(Fail::from("no target"));
-    };
-    let ServedMemory::File(memory) = target.memory else {
-        return Err(Fail::from("no memory"));
-    };
-    expect_eq(&rt, &memory.file.as_str(), &"ram");
-    expect_eq(&rt, &memory.base, &0x1000);
-    let plan = memory.plan.ok_or("no plan")?;
-    expect_eq(&rt, &plan.as_str(), &"p");
+    assert!(rt; has_that_memory(rt.alloc(), words.as_slice()));
     Ok(())
 }
