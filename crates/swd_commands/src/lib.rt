@@ -7,6 +7,7 @@ mod decode_command;
 mod draw_command;
 mod image_command;
 mod image_file;
+mod image_report;
 mod noted;
 mod open_files;
 mod program;
