@@ -6,6 +6,7 @@ use Rattle.swd_port.specs.declared.call.Call.{Call}
 use Rattle.swd_port.specs.Port.{Port}
 use Rattle.swd_remote.specs.declared.remote.Fault.{Fault}
 use Rattle.swd_image.specs.declared.fault.ImageFault.{ImageFault}
+use Rattle.swd_image.specs.Reports.{fault_of}
 use Rattle.swd_image.proofs.DumpLemmas.{length_bytes}
 use Rattle.swd_image_files.specs.declared.format.Format.{Format}
 use Rattle.swd_image_files.specs.Texts.{file_of}
@@ -18,11 +19,19 @@ with_list list (Ok value) = Ok (list value)
 with_list list (Err fault) = Err fault
 
 -- what a dump states of a result, it states of the result with its bytes as a list
-pub dumps_list : {V : Type 0} (list : V → List ℕ) (story : ℕ → Port) (tries resumes addr : ℕ) (Over : List Call → Type 0)
-    (count : ℕ) (answer : Result V ImageFault) → DumpsRemote story tries resumes addr Over count answer list
-    → DumpsRemote story tries resumes addr Over count (with_list list answer) (λ bytes. bytes)
+pub dumps_list : {V : Type 0} (list : V → List ℕ) (story : ℕ → Port) (tries resumes addr : ℕ)
+    (Over : Option ImageFault → List Call → Type 0) (count : ℕ) (answer : Result V ImageFault)
+    → DumpsRemote story tries resumes addr (Over (fault_of answer)) count answer list
+    → DumpsRemote story tries resumes addr (Over (fault_of (with_list list answer))) count (with_list list answer)
+    (λ bytes. bytes)
 dumps_list list story tries resumes addr Over count (Ok value) dumps = dumps
 dumps_list list story tries resumes addr Over count (Err fault) dumps = dumps
+
+-- and so what is known of its error
+pub fault_list : {V : Type 0} (list : V → List ℕ) (answer : Result V ImageFault) (P : Option ImageFault → Type 0)
+    → P (fault_of answer) → P (fault_of (with_list list answer))
+fault_list list (Ok value) P h = h
+fault_list list (Err fault) P h = h
 
 -- the bytes were read, and then written
 pub dump_done : {V : Type 0} (list : V → List ℕ) (format : Format) (addr : ℕ) (gone : Option Fault)

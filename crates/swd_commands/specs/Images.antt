@@ -1,18 +1,21 @@
 -- The status of a load, a verification or a dump at a remote target.
-use Rattle.std.specs.Prelude.{◌≡◌, ◌<◌, ◌⊎◌, ℕ, List, length, take, Option, Some, None, Result, Ok, Err, is_some}
+use Rattle.std.specs.Prelude.{◌≡◌, ◌<◌, ◌⊎◌, ℕ, List, [], length, take, Option, Some, None, Result, Ok, Err, is_some}
 use Rattle.std.specs.Prelude.{if◌then◌else◌}
 use Rattle.std.specs.Io.KnownBytes.{Appends}
 use Rattle.swd_port.specs.Port.{Port}
+use Rattle.swd_port.specs.Stories.{FitsStory, port_at}
 use Rattle.swd_remote.specs.declared.kept.Line.{Line}
 use Rattle.swd_remote.specs.declared.remote.Fault.{Fault}
 use Rattle.swd_remote.specs.WholeRuns.{IsUnused}
 use Rattle.swd_image.specs.declared.fault.ImageFault.{ImageFault}
-use Rattle.swd_image.specs.declared.fault.ImageFault.TheVariants.{Range, Memory, Stopped, BusFault as FaultAt}
+use Rattle.swd_image.specs.declared.fault.ImageFault.TheVariants.{Range, Memory, Stopped, Report, BusFault as FaultAt}
 use Rattle.swd_image.specs.declared.verifying.ByteDifference.{ByteDifference}
+use Rattle.swd_image.specs.Reports.{DumpReports, fault_of}
 use Rattle.swd_image_files.specs.declared.format.Format.{Format}
 use Rattle.swd_image_files.specs.Files.{IsImage}
 use Rattle.swd_image_files.specs.Images.{Bytes, Contents, pieces_of}
 use Rattle.swd_image_files.specs.Texts.{file_of}
+use Rattle.swd_image_ends.specs.PieceReports.{LoadsReported, VerifiesReported}
 use Rattle.swd_image_ends.specs.RemoteImages.{DumpsRemote}
 use Rattle.swd_image_ends.specs.RemotePieces.{LoadsPiecesRemote, VerifiesPiecesRemote}
 use Rattle.swd_words.specs.declared.command.ImageAction.{ImageAction}
@@ -20,12 +23,14 @@ use Rattle.swd_words.specs.declared.command.ImageAction.TheVariants.{Load, Verif
 use Rattle.swd_words.specs.declared.command.ImageLine.{ImageLine}
 use Rattle.swd_commands.specs.Remotes.{WentOver}
 
--- 1 if a call ended early or met a bus error, 2 if the image doesn't fit the addresses or memory ran out
+-- 1 if a call ended early or met a bus error, 2 if the image doesn't fit the addresses, memory ran out, or the report
+-- couldn't be written
 abbrev pub status_of_fault : ImageFault → ℕ
 status_of_fault Range = 2
 status_of_fault Memory = 2
 status_of_fault (Stopped end) = 1
 status_of_fault (FaultAt at) = 1
+status_of_fault Report = 2
 
 -- a result, or the status at an error; the status is 1 if the call succeeded but the other end is gone
 abbrev pub reached : {V : Type 0} → Option Fault → Result V ImageFault → Result V ℕ
@@ -77,12 +82,17 @@ module _ {R W : Type 0} (story : ℕ → Port) (image : ImageLine) (status : ℕ
   abbrev pub IsLeft : Type 0
   IsLeft = (status ≡ 2) × IsUnused remaining contents sent left line
 
-  -- The pieces of a file are loaded over a line. Only tests show that the line is over the standard streams.
+  -- The pieces of a file are loaded over a line. The reports of the calls are written if a file is named for them.
+  -- Nothing else is known of this file. Only tests show that the line is over the standard streams.
   abbrev pub PerformsLoad : Type 0
   PerformsLoad =
       IsLeft
       ⊎ ((pieces : List Bytes) × (answer : Result (Unit {0}) ImageFault) × ArePiecesOf image pieces
-      × LoadsPiecesRemote story image.tries image.resumes (WentOver remaining contents sent left line) pieces answer
+      × (before : Option (Option (List ℕ))) × (after : Option (Option (List ℕ)))
+      × (is_some before ≡ is_some image.report)
+      × LoadsPiecesRemote story image.tries image.resumes (λ calls. WentOver remaining contents sent left line calls
+      × LoadsReported (port_at story) (λ calls. []) (FitsStory story) image.tries image.resumes pieces
+      (fault_of answer) [] calls before after) pieces answer
       × (status ≡ status_of_image status_of_loaded line.fault answer))
 
   -- the memory is compared with the pieces of a file
@@ -90,7 +100,11 @@ module _ {R W : Type 0} (story : ℕ → Port) (image : ImageLine) (status : ℕ
   PerformsVerify =
       IsLeft
       ⊎ ((pieces : List Bytes) × (answer : Result (Option ByteDifference) ImageFault) × ArePiecesOf image pieces
-      × VerifiesPiecesRemote story image.tries image.resumes (WentOver remaining contents sent left line) pieces answer
+      × (before : Option (Option (List ℕ))) × (after : Option (Option (List ℕ)))
+      × (is_some before ≡ is_some image.report)
+      × VerifiesPiecesRemote story image.tries image.resumes (λ calls. WentOver remaining contents sent left line calls
+      × VerifiesReported (port_at story) (λ calls. []) (FitsStory story) image.tries image.resumes pieces answer []
+      calls before after) pieces answer
       × (status ≡ status_of_image status_of_verified line.fault answer))
 
   -- `count` bytes of the memory are written to a file
@@ -98,7 +112,11 @@ module _ {R W : Type 0} (story : ℕ → Port) (image : ImageLine) (status : ℕ
   PerformsDump count =
       IsLeft
       ⊎ ((answer : Result (List ℕ) ImageFault)
-      × DumpsRemote story image.tries image.resumes image.addr (WentOver remaining contents sent left line) count answer
+      × (before : Option (Option (List ℕ))) × (after : Option (Option (List ℕ)))
+      × (is_some before ≡ is_some image.report)
+      × DumpsRemote story image.tries image.resumes image.addr (λ calls. WentOver remaining contents sent left line calls
+      × DumpReports (port_at story) (λ calls. []) (FitsStory story) image.tries image.resumes image.addr count
+      (fault_of answer) [] calls before after) count answer
       (λ bytes. bytes) × IsDumped image.format image.addr (reached line.fault answer) status)
 
   -- what the arguments ask for

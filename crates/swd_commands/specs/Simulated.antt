@@ -1,5 +1,6 @@
 -- What a load, a verification or a dump at a simulated target does, whose memory is in a file.
 use Rattle.std.specs.Prelude.{ℕ, ◌≡◌, ◌⊎◌, List, [], length, take, Option, None, Result, Ok, Err, OnOk, IfOk, IfErr}
+use Rattle.std.specs.Prelude.{is_some}
 use Rattle.std.specs.Io.KnownBytes.{Appends}
 use Rattle.swd_io.specs.Pieces.{IsText}
 use Rattle.swd_port.specs.declared.mark.Mark.{Mark}
@@ -12,8 +13,10 @@ use Rattle.swd_image.specs.declared.fault.ImageFault.{ImageFault}
 use Rattle.swd_image.specs.declared.verifying.ByteDifference.{ByteDifference}
 use Rattle.swd_image.specs.Bytes.{bytes_at}
 use Rattle.swd_image.specs.Dumps.{DumpFails}
+use Rattle.swd_image.specs.Reports.{DumpReports, fault_of}
 use Rattle.swd_image_files.specs.Images.{Bytes}
 use Rattle.swd_image_ends.specs.Memories.{AnyWire, DumpsMemory, IsWhole, LoadsMemory, VerifiesMemory, words_in}
+use Rattle.swd_image_ends.specs.PieceReports.{LoadsReported, VerifiesReported}
 use Rattle.swd_image_ends.specs.Pieces.{LoadFailsAt, LoadsAll, VerifiesAll, VerifyFailsAt}
 use Rattle.swd_words.specs.declared.command.ImageAction.{ImageAction}
 use Rattle.swd_words.specs.declared.command.ImageAction.TheVariants.{Load, Verify, Dump}
@@ -40,7 +43,7 @@ IsStatusOf status (Ok done) own = own ≡ status
 IsStatusOf status (Err error) own = own ≡ error
 
 -- The pieces were loaded at a target s, or not all of them. Its memory after that was written to its file, whatever the
--- answer is.
+-- answer is. If a file is named for the reports of the calls, it had the contents `blank` and has `filled` now.
 pub record LoadsOver {A : Type 0} (image : ImageLine) (pieces : List Bytes) (s : Bench A) (base count status : ℕ)
     (old new : Option (List ℕ)) : Type 0 where
   pub answer : Result (Unit {0}) ImageFault
@@ -48,6 +51,11 @@ pub record LoadsOver {A : Type 0} (image : ImageLine) (pieces : List Bytes) (s :
   pub memory : OnOk answer (LoadsMemory pieces (port_of s).target.memory (port_of after).target.memory)
   pub calls : OnOk answer (LoadsAll port_of plan_of AnyWire image.tries image.resumes pieces s after)
   pub fault : IfErr answer (LoadFailsAt port_of plan_of AnyWire image.tries image.resumes pieces s after)
+  pub blank : Option (Option (List ℕ))
+  pub filled : Option (Option (List ℕ))
+  pub named : is_some blank ≡ is_some image.report
+  pub report : LoadsReported port_of plan_of AnyWire image.tries image.resumes pieces (fault_of answer) s after blank
+      filled
   pub wrote : Result (Unit {0}) ℕ
   pub written : WritesBack (port_of after).target.memory base count wrote old new
   pub is : IsStatusOf (status_of_image status_of_loaded None answer) wrote status
@@ -61,6 +69,10 @@ pub record VerifiesOver {A : Type 0} (image : ImageLine) (pieces : List Bytes) (
   pub calls : IfOk answer (λ difference. VerifiesAll port_of plan_of AnyWire image.tries image.resumes pieces difference
       s after)
   pub fault : IfErr answer (VerifyFailsAt port_of plan_of AnyWire image.tries image.resumes pieces s after)
+  pub blank : Option (Option (List ℕ))
+  pub filled : Option (Option (List ℕ))
+  pub named : is_some blank ≡ is_some image.report
+  pub report : VerifiesReported port_of plan_of AnyWire image.tries image.resumes pieces answer s after blank filled
   pub is : status ≡ status_of_image status_of_verified None answer
 
 -- `count` bytes of the memory of a target s were read and written to a file, or a call failed
@@ -70,6 +82,11 @@ pub record DumpsOver {A : Type 0} (image : ImageLine) (count : ℕ) (s : Bench A
   pub memory : IfOk answer (λ bytes. DumpsMemory image.addr count bytes (port_of s).target.memory
       (port_of after).target.memory)
   pub fault : IfErr answer (DumpFails port_of plan_of AnyWire image.tries image.resumes image.addr count s after)
+  pub blank : Option (Option (List ℕ))
+  pub filled : Option (Option (List ℕ))
+  pub named : is_some blank ≡ is_some image.report
+  pub report : DumpReports port_of plan_of AnyWire image.tries image.resumes image.addr count (fault_of answer) s after
+      blank filled
   pub dumped : IsDumped image.format image.addr (reached None answer) status
 
 module _ (A : Type 0) (image : ImageLine) where

@@ -6,11 +6,12 @@ ghost use Rattle.swd_commands.specs.Images.{reached as reached_by, status_of_fau
 ghost use Rattle.swd_commands.specs.Images.{status_of_loaded, status_of_verified};
 
 use crate::image_file::{read_image_file, write_image_file};
-use crate::open_files::Files;
-use crate::remote_command::{gone_status, line_streams};
+use crate::image_report::{open_report, report_writer};
+use crate::open_files::{Files, Opened};
+use crate::remote_command::gone_status;
 use crate::report::{DONE, STOPPED, cannot_open, engine_status};
 use crate::simulated_command::perform_simulated;
-use crate::streams::Stream;
+use crate::streams::{INPUT, Stream, tell_failure_or};
 use crate::trace::open_image;
 use crate::watched::KeepsError;
 use std::alloc::Allocator;
@@ -82,17 +83,30 @@ fn perform_load<
     ensures { PerformsLoad P.at image.now result.0 I.remaining O.contents (O.contents output) (I.remaining input)
         result.1 }
 {
-    let whole = match read_image_file(alloc, image, files, errors) {
-        Ok(whole) => whole,
+    let read = match read_image_file(alloc, image, files, errors) {
+        Ok(read) => read,
         Err(status) => return (status, Line::unused(input, output)),
     };
+    let opened = match open_report(files, image, read.identity, None, errors) {
+        Ok(opened) => opened,
+        Err(status) => return (status, Line::unused(input, output)),
+    };
+    let whole = &read.file;
     let (tries, resumes) = (image.tries, image.resumes);
-    let (answer, line) = load_pieces_remote::<P, _, _, _>(
-        alloc, input, output, &whole, tries, resumes,
+    let mut report = report_writer(opened, &mut *errors);
+    let (answer, line) = load_pieces_remote::<P, _, _, _, _>(
+        alloc,
+        input,
+        output,
+        whole,
+        tries,
+        resumes,
+        &mut report,
     );
-    let streams = line_streams(&line);
+    let streams = call_streams(image, &report, &line);
+    drop(report);
     let streams = streams.as_slice();
-    let status = loaded_status(errors, answer, line.fault, streams, image.addr, &whole);
+    let status = loaded_status(errors, answer, line.fault, streams, image.addr, whole);
     (status, line)
 }
 
@@ -108,17 +122,30 @@ fn perform_verify<
     ensures { PerformsVerify P.at image.now result.0 I.remaining O.contents (O.contents output) (I.remaining input)
         result.1 }
 {
-    let whole = match read_image_file(alloc, image, files, errors) {
-        Ok(whole) => whole,
+    let read = match read_image_file(alloc, image, files, errors) {
+        Ok(read) => read,
         Err(status) => return (status, Line::unused(input, output)),
     };
+    let opened = match open_report(files, image, read.identity, None, errors) {
+        Ok(opened) => opened,
+        Err(status) => return (status, Line::unused(input, output)),
+    };
+    let whole = &read.file;
     let (tries, resumes) = (image.tries, image.resumes);
-    let (answer, line) = verify_pieces_remote::<P, _, _, _>(
-        alloc, input, output, &whole, tries, resumes,
+    let mut report = report_writer(opened, &mut *errors);
+    let (answer, line) = verify_pieces_remote::<P, _, _, _, _>(
+        alloc,
+        input,
+        output,
+        whole,
+        tries,
+        resumes,
+        &mut report,
     );
-    let streams = line_streams(&line);
+    let streams = call_streams(image, &report, &line);
+    drop(report);
     let streams = streams.as_slice();
-    let status = verified_status(errors, answer, line.fault, streams, image.addr, &whole);
+    let status = verified_status(errors, answer, line.fault, streams, image.addr, whole);
     (status, line)
 }
 
@@ -143,12 +170,17 @@ fn perform_dump<
         result.1 count }
 {
     let name = image.file.as_str();
-    let mut file = match open_image(files, name) {
-        Ok(opened) => opened.file,
+    let Opened { mut file, identity } = match open_image(files, name) {
+        Ok(opened) => opened,
         Err(why) => return (cannot_open(errors, name, &why), Line::unused(input, output)),
     };
+    let opened = match open_report(files, image, identity, None, errors) {
+        Ok(opened) => opened,
+        Err(status) => return (status, Line::unused(input, output)),
+    };
     let (tries, resumes) = (image.tries, image.resumes);
-    let (answer, line) = dump_remote::<P, _, _, _>(
+    let mut report = report_writer(opened, &mut *errors);
+    let (answer, line) = dump_remote::<P, _, _, _, _>(
         alloc,
         input,
         output,
@@ -156,14 +188,30 @@ fn perform_dump<
         count as u64,
         tries,
         resumes,
+        &mut report,
     );
-    match reached(errors, answer, line.fault, line_streams(&line).as_slice()) {
+    let streams = call_streams(image, &report, &line);
+    drop(report);
+    match reached(errors, answer, line.fault, streams.as_slice()) {
         Ok(bytes) => {
             let status = write_image_file(errors, files, &mut file, image, bytes.as_slice());
             (status, line)
         }
         Err(status) => (status, line),
     }
+}
+
+// Returns the streams of the calls: that of the report, and those of the connection.
+fn call_streams<'a, S: KeepsError, R: KeepsError, W: KeepsError>(
+    image: &'a ImageLine,
+    report: &Option<S>,
+    line: &Line<R, W>,
+) -> [Stream<'a>; 3] {
+    [
+        Stream::record(&image.report, report),
+        Stream::sent(&line.writer),
+        Stream::read(INPUT, &line.reader),
+    ]
 }
 
 // Prints how many bytes were loaded or verified, and where. `offset` stands for the address of an image without bytes.
@@ -181,7 +229,7 @@ fn tell_done<E: Write, A: Allocator>(errors: &mut E, done: &str, offset: u32, wh
     };
 }
 
-/// Returns the status of a load over a connection with these streams, and prints a line with its result.
+/// Returns the status of a load with these streams, and prints a line with its result.
 pub(crate) fn loaded_status<E: Write, A: Allocator>(
     errors: &mut E,
     answer: Result<(), ImageFault>,
@@ -201,7 +249,7 @@ pub(crate) fn loaded_status<E: Write, A: Allocator>(
     }
 }
 
-/// Returns the status of a verification over a connection with these streams, and prints a line with its result.
+/// Returns the status of a verification with these streams, and prints a line with its result.
 pub(crate) fn verified_status<E: Write, A: Allocator>(
     errors: &mut E,
     answer: Result<Option<ByteDifference>, ImageFault>,
@@ -263,6 +311,7 @@ fn fault_status<E: Write>(
 {
     match fault {
         ImageFault::Range | ImageFault::Memory => engine_status(errors, Err(fault)),
+        ImageFault::Report => tell_failure_or(errors, streams, "write failed"),
         ImageFault::Stopped(_) | ImageFault::BusFault(_) => match gone {
             Some(gone) => gone_status(errors, gone, streams),
             None => {

@@ -4,7 +4,7 @@ ghost use Rattle.swd_image_ends.specs.Pieces.{pieces_in};
 ghost use Rattle.swd_image_files.specs.Texts.{file_of};
 ghost use Rattle.swd_commands.specs.Images.{ArePiecesOf, IsWritten, WritesBytes};
 
-use crate::open_files::Files;
+use crate::open_files::{Files, Opened};
 use crate::report::{DONE, cannot_open, cannot_use};
 use crate::streams::{Stream, streams_status, tell_failure_or};
 use crate::trace::open_plan;
@@ -23,44 +23,47 @@ fn most_bytes(image: &ImageLine) -> u64 {
     }
 }
 
-/// Reads the file of an image, in its format. At an error it prints a line and returns the status 2.
+/// Reads the file of an image, in its format. At an error it prints a line and returns the status 2. Returns which file
+/// it is, too.
 pub fn read_image_file<F: Files, E: Write, A: Allocator + Copy>(
     alloc: A,
     image: &ImageLine,
     files: &F,
     errors: &mut E,
-) -> Result<Image<A>, u8>
-    ensures pieces { IfOk result (λ whole. ArePiecesOf image.now (pieces_in whole)) }
+) -> Result<Opened<Image<A>>, u8>
+    ensures pieces { IfOk result (λ read. ArePiecesOf image.now (pieces_in read.file)) }
     ensures status { IfErr result (λ status. status ≡ 2) }
 {
     let name = image.file.as_str();
     // Standard input is the target's.
     match open_plan(files, name, None) {
-        Ok(opened) => read_opened_image(alloc, image, &mut Watched::new(opened.file), errors),
+        Ok(opened) => read_opened_image(alloc, image, opened, errors),
         Err(why) => Err(cannot_open(errors, name, &why)),
     }
 }
 
 /// Reads the open file of an image, in its format. At an error it prints a line and returns the status 2.
-pub fn read_opened_image<R: Read + KeepsError, E: Write, A: Allocator + Copy>(
+pub fn read_opened_image<R: Read + Drop, E: Write, A: Allocator + Copy>(
     alloc: A,
     image: &ImageLine,
-    reader: &mut R,
+    opened: Opened<R>,
     errors: &mut E,
-) -> Result<Image<A>, u8>
-    ensures pieces { IfOk result (λ whole. ArePiecesOf image.now (pieces_in whole)) }
+) -> Result<Opened<Image<A>>, u8>
+    ensures pieces { IfOk result (λ read. ArePiecesOf image.now (pieces_in read.file)) }
     ensures status { IfErr result (λ status. status ≡ 2) }
 {
     let name = image.file.as_str();
-    let bytes = match read_file(alloc, reader, most_bytes(image)) {
+    let identity = opened.identity;
+    let mut reader = Watched::new(opened.file);
+    let bytes = match read_file(alloc, &mut reader, most_bytes(image)) {
         Ok(bytes) => bytes,
         Err(unread) => {
-            let streams = [Stream::read(name, reader)];
+            let streams = [Stream::read(name, &reader)];
             return Err(streams_status(errors, Err(unread), streams.as_slice()));
         }
     };
     match read_image(alloc, image.format, bytes.as_slice(), image.addr) {
-        Ok(whole) => Ok(whole),
+        Ok(file) => Ok(Opened { file, identity }),
         Err(fault) => Err(cannot_use(errors, name, &fault)),
     }
 }

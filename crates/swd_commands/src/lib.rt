@@ -7,6 +7,7 @@ mod decode_command;
 mod draw_command;
 mod image_command;
 mod image_file;
+mod image_report;
 mod memory_file;
 mod memory_target;
 mod noted;

@@ -146,10 +146,8 @@ fn remote_streams<'a, T: KeepsError, S: KeepsError>(
     ]
 }
 
-/// Returns the streams of a connection.
-pub(crate) fn line_streams<R: KeepsError, W: KeepsError>(
-    line: &Line<R, W>,
-) -> [Stream<'static>; 2] {
+// Returns the streams of a connection.
+fn line_streams<R: KeepsError, W: KeepsError>(line: &Line<R, W>) -> [Stream<'static>; 2] {
     [
         Stream::sent(&line.writer),
         Stream::read(INPUT, &line.reader),

@@ -1,5 +1,5 @@
 //! Performs `swd load`, `swd verify` and `swd dump` at a simulated target, whose memory is in a file.
-ghost use Rattle.std.specs.Prelude.{◌≡◌, ◌+◌, ◌≤◌, ◌^◌, [], ℕ, IfErr, IfOk, List, None, Option};
+ghost use Rattle.std.specs.Prelude.{◌≡◌, ◌+◌, ◌≤◌, ◌^◌, [], ℕ, IfErr, IfOk, List, None, Option, is_some};
 ghost use Rattle.swd_host.specs.Reports.{IsAtRest};
 ghost use Rattle.swd_target.specs.Benches.{port_of};
 ghost use Rattle.swd_target.specs.Marks.{IsPlan};
@@ -11,8 +11,9 @@ ghost use Rattle.swd_commands.specs.Simulated.{SimulatesDump, SimulatesLoad, Sim
 
 use crate::image_command::{loaded_status, reached, verified_status};
 use crate::image_file::{read_opened_image, write_image_file};
+use crate::image_report::{open_report, report_writer};
 use crate::memory_file::{Plan, read_memory, read_noted, write_back};
-use crate::open_files::{Files, Identity};
+use crate::open_files::{Files, Identity, Opened};
 use crate::report::{cannot_open, cannot_use};
 use crate::trace::{
     TargetFiles, open_apart, open_apart_to_write, open_memory, open_memory_again, open_plan,
@@ -174,13 +175,13 @@ fn read_image_apart<F: Files, E: Write, A: Allocator + Copy>(
     read: TargetFiles,
     files: &F,
     errors: &mut E,
-) -> Result<Image<A>, u8>
-    ensures pieces { IfOk result (λ whole. ArePiecesOf image.now (pieces_in whole)) }
+) -> Result<Opened<Image<A>>, u8>
+    ensures pieces { IfOk result (λ read. ArePiecesOf image.now (pieces_in read.file)) }
     ensures status { IfErr result (λ status. status ≡ 2) }
 {
     let name = image.file.as_str();
     match open_apart(files, name, read) {
-        Ok(opened) => read_opened_image(alloc, image, &mut Watched::new(opened.file), errors),
+        Ok(opened) => read_opened_image(alloc, image, opened, errors),
         Err(why) => Err(cannot_open(errors, name, &why)),
     }
 }
@@ -201,13 +202,18 @@ fn simulate_load<F: Files, E: Write, A: Allocator + Copy>(
     ensures { SimulatesLoad A image.now memory.now.base bytes.now marks.items result }
 {
     let name = memory.file.as_str();
-    let whole = match read_image_apart(alloc, image, read, files, errors) {
-        Ok(whole) => whole,
+    let opened = match read_image_apart(alloc, image, read, files, errors) {
+        Ok(opened) => opened,
         Err(status) => return status,
     };
+    let whole = &opened.file;
     let mut file = match open_memory_again(files, name, read) {
         Ok(opened) => opened.file,
         Err(why) => return cannot_open(errors, name, &why),
+    };
+    let report = match open_report(files, image, opened.identity, Some(read), errors) {
+        Ok(report) => report,
+        Err(status) => return status,
     };
     let spare = spare_room(whole.ranges.len(), whole.bytes.len() as u64, marks.len());
     match target_of(alloc, memory, bytes, spare, marks, errors) {
@@ -215,11 +221,12 @@ fn simulate_load<F: Files, E: Write, A: Allocator + Copy>(
             alloc,
             image,
             memory,
-            &whole,
+            whole,
             bench,
             bytes.len() as u64,
             files,
             &mut file,
+            report,
             errors,
         ),
         Err(status) => status,
@@ -236,16 +243,23 @@ fn load_over<F: Files, E: Write, A: Allocator + Copy>(
     count: u64,
     files: &F,
     file: &mut F::Made,
+    opened: Option<Option<F::Made>>,
     errors: &mut E,
 ) -> u8
     requires rests { IsAtRest (port_of bench) }
     requires fits { memory.now.base + count ≤ 2 ^ 32 }
+    requires named { is_some opened ≡ is_some image.now.report }
     ensures { LoadsOver image.now (pieces_in whole.now) bench memory.now.base count result
         (F.Made.Write.contents file.old) (F.Made.Write.contents file.new) }
 {
-    let answer = load_simulated(alloc, &mut bench, whole, image.tries, image.resumes);
+    let (tries, resumes) = (image.tries, image.resumes);
+    let mut report = report_writer(opened, &mut *errors);
+    let answer = load_simulated(alloc, &mut bench, whole, tries, resumes, &mut report);
+    let streams = [Stream::record(&image.report, &report)];
+    drop(report);
+    let streams = streams.as_slice();
     match write_back(alloc, memory, bench.memory(), count, files, file, errors) {
-        Ok(()) => loaded_status(errors, answer, None, [].as_slice(), image.addr, whole),
+        Ok(()) => loaded_status(errors, answer, None, streams, image.addr, whole),
         Err(status) => status,
     }
 }
@@ -265,30 +279,41 @@ fn simulate_verify<F: Files, E: Write, A: Allocator + Copy>(
     requires plan { IsPlan marks.items }
     ensures { SimulatesVerify A image.now memory.now.base bytes.now marks.items result }
 {
-    let whole = match read_image_apart(alloc, image, read, files, errors) {
-        Ok(whole) => whole,
+    let opened = match read_image_apart(alloc, image, read, files, errors) {
+        Ok(opened) => opened,
+        Err(status) => return status,
+    };
+    let whole = &opened.file;
+    let report = match open_report(files, image, opened.identity, Some(read), errors) {
+        Ok(report) => report,
         Err(status) => return status,
     };
     let spare = spare_room(whole.ranges.len(), whole.bytes.len() as u64, marks.len());
     match target_of(alloc, memory, bytes, spare, marks, errors) {
-        Ok(bench) => verify_over(alloc, image, &whole, bench, errors),
+        Ok(bench) => verify_over(alloc, image, whole, bench, report, errors),
         Err(status) => status,
     }
 }
 
 // Compares the memory of the target with the pieces.
-fn verify_over<E: Write, A: Allocator + Copy>(
+fn verify_over<M: Write + Drop, E: Write, A: Allocator + Copy>(
     alloc: A,
     image: &ImageLine,
     whole: &Image<A>,
     mut bench: Bench<A>,
+    opened: Option<Option<M>>,
     errors: &mut E,
 ) -> u8
-    requires { IsAtRest (port_of bench) }
+    requires rests { IsAtRest (port_of bench) }
+    requires named { is_some opened ≡ is_some image.now.report }
     ensures { VerifiesOver image.now (pieces_in whole.now) bench result }
 {
-    let answer = verify_simulated(alloc, &mut bench, whole, image.tries, image.resumes);
-    verified_status(errors, answer, None, [].as_slice(), image.addr, whole)
+    let (tries, resumes) = (image.tries, image.resumes);
+    let mut report = report_writer(opened, &mut *errors);
+    let answer = verify_simulated(alloc, &mut bench, whole, tries, resumes, &mut report);
+    let streams = [Stream::record(&image.report, &report)];
+    drop(report);
+    verified_status(errors, answer, None, streams.as_slice(), image.addr, whole)
 }
 
 // Opens the file, and reads bytes of the memory. Then truncates the file, and writes the bytes.
@@ -308,13 +333,17 @@ fn simulate_dump<F: Files, E: Write, A: Allocator + Copy>(
     ensures { SimulatesDump A image.now count memory.now.base bytes.now marks.items result }
 {
     let name = image.file.as_str();
-    let mut file = match open_apart_to_write(files, name, read) {
-        Ok(opened) => opened.file,
+    let Opened { mut file, identity } = match open_apart_to_write(files, name, read) {
+        Ok(opened) => opened,
         Err(why) => return cannot_open(errors, name, &why),
+    };
+    let report = match open_report(files, image, identity, Some(read), errors) {
+        Ok(report) => report,
+        Err(status) => return status,
     };
     let spare = spare_room(1, count as u64, marks.len());
     match target_of(alloc, memory, bytes, spare, marks, errors) {
-        Ok(bench) => dump_over(alloc, image, count, bench, files, &mut file, errors),
+        Ok(bench) => dump_over(alloc, image, count, bench, files, &mut file, report, errors),
         Err(status) => status,
     }
 }
@@ -327,14 +356,27 @@ fn dump_over<F: Files, E: Write, A: Allocator + Copy>(
     mut bench: Bench<A>,
     files: &F,
     file: &mut F::Made,
+    opened: Option<Option<F::Made>>,
     errors: &mut E,
 ) -> u8
-    requires { IsAtRest (port_of bench) }
+    requires rests { IsAtRest (port_of bench) }
+    requires named { is_some opened ≡ is_some image.now.report }
     ensures { DumpsOver image.now count bench result }
 {
     let (addr, tries, resumes) = (image.addr, image.tries, image.resumes);
-    let answer = dump_simulated(alloc, &mut bench, addr, count as u64, tries, resumes);
-    match reached(errors, answer, None, [].as_slice()) {
+    let mut report = report_writer(opened, &mut *errors);
+    let answer = dump_simulated(
+        alloc,
+        &mut bench,
+        addr,
+        count as u64,
+        tries,
+        resumes,
+        &mut report,
+    );
+    let streams = [Stream::record(&image.report, &report)];
+    drop(report);
+    match reached(errors, answer, None, streams.as_slice()) {
         Ok(bytes) => write_image_file(errors, files, file, image, bytes.as_slice()),
         Err(status) => status,
     }

@@ -1,5 +1,5 @@
 //! Opens the files of plans, traces, accesses and dumps, and refuses a file that is already in use.
-ghost use Rattle.std.specs.Prelude.{◌≡◌, ◌≢◌, IfErr, IfOk, OnErr, OnOk, Some, codes, is_some, true};
+ghost use Rattle.std.specs.Prelude.{◌≡◌, ◌≢◌, IfErr, IfOk, IfSome, OnErr, OnOk, Some, codes, is_some, true};
 ghost use Rattle.swd_commands.specs.Statuses.{names_record};
 ghost use Rattle.swd_commands.specs.Traces.{IsBeside};
 
@@ -295,6 +295,53 @@ fn refuse_read(identity: Identity, read: TargetFiles) -> io::Result<()>
         return Err(refusal("it is the memory or the plan"));
     }
     Ok(())
+}
+
+// Refuses a file of the target: of its memory or its plan, or a standard stream if it is behind these. The contract
+// leaves out the standard streams.
+fn refuse_target<F: Files>(
+    files: &F,
+    identity: Identity,
+    target: Option<TargetFiles>,
+) -> io::Result<()>
+    ensures { OnOk result (IfSome target (λ read. (read.memory ≢ identity) × (read.plan ≢ Some identity))) }
+{
+    if let Some(read) = target {
+        return refuse_read(identity, read);
+    }
+    let input = known(files.standard_input(), "standard input is unknown")?;
+    let output = known(files.standard_output(), "standard output is unknown")?;
+    if input == Some(identity) || output == Some(identity) {
+        return Err(refusal("it is the target's"));
+    }
+    Ok(())
+}
+
+/// Opens the file that the report of an image's calls is written to, and truncates it. It has to be neither the image's
+/// file nor one of the target's, which are the standard streams if `target` is `None`. The contract leaves out the
+/// standard streams.
+///
+/// # Errors
+///
+/// Returns an error if it is one of these under any name, or may be, and if it can't be opened or created. An existing
+/// file isn't truncated then.
+pub fn open_calls_report<F: Files>(
+    files: &F,
+    name: &str,
+    image: Identity,
+    target: Option<TargetFiles>,
+) -> io::Result<Opened<F::Made>>
+    ensures image { IfOk result (λ report. report.identity ≢ image) }
+    ensures target { IfOk result (λ report. IfSome target (λ read. (read.memory ≢ report.identity)
+        × (read.plan ≢ Some report.identity))) }
+{
+    let report = files.open_to_write(name)?;
+    if report.identity == image {
+        return Err(refusal("it is the image"));
+    }
+    refuse_target(files, report.identity, target)?;
+    files.cut_off(&report.file)?;
+    Ok(report)
 }
 
 /// Opens the file of an image that is loaded at a simulated target, or verified there. It has to be neither the

@@ -21,6 +21,7 @@ mod captures;
 mod drawings;
 mod expect;
 mod image_files;
+mod image_reports;
 mod images;
 mod memory_target;
 mod plan;

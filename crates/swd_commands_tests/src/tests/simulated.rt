@@ -18,25 +18,26 @@ const TWICE: &[u8] = b":020000042000DA\n:020000001122CB\n:0100010033CB\n:0000000
 // data phase and the second arrive damaged.
 const HURT: &[u8] = b".\nwait\n.\nwait\n.\n.\n.\n.\n.\n.\n.\n.\nflip 5\n.\n.\n.\nflip 32\nwait\n";
 
-// The first word's request isn't acknowledged as the target acknowledged it.
-const CUT_FIRST: &[u8] = b".\n.\n.\n.\n.\n.\n.\n.\n.\n.\nmute 0\n";
+/// The first word's request isn't acknowledged as the target acknowledged it.
+pub(super) const CUT_FIRST: &[u8] = b".\n.\n.\n.\n.\n.\n.\n.\n.\n.\nmute 0\n";
 
 // Nor is the second word's.
 const CUT_SECOND: &[u8] = b".\n.\n.\n.\n.\n.\n.\n.\n.\n.\n.\nmute 0\n";
 
-// What was written to a file since it was cut off.
+/// What was written to a file since it was cut off.
 #[derive(Clone, Copy)]
 pub(super) struct Page {
-    bytes: [u8; 64],
+    bytes: [u8; 96],
     len: usize,
 }
 
 pub(super) const EMPTY: Page = Page {
-    bytes: [0; 64],
+    bytes: [0; 96],
     len: 0,
 };
 
 impl Page {
+    /// The bytes.
     pub(super) fn text(&self) -> &[u8] {
         self.bytes.get(..self.len).unwrap_or(b"")
     }
@@ -93,6 +94,7 @@ struct Desk<'a> {
     image: &'static [u8],
     plan: &'static [u8],
     written: &'a Cell<Page>,
+    calls: &'a Cell<Page>,
     cuts: &'a Cell<usize>,
 }
 
@@ -104,6 +106,7 @@ fn number_of(name: &str) -> u64 {
         "full" => 4,
         "locked" => 5,
         "broken" => 6,
+        "calls" => 8,
         _ => 7,
     }
 }
@@ -137,7 +140,11 @@ impl<'a> Files for Desk<'a> {
 
     fn open_to_write(&self, name: &str) -> io::Result<Opened<Pen<'a>>> {
         let pen = Pen {
-            page: self.written,
+            page: if name == "calls" {
+                self.calls
+            } else {
+                self.written
+            },
             is_full: name == "full",
         };
         match name {
@@ -168,16 +175,18 @@ impl<'a> Files for Desk<'a> {
     }
 }
 
-// What a run gave.
+/// What a run gave.
 #[derive(Drop)]
-struct Ran {
-    status: u8,
-    errors: Vec<u8>,
-    // Whether standard output was written to.
-    spoke: bool,
-    // The file that was written, and how often it was cut off.
-    written: Page,
-    cuts: usize,
+pub(super) struct Ran {
+    pub(super) status: u8,
+    pub(super) errors: Vec<u8>,
+    /// Whether standard output was written to.
+    pub(super) spoke: bool,
+    /// The file that was written, and how often a file was cut off.
+    pub(super) written: Page,
+    pub(super) cuts: usize,
+    /// The report of the calls.
+    pub(super) calls: Page,
 }
 
 // Fails at each read: standard input isn't used.
@@ -190,19 +199,21 @@ impl Read for Deaf {
     }
 }
 
-fn run_at(
+/// Runs the program over these files.
+pub(super) fn run_at(
     alloc: Global,
     words: &[&str],
     ram: &'static [u8],
     image: &'static [u8],
     plan: &'static [u8],
 ) -> Ran {
-    let (written, cuts) = (Cell::new(EMPTY), Cell::new(0));
+    let (written, calls, cuts) = (Cell::new(EMPTY), Cell::new(EMPTY), Cell::new(0));
     let desk = Desk {
         ram,
         image,
         plan,
         written: &written,
+        calls: &calls,
         cuts: &cuts,
     };
     let (mut output, mut errors) = (Vec::new(alloc), Vec::new(alloc));
@@ -212,6 +223,7 @@ fn run_at(
         errors,
         spoke: !output.is_empty(),
         written: written.get(),
+        calls: calls.get(),
         cuts: cuts.get(),
     }
 }

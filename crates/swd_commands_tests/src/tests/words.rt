@@ -98,6 +98,10 @@ fn help_tells_each_word(rt: HostRuntime) -> Result<(), Fail> {
     ] {
         assert!(rt; has_line(said.as_str(), start));
     }
+    for command in ["load", "verify", "dump"] {
+        let said = said_of(rt.alloc(), ["swd", command, "--help"].as_slice())?;
+        assert!(rt; has_line(said.as_str(), "--report "));
+    }
     Ok(())
 }
 

@@ -28,10 +28,28 @@ fn an_image_goes_over_a_line_and_back(rt: HostRuntime) -> Result<(), Fail> {
     for piece in [usize::MAX, 7, 1] {
         let server = server_of(rt.alloc(), &plain(&[]), Cut::Never, piece)?;
         let end = End { server: &server };
-        let (answer, line) = load_remote::<Untold, _, _, _, _>(rt.alloc(), end, end, AT, IMAGE, 8, 0, &mut no_report());
+        let (answer, line) = load_remote::<Untold, _, _, _, _>(
+            rt.alloc(),
+            end,
+            end,
+            AT,
+            IMAGE,
+            8,
+            0,
+            &mut no_report(),
+        );
         expect_eq_at(&rt, &piece, &answer, &Ok(()));
         expect_eq_at(&rt, &piece, &line.fault, &None);
-        let (answer, line) = dump_remote::<Untold, _, _, _, _>(rt.alloc(), end, end, BASE, 8, 8, 0, &mut no_report());
+        let (answer, line) = dump_remote::<Untold, _, _, _, _>(
+            rt.alloc(),
+            end,
+            end,
+            BASE,
+            8,
+            8,
+            0,
+            &mut no_report(),
+        );
         expect_eq_at(
             &rt,
             &piece,
@@ -67,7 +85,16 @@ fn an_image_goes_over_a_line_and_back(rt: HostRuntime) -> Result<(), Fail> {
 fn a_load_over_a_line_is_logged(rt: HostRuntime) -> Result<(), Fail> {
     let server = server_of(rt.alloc(), &plain(&[]), Cut::Never, usize::MAX)?;
     let end = End { server: &server };
-    let (answer, _) = load_remote::<Untold, _, _, _, _>(rt.alloc(), end, end, AT, IMAGE, 8, 0, &mut no_report());
+    let (answer, _) = load_remote::<Untold, _, _, _, _>(
+        rt.alloc(),
+        end,
+        end,
+        AT,
+        IMAGE,
+        8,
+        0,
+        &mut no_report(),
+    );
     expect_eq(&rt, &answer, &Ok(()));
     let wanted = [
         (true, BASE, 0),

@@ -1,4 +1,5 @@
-use Rattle.std.proofs.Common.{None, refl, subst, sym}
+use Rattle.std.proofs.Common.{◌∙◌, None, refl, subst, sym}
+use Rattle.swd_run.proofs.EngineLemmas.{held_is}
 use Rattle.swd_commands.specs.Images.{status_of_image, status_of_loaded}
 use Rattle.swd_commands.specs.Simulated.{IsStatusOf, WritesBack}
 use Rattle.swd_commands.proofs.simulated_command.load_over.Goals as goal
@@ -13,6 +14,10 @@ returns-in-Ok g c =
       memory = loaded.ensures.memory;
       calls = loaded.ensures.calls;
       fault = loaded.ensures.fault;
+      blank = _;
+      filled = _;
+      named = held_is _ c.report_writer-report.result ∙ c.report_writer-report.ensures ∙ c.requires.named;
+      report = loaded.ensures.report;
       wrote = wrote;
       written = subst (λ m. WritesBack m c.args.memory.now.base c.args.count wrote
           (g.F.Made.Write.contents c.args.file.now) (g.F.Made.Write.contents c.write_back.new.file))
@@ -30,6 +35,10 @@ returns g c =
       memory = loaded.ensures.memory;
       calls = loaded.ensures.calls;
       fault = loaded.ensures.fault;
+      blank = _;
+      filled = _;
+      named = held_is _ c.report_writer-report.result ∙ c.report_writer-report.ensures ∙ c.requires.named;
+      report = loaded.ensures.report;
       wrote = wrote;
       written = subst (λ m. WritesBack m c.args.memory.now.base c.args.count wrote
           (g.F.Made.Write.contents c.args.file.now) (g.F.Made.Write.contents c.write_back.new.file))

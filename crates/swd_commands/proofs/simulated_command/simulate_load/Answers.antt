@@ -6,7 +6,7 @@ pub returns-in-Ok-target_of : goal.returns-in-Ok-target_of
 returns-in-Ok-target_of g c = inr (
   c.in-Ok-target_of.bench,
   c.in-Ok-target_of.ensures.target,
-  pieces_in c.in-Ok.whole,
+  pieces_in c.in-Ok.opened.file,
   c.in-Ok.ensures.pieces,
   _,
   _,
