@@ -1,6 +1,7 @@
 //! Takes the program's arguments as the system gives them.
 ghost use Rattle.std.specs.Prelude.{◌≡◌, IfErr};
 
+use crate::clock::Clock;
 use crate::open_files::Files;
 use crate::program::run_words;
 use crate::report::tell;
@@ -13,13 +14,14 @@ use std::io::{ErrorKind, Read, Write};
 ///
 /// The help calls the program `swd`, whatever the name of its file. `list` is the allocator of the list of words; all
 /// else is allocated in `alloc`.
-pub fn run_arguments<A: Allocator, I: Read, F: Files, O: Write, E: Write>(
+pub fn run_arguments<A: Allocator, I: Read, F: Files, O: Write, C: Clock, E: Write>(
     alloc: Global,
     list: A,
     arguments: io::Result<Vec<String>>,
     input: &mut I,
     files: &F,
     output: &mut O,
+    clock: &C,
     errors: &mut E,
 ) -> u8
     ensures unread { IfErr arguments (λ _. result ≡ 2) }
@@ -32,7 +34,7 @@ pub fn run_arguments<A: Allocator, I: Read, F: Files, O: Write, E: Write>(
         Err(_) => return tell(errors, "no memory"),
     };
     match words_of(list, arguments.as_slice()) {
-        Ok(words) => run_words(alloc, words.as_slice(), input, files, output, errors),
+        Ok(words) => run_words(alloc, words.as_slice(), input, files, output, clock, errors),
         Err(_) => tell(errors, "no memory"),
     }
 }

@@ -4,12 +4,14 @@ ghost use Rattle.swd_commands.specs.Inputs.{IsStandard, named, served_file};
 ghost use Rattle.swd_commands.specs.Statuses.{AnswersOver, Performs, PerformsOver, PerformsRun, PerformsUnder};
 ghost use Rattle.swd_commands.specs.Statuses.{status_of_run};
 
+use crate::clock::Clock;
 use crate::decode_command::perform_decode;
 use crate::draw_command::perform_draw;
 use crate::image_command::perform_image;
 use crate::memory_target::perform_memory_target;
 use crate::noted::{Noted, Seen};
 use crate::open_files::{Files, Identity};
+use crate::paced_run::run_paced;
 use crate::reason::texts_status;
 use crate::remote_command::{Untold, perform_remote};
 use crate::report::{DONE, FAULT, cannot_open, run_status, tell};
@@ -23,12 +25,12 @@ use clap::Error;
 use std::alloc::Global;
 use std::io::{Read, Write};
 use swd_bits::one_text;
-use swd_run::{Finished, Records, RunFault, run_text};
+use swd_run::{Finished, Records, RunFault};
 use swd_text::encode_text;
 use swd_words::{DecodeLine, DrawLine, Line, LineFault, RunLine, ServedMemory, line};
 
 /// Carries out the arguments, the program's name first, and returns the status. Standard output gets the requested
-/// text and nothing else.
+/// text and nothing else. The lines on standard error that say how far a run is are spaced by the clock.
 ///
 /// | Status | Meaning |
 /// |---|---|
@@ -36,17 +38,18 @@ use swd_words::{DecodeLine, DrawLine, Line, LineFault, RunLine, ServedMemory, li
 /// | 1 | a call ended early, a word differs or never came, a byte differs, a strict run or an image met a bus error |
 /// | 2 | a usage, input, I/O or out-of-memory error: one line on standard error, or the lines of `clap` |
 /// | 141 | the reader of standard output is gone, and a command writes its result there: no line on standard error |
-pub fn run_words<I: Read, F: Files, O: Write, E: Write>(
+pub fn run_words<I: Read, F: Files, O: Write, C: Clock, E: Write>(
     alloc: Global,
     words: &[&str],
     input: &mut I,
     files: &F,
     output: &mut O,
+    clock: &C,
     errors: &mut E,
 ) -> u8 {
     let (mut input, mut output) = (Watched::new(input), Watched::new(output));
     match line(alloc, words) {
-        Ok(line) => carry_out(alloc, &line, &mut input, files, &mut output, errors),
+        Ok(line) => carry_out(alloc, &line, &mut input, files, &mut output, clock, errors),
         Err(fault) => refuse(fault, &mut output, errors),
     }
 }
@@ -122,12 +125,13 @@ fn file_of(line: &Line) -> Option<&str>
 }
 
 // Opens the file that a command reads, and performs the command.
-fn carry_out<I: Read + KeepsError, F: Files, O: Write + KeepsError, E: Write>(
+fn carry_out<I: Read + KeepsError, F: Files, O: Write + KeepsError, C: Clock, E: Write>(
     alloc: Global,
     line: &Line,
     input: &mut I,
     files: &F,
     output: &mut O,
+    clock: &C,
     errors: &mut E,
 ) -> u8
     ensures { IsStandard line.now
@@ -135,7 +139,7 @@ fn carry_out<I: Read + KeepsError, F: Files, O: Write + KeepsError, E: Write>(
         (O.contents output.old) (O.contents output.new) }
 {
     let Some(name) = file_of(line) else {
-        return perform(alloc, line, input, None, files, output, errors);
+        return perform(alloc, line, input, None, files, output, clock, errors);
     };
     if let Line::Image(image) = line {
         let (status, _) = perform_image::<Untold, _, _, _, _, _>(
@@ -163,42 +167,44 @@ fn carry_out<I: Read + KeepsError, F: Files, O: Write + KeepsError, E: Write>(
             if let Line::Run(run) = line
                 && run.remote
             {
-                let (status, _) = perform_remote::<Untold, _, _, _, _, _>(
-                    alloc, run, &mut file, source, input, files, output, errors,
+                let (status, _) = perform_remote::<Untold, _, _, _, _, _, _>(
+                    alloc, run, &mut file, source, input, files, output, clock, errors,
                 );
                 return status;
             }
-            perform(alloc, line, &mut file, source, files, output, errors)
+            perform(alloc, line, &mut file, source, files, output, clock, errors)
         }
         Err(why) => cannot_open(errors, name, &why),
     }
 }
 
 // Performs a command whose result goes to standard output. `input` is the file that it reads, or standard input.
-fn perform<R: Read + KeepsError, F: Files, O: Write + KeepsError, E: Write>(
+fn perform<R: Read + KeepsError, F: Files, O: Write + KeepsError, C: Clock, E: Write>(
     alloc: Global,
     line: &Line,
     input: &mut R,
     source: Option<Identity>,
     files: &F,
     output: &mut O,
+    clock: &C,
     errors: &mut E,
 ) -> u8
     ensures { PerformsOver (O.kept output.new) line.now result (R.remaining input.old) (R.remaining input.new)
         (O.contents output.old) (O.contents output.new) }
 {
-    let own = make_call(alloc, line, input, source, files, output, errors);
+    let own = make_call(alloc, line, input, source, files, output, clock, errors);
     status_after(output.kept_error(), own)
 }
 
 // Makes the one call of a command.
-fn make_call<R: Read + KeepsError, F: Files, O: Write + KeepsError, E: Write>(
+fn make_call<R: Read + KeepsError, F: Files, O: Write + KeepsError, C: Clock, E: Write>(
     alloc: Global,
     line: &Line,
     input: &mut R,
     source: Option<Identity>,
     files: &F,
     output: &mut O,
+    clock: &C,
     errors: &mut E,
 ) -> u8
     ensures { Performs line.now result (R.remaining input.old) (R.remaining input.new)
@@ -219,7 +225,7 @@ fn make_call<R: Read + KeepsError, F: Files, O: Write + KeepsError, E: Write>(
         Line::Run(run) if run.remote => {
             tell(errors, "SCRIPT is a file: standard input is the target's")
         }
-        Line::Run(run) => perform_run(alloc, run, input, source, files, output, errors),
+        Line::Run(run) => perform_run(alloc, run, input, source, files, output, clock, errors),
         Line::Target(target) => match &target.memory {
             ServedMemory::Script(_) => {
                 tell(errors, "SCRIPT is a file: standard input is the debugger's")
@@ -232,13 +238,14 @@ fn make_call<R: Read + KeepsError, F: Files, O: Write + KeepsError, E: Write>(
 }
 
 // Opens the plan, and runs the script under it. Without a plan no faults are injected.
-fn perform_run<S: Read + KeepsError, F: Files, O: Write + KeepsError, E: Write>(
+fn perform_run<S: Read + KeepsError, F: Files, O: Write + KeepsError, C: Clock, E: Write>(
     alloc: Global,
     run: &RunLine,
     script: &mut S,
     source: Option<Identity>,
     files: &F,
     output: &mut O,
+    clock: &C,
     errors: &mut E,
 ) -> u8
     ensures { PerformsRun run.now.plan run.now result (S.remaining script.old)
@@ -261,6 +268,7 @@ fn perform_run<S: Read + KeepsError, F: Files, O: Write + KeepsError, E: Write>(
             read,
             files,
             output,
+            clock,
             errors,
         );
     };
@@ -274,7 +282,9 @@ fn perform_run<S: Read + KeepsError, F: Files, O: Write + KeepsError, E: Write>(
                 memory: None,
             };
             let mut plan = Watched::new(opened.file);
-            perform_under(alloc, run, script, &mut plan, read, files, output, errors)
+            perform_under(
+                alloc, run, script, &mut plan, read, files, output, clock, errors,
+            )
         }
         Err(why) => cannot_open(errors, name.as_str(), &why),
     }
@@ -286,6 +296,7 @@ fn perform_under<
     P: Read + KeepsError,
     F: Files,
     O: Write + KeepsError,
+    C: Clock,
     E: Write,
 >(
     alloc: Global,
@@ -295,6 +306,7 @@ fn perform_under<
     read: Sources,
     files: &F,
     output: &mut O,
+    clock: &C,
     errors: &mut E,
 ) -> u8
     ensures { PerformsUnder run.now result (S.remaining script.old) (P.remaining plan.old) (O.contents output.old)
@@ -312,15 +324,15 @@ fn perform_under<
         reader: plan,
         seen: Seen::new(),
     };
-    let (tries, resumes) = (run.tries, run.resumes);
-    let answer = run_text(
+    let answer = run_paced(
         alloc,
+        run,
         &mut script,
         &mut plan,
-        tries,
-        resumes,
         output,
         &mut records,
+        clock,
+        errors,
     );
     let streams = run_streams(run, output, &records, &script, &plan);
     let (script, plan) = (&script.seen, &plan.seen);

@@ -1,23 +1,30 @@
 //! Performs `swd run --remote`: a run at a remote target on the standard streams.
-ghost use Rattle.std.specs.Prelude.{◌≡◌, []};
+ghost use Rattle.std.specs.Prelude.{◌≡◌, [], List, Option, false, ℕ};
 ghost use Rattle.std.specs.FinMap.{empty};
 ghost use Rattle.swd_port.specs.Port.{made};
-ghost use Rattle.swd_commands.specs.Remotes.{PerformsRemote, status_at};
+ghost use Rattle.swd_remote.specs.WholeRuns.{IsUnused};
+ghost use Rattle.swd_run.specs.Records.{files_of};
+ghost use Rattle.swd_ends.specs.RemoteRuns.{RunsRemote};
+ghost use Rattle.swd_commands.specs.Remotes.{PerformsAt, PerformsRemote, WentOver, status_at};
+ghost use Rattle.swd_commands.specs.Statuses.{AreFor};
 
+use crate::clock::Clock;
 use crate::noted::{Noted, Seen};
 use crate::open_files::{Files, Identity};
+use crate::progress::{Progress, wanted_total};
 use crate::reason::script_status;
 use crate::report::{FAULT, STOPPED, cannot_open, run_status, tell};
-use crate::streams::{ERRORS, INPUT, Stream, tell_failure, tell_failure_or};
+use crate::streams::{ERRORS, INPUT, Stream, name_or_nothing, tell_failure, tell_failure_or};
 use crate::trace::{Sources, open_records, open_trace};
 use crate::watched::{KeepsError, Watched};
 use std::alloc::Global;
 use std::io;
 use std::io::{Read, Write};
-use swd_ends::{RemoteFault, run_remote};
+use swd_ends::{RemoteFault, run_remote, run_remote_script};
 use swd_port::Story;
 use swd_remote::{Fault, Line};
 use swd_run::{Finished, Records};
+use swd_script::read_script;
 use swd_words::RunLine;
 
 /// An instance of `Story` for the other end. Which one is irrelevant: a run's contract is proved for each.
@@ -60,6 +67,7 @@ pub fn perform_remote<
     I: Read + KeepsError + Drop,
     F: Files,
     O: Write + KeepsError + Drop,
+    C: Clock,
     E: Write,
 >(
     alloc: Global,
@@ -69,6 +77,7 @@ pub fn perform_remote<
     input: I,
     files: &F,
     output: O,
+    clock: &C,
     errors: &mut E,
 ) -> (u8, Line<I, O>)
     ensures { PerformsRemote P.at run.now result.0 I.remaining O.contents (O.contents output) (I.remaining input)
@@ -96,38 +105,159 @@ pub fn perform_remote<
         written: report.identity,
         ..read
     };
-    let mut opened = match open_records(run, false, files, beside, errors) {
+    let records = match open_records(run, false, files, beside, errors) {
         Ok(opened) => opened,
         Err(status) => return (status, Line::unused(input, output)),
     };
+    match report.file {
+        Some(file) => {
+            let file = Watched::new(file);
+            report_to_file::<P, _, _, _, _, _, _, _>(
+                alloc, run, script, input, output, file, records, clock, errors,
+            )
+        }
+        None => {
+            report_to_errors::<P, _, _, _, _, _>(alloc, run, script, input, output, records, errors)
+        }
+    }
+}
+
+// Runs the script, and writes its report to a file.
+fn report_to_file<
+    P: Story,
+    S: Read + KeepsError,
+    I: Read + KeepsError + Drop,
+    O: Write + KeepsError + Drop,
+    M: Write + KeepsError + Drop,
+    T: Write + KeepsError + Drop,
+    C: Clock,
+    E: Write,
+>(
+    alloc: Global,
+    run: &RunLine,
+    script: &mut S,
+    input: I,
+    output: O,
+    mut file: M,
+    mut records: Records<T>,
+    clock: &C,
+    errors: &mut E,
+) -> (u8, Line<I, O>)
+    requires { AreFor run.now false (files_of T.contents records) }
+    ensures { PerformsAt P.at run.now result.0 I.remaining O.contents (O.contents output) (I.remaining input)
+        result.1 (S.remaining script.old) }
+{
     let mut noted = Noted {
         reader: script,
         seen: Seen::new(),
     };
-    let (script, records) = (&mut noted, &mut opened);
-    let (tries, resumes) = (run.tries, run.resumes);
-    let Some(file) = report.file else {
-        let mut report = Watched::new(&mut *errors);
-        let (answer, line) = run_remote::<P, _, _, _, _, _, _>(
-            alloc,
-            script,
-            input,
-            output,
-            tries,
-            resumes,
-            &mut report,
-            records,
-        );
-        let report = Stream::written(ERRORS, &report);
-        let status = reached_status(errors, run, answer, &line, report, &opened, &noted);
-        return (status, line);
-    };
-    let mut file = Watched::new(file);
-    let (answer, line) = run_remote::<P, _, _, _, _, _, _>(
-        alloc, script, input, output, tries, resumes, &mut file, records,
+    let (answer, line) = run_paced::<P, _, _, _, _, _, _, _>(
+        alloc,
+        run,
+        &mut noted,
+        input,
+        output,
+        &mut file,
+        &mut records,
+        clock,
+        errors,
     );
-    let report = Stream::written(name.as_str(), &file);
-    let status = reached_status(errors, run, answer, &line, report, &opened, &noted);
+    let report = Stream::written(name_or_nothing(&run.report), &file);
+    let status = reached_status(errors, run, answer, &line, report, &records, &noted);
+    (status, line)
+}
+
+// Reads the script and runs it, as `swd_ends::run_remote` does. If the arguments ask for that, says on standard error
+// how far the run is. No contract knows what the report's file has.
+fn run_paced<
+    P: Story,
+    S: Read,
+    I: Read + Drop,
+    O: Write + Drop,
+    M: Write,
+    T: Write,
+    C: Clock,
+    E: Write,
+>(
+    alloc: Global,
+    run: &RunLine,
+    script: &mut S,
+    input: I,
+    output: O,
+    file: &mut M,
+    records: &mut Records<T>,
+    clock: &C,
+    errors: &mut E,
+) -> (Result<Finished, RemoteFault>, Line<I, O>)
+    ensures { (old : Option (List ℕ)) × (new : Option (List ℕ)) × RunsRemote P.at run.now.tries run.now.resumes
+        (WentOver I.remaining O.contents (O.contents output) (I.remaining input) result.1)
+        (IsUnused I.remaining O.contents (O.contents output) (I.remaining input) result.1)
+        result.0 (S.remaining script.old) old new (files_of T.contents records.old) (files_of T.contents records.new) }
+{
+    let script = match read_script(alloc, script) {
+        Ok(script) => script,
+        Err(unread) => return (
+            Err(RemoteFault::unread(unread)),
+            Line::unused(input, output),
+        ),
+    };
+    let total = wanted_total(run, script.batches.as_slice());
+    let mut report = Progress::new(file, errors, clock, total);
+    let (answer, line) = run_remote_script::<P, _, _, _, _, _>(
+        alloc,
+        &script,
+        input,
+        output,
+        run.tries,
+        run.resumes,
+        &mut report,
+        records,
+    );
+    match answer {
+        Ok(finished) => (Ok(finished), line),
+        Err(fault) => (Err(RemoteFault::Engine(fault)), line),
+    }
+}
+
+// Runs the script, and writes its report to standard error.
+fn report_to_errors<
+    P: Story,
+    S: Read + KeepsError,
+    I: Read + KeepsError + Drop,
+    O: Write + KeepsError + Drop,
+    T: Write + KeepsError + Drop,
+    E: Write,
+>(
+    alloc: Global,
+    run: &RunLine,
+    script: &mut S,
+    input: I,
+    output: O,
+    mut records: Records<T>,
+    errors: &mut E,
+) -> (u8, Line<I, O>)
+    requires { AreFor run.now false (files_of T.contents records) }
+    ensures { PerformsAt P.at run.now result.0 I.remaining O.contents (O.contents output) (I.remaining input)
+        result.1 (S.remaining script.old) }
+{
+    let mut noted = Noted {
+        reader: script,
+        seen: Seen::new(),
+    };
+    let (tries, resumes) = (run.tries, run.resumes);
+    let mut report = Watched::new(&mut *errors);
+    let (answer, line) = run_remote::<P, _, _, _, _, _, _>(
+        alloc,
+        &mut noted,
+        input,
+        output,
+        tries,
+        resumes,
+        &mut report,
+        &mut records,
+    );
+    let report = Stream::written(ERRORS, &report);
+    let status = reached_status(errors, run, answer, &line, report, &records, &noted);
     (status, line)
 }
 

@@ -12,10 +12,10 @@ pub returns : goal.returns
 returns g c =
     let contents = watched g.F.Made.Write.contents in
     inr (
-      c.run_text-answer.result,
+      c.run_paced-answer.result,
       files_of contents c.in-Ok.records,
-      files_of contents c.run_text-answer.new.records,
+      files_of contents c.run_paced-answer.new.records,
       are_for contents c.args.run.now _ c.in-Ok.records c.in-Ok.ensures.ok,
-      c.run_text-answer.ensures,
+      c.run_paced-answer.ensures,
       c.answer_status.ensures,
     )
