@@ -48,7 +48,7 @@ impl<'a, O: Write, E: Write, C: Clock, L: Loan> Write for SameReport<'a, O, E, C
 }
 
 // Runs the script, and writes its report to the same borrow.
-fn run_to_same<O: Write, T: Write, E: Write, C: Clock, L: Loan, A: Allocator + Copy>(
+fn run_to_same<O: Write, T: Write + Drop, E: Write, C: Clock, L: Loan, A: Allocator + Copy>(
     alloc: A,
     run: &RunLine,
     script: &Script<A>,
@@ -67,7 +67,7 @@ fn run_to_same<O: Write, T: Write, E: Write, C: Clock, L: Loan, A: Allocator + C
 }
 
 // Runs the script, and returns the writer of the report, which holds the same borrow.
-fn run_to<'a, L: Loan, O: Write, T: Write, E: Write, C: Clock, A: Allocator + Copy>(
+fn run_to<'a, L: Loan, O: Write, T: Write + Drop, E: Write, C: Clock, A: Allocator + Copy>(
     alloc: A,
     run: &RunLine,
     script: &Script<A>,
@@ -93,7 +93,7 @@ fn run_to<'a, L: Loan, O: Write, T: Write, E: Write, C: Clock, A: Allocator + Co
 }
 
 // Runs a script that was read, under the marks of a plan.
-fn run_read<O: Write, T: Write, E: Write, C: Clock, A: Allocator + Copy>(
+fn run_read<O: Write, T: Write + Drop, E: Write, C: Clock, A: Allocator + Copy>(
     alloc: A,
     run: &RunLine,
     script: &Script<A>,
@@ -125,7 +125,7 @@ pub(crate) fn run_paced<
     S: Read,
     P: Read,
     O: Write,
-    T: Write,
+    T: Write + Drop,
     E: Write,
     C: Clock,
     A: Allocator + Copy,

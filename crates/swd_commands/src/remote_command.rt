@@ -175,7 +175,7 @@ fn run_paced<
     I: Read + Drop,
     O: Write + Drop,
     M: Write,
-    T: Write,
+    T: Write + Drop,
     C: Clock,
     E: Write,
 >(

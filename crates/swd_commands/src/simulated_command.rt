@@ -15,6 +15,7 @@ use crate::image_report::{open_report, report_writer};
 use crate::memory_file::{Plan, read_memory, read_noted, write_back};
 use crate::open_files::{Files, Identity, Opened};
 use crate::report::{cannot_open, cannot_use};
+use crate::streams::Stream;
 use crate::trace::{
     TargetFiles, open_apart, open_apart_to_write, open_memory, open_memory_again, open_plan,
 };
