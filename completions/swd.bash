@@ -26,7 +26,7 @@ _swd() {
         words='--help -h'
         ;;
     run)
-        words='--plan --tries --resume --trace --accesses --strict --remote --report --help -h'
+        words='--plan --tries --resume --trace --accesses --strict --remote --report --progress --help -h'
         ;;
     target)
         words='--memory --base --plan --log --trace --help -h'

@@ -34,6 +34,7 @@ complete -c swd -n '__fish_seen_subcommand_from run' -l accesses -r -F -d 'Write
 complete -c swd -n '__fish_seen_subcommand_from run' -l strict -d 'Exit with status 1 if an access met a bus error'
 complete -c swd -n '__fish_seen_subcommand_from run' -l remote -d 'The target is a remote_bitbang server on the streams'
 complete -c swd -n '__fish_seen_subcommand_from run' -l report -r -F -d 'With --remote: write the report to FILE, - is stderr'
+complete -c swd -n '__fish_seen_subcommand_from run' -l progress -d 'Print progress to stderr, at most once a second'
 complete -c swd -n '__fish_seen_subcommand_from run' -s h -l help -d 'Print help'
 complete -c swd -n '__fish_seen_subcommand_from target' -F
 complete -c swd -n '__fish_seen_subcommand_from target' -l memory -r -F -d 'In place of SCRIPT: FILE has the memory (overwrites it)'
