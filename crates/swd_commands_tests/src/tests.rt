@@ -6,7 +6,7 @@ use std::fmt::Display;
 use std::io;
 use std::io::{ErrorKind, Read, Write};
 use std::process::Abort;
-use swd_commands::{Files, Identity, Opened, cannot_open, engine_status, run_words};
+use swd_commands::{Clock, Files, Identity, Opened, cannot_open, engine_status, run_words};
 use swd_ends::RemoteFault;
 use swd_fakes::CountingWriter;
 use swd_run::{EngineFault, RunFault, TextsFault};
@@ -25,6 +25,7 @@ mod image_reports;
 mod images;
 mod memory_target;
 mod plan;
+mod progress;
 mod reasons;
 mod remote;
 mod simulated;
@@ -223,7 +224,25 @@ struct Ran {
     cuts: usize,
 }
 
-fn run_on<I: Read>(alloc: Global, words: &[&str], mut input: I) -> Ran
+// A clock that stands still.
+#[derive(Drop)]
+struct Still;
+
+impl Clock for Still {
+    fn millis(&self) -> Option<u64> {
+        Some(0)
+    }
+}
+
+fn run_on<I: Read>(alloc: Global, words: &[&str], input: I) -> Ran
+where
+    I: Drop,
+{
+    run_by(alloc, words, input, &Still)
+}
+
+// The same by another clock.
+fn run_by<I: Read, C: Clock>(alloc: Global, words: &[&str], mut input: I, clock: &C) -> Ran
 where
     I: Drop,
 {
@@ -235,7 +254,15 @@ where
         written: &written,
         cuts: &cuts,
     };
-    let status = run_words(alloc, words, &mut input, &shelf, &mut output, &mut errors);
+    let status = run_words(
+        alloc,
+        words,
+        &mut input,
+        &shelf,
+        &mut output,
+        clock,
+        &mut errors,
+    );
     Ran {
         status,
         output,
@@ -363,6 +390,7 @@ fn a_trace_that_may_be_standard_output_is_refused(rt: HostRuntime) {
         &mut input,
         &files,
         &mut output,
+        &Still,
         &mut errors,
     );
     expect_eq(&rt, &status, &2);

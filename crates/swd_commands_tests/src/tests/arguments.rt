@@ -1,6 +1,6 @@
 //! The program's arguments as the system gives them.
 use super::expect::{expect_eq, expect_eq_at};
-use super::{DPIDR_LINE, Ran, Shelf};
+use super::{DPIDR_LINE, Ran, Shelf, Still};
 use linked_list_allocator::LocalHeap;
 use std::alloc::{Allocator, Global};
 use std::cell::Cell;
@@ -25,6 +25,7 @@ fn ran_on<A: Allocator>(alloc: Global, list: A, arguments: io::Result<Vec<String
         &mut b"".as_slice(),
         &shelf,
         &mut output,
+        &Still,
         &mut errors,
     );
     Ran {

@@ -71,7 +71,7 @@ fn its_trace_goes_to_a_file_of_its_own(rt: HostRuntime) {
 
 #[test]
 fn what_does_not_go_with_it_is_refused(rt: HostRuntime) {
-    let rows: [&[&str]; 5] = [
+    let rows: [&[&str]; 6] = [
         &["swd", "run", "script", "--remote"],
         &["swd", "run", "script", "--report", "traced"],
         &[
@@ -81,6 +81,15 @@ fn what_does_not_go_with_it_is_refused(rt: HostRuntime) {
             "swd", "run", "script", "--remote", "--report", "locked", "--trace", "traced",
         ],
         &["swd", "run", "-", "--remote", "--report", "traced"],
+        &[
+            "swd",
+            "run",
+            "script",
+            "--remote",
+            "--report",
+            "-",
+            "--progress",
+        ],
     ];
     for words in rows {
         let ran = run_on(rt.alloc(), words, b"".as_slice());

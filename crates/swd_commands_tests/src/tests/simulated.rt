@@ -1,4 +1,5 @@
 //! Images at a simulated target, whose memory is in a file.
+use super::Still;
 use super::expect::{expect_at, expect_eq, expect_eq_at};
 use std::alloc::Global;
 use std::cell::Cell;
@@ -217,7 +218,15 @@ pub(super) fn run_at(
         cuts: &cuts,
     };
     let (mut output, mut errors) = (Vec::new(alloc), Vec::new(alloc));
-    let status = run_words(alloc, words, &mut Deaf, &desk, &mut output, &mut errors);
+    let status = run_words(
+        alloc,
+        words,
+        &mut Deaf,
+        &desk,
+        &mut output,
+        &Still,
+        &mut errors,
+    );
     Ran {
         status,
         errors,

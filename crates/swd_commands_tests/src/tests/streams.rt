@@ -1,6 +1,6 @@
 //! Streams that fail: the line on standard error, and the status.
 use super::expect::{expect_at, expect_eq, expect_eq_at};
-use super::{DPIDR_LINE, DPIDR_READ, REPORT, SCRIPT, Shelf, run_on, target};
+use super::{DPIDR_LINE, DPIDR_READ, REPORT, SCRIPT, Shelf, Still, run_on, target};
 use std::alloc::Global;
 use std::cell::Cell;
 use std::io;
@@ -74,7 +74,15 @@ fn run_short(
         written: &Cell::new(0),
         cuts: &Cell::new(0),
     };
-    let status = run_words(alloc, words, &mut input, &files, &mut output, &mut errors);
+    let status = run_words(
+        alloc,
+        words,
+        &mut input,
+        &files,
+        &mut output,
+        &Still,
+        &mut errors,
+    );
     Cut {
         status,
         taken: output.taken,
@@ -206,6 +214,7 @@ fn help_that_is_interrupted_goes_on(rt: HostRuntime) {
             &mut input,
             &files,
             &mut output,
+            &Still,
             &mut errors,
         );
         expect_eq_at(&rt, &room, &found, &status);

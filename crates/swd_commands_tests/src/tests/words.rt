@@ -95,6 +95,9 @@ fn help_tells_each_word(rt: HostRuntime) -> Result<(), Fail> {
         "--trace ",
         "--accesses ",
         "--strict ",
+        "--remote ",
+        "--report ",
+        "--progress ",
     ] {
         assert!(rt; has_line(said.as_str(), start));
     }
@@ -174,12 +177,17 @@ fn words_of_a_run(rt: HostRuntime) -> Result<(), Fail> {
     expect_eq(&rt, &run.tries, &8);
     expect_eq(&rt, &run.trace.ok_or("no trace")?.as_str(), &"t");
     expect_eq(&rt, &run.accesses.ok_or("no accesses")?.as_str(), &"a");
-    assert!(rt; !run.strict);
+    assert!(rt; !run.strict && !run.progress);
     let words = ["swd", "run", "--strict", "s"];
     let Ok(Line::Run(run)) = line(rt.alloc(), words.as_slice()) else {
         return Err(Fail::from("no run"));
     };
-    assert!(rt; run.strict);
+    assert!(rt; run.strict && !run.progress);
+    let words = ["swd", "run", "s", "--progress"];
+    let Ok(Line::Run(run)) = line(rt.alloc(), words.as_slice()) else {
+        return Err(Fail::from("no run"));
+    };
+    assert!(rt; run.progress && !run.strict);
     for (text, tries) in [
         ("0", Some(0)),
         ("3", Some(3)),
@@ -218,6 +226,7 @@ fn words_that_are_no_command(rt: HostRuntime) {
         ["swd", "run", "a", "--trace"].as_slice(),
         ["swd", "run", "a", "--accesses"].as_slice(),
         ["swd", "run", "a", "--strict=yes"].as_slice(),
+        ["swd", "run", "a", "--progress=yes"].as_slice(),
     ] {
         let refused = matches!(line(rt.alloc(), words), Err(LineFault::Clap(_)));
         assert!(rt; refused);

@@ -1,0 +1,333 @@
+//! The lines that say how far a run is.
+use super::expect::{expect_at, expect_eq, expect_eq_at};
+use super::{RESUMED, Shelf, run_by};
+use std::cell::Cell;
+use swd_commands::{Clock, run_words};
+use swd_fakes::{OneByteWriter, ShortWriter};
+
+// A clock with these readings, one after the other, and then always the last one.
+#[derive(Drop)]
+struct Readings<'a> {
+    times: &'a [Option<u64>],
+    reads: Cell<usize>,
+}
+
+impl<'a> Readings<'a> {
+    fn new(times: &'a [Option<u64>]) -> Readings<'a> {
+        Readings {
+            times,
+            reads: Cell::new(0),
+        }
+    }
+}
+
+impl Clock for Readings<'_> {
+    fn millis(&self) -> Option<u64> {
+        let read = self.reads.get();
+        self.reads.set(read.saturating_add(1));
+        match self.times.get(read) {
+            Some(time) => *time,
+            None => *self.times.last()?,
+        }
+    }
+}
+
+// A clock on which a tenth of a second passes between two readings.
+#[derive(Drop)]
+struct Tenths(Cell<u64>);
+
+impl Clock for Tenths {
+    fn millis(&self) -> Option<u64> {
+        let time = self.0.get();
+        self.0.set(time.saturating_add(100));
+        Some(time)
+    }
+}
+
+// Five calls with six accesses. The report of each call is one write.
+const FIVE: &[u8] = b"memory 20000000 16\nw 20000000 1\nnext\nrn 20000000 2\nnext\nr 20000004\n\
+    next\nr 30000000\nuntil 20000000 1 1 3\n";
+
+const FIVE_REPORTS: &[u8] = b"w 20000000 written\nend all 1\nr 20000000 00000001\n\
+    r 20000004 00000000\nend all 2\nr 20000004 00000000\nend all 1\nr 30000000 busfault\n\
+    end all 1\nr 20000000 00000001 reads 1\nend all 1\n";
+
+// A name, the readings at the start and after each write, and the lines.
+type Paced<'a> = (&'a str, &'a [Option<u64>], &'a [u8]);
+
+const PACES: [Paced; 9] = [
+    (
+        "a run that is shorter than a second",
+        &[Some(0), Some(999)],
+        b"",
+    ),
+    (
+        "a second for each call",
+        &[
+            Some(5000),
+            Some(6000),
+            Some(7000),
+            Some(8000),
+            Some(9000),
+            Some(10000),
+        ],
+        b"swd: 1 of 6 accesses, 1 a second\nswd: 3 of 6 accesses, 2 a second\n\
+          swd: 4 of 6 accesses, 1 a second\nswd: 5 of 6 accesses, 1 a second\n\
+          swd: 6 of 6 accesses, 1 a second\n",
+    ),
+    (
+        "at most one line a second",
+        &[
+            Some(0),
+            Some(999),
+            Some(1000),
+            Some(1999),
+            Some(2000),
+            Some(2999),
+        ],
+        b"swd: 3 of 6 accesses, 3 a second\nswd: 5 of 6 accesses, 2 a second\n",
+    ),
+    (
+        "a slow run",
+        &[Some(0), Some(4000), Some(4999), Some(4999), Some(6000)],
+        b"swd: 1 of 6 accesses, 0 a second\nswd: 5 of 6 accesses, 2 a second\n",
+    ),
+    ("a clock that stands still", &[Some(7)], b""),
+    (
+        "a clock that can't be read at first",
+        &[None, Some(5000), Some(9000)],
+        b"",
+    ),
+    (
+        "a clock that can't be read at times",
+        &[Some(0), None, Some(1000), None, None, Some(3000)],
+        b"swd: 3 of 6 accesses, 3 a second\nswd: 6 of 6 accesses, 1 a second\n",
+    ),
+    (
+        "a clock that goes back",
+        &[
+            Some(5000),
+            Some(4000),
+            Some(5999),
+            Some(6000),
+            Some(100),
+            Some(7000),
+        ],
+        b"swd: 4 of 6 accesses, 4 a second\nswd: 6 of 6 accesses, 2 a second\n",
+    ),
+    (
+        "the latest time",
+        &[Some(0), Some(u64::MAX)],
+        b"swd: 1 of 6 accesses, 0 a second\n",
+    ),
+];
+
+#[test]
+fn each_line_is_true_when_it_is_printed(rt: HostRuntime) {
+    for (name, times, lines) in &PACES {
+        let clock = Readings::new(times);
+        let words = ["swd", "run", "-", "--progress"];
+        let ran = run_by(rt.alloc(), words.as_slice(), FIVE, &clock);
+        expect_eq_at(&rt, name, &ran.errors.as_slice(), lines);
+        expect_eq_at(&rt, name, &ran.output.as_slice(), &FIVE_REPORTS);
+        expect_eq_at(&rt, name, &ran.status, &0);
+    }
+}
+
+// Nothing is printed then, and the clock isn't read.
+#[test]
+fn a_run_is_silent_by_itself(rt: HostRuntime) {
+    let clock = Readings::new([Some(0), Some(5000), Some(10000)].as_slice());
+    let ran = run_by(rt.alloc(), ["swd", "run", "-"].as_slice(), FIVE, &clock);
+    assert!(rt; ran.errors.is_empty());
+    expect_eq(&rt, &ran.output.as_slice(), &FIVE_REPORTS);
+    expect_eq(&rt, &clock.reads.get(), &0);
+}
+
+// The lines of a call go out after 1,024 answers and at its end. The line of a resumption is that of no access.
+#[test]
+fn a_line_comes_within_a_call(rt: HostRuntime) {
+    let rows: [(&str, &[&str], &[u8], &[u8]); 4] = [
+        (
+            "a long call",
+            &["swd", "run", "-", "--progress"],
+            b"memory 20000000 2048\nrn 20000000 1500\n",
+            b"swd: 1024 of 1500 accesses, 1024 a second\n\
+              swd: 1500 of 1500 accesses, 476 a second\n",
+        ),
+        (
+            "a call that is resumed",
+            &[
+                "swd",
+                "run",
+                "script",
+                "--plan",
+                "cut",
+                "--resume",
+                "1",
+                "--progress",
+            ],
+            b"",
+            b"swd: 4 of 4 accesses, 4 a second\n",
+        ),
+        (
+            "a call that is lost",
+            &["swd", "run", "script", "--plan", "deaf", "--progress"],
+            b"",
+            b"swd: 0 of 4 accesses, 0 a second\n",
+        ),
+        (
+            "no access",
+            &["swd", "run", "-", "--progress"],
+            b"memory 20000000 1\n",
+            b"swd: 0 of 0 accesses, 0 a second\n",
+        ),
+    ];
+    for (name, words, input, lines) in rows {
+        let clock = Readings::new([Some(0), Some(1000), Some(2000)].as_slice());
+        let ran = run_by(rt.alloc(), words, input, &clock);
+        expect_eq_at(&rt, &name, &ran.errors.as_slice(), &lines);
+        if name == "a call that is resumed" {
+            expect_eq(&rt, &ran.output.as_slice(), &RESUMED);
+        }
+    }
+}
+
+// A write, a read and their report: lines of 19, 20 and 10 bytes.
+const TWO: &[u8] = b"memory 20000000 16\nw 20000000 1\nr 20000000\n";
+
+const TWO_REPORT: &[u8] = b"w 20000000 written\nr 20000000 00000001\nend all 2\n";
+
+// A line of the report that is not yet whole counts for nothing.
+#[test]
+fn a_line_is_counted_where_it_ends(rt: HostRuntime) {
+    let mut output = OneByteWriter::new(rt.alloc());
+    let mut errors = Vec::new(rt.alloc());
+    let files = Shelf {
+        written: &Cell::new(0),
+        cuts: &Cell::new(0),
+    };
+    let words = ["swd", "run", "-", "--progress"];
+    let mut input = TWO;
+    let status = run_words(
+        rt.alloc(),
+        words.as_slice(),
+        &mut input,
+        &files,
+        &mut output,
+        &Tenths(Cell::new(0)),
+        &mut errors,
+    );
+    expect_eq(&rt, &status, &0);
+    expect_eq(&rt, &output.taken.as_slice(), &TWO_REPORT);
+    expect_eq(
+        &rt,
+        &errors.as_slice(),
+        &b"swd: 0 of 2 accesses, 0 a second\nswd: 1 of 2 accesses, 1 a second\n\
+           swd: 1 of 2 accesses, 0 a second\nswd: 2 of 2 accesses, 1 a second\n"
+            .as_slice(),
+    );
+}
+
+// Of a report whose writer fails, what was taken is counted. Where the reader of standard output is gone, no line says
+// so.
+#[test]
+fn a_failed_report_is_counted_as_far_as_it_went(rt: HostRuntime) {
+    let rows: [(usize, &[u8]); 3] = [
+        (18, b"swd: 0 of 2 accesses, 0 a second\n"),
+        (25, b"swd: 1 of 2 accesses, 1 a second\n"),
+        (39, b"swd: 2 of 2 accesses, 2 a second\n"),
+    ];
+    for (room, lines) in rows {
+        let mut output = ShortWriter::new(rt.alloc(), room, true);
+        let mut errors = Vec::new(rt.alloc());
+        let files = Shelf {
+            written: &Cell::new(0),
+            cuts: &Cell::new(0),
+        };
+        let words = ["swd", "run", "-", "--progress"];
+        let mut input = TWO;
+        let status = run_words(
+            rt.alloc(),
+            words.as_slice(),
+            &mut input,
+            &files,
+            &mut output,
+            &Readings::new([Some(0), Some(1000)].as_slice()),
+            &mut errors,
+        );
+        expect_eq_at(&rt, &room, &status, &141);
+        expect_eq_at(&rt, &room, &output.taken(), &&TWO_REPORT[..room]);
+        expect_eq_at(&rt, &room, &errors.as_slice(), &lines);
+    }
+}
+
+// A line that can't be printed changes nothing of the run.
+#[test]
+fn standard_error_may_fail(rt: HostRuntime) {
+    let mut output = Vec::new(rt.alloc());
+    let mut errors = ShortWriter::new(rt.alloc(), 0, true);
+    let files = Shelf {
+        written: &Cell::new(0),
+        cuts: &Cell::new(0),
+    };
+    let words = ["swd", "run", "-", "--progress"];
+    let mut input = FIVE;
+    let status = run_words(
+        rt.alloc(),
+        words.as_slice(),
+        &mut input,
+        &files,
+        &mut output,
+        &Readings::new([Some(0), Some(1000)].as_slice()),
+        &mut errors,
+    );
+    expect_eq(&rt, &status, &0);
+    expect_eq(&rt, &output.as_slice(), &FIVE_REPORTS);
+}
+
+// The report of a remote run goes to a file. With the report on standard error there is no room for other lines.
+#[test]
+fn a_remote_run_says_how_far_it_is(rt: HostRuntime) {
+    let rows: [(&str, &[u8], u8, &[u8], &[u8]); 3] = [
+        (
+            "traced",
+            b"111",
+            1,
+            b"swd: 0 of 4 accesses, 0 a second\n",
+            b"dcfQ",
+        ),
+        (
+            "traced",
+            b"",
+            1,
+            b"swd: 0 of 4 accesses, 0 a second\nswd: the other end went away\n",
+            b"dcf",
+        ),
+        (
+            "-",
+            b"111",
+            2,
+            b"error: with --report - there is no --progress\n\nUsage: swd\n\n\
+              For more information, try '--help'.\n",
+            b"",
+        ),
+    ];
+    for (report, levels, status, lines, sent) in rows {
+        let words = [
+            "swd",
+            "run",
+            "script",
+            "--remote",
+            "--report",
+            report,
+            "--progress",
+        ];
+        let clock = Readings::new([Some(0), Some(1500)].as_slice());
+        let ran = run_by(rt.alloc(), words.as_slice(), levels, &clock);
+        expect_eq_at(&rt, &lines, &ran.errors.as_slice(), &lines);
+        expect_eq_at(&rt, &lines, &ran.status, &status);
+        expect_at(&rt, &lines, ran.output.ends_with(sent));
+        expect_eq_at(&rt, &lines, &ran.output.is_empty(), &sent.is_empty());
+    }
+}
