@@ -1,4 +1,5 @@
 //! A target on the standard streams whose memory is in a file: what words make of it.
+use super::Still;
 use super::expect::{expect_eq, expect_eq_at};
 use super::simulated::{EMPTY, Page, Pen, Source};
 use std::alloc::Global;
@@ -150,7 +151,15 @@ fn run_at(alloc: Global, words: &[&str], ram: &'static [u8], session: &[u8]) -> 
     };
     let (mut output, mut errors) = (Vec::new(alloc), Vec::new(alloc));
     let mut input = session;
-    let status = run_words(alloc, words, &mut input, &shelf, &mut output, &mut errors);
+    let status = run_words(
+        alloc,
+        words,
+        &mut input,
+        &shelf,
+        &mut output,
+        &Still,
+        &mut errors,
+    );
     Ran {
         status,
         output,
