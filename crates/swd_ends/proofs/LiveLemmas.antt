@@ -10,11 +10,10 @@ use Rattle.std.specs.Prelude.{is_err}
 use Rattle.swd_io.specs.Blocks.{Sends, Stopped}
 use Rattle.swd_io.specs.declared.block.Block.{Block}
 use Rattle.swd_io.specs.declared.output.Unsent.{Unsent}
-use Rattle.swd_io.proofs.BlockLemmas.{stopped_more}
 use Rattle.swd_port.specs.declared.access.Transfer.{Transfer}
 use Rattle.swd_ends.specs.declared.live_file.LiveFile.{LiveFile}
 use Rattle.swd_ends.specs.TargetLogs.{transfer_line, transfer_lines}
-use Rattle.swd_ends.specs.LiveFiles.{HasBy, Has, Stands, IsCurrent, Keeps, KeepsIf, AddsRest, AddsRestIf, AddsIf, Grows}
+use Rattle.swd_ends.specs.LiveFiles.{HasBy, Has, Stands, IsCurrent, KeepsIf, AddsRest, AddsRestIf, AddsIf, Grows}
 use Rattle.swd_ends.specs.LiveFiles.{FinishesIf, IsFresh, IsFreshIf, IsGiven}
 
 -- ONE FILE
@@ -178,6 +177,7 @@ pub lines_joined : (log : List Transfer) (n : ℕ) → n ≤ length log
 lines_joined log n l =
     sym (lines_both (take n log) (drop n log)) ∙ ap transfer_lines (take-append-drop n log ∙ sym (take_whole log))
 
+-- the first characters, and those behind them, are all
 pub text_joined : (text : List ℕ) (n : ℕ) → n ≤ length text → take n text ++ drop n text ≡ take (length text) text
 text_joined text n l = take-append-drop n text ∙ sym (take_whole text)
 
@@ -185,6 +185,7 @@ text_joined text n l = take-append-drop n text ∙ sym (take_whole text)
 pub first_alike : {X : Type 0} (xs ys : List X) → Grows xs ys → (n : ℕ) → n ≤ length xs → take n xs ≡ take n ys
 first_alike xs ys g n l = sym (ap (take n) g.1 ∙ take-append-le n xs g.0 l)
 
+-- what grew is no shorter
 pub grew : {X : Type 0} (xs ys : List X) → Grows xs ys → length xs ≤ length ys
 grew xs ys g =
     let len : length ys ≡ length xs + length g.0 = ap length g.1 ∙ length-append xs g.0 in

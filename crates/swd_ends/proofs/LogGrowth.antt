@@ -3,14 +3,13 @@ use Rattle.std.proofs.Common.{◌≡◌, ◌≢◌, ℕ, zero, suc, ◌+◌, ◌
 use Rattle.std.proofs.Common.{◌++◌, drop, get_or, Option, Some, None, refl, sym, ap, subst, ◌∙◌, append_assoc, append-nil}
 use Rattle.std.proofs.Common.{arith}
 use lib.Count.{count_leading_zeros}
-use Rattle.std.specs.Prelude.{◌==◌, unwrap_or, is_some, if◌then◌else◌}
+use Rattle.std.specs.Prelude.{◌==◌, unwrap_or, if◌then◌else◌}
 use Rattle.std.proofs.lemmas.Bool.{cases_lt}
 use Rattle.swd_bits.specs.Bits.{low_bits}
 use Rattle.swd_bits.specs.Wire.{request}
 use Rattle.swd_bits.specs.declared.request.Request.{Request}
 use Rattle.swd_bits.specs.declared.request.Reg4.{Reg4}
 use Rattle.swd_bits.specs.declared.request.Reg4.TheVariants.{R0, R4, R8, RC}
-use Rattle.swd_port.specs.declared.access.Access.{Access}
 use Rattle.swd_port.specs.declared.access.Transfer.{Transfer}
 use Rattle.swd_port.specs.declared.mark.Mark.{Mark}
 use Rattle.swd_port.specs.declared.register.Register.{Register}
@@ -20,24 +19,23 @@ use Rattle.swd_port.specs.declared.state.Line.TheVariants as lines
 use Rattle.swd_port.specs.declared.state.Reply.{Reply}
 use Rattle.swd_port.specs.declared.state.Reply.TheVariants.{Okay, Waits, Faults, Silent}
 use Rattle.swd_port.specs.declared.mark.Mark.TheVariants.{Clean, Wait}
-use Rattle.swd_port.specs.PlainMemory.{PlainMemory, plain_after, succeeds_at, address, done, transfer_of}
+use Rattle.swd_port.specs.PlainMemory.{PlainMemory, succeeds_at, address, done, transfer_of}
 use Rattle.swd_port.specs.Port.{Port, Target as State, Tally, idle_link}
 use Rattle.swd_port.specs.Choices.{IsMark, is_deaf, is_wait}
-use Rattle.swd_port.specs.Completion.{Completes, access_at, memory_after, completion_of}
-use Rattle.swd_port.specs.Asking.{AsksNow, target_after}
+use Rattle.swd_port.specs.Completion.{Completes, access_at, memory_after}
+use Rattle.swd_port.specs.Asking.{target_after}
 use Rattle.swd_port.specs.Moving.{Arrival}
 use Rattle.swd_target.specs.declared.target.Target.{Target}
-use Rattle.swd_target.specs.Targets.{state_of}
 use Rattle.swd_target.specs.Requests.{Answers, DataComes}
 use Rattle.swd_clocked.specs.declared.frame.Frame.{Frame}
 use Rattle.swd_clocked.specs.declared.frame.Frame.TheVariants.{Asks, Lost, High, Switches, Replies, Drives, Awaits}
 use Rattle.swd_clocked.specs.declared.frame.Frame.TheVariants.{Passes}
 use Rattle.swd_clocked.specs.declared.clocked.Clocked.{Clocked}
 use Rattle.swd_clocked.specs.declared.marked.MarkedClocked.{MarkedClocked}
-use Rattle.swd_clocked.specs.Frames.{idle, shifted, frame_of, frame_place, frame_limit, frame_replied, switched}
+use Rattle.swd_clocked.specs.Frames.{idle, shifted, frame_of, frame_place, frame_limit, frame_replied}
 use Rattle.swd_clocked.specs.Frames.{ones_at_end, switch_bit, unswitched}
-use Rattle.swd_clocked.specs.Cycles.{Moved, Requested, ByteCame, AsksBit, LostBit, ResetCame, HeardBit, SwitchesBit}
-use Rattle.swd_clocked.specs.Cycles.{RepliesBit, DrivesBit, DataCame, AwaitsBit, Cycles}
+use Rattle.swd_clocked.specs.Cycles.{Moved, ByteCame, AsksBit, LostBit, HeardBit, SwitchesBit}
+use Rattle.swd_clocked.specs.Cycles.{DrivesBit, AwaitsBit, Cycles}
 use Rattle.swd_clocked.specs.Damage.{IsLast}
 use Rattle.swd_clocked.specs.Marked as marked
 use Rattle.swd_sequences.specs.declared.character.Character.{Character}
@@ -46,7 +44,7 @@ use Rattle.swd_bitbang.specs.declared.trace.Trace.{Trace}
 use Rattle.swd_bitbang.specs.declared.pins.Pins.{Pins}
 use Rattle.swd_bitbang.specs.declared.pins.Sign.{Sign}
 use Rattle.swd_bitbang.specs.Traces as traces
-use Rattle.swd_bitbang.specs.Steps.{Steps, Passes as PassesBy, ShowsBy, SeesBy, driven}
+use Rattle.swd_bitbang.specs.Steps.{Steps, ShowsBy, SeesBy, driven}
 use Rattle.swd_bitbang.specs.Sessions.{Session}
 use Rattle.swd_bitbang.specs.Watching.{Reaches}
 use Rattle.swd_ends.specs.LiveFiles.{Grows, IsSound, is_sound, trace_at, transfers_at}
@@ -257,13 +255,16 @@ unswitched_heard (suc (suc (suc (suc (suc (suc zero)))))) l n = omega arith
 unswitched_heard (suc (suc (suc (suc (suc (suc (suc zero))))))) l n = omega arith
 unswitched_heard (suc (suc (suc (suc (suc (suc (suc (suc zero)))))))) l n = omega arith
 unswitched_heard (suc (suc (suc (suc (suc (suc (suc (suc (suc zero))))))))) l n = let two : ones_at_end 207 ≡ 2 = refl in omega arith
-unswitched_heard (suc (suc (suc (suc (suc (suc (suc (suc (suc (suc zero)))))))))) l n = let two : ones_at_end 207 ≡ 2 = refl in omega arith
-unswitched_heard (suc (suc (suc (suc (suc (suc (suc (suc (suc (suc (suc zero))))))))))) l n = let two : ones_at_end 207 ≡ 2 = refl in omega arith
+unswitched_heard (suc (suc (suc (suc (suc (suc (suc (suc (suc (suc zero)))))))))) l n = let two : ones_at_end 207 ≡ 2
+    = refl in omega arith
+unswitched_heard (suc (suc (suc (suc (suc (suc (suc (suc (suc (suc (suc zero))))))))))) l n = let two : ones_at_end
+    207 ≡ 2 = refl in omega arith
 unswitched_heard (suc (suc (suc (suc (suc (suc (suc (suc (suc (suc (suc (suc zero)))))))))))) l n = omega arith
 unswitched_heard (suc (suc (suc (suc (suc (suc (suc (suc (suc (suc (suc (suc (suc zero))))))))))))) l n = omega arith
 unswitched_heard (suc (suc (suc (suc (suc (suc (suc (suc (suc (suc (suc (suc (suc (suc zero)))))))))))))) l n = omega arith
 unswitched_heard (suc (suc (suc (suc (suc (suc (suc (suc (suc (suc (suc (suc (suc (suc (suc zero))))))))))))))) l n = omega arith
-unswitched_heard (suc (suc (suc (suc (suc (suc (suc (suc (suc (suc (suc (suc (suc (suc (suc (suc n)))))))))))))))) l e = absurd (omega arith)
+unswitched_heard (suc (suc (suc (suc (suc (suc (suc (suc (suc (suc (suc (suc (suc (suc (suc (suc n)))))))))))))))) l
+    e = absurd (omega arith)
 
 switches_grow : {A : Type 0} (place : ℕ) (b : Bool) (s : Target A) (w : Bool) (t : Clocked A) → place < 16
     → (place ≡ 0 → ⊥) → SwitchesBit place b s w t → After s t

@@ -1,6 +1,6 @@
 -- No call makes a word of the memory appear or go, at a wire that is always lawful.
-use Rattle.std.proofs.Common.{◌≡◌, ◌+◌, ℕ, zero, suc, true, false, refl, sym, ap, subst, ◌∙◌, List, [], ◌∷◌, length, take, drop}
-use Rattle.std.proofs.Common.{Some, None, Option, inl, inr, Bool, Result, Ok, Err}
+use Rattle.std.proofs.Common.{◌≡◌, ◌+◌, ℕ, true, false, refl, sym, ap, ◌∙◌, List, [], ◌∷◌, length, take, drop}
+use Rattle.std.proofs.Common.{Option, inl, inr, Bool, Result, Ok, Err}
 use Rattle.std.specs.Prelude.{◌&&◌, OnOk, is_some}
 use Rattle.std.proofs.lemmas.Bool.{cases_eq}
 use Rattle.std.specs.FinMap.{get}

@@ -27,6 +27,7 @@ mixed i [] = []
 mixed zero (w ∷ ws) = 0 ∷ mixed zero ws
 mixed (suc i) (w ∷ ws) = w ∷ mixed i ws
 
+-- words of which some are zero are as many
 pub mixed_length : (i : ℕ) (ws : List ℕ) → length (mixed i ws) ≡ length ws
 mixed_length i [] = refl
 mixed_length zero (w ∷ ws) = ap suc (mixed_length zero ws)
@@ -73,6 +74,7 @@ four : (a b c d e f g h : ℕ) → a ≡ e → b ≡ f → c ≡ g → d ≡ h
     → from_le_bytes w32 (a ∷ b ∷ c ∷ d ∷ []) ≡ from_le_bytes w32 (e ∷ f ∷ g ∷ h ∷ [])
 four a b c d e f g h p q r s = cc
 
+-- the word at an index is that of its four bytes
 pub word_there : (bytes : List ℕ) (i : ℕ) → i < length (words_in bytes)
     → get_or (words_in bytes) i 0 ≡ from_le_bytes w32 (get_or bytes (4 * i) 0 ∷ get_or bytes (4 * i + 1) 0
     ∷ get_or bytes (4 * i + 2) 0 ∷ get_or bytes (4 * i + 3) 0 ∷ [])

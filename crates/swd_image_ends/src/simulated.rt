@@ -1,5 +1,5 @@
 //! Loads, verifies and dumps images at a simulated target.
-ghost use Rattle.std.specs.Prelude.{◌≡◌, ◌≤◌, ◌+◌, ◌^◌, IfErr, IfOk, OnOk};
+ghost use Rattle.std.specs.Prelude.{◌≡◌, ◌+◌, IfErr, IfOk, OnOk};
 ghost use Rattle.swd_host.specs.Reports.{IsAtRest};
 ghost use Rattle.swd_run.specs.Records.{held};
 ghost use Rattle.swd_image.specs.Reports.{DumpReports, fault_of};

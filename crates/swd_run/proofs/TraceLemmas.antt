@@ -1,9 +1,9 @@
 -- A trace that is written while its run goes on: which items no further call changes, and what its file has.
-use Rattle.std.proofs.Common.{◌≡◌, ◌∙◌, ℕ, zero, suc, ◌+◌, ◌-◌, ◌≤◌, ◌^◌, Bool, true, false, List, [], ◌∷◌, ◌++◌, length, take}
-use Rattle.std.proofs.Common.{drop, Option, None, Some, Result, Ok, Err, min, refl, sym, ap, subst, append_assoc, arith, inl, inr}
+use Rattle.std.proofs.Common.{◌≡◌, ◌∙◌, ℕ, zero, suc, ◌+◌, ◌-◌, ◌≤◌, Bool, true, false, List, [], ◌∷◌, ◌++◌, length, take}
+use Rattle.std.proofs.Common.{drop, Option, None, Some, Result, Ok, Err, refl, sym, ap, subst, append_assoc, arith, inl, inr}
 use Rattle.std.proofs.KnownBytes.{Appends-nil}
 use Rattle.std.proofs.lemmas.List.{take_all}
-use Rattle.std.proofs.Math.Logic.{∥∥₁_elim, ∥∥₁_map, ∥∥₁_prop}
+use Rattle.std.proofs.Math.Logic.{∥∥₁_elim, ∥∥₁_map}
 use Rattle.std.specs.Coded.{Unit-prop, coded_list, coded_ℕ}
 use denote.Struct.Props.{≡_prop}
 use Rattle.std.specs.Prelude.{◌⊎◌, is_some}
@@ -132,7 +132,6 @@ pub text_next : (items : List Item) (m n : ℕ) → m ≤ n
 text_next items m n h =
     sym (trace_both (take m items) (take (n - m) (drop m items))) ∙ ap trace_text (first_next items m n h)
 
--- items that stand in a list of legal items are legal
 legal_drop : (items : List Item) (n : ℕ) → AreLegal items → AreLegal (drop n items)
 legal_drop items zero h = h
 legal_drop [] (suc n) h = tt
@@ -143,6 +142,7 @@ legal_take items zero h = tt
 legal_take [] (suc n) h = tt
 legal_take (item ∷ items) (suc n) h = (h.0, legal_take items n h.1)
 
+-- items that stand in a list of legal items are legal
 pub legal_between : (items : List Item) (m n : ℕ) → AreLegal items → AreLegal (take n (drop m items))
 legal_between items m n h = legal_take (drop m items) n (legal_drop items m h)
 

@@ -1,6 +1,6 @@
 -- The file of a run's trace, which is written while the run goes on. When its lines are written is this project's
 -- choice.
-use Rattle.std.specs.Prelude.{ℕ, ◌≡◌, ◌-◌, ◌≤◌, List, length, take, Option, None, Some, Result, Ok}
+use Rattle.std.specs.Prelude.{ℕ, ◌≡◌, ◌-◌, List, take, Option, None, Some, Result, Ok}
 use Rattle.swd_trace.specs.declared.item.Item.{Item}
 use Rattle.swd_trace.specs.Texts.{trace_text}
 use Rattle.swd_run.specs.declared.trace_file.TraceFile.{TraceFile}

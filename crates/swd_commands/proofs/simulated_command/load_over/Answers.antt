@@ -22,7 +22,8 @@ returns-in-Ok g c =
       written = subst (λ m. WritesBack m c.args.memory.now.base c.args.count wrote
           (g.F.Made.Write.contents c.args.file.now) (g.F.Made.Write.contents c.write_back.new.file))
           c.memory.ensures c.write_back.ensures;
-      is = subst (λ w. IsStatusOf (status_of_image status_of_loaded None loaded.result) w c.loaded_status.result) (sym c.in-Ok.is) c.loaded_status.ensures;
+      is = subst (λ w. IsStatusOf (status_of_image status_of_loaded None loaded.result) w c.loaded_status.result)
+          (sym c.in-Ok.is) c.loaded_status.ensures;
     }
 
 pub returns : goal.returns

@@ -15,12 +15,15 @@ returns g c =
     let new = held g.O.Write.contents c.verify_reporting-answer.new.report in
     let Over : List Call → Type 0 = λ calls. ∥ GoesOver g.R.Read.remaining g.W.Write.contents g.B.Beginning.sent
     g.B.Beginning.left c.hang_up.result calls ∥₁
-    × DumpReports (port_at g.P.Story.at) (λ calls. []) (FitsStory g.P.Story.at) c.args.tries c.args.resumes c.args.addr (length c.args.bytes.now) (fault_of c.verify_reporting-answer.result)
+    × DumpReports (port_at g.P.Story.at) (λ calls. []) (FitsStory g.P.Story.at) c.args.tries c.args.resumes
+    c.args.addr (length c.args.bytes.now) (fault_of c.verify_reporting-answer.result)
     [] calls old new in
     verify_came (λ w. w.noted.calls) g.P.Story.at c.args.tries c.args.resumes c.args.addr Over c.begun-wire.result wire
     c.begun-wire.ensures (
       went_over g.R.Read.remaining g.W.Write.contents g.B.Beginning.sent g.B.Beginning.left wire.noted.calls wire.gone
           c.into_transport.result c.hang_up.result (c.into_transport.ensures refl) c.hang_up.ensures,
       dump_reported (λ w. w.noted.calls) g.P.Story.at c.args.tries c.args.resumes c.args.addr c.begun-wire.result
-          wire c.begun-wire.ensures (fault_of c.verify_reporting-answer.result) old new (length c.args.bytes.now) c.verify_reporting-answer.ensures.report,
-    ) c.args.bytes.now c.verify_reporting-answer.result c.verify_reporting-answer.ensures.verifies c.verify_reporting-answer.ensures.fault
+          wire c.begun-wire.ensures (fault_of c.verify_reporting-answer.result) old new (length c.args.bytes.now)
+          c.verify_reporting-answer.ensures.report,
+    ) c.args.bytes.now c.verify_reporting-answer.result c.verify_reporting-answer.ensures.verifies
+    c.verify_reporting-answer.ensures.fault

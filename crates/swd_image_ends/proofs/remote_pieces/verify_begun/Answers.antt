@@ -16,13 +16,15 @@ returns g c =
     let new = held g.O.Write.contents c.verify_pieces-answer.new.report in
     let Over : List Call → Type 0 = λ calls. ∥ GoesOver g.R.Read.remaining g.W.Write.contents g.B.Beginning.sent
     g.B.Beginning.left c.hang_up.result calls ∥₁
-    × VerifiesReported (port_at g.P.Story.at) (λ calls. []) (FitsStory g.P.Story.at) c.args.tries c.args.resumes (pieces_in c.args.image.now) c.verify_pieces-answer.result
+    × VerifiesReported (port_at g.P.Story.at) (λ calls. []) (FitsStory g.P.Story.at) c.args.tries c.args.resumes
+    (pieces_in c.args.image.now) c.verify_pieces-answer.result
     [] calls old new in
     verify_pieces_came (λ w. w.noted.calls) g.P.Story.at c.args.tries c.args.resumes Over c.begun-wire.result wire
     c.begun-wire.ensures (
       went_over g.R.Read.remaining g.W.Write.contents g.B.Beginning.sent g.B.Beginning.left wire.noted.calls wire.gone
           c.into_transport.result c.hang_up.result (c.into_transport.ensures refl) c.hang_up.ensures,
       verify_pieces_reported (λ w. w.noted.calls) g.P.Story.at c.args.tries c.args.resumes c.begun-wire.result
-          wire c.begun-wire.ensures old new (pieces_in c.args.image.now) c.verify_pieces-answer.result c.verify_pieces-answer.ensures.report,
+          wire c.begun-wire.ensures old new (pieces_in c.args.image.now) c.verify_pieces-answer.result
+          c.verify_pieces-answer.ensures.report,
     ) (pieces_in c.args.image.now) c.verify_pieces-answer.result c.verify_pieces-answer.ensures.verifies
     c.verify_pieces-answer.ensures.fault

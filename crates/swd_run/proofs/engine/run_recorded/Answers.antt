@@ -1,4 +1,4 @@
-use Rattle.std.proofs.Common.{Bool, List, Option, ap, map, ℕ, subst}
+use Rattle.std.proofs.Common.{List, Option, ap, map, ℕ, subst}
 use Rattle.swd_port.specs.Port.{Port}
 use Rattle.swd_recorder.specs.Recorders.{lawful_by, plan_by, port_by}
 use Rattle.swd_script.specs.Readers.{listed}

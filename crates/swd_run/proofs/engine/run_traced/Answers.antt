@@ -1,4 +1,4 @@
-use Rattle.std.proofs.Common.{◌≡◌, ◌≤◌, ◌+◌, ◌∙◌, ℕ, List, Option, Result, Ok, Err, ap, arith, false, map, refl, subst, sym}
+use Rattle.std.proofs.Common.{◌≡◌, ◌≤◌, ◌+◌, ◌∙◌, ℕ, List, Option, Err, ap, arith, false, map, refl, subst, sym}
 use Rattle.std.proofs.Math.Logic.{∥∥₁_map}
 use Rattle.swd_trace.specs.declared.item.Item.{Item}
 use Rattle.swd_trace.specs.Texts.{trace_text}
@@ -12,8 +12,6 @@ use Rattle.swd_recorder.specs.Recorders.{calls_by, kept_by, lawful_by, plan_by, 
 use Rattle.swd_recorder.specs.Items.{items_by}
 use Rattle.swd_recorder.specs.Steps.{asks_in, transactions}
 use Rattle.swd_script.specs.Readers.{listed}
-use Rattle.swd_run.specs.declared.engine.Finished.{Finished}
-use Rattle.swd_run.specs.declared.fault.EngineFault.{EngineFault}
 use Rattle.swd_run.specs.Engine.{AnswersOver, IsOfTraceOver, Ran, TellsRecords}
 use Rattle.swd_run.specs.Records.{AreBegun, ForFile, IsBegun, files_from, held, no_files}
 use Rattle.swd_run.specs.Recorded.{Stepped}
@@ -22,7 +20,7 @@ use Rattle.swd_run.specs.TraceFiles.{HaveAll, held_by}
 use Rattle.swd_run.specs.Unfoldings.{calls_of, runs_of}
 use Rattle.swd_run.proofs.EngineLemmas.{answers_by, begun_in, left_alone, recorded_in}
 use Rattle.swd_run.proofs.RecordedLemmas.{any_recorded_accounted, recorded_accounted}
-use Rattle.swd_run.proofs.RunLemmas.{IsRecorded, of_trace, trace_of}
+use Rattle.swd_run.proofs.RunLemmas.{of_trace, trace_of}
 use Rattle.swd_run.proofs.SessionLemmas.{recorded}
 use Rattle.swd_run.proofs.TraceLemmas.{held_back, trace_begun}
 use Rattle.swd_run.proofs.TransferLemmas.{reported}

@@ -1,9 +1,7 @@
-use Rattle.std.proofs.Common.{rules, ◌≡◌, ◌∙◌, ℕ, ◌-◌, ◌^◌, List, [], length, Option, Result, Ok, Err, ap, ap₂}
+use Rattle.std.proofs.Common.{rules, ◌≡◌, ◌∙◌, ◌-◌, [], ap, ap₂}
 use Rattle.std.proofs.Common.{refl, subst}
 use Rattle.std.proofs.KnownBytes.{Appends-nil}
-use Rattle.std.specs.Prelude.{min, IfOk, IfErr}
-use Rattle.std.specs.Io.KnownBytes.{Appends}
-use Rattle.swd_io.specs.Blocks.{Sends, Stopped}
+use Rattle.swd_io.specs.Blocks.{Sends}
 use Rattle.swd_host.specs.Reports.{told_of}
 use Rattle.swd_script.specs.Readers.{listed}
 use Rattle.swd_run.specs.Reports.{report_text, run_report, WritesOn}

@@ -1,4 +1,4 @@
-use Rattle.std.proofs.Common.{rules, ◌≡◌, ◌-◌, ◌^◌, min, [], ◌∷◌, ◌++◌, List, drop, length, refl, ap, subst, ◌∙◌}
+use Rattle.std.proofs.Common.{rules, ◌≡◌, ◌-◌, ◌^◌, min, [], ◌∷◌, ◌++◌, List, drop, length, ap, subst, ◌∙◌}
 use Rattle.swd_port.specs.declared.access.Transfer.{Transfer}
 use Rattle.swd_clocked.specs.Marked.{tally_of, cycles_of}
 use Rattle.swd_ends.specs.TargetLogs.{counts_line, transfer_lines}

@@ -1,4 +1,4 @@
-use Rattle.std.proofs.Common.{rules, ◌≡◌, List, drop, length, refl, sym, ap, subst, ◌∙◌}
+use Rattle.std.proofs.Common.{rules, ◌≡◌, List, drop, length, refl, ap, subst, ◌∙◌}
 use Rattle.swd_port.specs.declared.access.Transfer.{Transfer}
 use Rattle.swd_ends.specs.TargetLogs.{transfer_lines}
 use Rattle.swd_ends.specs.LiveFiles.{AddsRestIf, first_characters, first_lines, log_at, trace_at, transfers_at}

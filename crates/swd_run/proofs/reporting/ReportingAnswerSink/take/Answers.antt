@@ -53,7 +53,8 @@ returns-then-count-eq0-clause-keeps g c =
     let line : c.as_bytes.result.now ≡ answer_line (get_or accesses (length answers) (Read 0)) c.args.answer =
     search rules in
     let room = c.requires in
-    took g.W.Write.contents g.K.AnswerSink.taken self _ c.args.answer refl (c.flush.ensures.writer ∙ c.put_line.ensures.writer) refl refl items
+    took g.W.Write.contents g.K.AnswerSink.taken self _ c.args.answer refl (c.flush.ensures.writer ∙
+    c.put_line.ensures.writer) refl refl items
     (omega (arith, room))
     (λ start all h. c.flush.ensures.sends start _ (subst (λ l. Sends g.W.Write.contents start c.put_line.new.self
     (all ++ (l ++ 10 ∷ []))) line (c.put_line.ensures.sends start all h)))
@@ -67,6 +68,7 @@ returns-else-count-eq0-clause-keeps g c =
     let line : c.as_bytes.result.now ≡ answer_line (get_or accesses (length answers) (Read 0)) c.args.answer =
     search rules in
     let room = c.requires in
-    took g.W.Write.contents g.K.AnswerSink.taken self _ c.args.answer refl c.put_line.ensures.writer refl refl items (omega (arith, room))
+    took g.W.Write.contents g.K.AnswerSink.taken self _ c.args.answer refl c.put_line.ensures.writer refl refl items
+    (omega (arith, room))
     (λ start all h. subst (λ l. Sends g.W.Write.contents start c.put_line.new.self (all ++ (l ++ 10 ∷ []))) line
     (c.put_line.ensures.sends start all h))
