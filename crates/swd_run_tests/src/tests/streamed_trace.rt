@@ -71,9 +71,11 @@ fn run_at(
         &mut report,
         &mut records,
     );
-    let Some(Watching { writes, taken, .. }) = records.trace else {
+    let Records { trace, .. } = records;
+    let Some(trace) = trace else {
         return Err(Fail::from("the trace has no writer"));
     };
+    let Watching { writes, taken, .. } = trace;
     let Watching { taken: report, .. } = report;
     Ok(Streamed {
         answer,
