@@ -61,11 +61,10 @@ fn run_at(
         accesses: None,
         made: true,
     };
-    let batches = script.batches.as_slice();
     let (answer, _) = run_batches(
         alloc,
         wire,
-        batches,
+        script.batches.as_slice(),
         TRIES,
         resumes,
         &mut report,
@@ -132,6 +131,17 @@ fn places_of(alloc: Global, writes: &[(u64, usize)]) -> Result<Vec<u64>, Fail> {
     Ok(places)
 }
 
+// How many bytes the first writes had.
+fn bytes_in(writes: &[(u64, usize)], count: usize) -> usize {
+    let mut bytes = 0usize;
+    for (index, (_, size)) in writes.iter().enumerate() {
+        if index < count {
+            bytes = bytes.saturating_add(*size);
+        }
+    }
+    bytes
+}
+
 #[test]
 fn the_trace_is_written_at_line_resets_and_after_1024_items(rt: HostRuntime) -> Result<(), Fail> {
     for (name, count, rest, clean, requests) in ROWS {
@@ -150,7 +160,7 @@ fn the_trace_is_written_at_line_resets_and_after_1024_items(rt: HostRuntime) -> 
         expect_eq_at(&rt, &name, &run.answer, &super::ended(End::All));
         let places = places_of(rt.alloc(), run.writes.as_slice())?;
         expect_eq_at(&rt, &name, &places.as_slice(), &requests);
-        let bytes: usize = run.writes.iter().map(|(_, size)| *size).sum();
+        let bytes = bytes_in(run.writes.as_slice(), usize::MAX);
         expect_eq_at(&rt, &name, &run.trace.len(), &bytes);
         expect_eq_at(&rt, &name, &run.trace.last(), &Some(&b'\n'));
     }
@@ -185,8 +195,7 @@ fn a_trace_that_fails_in_a_call(rt: HostRuntime) -> Result<(), Fail> {
         );
         let trace = run.trace.as_slice();
         expect_at(&rt, &fails_at, whole.trace.as_slice().starts_with(trace));
-        let before = whole.writes.as_slice().iter().take(fails_at);
-        let bytes: usize = before.map(|(_, size)| *size).sum();
+        let bytes = bytes_in(whole.writes.as_slice(), fails_at);
         expect_eq_at(&rt, &fails_at, &trace.len(), &bytes);
     }
     Ok(())
