@@ -247,7 +247,7 @@ struct swd_cue swd_run_next(struct swd_run *run, const struct swd_access *access
  */
 static inline const char *swd_outcome_name(uint8_t kind)
 {
-	static const char *const names[] = { "none", "opened", "value", "written", "bus fault",
+	static const char *const names[] = { "none", "opened", "value", "written", "bus error",
 	                                     "all", "lost", "tries", "id", "confused" };
 	return kind < sizeof names / sizeof *names ? names[kind] : "unknown";
 }

@@ -5,41 +5,43 @@ use Rattle.std.specs.Io.KnownBytes.{Appends}
 use Rattle.swd_clocked.specs.Marked.{MarkedCycles}
 use Rattle.swd_sequences.specs.declared.character.Character.TheVariants.{Quits}
 use Rattle.swd_sequences.specs.declared.sequence.Sequence.{Sequence}
-use Rattle.swd_sequences.specs.Alphabet.{byte_of, character, level_character}
-use Rattle.swd_sequences.specs.Clocks.{all_characters}
+use Rattle.swd_sequences.specs.Alphabet.{alphabet_byte, alphabet_character, alphabet_level}
+use Rattle.swd_sequences.specs.Clocks.{all_sequence_characters}
 use Rattle.swd_sequences.specs.Going.{SequencesGoBy}
 use Rattle.swd_bitbang.specs.declared.pins.Pins.{Pins}
 use Rattle.swd_bitbang.specs.declared.serving.Served.TheVariants as ends
-use Rattle.swd_bitbang.specs.Sessions.{Session, EndsAs}
+use Rattle.swd_bitbang.specs.Sessions.{PinsSession, BitbangEndsAs}
 
 -- the next fall of SWCLK begins a clock: true at first, and after each clock
-abbrev pub IsBetween : {A : Type 0} → Pins A → Type 0
-IsBetween s = (if s.clock then None else s.seen) ≡ None
+abbrev pub ArePinsBetweenClocks : {A : Type 0} → Pins A → Type 0
+ArePinsBetweenClocks s = (if s.clock then None else s.seen) ≡ None
 
 -- Sequences were performed at the target of these pins, and their sampled levels were returned. The pins are
 -- between two clocks again.
-pub record WentBy {A : Type 0} (sequences : List Sequence) (answers : List ℕ) (s t : Pins A) : Type 0 where
+pub record PinsWentBy {A : Type 0} (sequences : List Sequence) (answers : List ℕ) (s t : Pins A) : Type 0 where
   pub levels : List Bool
   pub goes : SequencesGoBy MarkedCycles sequences levels s.target t.target
-  pub answered : answers ≡ map level_character levels
-  pub between : IsBetween t
+  pub answered : answers ≡ map alphabet_level levels
+  pub between : ArePinsBetweenClocks t
 
 -- The characters of sequences are read as these sequences. Each clock is one cycle of the target, in which
 -- the host drives what the sequence says. Exactly the sampled levels are returned, in order.
-abbrev pub AreRead : Type 0 → Type 0
-AreRead A = (sequences : List Sequence) (answers : List ℕ) (s t : Pins A) → IsBetween s
-    → Session (all_characters s.drives sequences) answers s t → WentBy sequences answers s t
+abbrev pub PinsReadSequences : Type 0 → Type 0
+PinsReadSequences A = (sequences : List Sequence) (answers : List ℕ) (s t : Pins A) → ArePinsBetweenClocks s
+    → PinsSession (all_sequence_characters s.drives sequences) answers s t → PinsWentBy sequences answers s t
 
 -- The same for a host that is served up to its Q: exactly the sampled levels were written.
 abbrev pub AreServed : Type 0 → Type 0
-AreServed A = (sequences : List Sequence) (more : List ℕ) (old new : Option (List ℕ)) (s t : Pins A) → IsBetween s
-    → EndsAs ends.Quit old new (all_characters s.drives sequences ++ byte_of Quits ∷ more) s t
-    → (answers : List ℕ) × WentBy sequences answers s t × Appends old new answers
+AreServed A = (sequences : List Sequence) (more : List ℕ) (old new : Option (List ℕ)) (s t : Pins A)
+    → ArePinsBetweenClocks s
+    → BitbangEndsAs ends.Quit old new (all_sequence_characters s.drives sequences ++ alphabet_byte Quits ∷ more) s t
+    → (answers : List ℕ) × PinsWentBy sequences answers s t × Appends old new answers
 
 -- a character of the protocol that doesn't end the session
-abbrev pub GoesOn : ℕ → Type 0
-GoesOn byte = (character byte ≢ None) × (character byte ≢ Some Quits)
+abbrev pub KeepsBitbangOpen : ℕ → Type 0
+KeepsBitbangOpen byte = (alphabet_character byte ≢ None) × (alphabet_character byte ≢ Some Quits)
 
 -- no character of a sequence ends the session
-abbrev pub GoOn : Type 0
-GoOn = (drives : Bool) (sequences : List Sequence) → All GoesOn (all_characters drives sequences)
+abbrev pub SequencesKeepBitbangOpen : Type 0
+SequencesKeepBitbangOpen = (drives : Bool) (sequences : List Sequence)
+    → All KeepsBitbangOpen (all_sequence_characters drives sequences)

@@ -1,5 +1,5 @@
 //! A law that relates both ends of a connection. The function does nothing: its contract is the law.
-ghost use Rattle.swd_bitbang.specs.Lines.{AreRead, AreServed, GoOn};
+ghost use Rattle.swd_bitbang.specs.Lines.{PinsReadSequences, AreServed, SequencesKeepBitbangOpen};
 
 use std::alloc::Allocator;
 
@@ -8,7 +8,7 @@ use std::alloc::Allocator;
 /// are returned, in order. This holds from pins between two clocks on, and the characters never end the
 /// session before the host's `Q`.
 pub fn sequences_are_read<A: Allocator>()
-    ensures reads { AreRead A }
+    ensures reads { PinsReadSequences A }
     ensures serves { AreServed A }
-    ensures goes_on { GoOn }
+    ensures goes_on { SequencesKeepBitbangOpen }
 {}

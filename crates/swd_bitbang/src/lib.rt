@@ -7,7 +7,7 @@ mod serving;
 mod trace;
 mod watch;
 
-pub use pins::{Pins, Sign};
+pub use pins::{PinReply, Pins};
 pub use serving::{Served, serve, serve_watched};
 pub use trace::Trace;
 pub use watch::Watch;

@@ -1,16 +1,16 @@
 //! The two pins of a serial wire, as a host's characters move them.
 ghost use Rattle.std.specs.Prelude.{◌≡◌, true, false, Some, None};
 ghost use Rattle.swd_sequences.specs.declared.character.Character.TheVariants.{Moves};
-ghost use Rattle.swd_sequences.specs.Alphabet.{character};
+ghost use Rattle.swd_sequences.specs.Alphabet.{alphabet_character};
 
 use crate::trace::Trace;
 use std::alloc::{Allocator, Global};
-use swd_clocked::MarkedClocked;
+use swd_clocked::FaultyClocked;
 use swd_sequences::Character;
 
 /// The result of a character.
 #[derive(Clone, Copy, Debug, PartialEq, Eq)]
-pub enum Sign {
+pub enum PinReply {
     /// Nothing is returned.
     Silent,
     /// The level of SWDIO, to be returned to the host.
@@ -29,14 +29,14 @@ pub enum Sign {
 /// cycle.
 ///
 /// ```ignore
-/// let target = MarkedClocked::new(memory, quirks, plan);
+/// let target = FaultyClocked::new(memory, quirks, plan);
 /// let mut pins = Pins::new(target, Trace::none(alloc));
 /// pins.take(b'e'); // SWCLK low, SWDIO 1
 /// pins.take(b'g'); // SWCLK high: one cycle with a 1
 /// ```
 #[derive(Debug, Drop)]
 pub struct Pins<A: Allocator = Global> {
-    target: MarkedClocked<A>,
+    target: FaultyClocked<A>,
     clock: bool,
     level: bool,
     drives: bool,
@@ -46,11 +46,11 @@ pub struct Pins<A: Allocator = Global> {
 }
 
 impl<A: Allocator> Pins<A> {
-    ghost use Rattle.swd_bitbang.specs.Steps.{fallen, driven, Steps, Shows, SeesBy};
+    ghost use Rattle.swd_bitbang.specs.Steps.{pins_fallen, pins_driven, PinsStep, PinsShow, PinsSeenBy};
 
     /// Returns the pins of a host that drives SWDIO high, with SWCLK low and no edge yet. The bits are kept
     /// in this trace.
-    pub fn new(target: MarkedClocked<A>, trace: Trace<A>) -> Pins<A>
+    pub fn new(target: FaultyClocked<A>, trace: Trace<A>) -> Pins<A>
         ensures target { result.target ≡ target }
         ensures trace { result.trace ≡ trace }
         ensures clock { result.clock ≡ false }
@@ -69,7 +69,7 @@ impl<A: Allocator> Pins<A> {
     }
 
     /// Returns the target.
-    pub fn target(&self) -> &MarkedClocked<A>
+    pub fn target(&self) -> &FaultyClocked<A>
         ensures { result.now ≡ self.now.target }
     {
         &self.target
@@ -83,7 +83,7 @@ impl<A: Allocator> Pins<A> {
     }
 
     /// Returns the target and the trace.
-    pub fn into_parts(self) -> (MarkedClocked<A>, Trace<A>)
+    pub fn into_parts(self) -> (FaultyClocked<A>, Trace<A>)
         ensures target { result.0 ≡ self.target }
         ensures trace { result.1 ≡ self.trace }
     {
@@ -91,25 +91,25 @@ impl<A: Allocator> Pins<A> {
     }
 
     /// Takes one character of the host.
-    pub fn take(&mut self, byte: u8) -> Sign
-        ensures { Steps (character byte) self.old result self.new }
+    pub fn take(&mut self, byte: u8) -> PinReply
+        ensures { PinsStep (alphabet_character byte) self.old result self.new }
     {
         let Some(character) = Character::of(byte) else {
-            return Sign::Bad;
+            return PinReply::Bad;
         };
         match character {
             Character::Moves(false, level) => self.fall(level),
             Character::Moves(true, level) => self.rise(level),
-            Character::Looks => return Sign::Level(self.look()),
+            Character::Looks => return PinReply::Level(self.look()),
             Character::Drives(drives) => self.drives = drives,
             Character::Lights(_) | Character::Resets(..) | Character::Waits(_) => {}
-            Character::Quits => return Sign::Quit,
+            Character::Quits => return PinReply::Quit,
         }
-        Sign::Silent
+        PinReply::Silent
     }
 
     fn fall(&mut self, level: bool)
-        ensures { self.new ≡ fallen level self.old }
+        ensures { self.new ≡ pins_fallen level self.old }
     {
         self.level = level;
         if self.clock {
@@ -119,7 +119,7 @@ impl<A: Allocator> Pins<A> {
     }
 
     fn rise(&mut self, level: bool)
-        ensures { Steps (Some (Moves true level)) self.old Sign.Silent self.new }
+        ensures { PinsStep (Some (Moves true level)) self.old PinReply.Silent self.new }
     {
         self.level = level;
         self.clock = true;
@@ -127,14 +127,14 @@ impl<A: Allocator> Pins<A> {
     }
 
     fn look(&mut self) -> bool
-        ensures { SeesBy self.old.drives result self.old self.new }
+        ensures { PinsSeenBy self.old.drives result self.old self.new }
     {
         if self.drives { self.level } else { self.bit() }
     }
 
     // Returns the bit of this clock. Makes the cycle if it wasn't made yet.
     fn bit(&mut self) -> bool
-        ensures { Shows result self.old self.new }
+        ensures { PinsShow result self.old self.new }
     {
         if let Some(bit) = self.seen {
             return bit;
@@ -148,7 +148,7 @@ impl<A: Allocator> Pins<A> {
 
     // Returns what the host drives.
     fn driven(&self) -> Option<bool>
-        ensures { result ≡ driven self.now }
+        ensures { result ≡ pins_driven self.now }
     {
         if self.drives { Some(self.level) } else { None }
     }

@@ -1,13 +1,14 @@
 //! Serves a host: reads its characters, and writes the levels.
 ghost use Rattle.std.specs.Prelude.{◌≡◌, ℕ, List, Option, [], ◌∷◌, ◌++◌, OnOk, IfErr};
-ghost use Rattle.swd_io.specs.Blocks.{Sends};
-ghost use Rattle.swd_io.specs.Pieces.{LeadsOn, LeadsToEnd};
-ghost use Rattle.swd_io.proofs.PieceLemmas.{leads_nowhere, leads_further, leads_to_later_end};
-ghost use Rattle.swd_bitbang.specs.Sessions.{Serves, told};
-ghost use Rattle.swd_bitbang.specs.Serving.{Begin, Taken, HasTaken, IsEnd, StopsIn, Ends, end_of};
-ghost use Rattle.swd_bitbang.specs.Watching.{LeadsOnWatched, LeadsToEndWatched, Reaches, watched};
+ghost use Rattle.swd_io.specs.Blocks.{BlockQueues};
+ghost use Rattle.swd_io.specs.Pieces.{LeadsConsumerOn, LeadsConsumerToEnd};
+ghost use Rattle.swd_io.proofs.PieceLemmas.{consumer_reads_no_byte, consumer_pieces_join, consumer_pieces_fault};
+ghost use Rattle.swd_bitbang.specs.Sessions.{BitbangServes, bitbang_answer_to_sign};
+ghost use Rattle.swd_bitbang.specs.Serving.{BitbangBegin, BitbangTaken, BitbangHasTaken, IsBitbangEnd, BitbangStopsIn};
+ghost use Rattle.swd_bitbang.specs.Serving.{BitbangEnds, bitbang_end_of_sign};
+ghost use Rattle.swd_bitbang.specs.Watching.{PinsLeadOnWatched, PinsLeadToEndWatched, PinsReach, pins_watched};
 
-use crate::pins::{Pins, Sign};
+use crate::pins::{PinReply, Pins};
 use crate::watch::{Unwatched, Watch};
 use std::alloc::Allocator;
 use std::io::{Read, Write};
@@ -42,24 +43,23 @@ struct Server<A: Allocator, V> {
 }
 
 // Returns how a sign ends a session, at this byte and its position.
-fn end_at(sign: Sign, place: u64, byte: u8) -> Option<Served>
-    ensures { result ≡ end_of sign place byte }
+fn end_at(sign: PinReply, place: u64, byte: u8) -> Option<Served>
+    ensures { result ≡ bitbang_end_of_sign sign place byte }
 {
     match sign {
-        Sign::Silent | Sign::Level(_) => None,
-        Sign::Quit => Some(Served::Quit),
-        Sign::Bad => Some(Served::Bad { place, byte }),
+        PinReply::Silent | PinReply::Level(_) => None,
+        PinReply::Quit => Some(Served::Quit),
+        PinReply::Bad => Some(Served::Bad { place, byte }),
     }
 }
 
 // Also queues the answer to a sign, if it has one.
-fn put_answer<W: Write>(block: &mut Block<'_, W>, sign: Sign)
-    ensures sends { (start : Option (List ℕ)) (all : List ℕ) → Sends W.contents start block.old all
-        → Sends W.contents start block.new (all ++ told sign) }
+fn put_answer<W: Write>(block: &mut Block<'_, W>, sign: PinReply)
+    ensures sends { BlockQueues W.contents (bitbang_answer_to_sign sign) block.old block.new }
     ensures writer { block.new.writer.ghost_name ≡ block.old.writer.ghost_name }
 {
     match sign {
-        Sign::Level(level) => block.put(&[level_byte(level)]),
+        PinReply::Level(level) => block.put(&[level_byte(level)]),
         _ => block.put(b""),
     }
 }
@@ -70,12 +70,13 @@ impl<A: Allocator, V> Server<A, V> {
         ensures writer { block.new.writer.ghost_name ≡ block.old.writer.ghost_name }
         ensures written { self.new.written ≡ self.old.written }
         ensures watch { self.new.watch ≡ self.old.watch }
-        ensures goes { Reaches self.old.pins self.new.pins }
-        ensures ok { OnOk result ((begin : Begin A) (seen : List ℕ) → Taken W.contents begin self.old block.old seen
-            → Taken W.contents begin self.new block.new (seen ++ byte ∷ [])) }
-        ensures err { IfErr result (λ served. (begin : Begin A) (seen : List ℕ)
-            → Taken W.contents begin self.old block.old seen
-            → IsEnd served seen byte × Taken W.contents begin self.new block.new seen) }
+        ensures goes { PinsReach self.old.pins self.new.pins }
+        ensures ok { OnOk result ((begin : BitbangBegin A) (seen : List ℕ)
+            → BitbangTaken W.contents begin self.old block.old seen
+            → BitbangTaken W.contents begin self.new block.new (seen ++ byte ∷ [])) }
+        ensures err { IfErr result (λ served. (begin : BitbangBegin A) (seen : List ℕ)
+            → BitbangTaken W.contents begin self.old block.old seen
+            → IsBitbangEnd served seen byte × BitbangTaken W.contents begin self.new block.new seen) }
     {
         let sign = self.pins.take(byte);
         if let Some(served) = end_at(sign, self.place, byte) {
@@ -91,12 +92,13 @@ impl<A: Allocator, V> Server<A, V> {
         ensures writer { block.new.writer.ghost_name ≡ block.old.writer.ghost_name }
         ensures written { self.new.written ≡ self.old.written }
         ensures watch { self.new.watch ≡ self.old.watch }
-        ensures goes { Reaches self.old.pins self.new.pins }
-        ensures ok { OnOk result ((begin : Begin A) (seen : List ℕ) → Taken W.contents begin self.old block.old seen
-            → Taken W.contents begin self.new block.new (seen ++ piece.now)) }
-        ensures err { IfErr result (λ served. (begin : Begin A) (seen : List ℕ)
-            → Taken W.contents begin self.old block.old seen
-            → StopsIn W.contents begin self.new block.new served (seen ++ piece.now)) }
+        ensures goes { PinsReach self.old.pins self.new.pins }
+        ensures ok { OnOk result ((begin : BitbangBegin A) (seen : List ℕ)
+            → BitbangTaken W.contents begin self.old block.old seen
+            → BitbangTaken W.contents begin self.new block.new (seen ++ piece.now)) }
+        ensures err { IfErr result (λ served. (begin : BitbangBegin A) (seen : List ℕ)
+            → BitbangTaken W.contents begin self.old block.old seen
+            → BitbangStopsIn W.contents begin self.new block.new served (seen ++ piece.now)) }
     {
         for byte in piece {
             if let Err(served) = self.byte(block, *byte) {
@@ -112,9 +114,10 @@ impl<A: Allocator, W: Write, V: Watch<A>> Consumer<W> for Server<A, V> {
 
     ghost can_take = { λ _. Unit {0} };
 
-    ghost takes = { LeadsOnWatched V.follows (LeadsOn (HasTaken W.contents)) };
+    ghost takes = { PinsLeadOnWatched V.follows (LeadsConsumerOn (BitbangHasTaken W.contents)) };
 
-    ghost stops = { LeadsToEndWatched V.follows (LeadsToEnd (HasTaken W.contents) (Ends W.contents)) };
+    ghost stops = { PinsLeadToEndWatched V.follows
+        (LeadsConsumerToEnd (BitbangHasTaken W.contents) (BitbangEnds W.contents)) };
 
     // Shows the watch the pins after a piece, and writes the answers to it, before more is read.
     fn take(&mut self, writer: &mut W, piece: &[u8]) -> Result<(), Served> {
@@ -132,19 +135,19 @@ impl<A: Allocator, W: Write, V: Watch<A>> Consumer<W> for Server<A, V> {
     }
 
     ghost takes_nothing = { λ a. record {
-      leads_on = leads_nowhere (HasTaken W.contents) a;
-      followed = V.stays (watched a);
+      leads_on = consumer_reads_no_byte (BitbangHasTaken W.contents) a;
+      followed = V.stays (pins_watched a);
     } };
 
     ghost takes_on = { λ a b c first next f g. record {
-      leads_on = leads_further (HasTaken W.contents) a b c first next f.leads_on g.leads_on;
-      followed = V.goes_on (watched a) (watched b) (watched c) f.followed g.followed;
+      leads_on = consumer_pieces_join (BitbangHasTaken W.contents) a b c first next f.leads_on g.leads_on;
+      followed = V.goes_on (pins_watched a) (pins_watched b) (pins_watched c) f.followed g.followed;
     } };
 
     ghost stops_later = { λ a b c first next fault f g. record {
-      leads_to_end = leads_to_later_end (HasTaken W.contents) (Ends W.contents) a b c first next fault f.leads_on
+      leads_to_end = consumer_pieces_fault (BitbangHasTaken W.contents) (BitbangEnds W.contents) a b c first next fault f.leads_on
           g.leads_to_end;
-      followed = V.goes_on (watched a) (watched b) (watched c) f.followed g.followed;
+      followed = V.goes_on (pins_watched a) (pins_watched b) (pins_watched c) f.followed g.followed;
     } };
 }
 
@@ -161,7 +164,7 @@ pub fn serve<R: Read, W: Write, A: Allocator>(
     writer: &mut W,
     pins: Pins<A>,
 ) -> (Served, Pins<A>)
-    ensures { Serves result.0 (R.remaining reader.old) (R.remaining reader.new)
+    ensures { BitbangServes result.0 (R.remaining reader.old) (R.remaining reader.new)
         (W.contents writer.old) (W.contents writer.new) pins result.1 }
 {
     let (served, pins, _) = serve_watched(reader, writer, pins, Unwatched);
@@ -178,7 +181,7 @@ pub fn serve_watched<R: Read, W: Write, A: Allocator, V: Watch<A>>(
     pins: Pins<A>,
     watch: V,
 ) -> (Served, Pins<A>, V)
-    ensures session { Serves result.0 (R.remaining reader.old) (R.remaining reader.new)
+    ensures session { BitbangServes result.0 (R.remaining reader.old) (R.remaining reader.new)
         (W.contents writer.old) (W.contents writer.new) pins result.1 }
     ensures watched { V.follows (watch, pins) (result.2, result.1) }
 {

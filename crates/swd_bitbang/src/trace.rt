@@ -1,6 +1,6 @@
 //! The bits on the line, as a trace text.
 ghost use Rattle.std.specs.Prelude.{◌≡◌, true, false, []};
-ghost use Rattle.swd_bitbang.specs.Traces.{Keeps, kept_text, is_kept, is_cut_off};
+ghost use Rattle.swd_bitbang.specs.Traces.{PinsTraceKeeps, pins_kept_trace, is_pins_trace_kept, is_pins_trace_cut_off};
 
 use std::alloc::{Allocator, Global};
 
@@ -16,9 +16,9 @@ pub struct Trace<A: Allocator = Global> {
 impl<A: Allocator> Trace<A> {
     /// Returns a trace that keeps nothing.
     pub fn none(alloc: A) -> Trace<A>
-        ensures text { kept_text result ≡ [] }
-        ensures kept { is_kept result ≡ false }
-        ensures whole { is_cut_off result ≡ false }
+        ensures text { pins_kept_trace result ≡ [] }
+        ensures kept { is_pins_trace_kept result ≡ false }
+        ensures whole { is_pins_trace_cut_off result ≡ false }
     {
         Trace {
             bits: Vec::new(alloc),
@@ -29,9 +29,9 @@ impl<A: Allocator> Trace<A> {
 
     /// Returns a trace that keeps every bit.
     pub fn new(alloc: A) -> Trace<A>
-        ensures text { kept_text result ≡ [] }
-        ensures kept { is_kept result ≡ true }
-        ensures whole { is_cut_off result ≡ false }
+        ensures text { pins_kept_trace result ≡ [] }
+        ensures kept { is_pins_trace_kept result ≡ true }
+        ensures whole { is_pins_trace_cut_off result ≡ false }
     {
         Trace {
             bits: Vec::new(alloc),
@@ -42,21 +42,21 @@ impl<A: Allocator> Trace<A> {
 
     /// Returns whether memory ran out for a bit. The text ends before that bit.
     pub fn is_cut(&self) -> bool
-        ensures { result ≡ is_cut_off self.now }
+        ensures { result ≡ is_pins_trace_cut_off self.now }
     {
         self.cut
     }
 
     /// Returns the characters so far.
     pub fn text(&self) -> &[u8]
-        ensures { result.now ≡ kept_text self.now }
+        ensures { result.now ≡ pins_kept_trace self.now }
     {
         self.bits.as_slice()
     }
 
     // Keeps one more bit, if bits are kept and there is memory.
     pub(crate) fn keep(&mut self, bit: bool)
-        ensures { Keeps bit self.old self.new }
+        ensures { PinsTraceKeeps bit self.old self.new }
     {
         if !self.wanted || self.cut {
             return;

@@ -1,5 +1,5 @@
 //! What looks on at a session.
-ghost use Rattle.swd_bitbang.specs.Watching.{Reaches};
+ghost use Rattle.swd_bitbang.specs.Watching.{PinsReach};
 
 use crate::pins::Pins;
 use std::alloc::Allocator;
@@ -16,7 +16,7 @@ pub trait Watch<A: Allocator> {
 
     /// Takes the pins after a piece.
     fn see(&mut self, pins: &Pins<A>)
-        ensures { (s : Pins A) → Reaches s pins.now → follows (self.old, s) (self.new, pins.now) };
+        ensures { (s : Pins A) → PinsReach s pins.now → follows (self.old, s) (self.new, pins.now) };
 
     ghost stays: { (a : Self × Pins A) → follows a a };
 

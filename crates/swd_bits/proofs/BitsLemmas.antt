@@ -1,16 +1,14 @@
 -- Laws of lists of bits and the numbers that hold them.
 use Rattle.std.proofs.Common.{◌≡◌, ℕ, zero, suc, ◌+◌, ◌*◌, ◌/◌, ◌%◌, ◌^◌, ◌<◌, ◌≤◌, Bool, true, false, not, List, []}
-use Rattle.std.proofs.Common.{◌∷◌, ◌++◌, length, refl, sym, ◌∙◌, ap, arith}
-use Rattle.std.proofs.Math.Nat.{pow-suc}
+use Rattle.std.proofs.Common.{◌∷◌, ◌++◌, length, refl, sym, ◌∙◌, ap, arith, lit<}
+use Rattle.std.proofs.Math.Nat.{pow-suc, mul_comm, mod-eq_of_lt, mod-lt, pow-le-pow_right}
 use Rattle.std.specs.Prelude.{◌==◌}
 use Rattle.std.specs.Int.RustNames.{count_ones}
 use lib.Count.{ones_step}
 use lib.Bits.{block_odd, block_half, bit_or}
 use Rattle.std.proofs.lemmas.Nat.{or_shifted, shr_split, pow_pos, pow-add, mul-add-lt}
 use Rattle.std.proofs.Math.Pow.{shl_lt}
-use Rattle.std.proofs.Common.{lit<}
-use Rattle.std.proofs.Math.Nat.{mul_comm, mod-eq_of_lt, mod-lt, pow-le-pow_right}
-use Rattle.swd_bits.specs.Bits.{low_bits, number, bit, odd}
+use Rattle.swd_bits.specs.Bits.{low_bits, bits_number, bit, odd}
 
 -- a digit as a bit, and back
 digit : (r : ℕ) → r < 2 → bit (r == 1) ≡ r
@@ -25,7 +23,7 @@ lowest v =
     rw (digit (v % 2) small) (omega arith)
 
 -- the bits of a number give the number
-pub number-low_bits : (n v : ℕ) → v < 2 ^ n → number (low_bits n v) ≡ v
+pub number-low_bits : (n v : ℕ) → v < 2 ^ n → bits_number (low_bits n v) ≡ v
 unfolding low_bits
 number-low_bits zero v h = omega arith
 number-low_bits (suc n) v h =
@@ -46,16 +44,17 @@ lowest_of true m = let e : (1 + 2 * m) % 2 ≡ 1 = omega arith in rw e refl
 lowest_of false m = let e : (0 + 2 * m) % 2 ≡ 0 = omega arith in rw e refl
 
 -- the number of some bits gives the bits
-pub low_bits-number : (bits : List Bool) → low_bits (length bits) (number bits) ≡ bits
+pub low_bits-number : (bits : List Bool) → low_bits (length bits) (bits_number bits) ≡ bits
 unfolding low_bits
 low_bits-number [] = refl
-low_bits-number (b ∷ bits) = rw (lowest_of b (number bits), half_of b (number bits), low_bits-number bits) refl
+low_bits-number (b ∷ bits) = rw (lowest_of b (bits_number bits), half_of b (bits_number bits), low_bits-number bits)
+    refl
 
 -- a list of n bits, as a number, is below 2 ^ n
-pub number_lt : (bits : List Bool) → number bits < 2 ^ length bits
-number_lt [] = omega arith
-number_lt (true ∷ bits) = omega (arith, number_lt bits, pow-suc 2 (length bits))
-number_lt (false ∷ bits) = omega (arith, number_lt bits, pow-suc 2 (length bits))
+pub bits_number_lt : (bits : List Bool) → bits_number bits < 2 ^ length bits
+bits_number_lt [] = omega arith
+bits_number_lt (true ∷ bits) = omega (arith, bits_number_lt bits, pow-suc 2 (length bits))
+bits_number_lt (false ∷ bits) = omega (arith, bits_number_lt bits, pow-suc 2 (length bits))
 
 flips : (r : ℕ) → r < 2 → (s : ℕ) → s < 2 → r + s ≡ 1 → not (r == 1) ≡ (s == 1)
 flips zero h (suc zero) k e = refl
@@ -93,8 +92,8 @@ low_bits-cat (suc m) n a b h =
     rw (e, block_odd a m b, block_half a m b, low_bits-cat m n a (b / 2) small) refl
 
 -- two numbers with the same bits are equal
-pub same_bits : (n v w : ℕ) → v < 2 ^ n → w < 2 ^ n → low_bits n v ≡ low_bits n w → v ≡ w
-same_bits n v w h k e = sym (number-low_bits n v h) ∙ ap number e ∙ number-low_bits n w k
+pub low_bits_injective : (n v w : ℕ) → v < 2 ^ n → w < 2 ^ n → low_bits n v ≡ low_bits n w → v ≡ w
+low_bits_injective n v w h k e = sym (number-low_bits n v h) ∙ ap bits_number e ∙ number-low_bits n w k
 
 -- a number that is moved up stays within 64 bits
 no_loss : (m n a : ℕ) → a < 2 ^ n → m + n ≤ 63 → a * 2 ^ m % 2 ^ 64 ≡ a * 2 ^ m
@@ -110,8 +109,8 @@ pub low_bits-join : (m n a b : ℕ) → a < 2 ^ n → b < 2 ^ m → m + n ≤ 63
 low_bits-join m n a b k h room = rw (no_loss m n a k room, or_shifted a m b h, low_bits-cat m n a b h) refl
 
 -- m bits with n bits joined above them are a number below 2 ^ (m + n), for at most 63 bits in all
-pub join_lt : (m n a b : ℕ) → a < 2 ^ n → b < 2 ^ m → m + n ≤ 63 → bit_or (a * 2 ^ m % 2 ^ 64) b < 2 ^ (m + n)
-join_lt m n a b k h room =
+pub low_bits_join_lt : (m n a b : ℕ) → a < 2 ^ n → b < 2 ^ m → m + n ≤ 63 → bit_or (a * 2 ^ m % 2 ^ 64) b < 2 ^ (m + n)
+low_bits_join_lt m n a b k h room =
     let e : m + n ≡ n + m = omega arith in
     rw (no_loss m n a k room, or_shifted a m b h, e, pow-add 2 n m, mul_comm (2 ^ n) (2 ^ m))
     (mul-add-lt a (2 ^ m) b (2 ^ n) k h)

@@ -10,8 +10,8 @@ use Rattle.std.proofs.lemmas.Bool.{eqb-true}
 use Rattle.std.proofs.Math.Nat.{pow-suc}
 use Rattle.swd_bits.specs.Bits.{low_bits}
 use Rattle.swd_bits.specs.Wire.{phase}
-use Rattle.swd_bits.specs.Phases.{phase_number, word_in, IsNoPhase}
-use Rattle.swd_bits.proofs.BitsLemmas.{low_bits-cat, odd-low_bits, same_bits}
+use Rattle.swd_bits.specs.Phases.{data_phase_number, data_phase_word, IsNoDataPhase}
+use Rattle.swd_bits.proofs.BitsLemmas.{low_bits-cat, odd-low_bits, low_bits_injective}
 
 xor_first : (r : ℕ) → r < 2 → bit_xor r 1 + r ≡ 1
 xor_first zero h = refl
@@ -19,20 +19,20 @@ xor_first (suc zero) h = refl
 xor_first (suc (suc r)) h = absurd (omega arith)
 
 -- a changed bit changes the parity
-pub ones_flip : (p v : ℕ) → count_ones (bit_xor v (2 ^ p)) % 2 ≡ (count_ones v + 1) % 2
+pub bit_flip_changes_parity : (p v : ℕ) → count_ones (bit_xor v (2 ^ p)) % 2 ≡ (count_ones v + 1) % 2
 unfolding count_ones
-ones_flip zero v =
+bit_flip_changes_parity zero v =
     let a : bit_xor v 1 % 2 ≡ bit_xor (v % 2) 1 = xor_mod v 1 1 in
     let b : count_ones (bit_xor v 1 / 2) ≡ count_ones (v / 2) = ap count_ones (xor_shr v 1 1 ∙ xor_zero_r (v / 2)) in
     let c : bit_xor (v % 2) 1 + v % 2 ≡ 1 = xor_first (v % 2) (omega arith) in
     omega (arith, ones_step (bit_xor v 1), ones_step v)
-ones_flip (suc p) v =
+bit_flip_changes_parity (suc p) v =
     let z : 2 ^ suc p % 2 ≡ 0 = omega (arith, pow-suc 2 p) in
     let h : 2 ^ suc p / 2 ≡ 2 ^ p = omega (arith, pow-suc 2 p) in
     let a : bit_xor v (2 ^ suc p) % 2 ≡ v % 2 = xor_mod v (2 ^ suc p) 1 ∙ ap (bit_xor (v % 2)) z ∙ xor_zero_r (v % 2) in
     let b : count_ones (bit_xor v (2 ^ suc p) / 2) ≡ count_ones (bit_xor (v / 2) (2 ^ p)) = ap count_ones
     (xor_shr v (2 ^ suc p) 1 ∙ ap (bit_xor (v / 2)) h) in
-    omega (arith, ones_step (bit_xor v (2 ^ suc p)), ones_step v, ones_flip p (v / 2))
+    omega (arith, ones_step (bit_xor v (2 ^ suc p)), ones_step v, bit_flip_changes_parity p (v / 2))
 
 ones_digit : (r : ℕ) → r < 2 → count_ones r ≡ r
 unfolding count_ones
@@ -45,41 +45,41 @@ ones_parts : (hi lo : ℕ) → hi < 2 → lo < 2 ^ 32 → count_ones (hi * 2 ^ 3
 unfolding count_ones
 ones_parts hi lo h k = ones_cat 32 hi lo k ∙ ap (λ n. n + count_ones lo) (ones_digit hi h)
 
-pub ones_phase : (w : ℕ) → w < 2 ^ 32 → count_ones (phase_number w) % 2 ≡ 0
-ones_phase w h = omega (arith, ones_parts (count_ones w % 2) w (omega arith) h)
+pub data_phase_is_even : (w : ℕ) → w < 2 ^ 32 → count_ones (data_phase_number w) % 2 ≡ 0
+data_phase_is_even w h = omega (arith, ones_parts (count_ones w % 2) w (omega arith) h)
 
 -- a phase tells its word
-pub word_phase : (w : ℕ) → w < 2 ^ 32 → word_in (phase_number w) ≡ Some w
-word_phase w h = rw (ones_phase w h, mod_low (count_ones w % 2) 32 w h) refl
+pub data_phase_gives_word : (w : ℕ) → w < 2 ^ 32 → data_phase_word (data_phase_number w) ≡ Some w
+data_phase_gives_word w h = rw (data_phase_is_even w h, mod_low (count_ones w % 2) 32 w h) refl
 
 -- a phase with one bit changed tells none
-pub word_flip : (w p : ℕ) → w < 2 ^ 32 → word_in (bit_xor (phase_number w) (2 ^ p)) ≡ None
-word_flip w p h =
-    let e : count_ones (bit_xor (phase_number w) (2 ^ p)) % 2 ≡ 1 = omega
-    (arith, ones_flip p (phase_number w), ones_phase w h) in
+pub flipped_data_phase_no_word : (w p : ℕ) → w < 2 ^ 32 → data_phase_word (bit_xor (data_phase_number w) (2 ^ p)) ≡ None
+flipped_data_phase_no_word w p h =
+    let e : count_ones (bit_xor (data_phase_number w) (2 ^ p)) % 2 ≡ 1 = omega
+    (arith, bit_flip_changes_parity p (data_phase_number w), data_phase_is_even w h) in
     rw e refl
 
 -- a run of ones
-pub ones_all : (k : ℕ) → count_ones (2 ^ k - 1) ≡ k
+pub low_bits_count_all_ones : (k : ℕ) → count_ones (2 ^ k - 1) ≡ k
 unfolding count_ones
-ones_all zero = refl
-ones_all (suc k) =
+low_bits_count_all_ones zero = refl
+low_bits_count_all_ones (suc k) =
     let a : 2 ^ suc k ≡ 2 * 2 ^ k = omega (arith, pow-suc 2 k) in
     let b : (2 ^ suc k - 1) / 2 ≡ 2 ^ k - 1 = omega (arith, pow_pos k) in
-    omega (arith, ones_step (2 ^ suc k - 1), ap count_ones b, ones_all k, pow_pos k)
+    omega (arith, ones_step (2 ^ suc k - 1), ap count_ones b, low_bits_count_all_ones k, pow_pos k)
 
 -- ones alone tell none
-pub word_ones : word_in (2 ^ 33 - 1) ≡ None
-word_ones = let e : count_ones (2 ^ 33 - 1) % 2 ≡ 1 = ap (λ n. n % 2) (ones_all 33) in rw e refl
+pub ones_data_phase_no_word : data_phase_word (2 ^ 33 - 1) ≡ None
+ones_data_phase_no_word = let e : count_ones (2 ^ 33 - 1) % 2 ≡ 1 = ap (λ n. n % 2) (low_bits_count_all_ones 33) in rw e refl
 
 last_bit : (p : ℕ) → p < 2 → low_bits 1 p ≡ (p == 1) ∷ []
 unfolding low_bits
 last_bit p h = let e : p % 2 ≡ p = omega arith in rw e refl
 
 -- the bits of a phase
-pub bits_phase : (w : ℕ) → w < 2 ^ 32 → low_bits 33 (phase_number w) ≡ phase w
+pub data_phase_number_bits : (w : ℕ) → w < 2 ^ 32 → low_bits 33 (data_phase_number w) ≡ phase w
 unfolding phase
-bits_phase w h = rw (
+data_phase_number_bits w h = rw (
   low_bits-cat 32 1 (count_ones w % 2) w h,
   last_bit (count_ones w % 2) (omega arith),
   odd-low_bits
@@ -87,7 +87,7 @@ bits_phase w h = rw (
 ) refl
 
 told : (even : Bool) (v w : ℕ) → v < 2 ^ 33 → (count_ones v % 2 == 0) ≡ even
-    → (if even then Some (v % 2 ^ 32) else None) ≡ Some w → v ≡ phase_number w
+    → (if even then Some (v % 2 ^ 32) else None) ≡ Some w → v ≡ data_phase_number w
 told true v w h e f =
     let zero_rest : count_ones v % 2 ≡ 0 = eqb-true (count_ones v % 2) 0 e in
     let g : v % 2 ^ 32 ≡ w = cc in
@@ -99,25 +99,28 @@ told true v w h e f =
 told false v w h e f = absurd (cc)
 
 -- a number that tells a word is its phase
-pub phase_told : (v w : ℕ) → v < 2 ^ 33 → word_in v ≡ Some w → v ≡ phase_number w
-phase_told v w h e = told (count_ones v % 2 == 0) v w h refl e
+pub data_phase_of_found_word : (v w : ℕ) → v < 2 ^ 33 → data_phase_word v ≡ Some w → v ≡ data_phase_number w
+data_phase_of_found_word v w h e = told (count_ones v % 2 == 0) v w h refl e
 
 -- 33 bits that are the phase of a word
-pub phase_is : (v w : ℕ) → v < 2 ^ 33 → w < 2 ^ 32 → low_bits 33 v ≡ phase w → v ≡ phase_number w
-phase_is v w h k e = same_bits 33 v (phase_number w) h (omega arith) (e ∙ sym (bits_phase w k))
+pub data_phase_number_unique : (v w : ℕ) → v < 2 ^ 33 → w < 2 ^ 32 → low_bits 33 v ≡ phase w → v ≡ data_phase_number w
+data_phase_number_unique v w h k e = low_bits_injective 33 v (data_phase_number w) h (omega arith)
+    (e ∙ sym (data_phase_number_bits w k))
 
 -- a phase by its bits
-pub word_told : (v w : ℕ) → v < 2 ^ 33 → w < 2 ^ 32 → low_bits 33 v ≡ phase w → word_in v ≡ Some w
-word_told v w h k e = ap word_in (phase_is v w h k e) ∙ word_phase w k
+pub data_phase_word_by_bits : (v w : ℕ) → v < 2 ^ 33 → w < 2 ^ 32 → low_bits 33 v ≡ phase w → data_phase_word v ≡ Some w
+data_phase_word_by_bits v w h k e = ap data_phase_word (data_phase_number_unique v w h k e) ∙ data_phase_gives_word w k
 
 -- 33 bits that are no word's phase
-none_found : (even : Bool) (v : ℕ) → v < 2 ^ 33 → IsNoPhase v → (count_ones v % 2 == 0) ≡ even → word_in v ≡ None
+none_found : (even : Bool) (v : ℕ) → v < 2 ^ 33 → IsNoDataPhase v → (count_ones v % 2 == 0) ≡ even
+    → data_phase_word v ≡ None
 none_found false v h none e = rw e refl
 none_found true v h none e =
     let small : v % 2 ^ 32 < 2 ^ 32 = omega arith in
     absurd (none (v % 2 ^ 32) small
-    (sym (ap (low_bits 33) (phase_told v (v % 2 ^ 32) h (rw e refl)) ∙ bits_phase (v % 2 ^ 32) small)))
+    (sym (ap (low_bits 33) (data_phase_of_found_word v (v % 2 ^ 32) h (rw e refl)) ∙ data_phase_number_bits (v % 2 ^ 32)
+    small)))
 
 -- 33 bits that aren't the data phase of any word give no word
-pub word_missing : (v : ℕ) → v < 2 ^ 33 → IsNoPhase v → word_in v ≡ None
-word_missing v h none = none_found (count_ones v % 2 == 0) v h none refl
+pub no_data_phase_no_word : (v : ℕ) → v < 2 ^ 33 → IsNoDataPhase v → data_phase_word v ≡ None
+no_data_phase_no_word v h none = none_found (count_ones v % 2 == 0) v h none refl

@@ -3,27 +3,29 @@ use Rattle.std.proofs.Common.{◌≡◌, ℕ, suc, ◌+◌, ◌<◌, drop, get_o
 use Rattle.std.proofs.Common.{◌∷◌, ◌++◌, length, take, Option, None, Some, refl, sym, ap, ◌∙◌, append_assoc, is_some}
 use Rattle.std.specs.Option.{option_map}
 use Rattle.std.proofs.lemmas.List.{take_at, length-append, append-nil}
-use Rattle.swd_bits.specs.TraceText.{bits_from, bits_of_text, sign_of, comment_after, add_sign}
+use Rattle.swd_bits.specs.TraceText.{scan_bits_from, scan_bits_of_text, scan_bits_sign_of, scan_bits_comment_after}
+use Rattle.swd_bits.specs.TraceText.{scan_bits_add_sign}
 use Rattle.swd_bits.specs.declared.scan.Sign.TheVariants.{Bit, Passed, Bad}
-use Rattle.swd_bits.specs.One.{Reads, IsFirstBad}
+use Rattle.swd_bits.specs.One.{Reads, IsFirstBadScanByte}
 
 map_id : (o : Option (List Bool)) → o ≡ option_map (λ rest. [] ++ rest) o
 map_id None = refl
 map_id (Some x) = refl
 
 -- before its first byte a trace file has no bits so far and no comment is open
-pub reads_none : (comment : Bool) → comment ≡ false → Reads [] [] comment
+pub scan_bits_no_byte : (comment : Bool) → comment ≡ false → Reads [] [] comment
 unfolding Reads
-reads_none comment e = λ more. ap (λ c. bits_from c more) (sym e) ∙ map_id (bits_from comment more)
+scan_bits_no_byte comment e = λ more. ap (λ c. scan_bits_from c more) (sym e) ∙ map_id (scan_bits_from comment more)
 
 -- a byte that is neither a bit nor bad adds no bit to those of the input so far
-pub reads_passed : (seen : List ℕ) (bits : List Bool) (c d : Bool) (b : ℕ) → Passed ≡ sign_of c b
-    → d ≡ comment_after c b → Reads seen bits c → Reads (seen ++ b ∷ []) bits d
+pub scan_bits_passed_byte : (seen : List ℕ) (bits : List Bool) (c d : Bool) (b : ℕ) → Passed ≡ scan_bits_sign_of c b
+    → d ≡ scan_bits_comment_after c b → Reads seen bits c → Reads (seen ++ b ∷ []) bits d
 unfolding Reads
-reads_passed seen bits c d b e f h = λ more.
-    ap (bits_from false) (append_assoc seen (b ∷ []) more) ∙ h (b ∷ more)
-    ∙ ap (λ s. option_map (λ rest. bits ++ rest) (add_sign s (bits_from (comment_after c b) more))) (sym e)
-    ∙ ap (λ x. option_map (λ rest. bits ++ rest) (bits_from x more)) (sym f)
+scan_bits_passed_byte seen bits c d b e f h = λ more.
+    ap (scan_bits_from false) (append_assoc seen (b ∷ []) more) ∙ h (b ∷ more)
+    ∙ ap (λ s. option_map (λ rest. bits ++ rest)
+    (scan_bits_add_sign s (scan_bits_from (scan_bits_comment_after c b) more))) (sym e)
+    ∙ ap (λ x. option_map (λ rest. bits ++ rest) (scan_bits_from x more)) (sym f)
 
 map_more : (bits : List Bool) (bit : Bool) (o : Option (List Bool)) →
     option_map (λ rest. bits ++ rest) (option_map (λ rest. bit ∷ rest) o) ≡ option_map
@@ -32,41 +34,44 @@ map_more bits bit None = refl
 map_more bits bit (Some x) = ap Some (sym (append_assoc bits (bit ∷ []) x))
 
 -- a digit adds its bit after those of the input so far
-pub reads_bit : (seen : List ℕ) (bits : List Bool) (c d bit : Bool) (b : ℕ) → Bit bit ≡ sign_of c b
-    → d ≡ comment_after c b → Reads seen bits c → Reads (seen ++ b ∷ []) (bits ++ bit ∷ []) d
+pub scan_bits_one_more : (seen : List ℕ) (bits : List Bool) (c d bit : Bool) (b : ℕ) → Bit bit ≡ scan_bits_sign_of c b
+    → d ≡ scan_bits_comment_after c b → Reads seen bits c → Reads (seen ++ b ∷ []) (bits ++ bit ∷ []) d
 unfolding Reads
-reads_bit seen bits c d bit b e f h = λ more.
-    ap (bits_from false) (append_assoc seen (b ∷ []) more) ∙ h (b ∷ more)
-    ∙ ap (λ s. option_map (λ rest. bits ++ rest) (add_sign s (bits_from (comment_after c b) more))) (sym e)
-    ∙ ap (λ x. option_map (λ rest. bits ++ rest) (option_map (λ rest. bit ∷ rest) (bits_from x more))) (sym f)
-    ∙ map_more bits bit (bits_from d more)
+scan_bits_one_more seen bits c d bit b e f h = λ more.
+    ap (scan_bits_from false) (append_assoc seen (b ∷ []) more) ∙ h (b ∷ more)
+    ∙ ap (λ s. option_map (λ rest. bits ++ rest)
+    (scan_bits_add_sign s (scan_bits_from (scan_bits_comment_after c b) more))) (sym e)
+    ∙ ap (λ x. option_map (λ rest. bits ++ rest) (option_map (λ rest. bit ∷ rest) (scan_bits_from x more))) (sym f)
+    ∙ map_more bits bit (scan_bits_from d more)
 
 -- what was read so far is good
-pub reads_all : (seen : List ℕ) (bits : List Bool) (c : Bool) → Reads seen bits c → bits_of_text seen ≡ Some bits
+pub scan_bits_read_all : (seen : List ℕ) (bits : List Bool) (c : Bool) → Reads seen bits c
+    → scan_bits_of_text seen ≡ Some bits
 unfolding Reads
-reads_all seen bits c h = ap bits_of_text (sym (append-nil seen)) ∙ h [] ∙ ap Some (append-nil bits)
+scan_bits_read_all seen bits c h = ap scan_bits_of_text (sym (append-nil seen)) ∙ h [] ∙ ap Some (append-nil bits)
 
 -- a bad byte after an input without one is the first bad byte, at the place that is that input's length
-pub first_bad : (seen more : List ℕ) (bits : List Bool) (c : Bool) (b : ℕ) → Bad ≡ sign_of c b → Reads seen bits c
-    → IsFirstBad (seen ++ b ∷ more) (length seen)
+pub scan_bits_first_bad_byte : (seen more : List ℕ) (bits : List Bool) (c : Bool) (b : ℕ) → Bad ≡ scan_bits_sign_of c b
+    → Reads seen bits c → IsFirstBadScanByte (seen ++ b ∷ more) (length seen)
 unfolding Reads
-first_bad seen more bits c b e h =
+scan_bits_first_bad_byte seen more bits c b e h =
     let front : take (length seen) (seen ++ b ∷ more) ≡ seen = take_at seen (b ∷ more) (length seen) refl in
     let n : length (seen ++ b ∷ []) ≡ length seen + 1 = length-append seen (b ∷ []) in
     let next : take (length seen + 1) (seen ++ b ∷ more) ≡ seen ++ b ∷ [] =
     ap (take (length seen + 1)) (sym (append_assoc seen (b ∷ []) more))
     ∙ take_at (seen ++ b ∷ []) more (length seen + 1) n in
-    let whole : bits_of_text seen ≡ Some bits = reads_all seen bits c h in
+    let whole : scan_bits_of_text seen ≡ Some bits = scan_bits_read_all seen bits c h in
     record {
-      good = ap (λ x. is_some (bits_of_text x)) front ∙ ap is_some whole;
-      bad = ap bits_of_text next ∙ h (b ∷ [])
-          ∙ ap (λ s. option_map (λ rest. bits ++ rest) (add_sign s (bits_from (comment_after c b) []))) (sym e);
+      good = ap (λ x. is_some (scan_bits_of_text x)) front ∙ ap is_some whole;
+      bad = ap scan_bits_of_text next ∙ h (b ∷ [])
+          ∙ ap (λ s. option_map (λ rest. bits ++ rest)
+          (scan_bits_add_sign s (scan_bits_from (scan_bits_comment_after c b) []))) (sym e);
     }
 
 -- a text that is cut at a byte of its second piece
-pub parted : (seen piece more : List ℕ) (i : ℕ) → i < length piece
+pub scan_bits_parted : (seen piece more : List ℕ) (i : ℕ) → i < length piece
     → (seen ++ take i piece) ++ (get_or piece i 0 ∷ (drop (suc i) piece ++ more)) ≡ (seen ++ piece) ++ more
-parted seen piece more i h =
+scan_bits_parted seen piece more i h =
     append_assoc seen (take i piece) _
     ∙ ap (λ x. seen ++ x) (ap (λ x. take i piece ++ (x ++ more)) (sym (drop-cons piece i 0 h))
     ∙ sym (append_assoc (take i piece) (drop i piece) more) ∙ ap (λ x. x ++ more) (take-append-drop i piece))

@@ -4,9 +4,9 @@ use Rattle.swd_bits.specs.Bits.{low_bits}
 use Rattle.swd_bits.specs.declared.tx_bits.TxBits.{TxBits}
 
 -- the bits in time order
-abbrev pub bits_of : TxBits → List Bool
-bits_of b = low_bits b.len b.bits
+abbrev pub tx_bits_of : TxBits → List Bool
+tx_bits_of b = low_bits b.len b.bits
 
 -- no bit is set past the count
-abbrev pub IsSpelled : TxBits → Type 0
-IsSpelled b = b.bits < 2 ^ b.len
+abbrev pub IsWellFormedTxBits : TxBits → Type 0
+IsWellFormedTxBits b = b.bits < 2 ^ b.len

@@ -15,19 +15,19 @@ addr_bits R8 = false ∷ true ∷ []
 addr_bits RC = true ∷ true ∷ []
 
 -- the register with this number
-abbrev pub reg4_of : ℕ → Reg4
-reg4_of n = if n == 0 then R0 else (if n == 1 then R4 else (if n == 2 then R8 else RC))
+abbrev pub request_reg4_of : ℕ → Reg4
+request_reg4_of n = if n == 0 then R0 else (if n == 1 then R4 else (if n == 2 then R8 else RC))
 
 -- start, port, direction, address, parity, stop, park
-abbrev pub request : Request → List Bool
-request q =
+abbrev pub bits_of_request : Request → List Bool
+bits_of_request q =
     let asked = q.ap ∷ q.read ∷ addr_bits q.addr in
     (true ∷ asked) ++ odd asked ∷ false ∷ true ∷ []
 
-abbrev pub ack : Ack → List Bool
-ack Ok = true ∷ false ∷ false ∷ []
-ack Wait = false ∷ true ∷ false ∷ []
-ack Fault = false ∷ false ∷ true ∷ []
+abbrev pub bits_of_ack : Ack → List Bool
+bits_of_ack Ok = true ∷ false ∷ false ∷ []
+bits_of_ack Wait = false ∷ true ∷ false ∷ []
+bits_of_ack Fault = false ∷ false ∷ true ∷ []
 
 -- the same three bits as a number, the first in time least significant
 abbrev pub ack_number : Ack → ℕ

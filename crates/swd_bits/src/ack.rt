@@ -1,7 +1,7 @@
 //! Acknowledgements: the three bits with which a target answers a request.
 ghost use Rattle.std.specs.Prelude.{◌≡◌, ◌≢◌, ◌<◌, IfSome, IfNone};
 ghost use Rattle.swd_bits.specs.Bits.{low_bits};
-ghost use Rattle.swd_bits.specs.Wire.{ack, ack_number};
+ghost use Rattle.swd_bits.specs.Wire.{bits_of_ack, ack_number};
 ghost use Rattle.swd_bits.specs.declared.ack.Ack.{Ack};
 
 use std::fmt;
@@ -23,9 +23,9 @@ impl Ack {
     #[inline(always)]
     pub fn of(seen: u8) -> Option<Ack>
         requires { seen < 8 }
-        ensures found { IfSome result (λ a. ack a ≡ low_bits 3 seen) }
-        ensures only { IfSome result (λ a. (other : Ack) → ack other ≡ low_bits 3 seen → other ≡ a) }
-        ensures none { IfNone result ((a : Ack) → ack a ≢ low_bits 3 seen) }
+        ensures found { IfSome result (λ a. bits_of_ack a ≡ low_bits 3 seen) }
+        ensures only { IfSome result (λ a. (other : Ack) → bits_of_ack other ≡ low_bits 3 seen → other ≡ a) }
+        ensures none { IfNone result ((a : Ack) → bits_of_ack a ≢ low_bits 3 seen) }
     {
         match seen {
             1 => Some(Ack::Ok),
@@ -39,7 +39,7 @@ impl Ack {
     #[inline(always)]
     pub fn bits(self) -> u8
         ensures number { result ≡ ack_number self }
-        ensures bits { low_bits 3 result ≡ ack self }
+        ensures bits { low_bits 3 result ≡ bits_of_ack self }
     {
         match self {
             Ack::Ok => 1,

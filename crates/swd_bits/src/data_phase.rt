@@ -2,14 +2,14 @@
 ghost use Rattle.std.specs.Prelude.{◌≡◌, ◌≢◌, ℕ, ◌^◌, ◌<◌, IfSome, IfNone};
 ghost use Rattle.swd_bits.specs.Bits.{low_bits};
 ghost use Rattle.swd_bits.specs.Wire.{phase};
-ghost use Rattle.swd_bits.specs.Phases.{phase_number, word_in};
+ghost use Rattle.swd_bits.specs.Phases.{data_phase_number, data_phase_word};
 
 /// Returns the 33 bits of a word's data phase (IHI 0031, B4, "Data transfer"), the first in time least significant.
 /// They are the word, least significant bit first, and its parity, 1 if the word has an odd number of ones.
 pub fn data_bits(word: u32) -> u64
     ensures bound { result < 2 ^ 33 }
     ensures bits { low_bits 33 result ≡ phase word }
-    ensures number { result ≡ phase_number word }
+    ensures number { result ≡ data_phase_number word }
 {
     let parity = u64::from(word.count_ones() % 2);
     parity << 32 | u64::from(word)
@@ -22,7 +22,7 @@ pub fn word_of(sent: u64) -> Option<u32>
     ensures only { IfSome result (λ word. (other : ℕ) → other < 2 ^ 32 → phase other ≡ low_bits 33 sent
         → other ≡ word) }
     ensures none { IfNone result ((word : ℕ) → word < 2 ^ 32 → phase word ≢ low_bits 33 sent) }
-    ensures number { result ≡ word_in sent }
+    ensures number { result ≡ data_phase_word sent }
 {
     let word = (sent & 0xffff_ffff) as u32;
     if data_bits(word) == sent {

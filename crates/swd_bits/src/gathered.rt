@@ -1,6 +1,6 @@
 //! The bits of a trace text, up to the length of one transaction.
 ghost use Rattle.std.specs.Prelude.{◌≡◌, ◌≤◌};
-ghost use Rattle.swd_bits.specs.BitLists.{IsSpelled};
+ghost use Rattle.swd_bits.specs.BitLists.{IsWellFormedTxBits};
 
 use crate::scan::{Scan, Sign};
 use crate::tx::MOVED_BITS;
@@ -15,16 +15,16 @@ pub(crate) struct Gathered {
     pub(crate) long: bool,
     // The number of bytes taken, saturating at 2^64 - 1.
     place: u64,
-    ghost whole: { IsSpelled held },
+    ghost whole: { IsWellFormedTxBits held },
     ghost short: { held.len ≤ 46 },
 }
 
 impl Gathered {
     ghost use Rattle.std.specs.Prelude.{◌≡◌, ℕ, List, [], ◌∷◌, ◌++◌, length, IsTrue, IsFalse};
-    ghost use Rattle.swd_bits.specs.One.{Gathers, HasRead, IsFirstBad};
+    ghost use Rattle.swd_bits.specs.One.{GathersTxBits, GatheredTxHasRead, IsFirstBadScanByte};
 
     pub(crate) fn new() -> Gathered
-        ensures { HasRead tt (result, tt) [] }
+        ensures { GatheredTxHasRead tt (result, tt) [] }
     {
         Gathered {
             scan: Scan::new(),
@@ -36,10 +36,11 @@ impl Gathered {
 
     // Takes a byte. Returns false if the byte isn't allowed here.
     pub(crate) fn byte(&mut self, byte: u8) -> bool
-        ensures good { IsTrue result → (seen : List ℕ) → Gathers seen self.old → Gathers (seen ++ byte ∷ []) self.new }
+        ensures good { IsTrue result → (seen : List ℕ) → GathersTxBits seen self.old
+            → GathersTxBits (seen ++ byte ∷ []) self.new }
         ensures place { self.new.place ≡ self.old.place }
-        ensures bad { IsFalse result → (seen : List ℕ) → Gathers seen self.old
-            → (more : List ℕ) → IsFirstBad (seen ++ byte ∷ more) (length seen) }
+        ensures bad { IsFalse result → (seen : List ℕ) → GathersTxBits seen self.old
+            → (more : List ℕ) → IsFirstBadScanByte (seen ++ byte ∷ more) (length seen) }
     {
         match self.scan.byte(byte) {
             Sign::Passed => true,
@@ -57,18 +58,18 @@ impl Gathered {
 }
 
 impl Consumer<()> for Gathered {
-    ghost use Rattle.swd_io.specs.Pieces.{LeadsOn, LeadsToEnd};
-    ghost use Rattle.swd_io.proofs.PieceLemmas.{leads_nowhere, leads_further, leads_to_later_end};
-    ghost use Rattle.swd_bits.specs.One.{HasRead, TellsLater};
+    ghost use Rattle.swd_io.specs.Pieces.{LeadsConsumerOn, LeadsConsumerToEnd};
+    ghost use Rattle.swd_io.proofs.PieceLemmas.{consumer_reads_no_byte, consumer_pieces_join, consumer_pieces_fault};
+    ghost use Rattle.swd_bits.specs.One.{GatheredTxHasRead, ReportsBadScanLater};
 
     // The place of the first byte that isn't allowed, saturating at 2^64 - 1.
     type Fault = u64;
 
     ghost can_take = { λ _. Unit {0} };
 
-    ghost takes = { LeadsOn HasRead };
+    ghost takes = { LeadsConsumerOn GatheredTxHasRead };
 
-    ghost stops = { LeadsToEnd HasRead TellsLater };
+    ghost stops = { LeadsConsumerToEnd GatheredTxHasRead ReportsBadScanLater };
 
     fn take(&mut self, _writer: &mut (), piece: &[u8]) -> Result<(), u64> {
         for (index, byte) in piece.iter().enumerate() {
@@ -80,9 +81,9 @@ impl Consumer<()> for Gathered {
         Ok(())
     }
 
-    ghost takes_nothing = { leads_nowhere HasRead };
+    ghost takes_nothing = { consumer_reads_no_byte GatheredTxHasRead };
 
-    ghost takes_on = { leads_further HasRead };
+    ghost takes_on = { consumer_pieces_join GatheredTxHasRead };
 
-    ghost stops_later = { leads_to_later_end HasRead TellsLater };
+    ghost stops_later = { consumer_pieces_fault GatheredTxHasRead ReportsBadScanLater };
 }

@@ -2,7 +2,7 @@
 ghost use Rattle.std.specs.Prelude.{◌≡◌, ◌+◌, ◌<◌, ◌≤◌, ◌++◌, ◌∷◌, []};
 ghost use Rattle.std.specs.Fmt.{decimal};
 ghost use Rattle.arrayvec.specs.ArrayString.{array_string_len};
-ghost use Rattle.swd_bits.specs.Listing.{hex_digit, hex2, hex8, tx_line};
+ghost use Rattle.swd_bits.specs.Listing.{tx_hex_digit, hex2, hex8, tx_line};
 
 use crate::request::Reg4;
 use crate::tx::{Tx, TxEnd};
@@ -17,7 +17,7 @@ pub type TxLine = ArrayString<40>;
 
 fn digit_text(digit: u8) -> &'static str
     requires { digit < 16 }
-    ensures { result.now ≡ hex_digit digit ∷ [] }
+    ensures { result.now ≡ tx_hex_digit digit ∷ [] }
 {
     match digit {
         0 => "0",

@@ -1,6 +1,6 @@
 //! The messages of the errors in the trace text of one transaction.
 ghost use Rattle.std.specs.Prelude.{Some};
-ghost use Rattle.swd_bits.specs.Messages.{message as message_of};
+ghost use Rattle.swd_bits.specs.Messages.{one_tx_message as message_of};
 
 use crate::one::OneFault;
 use std::error::Error;

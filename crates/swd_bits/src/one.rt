@@ -1,5 +1,5 @@
 //! One transaction, from its trace text to its listing line.
-ghost use Rattle.swd_bits.specs.One.{Answers, GathersAll};
+ghost use Rattle.swd_bits.specs.One.{AnswersOneTx, GathersAllTxBits};
 
 use crate::gathered::Gathered;
 use crate::tx::Tx;
@@ -21,7 +21,7 @@ pub enum OneFault {
 
 // Gathers the bits of the whole input.
 fn gather<R: Read>(reader: &mut R) -> Result<Gathered, OneFault>
-    ensures { GathersAll result (R.remaining reader.old) }
+    ensures { GathersAllTxBits result (R.remaining reader.old) }
 {
     let mut gathered = Gathered::new();
     match read_pieces(reader, &mut (), &mut gathered) {
@@ -39,7 +39,7 @@ fn gather<R: Read>(reader: &mut R) -> Result<Gathered, OneFault>
 /// `Read` or `Write` if I/O fails. On `Write` a proper prefix of the line was written; on any other error nothing was.
 /// A failed read or write isn't retried. After 2^64 - 1 reads the error is `Read`.
 pub fn one_text<R: Read, W: Write>(reader: &mut R, writer: &mut W) -> Result<(), OneFault>
-    ensures { Answers result (R.remaining reader.old) (W.contents writer.old) (W.contents writer.new) }
+    ensures { AnswersOneTx result (R.remaining reader.old) (W.contents writer.old) (W.contents writer.new) }
 {
     let gathered = gather(reader)?;
     if gathered.long {

@@ -1,7 +1,7 @@
 //! Packet requests: the eight bits with which a host requests a transfer.
 ghost use Rattle.std.specs.Prelude.{◌≡◌, ◌≢◌, ◌<◌, IfSome, IfNone};
 ghost use Rattle.swd_bits.specs.Bits.{low_bits};
-ghost use Rattle.swd_bits.specs.Wire.{request, reg4_of};
+ghost use Rattle.swd_bits.specs.Wire.{bits_of_request, request_reg4_of};
 ghost use Rattle.swd_bits.specs.declared.request.Request.{Request};
 
 /// The register that a request names, by its address bits A[3:2].
@@ -33,7 +33,7 @@ impl Reg4 {
     #[inline(always)]
     fn of(code: u8) -> Reg4
         requires { code < 4 }
-        ensures { result ≡ reg4_of code }
+        ensures { result ≡ request_reg4_of code }
     {
         match code {
             0 => Reg4::R0,
@@ -48,7 +48,7 @@ impl Request {
     /// Returns the eight bits, the first in time least significant: Start, APnDP, RnW, A[2], A[3], Parity, Stop, Park.
     #[inline(always)]
     pub fn bits(&self) -> u8
-        ensures { low_bits 8 result ≡ request self.now }
+        ensures { low_bits 8 result ≡ bits_of_request self.now }
     {
         let asked = u8::from(self.ap) | u8::from(self.read) << 1 | (self.addr as u8) << 2;
         let parity = (asked.count_ones() % 2) as u8;
@@ -59,9 +59,9 @@ impl Request {
     /// or Park is wrong. Sixteen of the 256 values are requests.
     #[inline(always)]
     pub fn of(byte: u8) -> Option<Request>
-        ensures found { IfSome result (λ q. request q ≡ low_bits 8 byte) }
-        ensures only { IfSome result (λ q. (other : Request) → request other ≡ low_bits 8 byte → other ≡ q) }
-        ensures none { IfNone result ((q : Request) → request q ≢ low_bits 8 byte) }
+        ensures found { IfSome result (λ q. bits_of_request q ≡ low_bits 8 byte) }
+        ensures only { IfSome result (λ q. (other : Request) → bits_of_request other ≡ low_bits 8 byte → other ≡ q) }
+        ensures none { IfNone result ((q : Request) → bits_of_request q ≢ low_bits 8 byte) }
     {
         let request = Request {
             ap: byte >> 1 & 1 == 1,

@@ -1,6 +1,6 @@
 //! A scanner of trace text, byte by byte.
 ghost use Rattle.std.specs.Prelude.{◌≡◌, Bool, false};
-ghost use Rattle.swd_bits.specs.TraceText.{sign_of, comment_after};
+ghost use Rattle.swd_bits.specs.TraceText.{scan_bits_sign_of, scan_bits_comment_after};
 
 use std::marker::Model;
 
@@ -52,8 +52,8 @@ impl Scan {
     /// Takes the next byte, and returns its meaning. After `Bad` the scanner is unchanged.
     #[inline]
     pub fn byte(&mut self, byte: u8) -> Sign
-        ensures sign { result ≡ sign_of self.old byte }
-        ensures comment { self.new ≡ comment_after self.old byte }
+        ensures sign { result ≡ scan_bits_sign_of self.old byte }
+        ensures comment { self.new ≡ scan_bits_comment_after self.old byte }
     {
         if self.comment {
             self.comment = byte != b'\n';

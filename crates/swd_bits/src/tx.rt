@@ -1,8 +1,9 @@
 //! Transactions, and their bits.
 ghost use Rattle.std.specs.Prelude.{◌≡◌, ◌^◌, ◌<◌, ◌≤◌, true, Bool, List, ◌++◌, [], IfSome, IfNone};
 ghost use Rattle.swd_bits.specs.Bits.{low_bits};
-ghost use Rattle.swd_bits.specs.BitLists.{bits_of, IsSpelled};
-ghost use Rattle.swd_bits.specs.Transactions.{spelling, ending, phase_with, Spells, IsTx, IsEnd, HasMoved, head, tail};
+ghost use Rattle.swd_bits.specs.BitLists.{tx_bits_of, IsWellFormedTxBits};
+ghost use Rattle.swd_bits.specs.Transactions.{tx_spelling_bits, tx_ending_bits, phase_with, SpellsTx, IsTx, IsTxEnd};
+ghost use Rattle.swd_bits.specs.Transactions.{HasMovedDataPhase, tx_ack_bits, tx_tail_bits};
 ghost use Rattle.swd_bits.specs.declared.tx.Tx.{Tx};
 ghost use Rattle.swd_bits.specs.declared.tx.TxEnd.{TxEnd};
 
@@ -46,9 +47,9 @@ impl Tx {
     /// Returns the transaction's 46, 13 or 12 bits in time order. Turnarounds, in which nobody drives the line, are 1.
     pub fn bits(&self) -> TxBits
         requires { IsTx self.now }
-        ensures whole { IsSpelled result }
+        ensures whole { IsWellFormedTxBits result }
         ensures short { result.len ≤ 46 }
-        ensures bits { bits_of result ≡ spelling self.now true true }
+        ensures bits { tx_bits_of result ≡ tx_spelling_bits self.now true true }
     {
         let asked = TxBits {
             len: 8,
@@ -62,11 +63,11 @@ impl Tx {
     /// one.
     #[inline(always)]
     pub fn of(spelled: TxBits) -> Option<Tx>
-        requires whole { IsSpelled spelled }
+        requires whole { IsWellFormedTxBits spelled }
         requires short { spelled.len ≤ 49 }
-        ensures found { IfSome result (λ tx. Spells tx (bits_of spelled)) }
-        ensures only { IfSome result (λ tx. (other : Tx) → Spells other (bits_of spelled) → other ≡ tx) }
-        ensures none { IfNone result ((tx : Tx) → Spells tx (bits_of spelled) → ⊥) }
+        ensures found { IfSome result (λ tx. SpellsTx tx (tx_bits_of spelled)) }
+        ensures only { IfSome result (λ tx. (other : Tx) → SpellsTx other (tx_bits_of spelled) → other ≡ tx) }
+        ensures none { IfNone result ((tx : Tx) → SpellsTx tx (tx_bits_of spelled) → ⊥) }
     {
         if spelled.len < UNACKNOWLEDGED_BITS {
             return None;
@@ -86,9 +87,9 @@ impl Tx {
 
 // Returns the bits of a data phase: the word, and its parity, inverted unless `parity_ok`.
 fn phase_of(word: u32, parity_ok: bool) -> TxBits
-    ensures whole { IsSpelled result }
+    ensures whole { IsWellFormedTxBits result }
     ensures len { result.len ≡ 33 }
-    ensures bits { bits_of result ≡ phase_with word parity_ok }
+    ensures bits { tx_bits_of result ≡ phase_with word parity_ok }
 {
     let odd = word.count_ones() % 2 == 1;
     let bits = TxBits {
@@ -101,10 +102,10 @@ fn phase_of(word: u32, parity_ok: bool) -> TxBits
 #[tactic(auto, unfolding(crate::specs::Bits::low_bits))]
 // Returns the bits after the first turnaround.
 fn ending_of(read: bool, end: TxEnd) -> TxBits
-    requires { IsEnd end }
-    ensures whole { IsSpelled result }
+    requires { IsTxEnd end }
+    ensures whole { IsWellFormedTxBits result }
     ensures len { result.len ≤ 37 }
-    ensures bits { bits_of result ≡ ending read end true }
+    ensures bits { tx_bits_of result ≡ tx_ending_bits read end true }
 {
     match end {
         TxEnd::Moved { word, parity_ok } => {
@@ -131,10 +132,10 @@ fn ending_of(read: bool, end: TxEnd) -> TxBits
 // Returns the word of a data phase, and whether its parity is right.
 #[inline(always)]
 fn phase_in(phase: TxBits) -> (u32, bool)
-    requires whole { IsSpelled phase }
+    requires whole { IsWellFormedTxBits phase }
     requires len { phase.len ≡ 33 }
     ensures word { result.0 < 2 ^ 32 }
-    ensures bits { bits_of phase ≡ phase_with result.0 result.1 }
+    ensures bits { tx_bits_of phase ≡ phase_with result.0 result.1 }
 {
     let (word, rest) = phase.split(32);
     let (parity, _) = rest.split(1);
@@ -146,9 +147,9 @@ fn phase_in(phase: TxBits) -> (u32, bool)
 // Reads the data phase of a read or a write.
 #[inline(always)]
 fn moved_of(read: bool, rest: TxBits) -> TxEnd
-    requires whole { IsSpelled rest }
+    requires whole { IsWellFormedTxBits rest }
     requires len { rest.len ≡ 34 }
-    ensures { HasMoved read result (bits_of rest) }
+    ensures { HasMovedDataPhase read result (tx_bits_of rest) }
 {
     // No branch: the branch predictor can't predict whether a transaction is a read or a write.
     let (_, phase) = rest.split(u8::from(!read));
@@ -164,12 +165,12 @@ fn moved_of(read: bool, rest: TxBits) -> TxEnd
 #[inline(always)]
 fn end_of(read: bool, seen: u8, rest: TxBits) -> Option<TxEnd>
     requires seen { seen < 8 }
-    requires whole { IsSpelled rest }
+    requires whole { IsWellFormedTxBits rest }
     requires short { rest.len ≤ 63 }
-    ensures found { IfSome result (λ end. IsEnd end × (head end ≡ low_bits 3 seen) × (u : Bool)
-        × (bits_of rest ≡ tail read end u)) }
-    ensures none { IfNone result ((end : TxEnd) (u : Bool) → IsEnd end → head end ≡ low_bits 3 seen
-        → bits_of rest ≡ tail read end u → ⊥) }
+    ensures found { IfSome result (λ end. IsTxEnd end × (tx_ack_bits end ≡ low_bits 3 seen) × (u : Bool)
+        × (tx_bits_of rest ≡ tx_tail_bits read end u)) }
+    ensures none { IfNone result ((end : TxEnd) (u : Bool) → IsTxEnd end → tx_ack_bits end ≡ low_bits 3 seen
+        → tx_bits_of rest ≡ tx_tail_bits read end u → ⊥) }
 {
     match Ack::of(seen) {
         None => {
@@ -206,6 +207,6 @@ fn end_of(read: bool, seen: u8, rest: TxBits) -> Option<TxEnd>
 /// States that no transaction's bits are a proper prefix of another's, and that no two transactions have the same bits.
 /// So a list of bits starts with at most one transaction.
 pub fn transactions_are_told_apart()
-    ensures front { (a b : Tx) (bits more : List Bool) → Spells a bits → Spells b (bits ++ more) → more ≡ [] }
-    ensures one { (a b : Tx) (bits : List Bool) → Spells a bits → Spells b bits → a ≡ b }
+    ensures front { (a b : Tx) (bits more : List Bool) → SpellsTx a bits → SpellsTx b (bits ++ more) → more ≡ [] }
+    ensures one { (a b : Tx) (bits : List Bool) → SpellsTx a bits → SpellsTx b bits → a ≡ b }
 {}

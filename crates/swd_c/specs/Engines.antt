@@ -7,53 +7,54 @@ use Rattle.swd_port.specs.declared.access.Access.{Access}
 use Rattle.swd_port.specs.declared.access.Access.TheVariants.{Read, Write}
 use Rattle.swd_host.specs.declared.engine.Engine.{Engine}
 use Rattle.swd_host.specs.declared.fields.EngineFields.{EngineFields}
-use Rattle.swd_host.specs.Accepting.{accepts}
-use Rattle.swd_host.specs.Engines.{cue_of, tries_of}
-use Rattle.swd_host.specs.Fields.{fields_of}
-use Rattle.swd_host.specs.Progress.{open_requests}
-use Rattle.swd_host.specs.Replies.{Replied as RepliedTo}
-use Rattle.swd_host.specs.Turns.{Starts}
+use Rattle.swd_host.specs.Accepting.{engine_accepts}
+use Rattle.swd_host.specs.Engines.{engine_cue, engine_tries}
+use Rattle.swd_host.specs.Fields.{fields_of_engine}
+use Rattle.swd_host.specs.Progress.{engine_open_requests}
+use Rattle.swd_host.specs.Replies.{EngineTookReply as RepliedTo}
+use Rattle.swd_host.specs.Turns.{EngineStarts}
 use Rattle.swd_c.specs.declared.engine.SwdAccess.{SwdAccess}
 
 -- the engine with these fields, of which this holds
-abbrev pub HasEngine : EngineFields → (Engine → Type 0) → Type 0
-HasEngine fields P = (e : Engine) × (fields_of e ≡ fields) × P e
+abbrev pub CApiHasEngine : EngineFields → (Engine → Type 0) → Type 0
+CApiHasEngine fields P = (e : Engine) × (fields_of_engine e ≡ fields) × P e
 
 -- no engine has these fields
-abbrev pub HasNoEngine : EngineFields → Type 0
-HasNoEngine fields = (e : Engine) → fields_of e ≡ fields → ⊥
+abbrev pub CApiHasNoEngine : EngineFields → Type 0
+CApiHasNoEngine fields = (e : Engine) → fields_of_engine e ≡ fields → ⊥
 
 -- a number is a valid reply to a cue: three bits after a request, 33 bits for a read's data phase, else any number
-abbrev pub is_reply : Option Cue → ℕ → Bool
-is_reply (Some (Ask request)) reply = nat_lt reply 8
-is_reply (Some Take) reply = nat_lt reply (2 ^ 33)
-is_reply cue reply = true
+abbrev pub c_api_reply_is_valid : Option Cue → ℕ → Bool
+c_api_reply_is_valid (Some (Ask request)) reply = nat_lt reply 8
+c_api_reply_is_valid (Some Take) reply = nat_lt reply (2 ^ 33)
+c_api_reply_is_valid cue reply = true
 
 -- the engine after a reply to its cue; without a cue it is unchanged
-abbrev pub Replied : Option Cue → ℕ → Engine → Engine → Type 0
-Replied (Some cue) reply e f = RepliedTo cue reply e f
-Replied None reply e f = f ≡ e
+abbrev pub CApiEngineReplied : Option Cue → ℕ → Engine → Engine → Type 0
+CApiEngineReplied (Some cue) reply e f = RepliedTo cue reply e f
+CApiEngineReplied None reply e f = f ≡ e
 
 -- the engine with these fields may take this reply
-pub record MayReply (fields : EngineFields) (reply : ℕ) (e : Engine) : Type 0 where
-  pub has : fields_of e ≡ fields
-  pub range : is_reply (cue_of e) reply ≡ true
+pub record CApiEngineMayReply (fields : EngineFields) (reply : ℕ) (e : Engine) : Type 0 where
+  pub has : fields_of_engine e ≡ fields
+  pub range : c_api_reply_is_valid (engine_cue e) reply ≡ true
 
 -- an access from its integers: `write` is 0 for a read
-abbrev pub access_told : SwdAccess → Access
-access_told a = if a.write == 0 then Read a.addr else Write a.addr a.word
+abbrev pub c_api_access : SwdAccess → Access
+c_api_access a = if a.write == 0 then Read a.addr else Write a.addr a.word
 
 -- the access at an index of a list, if there is one
-abbrev pub access_in : List SwdAccess → ℕ → Option Access
-access_in list index = option_map access_told (slice_get list index)
+abbrev pub c_api_access_at_index : List SwdAccess → ℕ → Option Access
+c_api_access_at_index list index = option_map c_api_access (slice_get list index)
 
 -- the engine with these fields may start the access at this index of a list
-pub record MayStart (fields : EngineFields) (list : List SwdAccess) (index : ℕ) (e : Engine) (a : Access) : Type 0 where
-  pub has : fields_of e ≡ fields
-  pub access : access_in list index ≡ Some a
-  pub accepted : accepts e a ≡ true
+pub record CApiEngineMayStart (fields : EngineFields) (list : List SwdAccess) (index : ℕ) (e : Engine) (a : Access) :
+    Type 0 where
+  pub has : fields_of_engine e ≡ fields
+  pub access : c_api_access_at_index list index ≡ Some a
+  pub accepted : engine_accepts e a ≡ true
 
 -- an access was started, with the one that follows it in its list
-pub record Began (a : Access) (following : Option Access) (e f : Engine) : Type 0 where
-  pub starts : Starts a following e f
-  pub most : open_requests f ≤ 9 + 5 * (tries_of e + 1)
+pub record CApiEngineStarted (a : Access) (following : Option Access) (e f : Engine) : Type 0 where
+  pub starts : EngineStarts a following e f
+  pub most : engine_open_requests f ≤ 9 + 5 * (engine_tries e + 1)

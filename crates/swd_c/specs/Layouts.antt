@@ -22,108 +22,110 @@ use Rattle.swd_c.specs.declared.layout.SwdLayout.{SwdLayout}
 use Rattle.swd_c.specs.declared.target.SwdTransfer.{SwdTransfer}
 
 -- a field by its type, which has one, four or eight bytes, and its value
-pub data Field : Type 0 where
-  byte : ℕ → Field
-  word : ℕ → Field
-  double : ℕ → Field
+pub data CStructField : Type 0 where
+  byte : ℕ → CStructField
+  word : ℕ → CStructField
+  double : ℕ → CStructField
 
 -- the number of so many bytes that are all this one
-abbrev pub repeated : ℕ → ℕ → ℕ
-repeated zero number = 0
-repeated (suc width) number = repeated width number * 256 + number
+abbrev pub c_struct_repeated_byte : ℕ → ℕ → ℕ
+c_struct_repeated_byte zero number = 0
+c_struct_repeated_byte (suc width) number = c_struct_repeated_byte width number * 256 + number
 
 -- the field of this type with this number in all of its bytes
-abbrev pub filled : Field → ℕ → Field
-filled (byte value) number = byte (repeated 1 number)
-filled (word value) number = word (repeated 4 number)
-filled (double value) number = double (repeated 8 number)
+abbrev pub c_struct_filled_field : CStructField → ℕ → CStructField
+c_struct_filled_field (byte value) number = byte (c_struct_repeated_byte 1 number)
+c_struct_filled_field (word value) number = word (c_struct_repeated_byte 4 number)
+c_struct_filled_field (double value) number = double (c_struct_repeated_byte 8 number)
 
 -- fields of these types with the numbers from the first one on, one after the other
-abbrev pub numbered : ℕ → List Field → List Field
-numbered first [] = []
-numbered first (field ∷ more) = filled field first ∷ numbered (first + 1) more
+abbrev pub c_struct_numbered_fields : ℕ → List CStructField → List CStructField
+c_struct_numbered_fields first [] = []
+c_struct_numbered_fields first (field ∷ more) =
+    c_struct_filled_field field first ∷ c_struct_numbered_fields (first + 1) more
 
 -- each field has its own number in all of its bytes: the first one has this number, and each other one the next
-abbrev pub IsNumbered : ℕ → List Field → Type 0
-IsNumbered first fields = fields ≡ numbered first fields
+abbrev pub CStructIsNumbered : ℕ → List CStructField → Type 0
+CStructIsNumbered first fields = fields ≡ c_struct_numbered_fields first fields
 
 -- THE FIELDS OF EACH STRUCT, IN THEIR ORDER
-abbrev pub outcome_list : OutcomeFields → List Field
-outcome_list outcome = word outcome.word ∷ byte outcome.kind ∷ []
+abbrev pub c_outcome_layout : OutcomeFields → List CStructField
+c_outcome_layout outcome = word outcome.word ∷ byte outcome.kind ∷ []
 
-abbrev pub job_list : JobFields → List Field
-job_list job = byte job.kind ∷ byte job.place ∷ byte job.error ∷ byte job.damaged ∷ []
+abbrev pub c_job_layout : JobFields → List CStructField
+c_job_layout job = byte job.kind ∷ byte job.place ∷ byte job.error ∷ byte job.damaged ∷ []
 
-abbrev pub state_list : StateFields → List Field
-state_list state = outcome_list state.outcome ++ (job_list state.job ++ (byte state.kind ∷ byte state.phase ∷ []))
+abbrev pub c_state_layout : StateFields → List CStructField
+c_state_layout state = c_outcome_layout state.outcome
+    ++ (c_job_layout state.job ++ (byte state.kind ∷ byte state.phase ∷ []))
 
-abbrev pub task_list : TaskFields → List Field
-task_list task = word task.addr ∷ word task.word ∷ byte task.kind ∷ []
+abbrev pub c_task_layout : TaskFields → List CStructField
+c_task_layout task = word task.addr ∷ word task.word ∷ byte task.kind ∷ []
 
-abbrev pub tar_list : TarFields → List Field
-tar_list tar = word tar.word ∷ byte tar.known ∷ []
+abbrev pub c_tar_layout : TarFields → List CStructField
+c_tar_layout tar = word tar.word ∷ byte tar.known ∷ []
 
-abbrev pub engine_list : EngineFields → List Field
-engine_list engine =
-    double engine.requests ∷ (state_list engine.state ++ (task_list engine.task ++ (tar_list engine.tar ++
+abbrev pub c_engine_layout : EngineFields → List CStructField
+c_engine_layout engine =
+    double engine.requests ∷ (c_state_layout engine.state ++ (c_task_layout engine.task ++ (c_tar_layout engine.tar ++
     (word engine.tries ∷ word engine.events ∷ byte engine.aims ∷ byte engine.bursts ∷ byte engine.ahead ∷
     byte engine.begun ∷ byte engine.stray ∷ []))))
 
-abbrev pub cue_list : SwdCue → List Field
-cue_list cue =
-    double cue.bits ∷ word cue.ones ∷ word cue.zeros ∷ word cue.undriven ∷ (outcome_list cue.outcome ++
+abbrev pub c_cue_layout : SwdCue → List CStructField
+c_cue_layout cue =
+    double cue.bits ∷ word cue.ones ∷ word cue.zeros ∷ word cue.undriven ∷ (c_outcome_layout cue.outcome ++
     (byte cue.kind ∷ byte cue.request ∷ byte cue.with_switch ∷ byte cue.begun ∷ []))
 
-abbrev pub access_list : SwdAccess → List Field
-access_list access = word access.addr ∷ word access.word ∷ byte access.write ∷ []
+abbrev pub c_access_layout : SwdAccess → List CStructField
+c_access_layout access = word access.addr ∷ word access.word ∷ byte access.write ∷ []
 
-abbrev pub decoder_list : DecoderFields → List Field
-decoder_list decoder =
+abbrev pub c_decoder_layout : DecoderFields → List CStructField
+c_decoder_layout decoder =
     double decoder.fed ∷ double decoder.run ∷ double decoder.bits ∷ byte decoder.mode ∷ byte decoder.one ∷
     byte decoder.len ∷ []
 
-abbrev pub item_list : SwdItem → List Field
-item_list item =
+abbrev pub c_item_layout : SwdItem → List CStructField
+c_item_layout item =
     double item.count ∷ double item.bits ∷ word item.word ∷ byte item.kind ∷ byte item.request ∷ byte item.ack ∷
     byte item.parity_ok ∷ []
 
-abbrev pub line_list : LineFields → List Field
-line_list line = double line.bits ∷ byte line.kind ∷ byte line.register ∷ byte line.flips ∷ byte line.flip ∷ []
+abbrev pub c_line_layout : LineFields → List CStructField
+c_line_layout line = double line.bits ∷ byte line.kind ∷ byte line.register ∷ byte line.flips ∷ byte line.flip ∷ []
 
-abbrev pub frame_list : FrameFields → List Field
-frame_list frame =
-    line_list frame.line ++ (byte frame.kind ∷ byte frame.place ∷ byte frame.byte ∷ byte frame.reply ∷ [])
+abbrev pub c_frame_layout : FrameFields → List CStructField
+c_frame_layout frame =
+    c_line_layout frame.line ++ (byte frame.kind ∷ byte frame.place ∷ byte frame.byte ∷ byte frame.reply ∷ [])
 
-abbrev pub content_list : ContentFields → List Field
-content_list content = word content.word ∷ byte content.known ∷ []
+abbrev pub c_content_layout : ContentFields → List CStructField
+c_content_layout content = word content.word ∷ byte content.known ∷ []
 
-abbrev pub pending_list : PendingFields → List Field
-pending_list pending = word pending.word ∷ byte pending.kind ∷ []
+abbrev pub c_pending_layout : PendingFields → List CStructField
+c_pending_layout pending = word pending.word ∷ byte pending.kind ∷ []
 
-abbrev pub port_list : TargetFields → List Field
-port_list port =
-    content_list port.tar ++ (content_list port.buffer ++ (content_list port.last_returned ++
-    (pending_list port.pending ++ (word port.filler ∷ byte port.wrap ∷ byte port.late ∷ byte port.reset ∷
+abbrev pub c_port_layout : TargetFields → List CStructField
+c_port_layout port =
+    c_content_layout port.tar ++ (c_content_layout port.buffer ++ (c_content_layout port.last_returned ++
+    (c_pending_layout port.pending ++ (word port.filler ∷ byte port.wrap ∷ byte port.late ∷ byte port.reset ∷
     byte port.sticky_error ∷ byte port.write_error ∷ byte port.read_ok ∷ byte port.debug_power ∷
     byte port.system_power ∷ byte port.power_up ∷ byte port.apsel ∷ byte port.apbanksel ∷ byte port.dpbanksel ∷
     byte port.increments ∷ byte port.csw_upper ∷ []))))
 
-abbrev pub target_list : ClockedFields → List Field
-target_list target =
-    double target.cycles ∷ (frame_list target.frame ++ (port_list target.target ++ (byte target.waits ∷ [])))
+abbrev pub c_target_layout : ClockedFields → List CStructField
+c_target_layout target =
+    double target.cycles ∷ (c_frame_layout target.frame ++ (c_port_layout target.target ++ (byte target.waits ∷ [])))
 
-abbrev pub transfer_list : SwdTransfer → List Field
-transfer_list transfer = word transfer.addr ∷ word transfer.word ∷ byte transfer.kind ∷ []
+abbrev pub c_transfer_layout : SwdTransfer → List CStructField
+c_transfer_layout transfer = word transfer.addr ∷ word transfer.word ∷ byte transfer.kind ∷ []
 
 -- a run's fields behind those of its engine
-abbrev pub run_list : RunFields → List Field
-run_list run =
-    engine_list run.engine ++ (double run.requests ∷ (outcome_list run.end ++
+abbrev pub c_run_layout : RunFields → List CStructField
+c_run_layout run =
+    c_engine_layout run.engine ++ (double run.requests ∷ (c_outcome_layout run.end ++
     (word run.answered ∷ byte run.begun ∷ byte run.stage ∷ [])))
 
 -- all structs of a layout
-abbrev pub layout_list : SwdLayout → List Field
-layout_list layout =
-    engine_list layout.engine ++ (cue_list layout.cue ++ (access_list layout.access ++
-    (decoder_list layout.decoder ++ (item_list layout.item ++ (target_list layout.target ++
-    transfer_list layout.transfer)))))
+abbrev pub c_whole_layout : SwdLayout → List CStructField
+c_whole_layout layout =
+    c_engine_layout layout.engine ++ (c_cue_layout layout.cue ++ (c_access_layout layout.access ++
+    (c_decoder_layout layout.decoder ++ (c_item_layout layout.item ++ (c_target_layout layout.target ++
+    c_transfer_layout layout.transfer)))))

@@ -5,69 +5,71 @@ use Rattle.swd_port.specs.declared.access.Answer.{Answer}
 use Rattle.swd_port.specs.declared.cue.Cue.{Cue}
 use Rattle.swd_host.specs.declared.fields.OutcomeFields.{OutcomeFields}
 use Rattle.swd_host.specs.declared.outcome.Outcome.TheVariants.{Answered, Stopped}
-use Rattle.swd_host.specs.Engines.{begun_of}
-use Rattle.swd_host.specs.Fields.{outcome_fields, outcome_with}
+use Rattle.swd_host.specs.Engines.{engine_begun}
+use Rattle.swd_host.specs.Fields.{engine_outcome_fields, engine_outcome_of_kind}
 use Rattle.swd_steps.specs.declared.fields.RunFields.{RunFields}
 use Rattle.swd_steps.specs.declared.run.Refusal.{Refusal}
 use Rattle.swd_steps.specs.declared.run.Refusal.TheVariants.{Ended, Reply, TooMany, Unaligned, TooFew}
 use Rattle.swd_steps.specs.declared.run.Run.{Run}
-use Rattle.swd_steps.specs.Fields.{fields_of}
-use Rattle.swd_steps.specs.Runs.{Extends, HasReason, end_of, run_cue}
+use Rattle.swd_steps.specs.Fields.{stepped_fields}
+use Rattle.swd_steps.specs.Runs.{SteppedExtends, SteppedRefusalReason, stepped_run_end, stepped_run_cue}
 use Rattle.swd_c.specs.declared.cue.SwdCue.{SwdCue}
 use Rattle.swd_c.specs.declared.engine.SwdAccess.{SwdAccess}
-use Rattle.swd_c.specs.Cues.{plain_cue, refusal, told_cue}
-use Rattle.swd_c.specs.Engines.{access_told}
+use Rattle.swd_c.specs.Cues.{c_api_cue_of_kind, c_api_refusal, c_api_cue}
+use Rattle.swd_c.specs.Engines.{c_api_access}
 
 -- the run with these fields, of which this holds
-abbrev pub HasRun : RunFields → (Run → Type 0) → Type 0
-HasRun fields P = (run : Run) × (fields_of run ≡ fields) × P run
+abbrev pub CApiHasRun : RunFields → (Run → Type 0) → Type 0
+CApiHasRun fields P = (run : Run) × (stepped_fields run ≡ fields) × P run
 
 -- no run has these fields
-abbrev pub HasNoRun : RunFields → Type 0
-HasNoRun fields = (run : Run) → fields_of run ≡ fields → ⊥
+abbrev pub CApiHasNoRun : RunFields → Type 0
+CApiHasNoRun fields = (run : Run) → stepped_fields run ≡ fields → ⊥
 
 -- the accesses of a list
-abbrev pub accesses_told : List SwdAccess → List Access
-accesses_told list = map access_told list
+abbrev pub c_api_accesses : List SwdAccess → List Access
+c_api_accesses list = map c_api_access list
 
 -- the cue of a run; its end, if it has ended
-abbrev pub run_told : Run → SwdCue
-run_told run =
-    record (told_cue (run_cue run) (option_map Stopped (end_of run))) { begun = begun_of run.engine }
+abbrev pub c_api_run_cue : Run → SwdCue
+c_api_run_cue run =
+    record (c_api_cue (stepped_run_cue run) (option_map Stopped (stepped_run_end run)))
+    { begun = engine_begun run.engine }
 
 -- the objects with these answers stored from this index on
-abbrev pub stored : ℕ → List Answer → List OutcomeFields → List OutcomeFields
-stored index [] room = room
-stored index (answer ∷ more) room =
-    stored (index + 1) more (slice_set room index (outcome_fields (Answered answer)))
+abbrev pub c_api_stored_answers : ℕ → List Answer → List OutcomeFields → List OutcomeFields
+c_api_stored_answers index [] room = room
+c_api_stored_answers index (answer ∷ more) room =
+    c_api_stored_answers (index + 1) more (slice_set room index (engine_outcome_fields (Answered answer)))
 
 -- a run took a reply to its cue, which gave these answers
-pub record Stores (cue : Cue) (reply : ℕ) (list : List SwdAccess) (before : Run) (room : List OutcomeFields)
-    (after : Run) (left : List OutcomeFields) (more : List Answer) : Type 0 where
-  pub goes : Extends cue reply (accesses_told list) before more after
+pub record CApiRunStoresAnswers (cue : Cue) (reply : ℕ) (list : List SwdAccess) (before : Run)
+    (room : List OutcomeFields) (after : Run) (left : List OutcomeFields) (more : List Answer) : Type 0 where
+  pub goes : SteppedExtends cue reply (c_api_accesses list) before more after
   pub answered : after.answered ≡ before.answered + length more
-  pub left_is : left ≡ stored before.answered more room
+  pub left_is : left ≡ c_api_stored_answers before.answered more room
 
 -- WHAT IS REFUSED
 -- the cue of a refused call: its outcome's kind is the reason, and the word is the index of the access
-abbrev pub refused_with : ℕ → ℕ → SwdCue
-refused_with why index = record (plain_cue 255) { outcome = outcome_with why index }
+abbrev pub c_api_refusal_with : ℕ → ℕ → SwdCue
+c_api_refusal_with why index = record (c_api_cue_of_kind 255) { outcome = engine_outcome_of_kind why index }
 
-abbrev pub refused_for : Refusal → SwdCue
-refused_for Ended = refused_with 1 0
-refused_for Reply = refused_with 2 0
-refused_for TooMany = refused_with 3 0
-refused_for (Unaligned index) = refused_with 4 index
-refused_for TooFew = refused_with 5 0
+abbrev pub c_api_refusal_for : Refusal → SwdCue
+c_api_refusal_for Ended = c_api_refusal_with 1 0
+c_api_refusal_for Reply = c_api_refusal_with 2 0
+c_api_refusal_for TooMany = c_api_refusal_with 3 0
+c_api_refusal_for (Unaligned index) = c_api_refusal_with 4 index
+c_api_refusal_for TooFew = c_api_refusal_with 5 0
 
 -- the fields are those of no run; the run refuses the call; or there isn't room for all answers
-pub data WhyNot (fields : RunFields) (list : List SwdAccess) (reply room : ℕ) : SwdCue → Type 0 where
-  no_run : HasNoRun fields → WhyNot fields list reply room refusal
-  refused : (run : Run) (why : Refusal) → fields_of run ≡ fields → HasReason run (accesses_told list) reply why
-      → WhyNot fields list reply room (refused_for why)
-  no_room : room < length list → WhyNot fields list reply room (refused_with 6 0)
+pub data CApiRunRefusal (fields : RunFields) (list : List SwdAccess) (reply room : ℕ) : SwdCue → Type 0 where
+  no_run : CApiHasNoRun fields → CApiRunRefusal fields list reply room c_api_refusal
+  refused : (run : Run) (why : Refusal) → stepped_fields run ≡ fields
+      → SteppedRefusalReason run (c_api_accesses list) reply why
+      → CApiRunRefusal fields list reply room (c_api_refusal_for why)
+  no_room : room < length list → CApiRunRefusal fields list reply room (c_api_refusal_with 6 0)
 
 -- the index of the access is below 65,536
-abbrev pub IsSmall : Refusal → Type 0
-IsSmall (Unaligned index) = index < 65536
-IsSmall why = Unit {0}
+abbrev pub CApiRefusalIndexIsSmall : Refusal → Type 0
+CApiRefusalIndexIsSmall (Unaligned index) = index < 65536
+CApiRefusalIndexIsSmall why = Unit {0}

@@ -1,8 +1,9 @@
 //! The cue of an engine as integers.
 ghost use Rattle.std.specs.Prelude.{◌≡◌};
-ghost use Rattle.swd_bits.specs.Bits.{number};
-ghost use Rattle.swd_bits.specs.Wire.{request};
-ghost use Rattle.swd_c.specs.Cues.{plain_cue, refusal, rest_cue, told, told_cue, told_lead, told_step};
+ghost use Rattle.swd_bits.specs.Bits.{bits_number};
+ghost use Rattle.swd_bits.specs.Wire.{bits_of_request};
+ghost use Rattle.swd_c.specs.Cues.{c_api_cue_of_kind, c_api_refusal, c_api_rest_cue, c_api_engine_cue, c_api_cue};
+ghost use Rattle.swd_c.specs.Cues.{c_api_lead_cue, c_api_step_cue};
 
 use swd_bits::Request;
 use swd_host::{Engine, Outcome, OutcomeFields};
@@ -40,7 +41,7 @@ pub const REFUSED: u8 = 255;
 impl SwdCue {
     // Returns a cue of this kind whose other fields are 0.
     fn plain(kind: u8) -> SwdCue
-        ensures { result ≡ plain_cue kind }
+        ensures { result ≡ c_api_cue_of_kind kind }
     {
         SwdCue {
             bits: 0,
@@ -57,14 +58,14 @@ impl SwdCue {
 
     /// Returns the cue of a refused call.
     pub fn refusal() -> SwdCue
-        ensures { result ≡ refusal }
+        ensures { result ≡ c_api_refusal }
     {
         SwdCue::plain(REFUSED)
     }
 
     /// Returns the cue of an engine.
     pub fn of(engine: &Engine) -> SwdCue
-        ensures { result ≡ told engine.now }
+        ensures { result ≡ c_api_engine_cue engine.now }
     {
         let mut cue = SwdCue::told(engine.cue(), engine.finished());
         cue.begun = engine.begun();
@@ -73,7 +74,7 @@ impl SwdCue {
 
     // Returns this cue, or the outcome if there is no cue.
     pub(crate) fn told(cue: Option<Cue>, outcome: Option<Outcome>) -> SwdCue
-        ensures { result ≡ told_cue cue outcome }
+        ensures { result ≡ c_api_cue cue outcome }
     {
         match cue {
             Some(cue) => SwdCue::step(cue),
@@ -83,7 +84,7 @@ impl SwdCue {
 
     // Returns this cue as integers.
     fn step(cue: Cue) -> SwdCue
-        ensures { result ≡ told_step cue }
+        ensures { result ≡ c_api_step_cue cue }
     {
         match cue {
             Cue::Lead {
@@ -108,7 +109,7 @@ impl SwdCue {
     }
 
     fn lead(ones: u32, undriven: u32, switch: bool, zeros: u32) -> SwdCue
-        ensures { result ≡ told_lead ones undriven switch zeros }
+        ensures { result ≡ c_api_lead_cue ones undriven switch zeros }
     {
         let mut lead = SwdCue::plain(1);
         lead.ones = ones;
@@ -119,7 +120,7 @@ impl SwdCue {
     }
 
     fn rest(outcome: Option<Outcome>) -> SwdCue
-        ensures { result ≡ rest_cue outcome }
+        ensures { result ≡ c_api_rest_cue outcome }
     {
         let mut rest = SwdCue::plain(0);
         if let Some(outcome) = outcome {
@@ -131,7 +132,7 @@ impl SwdCue {
 
 // Returns the eight bits of a request, the first in time least significant.
 pub(crate) fn bits_of(asked: Request) -> u8
-    ensures { result ≡ number (request asked) }
+    ensures { result ≡ bits_number (bits_of_request asked) }
 {
     asked.bits()
 }

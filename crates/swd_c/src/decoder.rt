@@ -2,10 +2,10 @@
 ghost use Rattle.std.specs.Prelude.{◌≡◌, ◌+◌, ◌^◌, ◌<◌, ◌≤◌, ◌++◌, [], Bool, List, false, IsTrue};
 ghost use Rattle.swd_bits.specs.Bits.{low_bits};
 ghost use Rattle.swd_trace.specs.declared.item.Item.{Item as ItemType};
-ghost use Rattle.swd_trace.specs.Decided.{IsDecided, IsUndecided};
-ghost use Rattle.swd_trace.specs.DecoderNumbers.{HasReadIn, IsDecoder, rest_in};
+ghost use Rattle.swd_trace.specs.Decided.{IsDecided, DecidesNoItem};
+ghost use Rattle.swd_trace.specs.DecoderNumbers.{DecoderFieldsHaveRead, IsDecoder, rest_in};
 ghost use Rattle.swd_trace.specs.Reading.{reading_of};
-ghost use Rattle.swd_c.specs.Decoders.{GaveItem, GaveLast};
+ghost use Rattle.swd_c.specs.Decoders.{CApiDecoderGaveItem, CApiDecoderGaveLast};
 
 use crate::item::SwdItem;
 use swd_trace::{Decoder, DecoderFields};
@@ -30,7 +30,7 @@ pub extern "C" fn swd_decoder_take(decoder: &mut DecoderFields, bits: u64, count
     ensures law { 0 < result → (more : List Bool)
         → rest_in decoder.new more ≡ rest_in decoder.old (low_bits result bits ++ more) }
     ensures is { 0 < result → IsDecoder decoder.new }
-    ensures takes { IsDecoder decoder.old → IsUndecided (rest_in decoder.old) → 0 < count → count ≤ 64
+    ensures takes { IsDecoder decoder.old → DecidesNoItem (rest_in decoder.old) → 0 < count → count ≤ 64
         → decoder.old.fed + count < 2 ^ 64 → 0 < result }
     ensures most { result ≤ count }
     ensures fed { decoder.new.fed ≡ decoder.old.fed + result }
@@ -54,10 +54,10 @@ pub extern "C" fn swd_decoder_take(decoder: &mut DecoderFields, bits: u64, count
 /// fields are those of no decoder. Fields and item are unchanged then.
 #[unsafe(no_mangle)]
 pub extern "C" fn swd_decoder_due(decoder: &mut DecoderFields, item: &mut SwdItem) -> bool
-    ensures item { IsTrue result → GaveItem decoder.old decoder.new item.new }
-    ensures none { result ≡ false → IsDecoder decoder.old → IsUndecided (rest_in decoder.old) }
+    ensures item { IsTrue result → CApiDecoderGaveItem decoder.old decoder.new item.new }
+    ensures none { result ≡ false → IsDecoder decoder.old → DecidesNoItem (rest_in decoder.old) }
     ensures decided { result ≡ false → IsDecoder decoder.old → (bits : List Bool) (items : List ItemType)
-        → HasReadIn decoder.old bits items → IsDecided bits items }
+        → DecoderFieldsHaveRead decoder.old bits items → IsDecided bits items }
     ensures same { result ≡ false → decoder.new ≡ decoder.old }
     ensures item_same { result ≡ false → item.new ≡ item.old }
 {
@@ -76,7 +76,7 @@ pub extern "C" fn swd_decoder_due(decoder: &mut DecoderFields, item: &mut SwdIte
 /// or the fields are those of no decoder. Fields and item are unchanged then.
 #[unsafe(no_mangle)]
 pub extern "C" fn swd_decoder_last(decoder: &mut DecoderFields, item: &mut SwdItem) -> bool
-    ensures item { IsTrue result → GaveLast decoder.old decoder.new item.new }
+    ensures item { IsTrue result → CApiDecoderGaveLast decoder.old decoder.new item.new }
     ensures none { result ≡ false → IsDecoder decoder.old → rest_in decoder.old [] ≡ [] }
     ensures same { result ≡ false → decoder.new ≡ decoder.old }
     ensures item_same { result ≡ false → item.new ≡ item.old }

@@ -3,13 +3,14 @@ ghost use Rattle.std.specs.Prelude.{◌≡◌, ◌+◌, ◌*◌, ◌≤◌, true
 ghost use Rattle.swd_host.specs.declared.engine.Engine.{Engine as EngineType};
 ghost use Rattle.swd_port.specs.declared.access.Access.{Access as AccessType};
 ghost use Rattle.swd_host.specs.declared.task.Bursts.TheVariants.{Reads, Writes};
-ghost use Rattle.swd_host.specs.Engines.{cue_of};
-ghost use Rattle.swd_host.specs.Fields.{fields_of};
-ghost use Rattle.swd_host.specs.Progress.{open_requests};
-ghost use Rattle.swd_host.specs.Turns.{IsNew};
-ghost use Rattle.swd_c.specs.Cues.{refusal, told};
-ghost use Rattle.swd_c.specs.Engines.{Began, HasEngine, HasNoEngine, MayReply, MayStart, Replied, access_in};
-ghost use Rattle.swd_c.specs.Engines.{access_told, is_reply};
+ghost use Rattle.swd_host.specs.Engines.{engine_cue};
+ghost use Rattle.swd_host.specs.Fields.{fields_of_engine};
+ghost use Rattle.swd_host.specs.Progress.{engine_open_requests};
+ghost use Rattle.swd_host.specs.Turns.{EngineIsNew};
+ghost use Rattle.swd_c.specs.Cues.{c_api_refusal, c_api_engine_cue};
+ghost use Rattle.swd_c.specs.Engines.{CApiEngineStarted, CApiHasEngine, CApiHasNoEngine, CApiEngineMayReply};
+ghost use Rattle.swd_c.specs.Engines.{CApiEngineMayStart, CApiEngineReplied, c_api_access_at_index};
+ghost use Rattle.swd_c.specs.Engines.{c_api_access, c_api_reply_is_valid};
 
 use crate::cue::SwdCue;
 use swd_host::{Engine, EngineFields};
@@ -18,8 +19,8 @@ use swd_port::{Access, Cue};
 /// Makes an engine at the start of the opening. The opening, and each access, may meet up to `tries` events.
 #[unsafe(no_mangle)]
 pub extern "C" fn swd_engine_new(engine: &mut EngineFields, tries: u32)
-    ensures new { HasEngine engine.new (IsNew Writes false tries) }
-    ensures open { HasEngine engine.new (λ e. open_requests e ≤ 9 + 5 * (tries + 1)) }
+    ensures new { CApiHasEngine engine.new (EngineIsNew Writes false tries) }
+    ensures open { CApiHasEngine engine.new (λ e. engine_open_requests e ≤ 9 + 5 * (tries + 1)) }
 {
     *engine = Engine::new(tries).fields();
 }
@@ -27,8 +28,8 @@ pub extern "C" fn swd_engine_new(engine: &mut EngineFields, tries: u32)
 /// Makes an engine for blocks of reads. The request for the next word returns the word of a read.
 #[unsafe(no_mangle)]
 pub extern "C" fn swd_engine_blocks(engine: &mut EngineFields, tries: u32)
-    ensures new { HasEngine engine.new (IsNew Reads false tries) }
-    ensures open { HasEngine engine.new (λ e. open_requests e ≤ 9 + 5 * (tries + 1)) }
+    ensures new { CApiHasEngine engine.new (EngineIsNew Reads false tries) }
+    ensures open { CApiHasEngine engine.new (λ e. engine_open_requests e ≤ 9 + 5 * (tries + 1)) }
 {
     *engine = Engine::blocks(tries).fields();
 }
@@ -36,8 +37,8 @@ pub extern "C" fn swd_engine_blocks(engine: &mut EngineFields, tries: u32)
 /// Makes an engine that resumes after a lost acknowledgement, at the start of a new opening.
 #[unsafe(no_mangle)]
 pub extern "C" fn swd_engine_again(engine: &mut EngineFields, tries: u32)
-    ensures again { HasEngine engine.new (IsNew Writes true tries) }
-    ensures open { HasEngine engine.new (λ e. open_requests e ≤ 9 + 5 * (tries + 2)) }
+    ensures again { CApiHasEngine engine.new (EngineIsNew Writes true tries) }
+    ensures open { CApiHasEngine engine.new (λ e. engine_open_requests e ≤ 9 + 5 * (tries + 2)) }
 {
     *engine = Engine::again(tries).fields();
 }
@@ -45,8 +46,8 @@ pub extern "C" fn swd_engine_again(engine: &mut EngineFields, tries: u32)
 /// Returns what to send next. Refuses fields of no engine.
 #[unsafe(no_mangle)]
 pub extern "C" fn swd_engine_cue(engine: &EngineFields) -> SwdCue
-    ensures cue { (e : EngineType) → fields_of e ≡ engine.now → result ≡ told e }
-    ensures refused { HasNoEngine engine.now → result ≡ refusal }
+    ensures cue { (e : EngineType) → fields_of_engine e ≡ engine.now → result ≡ c_api_engine_cue e }
+    ensures refused { CApiHasNoEngine engine.now → result ≡ c_api_refusal }
 {
     match engine.engine() {
         Some(engine) => SwdCue::of(&engine),
@@ -60,10 +61,10 @@ pub extern "C" fn swd_engine_cue(engine: &EngineFields) -> SwdCue
 /// Refuses the call, and leaves the fields unchanged, if they are those of no engine or the reply has too many bits.
 #[unsafe(no_mangle)]
 pub extern "C" fn swd_engine_next(engine: &mut EngineFields, reply: u64) -> SwdCue
-    ensures goes { (e : EngineType) → MayReply engine.old reply e
-        → HasEngine engine.new (λ f. Replied (cue_of e) reply e f × (result ≡ told f)) }
-    ensures refused { ((e : EngineType) → MayReply engine.old reply e → ⊥) → result ≡ refusal }
-    ensures same { result ≡ refusal → engine.new ≡ engine.old }
+    ensures goes { (e : EngineType) → CApiEngineMayReply engine.old reply e
+        → CApiHasEngine engine.new (λ f. CApiEngineReplied (engine_cue e) reply e f × (result ≡ c_api_engine_cue f)) }
+    ensures refused { ((e : EngineType) → CApiEngineMayReply engine.old reply e → ⊥) → result ≡ c_api_refusal }
+    ensures same { result ≡ c_api_refusal → engine.new ≡ engine.old }
 {
     let Some(mut now) = engine.engine() else {
         return SwdCue::refusal();
@@ -77,8 +78,8 @@ pub extern "C" fn swd_engine_next(engine: &mut EngineFields, reply: u64) -> SwdC
 
 // Passes a reply to an engine, and returns whether it is a valid reply to the cue.
 fn reply_to(engine: &mut Engine, reply: u64) -> bool
-    ensures range { result ≡ is_reply (cue_of engine.old) reply }
-    ensures replied { IsTrue result → Replied (cue_of engine.old) reply engine.old engine.new }
+    ensures range { result ≡ c_api_reply_is_valid (engine_cue engine.old) reply }
+    ensures replied { IsTrue result → CApiEngineReplied (engine_cue engine.old) reply engine.old engine.new }
 {
     match engine.cue() {
         Some(Cue::Lead { .. } | Cue::Give(_) | Cue::Pass) => engine.done(),
@@ -112,7 +113,7 @@ pub struct SwdAccess {
 }
 
 fn access_of(access: SwdAccess) -> Access
-    ensures { result ≡ access_told access }
+    ensures { result ≡ c_api_access access }
 {
     if access.write == 0 {
         Access::Read(access.addr)
@@ -122,7 +123,7 @@ fn access_of(access: SwdAccess) -> Access
 }
 
 pub(crate) fn access_at(accesses: &[SwdAccess], index: usize) -> Option<Access>
-    ensures { result ≡ access_in accesses.now index }
+    ensures { result ≡ c_api_access_at_index accesses.now index }
 {
     match accesses.get(index) {
         Some(access) => Some(access_of(*access)),
@@ -140,10 +141,11 @@ pub extern "C" fn swd_engine_start(
     accesses: &[SwdAccess],
     index: usize,
 ) -> bool
-    ensures starts { (e : EngineType) (a : AccessType) → MayStart engine.old accesses.now index e a
-        → HasEngine engine.new (Began a (access_in accesses.now (index + 1)) e) }
-    ensures started { (e : EngineType) (a : AccessType) → MayStart engine.old accesses.now index e a → result ≡ true }
-    ensures refused { ((e : EngineType) (a : AccessType) → MayStart engine.old accesses.now index e a → ⊥)
+    ensures starts { (e : EngineType) (a : AccessType) → CApiEngineMayStart engine.old accesses.now index e a
+        → CApiHasEngine engine.new (CApiEngineStarted a (c_api_access_at_index accesses.now (index + 1)) e) }
+    ensures started { (e : EngineType) (a : AccessType) → CApiEngineMayStart engine.old accesses.now index e a
+        → result ≡ true }
+    ensures refused { ((e : EngineType) (a : AccessType) → CApiEngineMayStart engine.old accesses.now index e a → ⊥)
         → result ≡ false }
     ensures same { result ≡ false → engine.new ≡ engine.old }
 {

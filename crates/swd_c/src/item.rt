@@ -1,6 +1,6 @@
 //! The items of a trace as integers.
 ghost use Rattle.std.specs.Prelude.{◌≡◌};
-ghost use Rattle.swd_c.specs.Items.{plain_item, told_item, told_tx};
+ghost use Rattle.swd_c.specs.Items.{c_api_item_of_kind, c_api_item, c_api_tx_item};
 
 use crate::cue::bits_of;
 use swd_bits::{Tx, TxEnd};
@@ -32,7 +32,7 @@ pub struct SwdItem {
 impl SwdItem {
     /// Returns an item as integers.
     pub fn of(item: &Item) -> SwdItem
-        ensures { result ≡ told_item item.now }
+        ensures { result ≡ c_api_item item.now }
     {
         match *item {
             Item::Reset(count) => SwdItem::counted(1, count, 0),
@@ -45,7 +45,7 @@ impl SwdItem {
     }
 
     fn plain(kind: u8) -> SwdItem
-        ensures { result ≡ plain_item kind }
+        ensures { result ≡ c_api_item_of_kind kind }
     {
         SwdItem {
             count: 0,
@@ -59,7 +59,7 @@ impl SwdItem {
     }
 
     fn counted(kind: u8, count: u64, bits: u64) -> SwdItem
-        ensures { result ≡ record (plain_item kind) { count = count; bits = bits } }
+        ensures { result ≡ record (c_api_item_of_kind kind) { count = count; bits = bits } }
     {
         let mut item = SwdItem::plain(kind);
         item.count = count;
@@ -68,7 +68,7 @@ impl SwdItem {
     }
 
     fn transaction(tx: Tx) -> SwdItem
-        ensures { result ≡ told_tx tx.request tx.result }
+        ensures { result ≡ c_api_tx_item tx.request tx.result }
     {
         let mut item = SwdItem::plain(4);
         item.request = bits_of(tx.request);

@@ -1,8 +1,8 @@
 //! The layout of the structs, for checks of a C header.
 ghost use Rattle.std.specs.Prelude.{◌≡◌, ◌<◌, ◌^◌};
-ghost use Rattle.swd_c.specs.Layouts.{IsNumbered, access_list, content_list, cue_list, decoder_list, engine_list};
-ghost use Rattle.swd_c.specs.Layouts.{frame_list, item_list, layout_list, repeated, run_list, target_list};
-ghost use Rattle.swd_c.specs.Layouts.{transfer_list};
+ghost use Rattle.swd_c.specs.Layouts.{CStructIsNumbered, c_access_layout, c_content_layout, c_cue_layout};
+ghost use Rattle.swd_c.specs.Layouts.{c_decoder_layout, c_engine_layout, c_frame_layout, c_item_layout, c_whole_layout};
+ghost use Rattle.swd_c.specs.Layouts.{c_struct_repeated_byte, c_run_layout, c_target_layout, c_transfer_layout};
 
 use crate::cue::SwdCue;
 use crate::engine::SwdAccess;
@@ -39,20 +39,20 @@ pub struct SwdLayout {
 // Returns a word whose four bytes are this number.
 const fn word(number: u32) -> u32
     requires { number < 2 ^ 8 }
-    ensures { result ≡ repeated 4 number }
+    ensures { result ≡ c_struct_repeated_byte 4 number }
 {
     number * 0x0101_0101
 }
 
 const fn double(number: u64) -> u64
     requires { number < 2 ^ 8 }
-    ensures { result ≡ repeated 8 number }
+    ensures { result ≡ c_struct_repeated_byte 8 number }
 {
     number * 0x0101_0101_0101_0101
 }
 
 fn engine_numbered() -> EngineFields
-    ensures { IsNumbered 1 (engine_list result) }
+    ensures { CStructIsNumbered 1 (c_engine_layout result) }
 {
     EngineFields {
         requests: double(1),
@@ -90,7 +90,7 @@ fn engine_numbered() -> EngineFields
 }
 
 fn cue_numbered() -> SwdCue
-    ensures { IsNumbered 22 (cue_list result) }
+    ensures { CStructIsNumbered 22 (c_cue_layout result) }
 {
     SwdCue {
         bits: double(22),
@@ -109,7 +109,7 @@ fn cue_numbered() -> SwdCue
 }
 
 fn access_numbered() -> SwdAccess
-    ensures { IsNumbered 32 (access_list result) }
+    ensures { CStructIsNumbered 32 (c_access_layout result) }
 {
     SwdAccess {
         addr: word(32),
@@ -119,7 +119,7 @@ fn access_numbered() -> SwdAccess
 }
 
 fn decoder_numbered() -> DecoderFields
-    ensures { IsNumbered 35 (decoder_list result) }
+    ensures { CStructIsNumbered 35 (c_decoder_layout result) }
 {
     DecoderFields {
         fed: double(35),
@@ -132,7 +132,7 @@ fn decoder_numbered() -> DecoderFields
 }
 
 fn item_numbered() -> SwdItem
-    ensures { IsNumbered 41 (item_list result) }
+    ensures { CStructIsNumbered 41 (c_item_layout result) }
 {
     SwdItem {
         count: double(41),
@@ -147,7 +147,7 @@ fn item_numbered() -> SwdItem
 
 fn content_numbered(first: u32) -> ContentFields
     requires { first < 2 ^ 7 }
-    ensures { IsNumbered first (content_list result) }
+    ensures { CStructIsNumbered first (c_content_layout result) }
 {
     ContentFields {
         word: word(first),
@@ -156,7 +156,7 @@ fn content_numbered(first: u32) -> ContentFields
 }
 
 fn frame_numbered() -> FrameFields
-    ensures { IsNumbered 49 (frame_list result) }
+    ensures { CStructIsNumbered 49 (c_frame_layout result) }
 {
     FrameFields {
         line: LineFields {
@@ -174,7 +174,7 @@ fn frame_numbered() -> FrameFields
 }
 
 fn target_numbered() -> ClockedFields
-    ensures { IsNumbered 48 (target_list result) }
+    ensures { CStructIsNumbered 48 (c_target_layout result) }
 {
     ClockedFields {
         cycles: double(48),
@@ -208,7 +208,7 @@ fn target_numbered() -> ClockedFields
 }
 
 fn transfer_numbered() -> SwdTransfer
-    ensures { IsNumbered 82 (transfer_list result) }
+    ensures { CStructIsNumbered 82 (c_transfer_layout result) }
 {
     SwdTransfer {
         addr: word(82),
@@ -221,7 +221,7 @@ fn transfer_numbered() -> SwdTransfer
 /// a header can be checked, and a field's place and size can be found. Also writes the sizes.
 #[unsafe(no_mangle)]
 pub extern "C" fn swd_layout(layout: &mut SwdLayout)
-    ensures { IsNumbered 1 (layout_list layout.new) }
+    ensures { CStructIsNumbered 1 (c_whole_layout layout.new) }
 {
     *layout = SwdLayout {
         engine: engine_numbered(),
@@ -255,7 +255,7 @@ pub struct SwdRunLayout {
 /// engine, and from 22 on to the others, in their order. Also writes the sizes.
 #[unsafe(no_mangle)]
 pub extern "C" fn swd_run_layout(layout: &mut SwdRunLayout)
-    ensures { IsNumbered 1 (run_list layout.new.run) }
+    ensures { CStructIsNumbered 1 (c_run_layout layout.new.run) }
 {
     *layout = SwdRunLayout {
         run: RunFields {

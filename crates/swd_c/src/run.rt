@@ -4,13 +4,15 @@ ghost use Rattle.swd_port.specs.declared.access.Access.{Access as AccessType};
 ghost use Rattle.swd_port.specs.declared.access.Answer.{Answer as AnswerType};
 ghost use Rattle.swd_host.specs.declared.outcome.Outcome.TheVariants.{Answered};
 ghost use Rattle.swd_host.specs.declared.task.Bursts.TheVariants.{Reads, Writes};
-ghost use Rattle.swd_host.specs.Engines.{HasCue};
+ghost use Rattle.swd_host.specs.Engines.{EngineHasCue};
 ghost use Rattle.swd_steps.specs.declared.run.Run.{Run as RunType};
-ghost use Rattle.swd_steps.specs.Fields.{fields_of};
-ghost use Rattle.swd_steps.specs.Runs.{Ran, after, anew, answered_by, may_go_on, run_cue};
-ghost use Rattle.swd_c.specs.Cues.{refusal};
-ghost use Rattle.swd_c.specs.Runs.{HasNoRun, HasRun, IsSmall, Stores, WhyNot, accesses_told, refused_for, refused_with};
-ghost use Rattle.swd_c.specs.Runs.{run_told, stored};
+ghost use Rattle.swd_steps.specs.Fields.{stepped_fields};
+ghost use Rattle.swd_steps.specs.Runs.{SteppedRan, stepped_again, stepped_anew, stepped_answers, stepped_may_resume};
+ghost use Rattle.swd_steps.specs.Runs.{stepped_run_cue};
+ghost use Rattle.swd_c.specs.Cues.{c_api_refusal};
+ghost use Rattle.swd_c.specs.Runs.{CApiHasNoRun, CApiHasRun, CApiRefusalIndexIsSmall, CApiRunStoresAnswers};
+ghost use Rattle.swd_c.specs.Runs.{CApiRunRefusal, c_api_accesses, c_api_refusal_for, c_api_refusal_with};
+ghost use Rattle.swd_c.specs.Runs.{c_api_run_cue, c_api_stored_answers};
 
 use crate::cue::SwdCue;
 use crate::engine::{SwdAccess, access_at};
@@ -23,12 +25,12 @@ const NO_ROOM: u8 = 6;
 
 // The accesses of a list.
 #[derive(Clone, Copy)]
-struct Listed<'a> {
+struct AccessArray<'a> {
     accesses: &'a [SwdAccess],
 }
 
-impl Accesses for Listed<'_> {
-    ghost list = { λ listed. accesses_told listed.accesses.now };
+impl Accesses for AccessArray<'_> {
+    ghost list = { λ listed. c_api_accesses listed.accesses.now };
 
     fn count(&self) -> usize {
         self.accesses.len()
@@ -42,7 +44,8 @@ impl Accesses for Listed<'_> {
 /// Makes a run at the start of the opening. The opening, and each access, may meet up to `tries` events.
 #[unsafe(no_mangle)]
 pub extern "C" fn swd_run_new(run: &mut RunFields, tries: u32)
-    ensures { HasRun run.new (λ now. (list : List AccessType) → Ran (anew Writes tries) list [] now []) }
+    ensures { CApiHasRun run.new (λ now. (list : List AccessType)
+        → SteppedRan (stepped_anew Writes tries) list [] now []) }
 {
     *run = Run::new(tries).fields();
 }
@@ -50,7 +53,8 @@ pub extern "C" fn swd_run_new(run: &mut RunFields, tries: u32)
 /// Makes a run for a block of reads. The request for the next word returns the word of a read.
 #[unsafe(no_mangle)]
 pub extern "C" fn swd_run_blocks(run: &mut RunFields, tries: u32)
-    ensures { HasRun run.new (λ now. (list : List AccessType) → Ran (anew Reads tries) list [] now []) }
+    ensures { CApiHasRun run.new (λ now. (list : List AccessType)
+        → SteppedRan (stepped_anew Reads tries) list [] now []) }
 {
     *run = Run::blocks(tries).fields();
 }
@@ -60,10 +64,11 @@ pub extern "C" fn swd_run_blocks(run: &mut RunFields, tries: u32)
 /// `TriesOut`.
 #[unsafe(no_mangle)]
 pub extern "C" fn swd_run_again(run: &mut RunFields, tries: u32) -> bool
-    ensures again { (before : RunType) → fields_of before ≡ run.old → result ≡ true
-        → HasRun run.new (λ now. (list : List AccessType) → Ran (after before.answered tries) list [] now []) }
-    ensures told { (before : RunType) → fields_of before ≡ run.old → result ≡ may_go_on before.stage }
-    ensures refused { HasNoRun run.old → result ≡ false }
+    ensures again { (before : RunType) → stepped_fields before ≡ run.old → result ≡ true
+        → CApiHasRun run.new (λ now. (list : List AccessType)
+        → SteppedRan (stepped_again before.answered tries) list [] now []) }
+    ensures told { (before : RunType) → stepped_fields before ≡ run.old → result ≡ stepped_may_resume before.stage }
+    ensures refused { CApiHasNoRun run.old → result ≡ false }
     ensures same { result ≡ false → run.new ≡ run.old }
 {
     let Some(before) = run.run() else {
@@ -79,8 +84,8 @@ pub extern "C" fn swd_run_again(run: &mut RunFields, tries: u32) -> bool
 /// Returns what to send next. Refuses fields of no run.
 #[unsafe(no_mangle)]
 pub extern "C" fn swd_run_cue(run: &RunFields) -> SwdCue
-    ensures cue { (now : RunType) → fields_of now ≡ run.now → result ≡ run_told now }
-    ensures refused { HasNoRun run.now → result ≡ refusal }
+    ensures cue { (now : RunType) → stepped_fields now ≡ run.now → result ≡ c_api_run_cue now }
+    ensures refused { CApiHasNoRun run.now → result ≡ c_api_refusal }
 {
     match run.run() {
         Some(run) => SwdCue::of_run(&run),
@@ -102,11 +107,12 @@ pub extern "C" fn swd_run_next(
     answers: &mut [OutcomeFields],
     reply: u64,
 ) -> SwdCue
-    ensures goes { (before : RunType) → fields_of before ≡ run.old → result.kind ≢ 255
-        → HasCue (λ cue. HasRun run.new (λ now. (more : List AnswerType)
-        × Stores cue reply accesses.now before answers.old now answers.new more × (result ≡ run_told now)))
-        (run_cue before) }
-    ensures refused { result.kind ≡ 255 → WhyNot run.old accesses.now reply (length answers.old) result }
+    ensures goes { (before : RunType) → stepped_fields before ≡ run.old → result.kind ≢ 255
+        → EngineHasCue (λ cue. CApiHasRun run.new (λ now. (more : List AnswerType)
+        × CApiRunStoresAnswers cue reply accesses.now before answers.old now answers.new more
+        × (result ≡ c_api_run_cue now)))
+        (stepped_run_cue before) }
+    ensures refused { result.kind ≡ 255 → CApiRunRefusal run.old accesses.now reply (length answers.old) result }
     ensures same { result.kind ≡ 255 → (run.new ≡ run.old) × (answers.new ≡ answers.old) }
 {
     let Some(mut now) = run.run() else {
@@ -116,7 +122,7 @@ pub extern "C" fn swd_run_next(
         return SwdCue::refused(NO_ROOM, 0);
     }
     let first = now.answered() as usize;
-    match now.next(&Listed { accesses }, reply) {
+    match now.next(&AccessArray { accesses }, reply) {
         Err(refusal) => SwdCue::refused_for(refusal),
         Ok(came) => {
             store(answers, first, came);
@@ -128,8 +134,8 @@ pub extern "C" fn swd_run_next(
 
 // Stores the answers that came, from this index on.
 fn store(answers: &mut [OutcomeFields], first: usize, came: Answers)
-    requires { first + length (answered_by came) ≤ length answers.old }
-    ensures { answers.new ≡ stored first (answered_by came) answers.old }
+    requires { first + length (stepped_answers came) ≤ length answers.old }
+    ensures { answers.new ≡ c_api_stored_answers first (stepped_answers came) answers.old }
 {
     let mut index = first;
     if let Some(answer) = came.first {
@@ -144,7 +150,7 @@ fn store(answers: &mut [OutcomeFields], first: usize, came: Answers)
 impl SwdCue {
     // Returns the cue of a run.
     fn of_run(run: &Run) -> SwdCue
-        ensures { result ≡ run_told run.now }
+        ensures { result ≡ c_api_run_cue run.now }
     {
         let mut cue = SwdCue::told(run.cue(), run.ended().map(Outcome::Stopped));
         cue.begun = run.begun();
@@ -153,7 +159,7 @@ impl SwdCue {
 
     // Returns the cue of a refused call of a run, with the reason and the index of the access.
     fn refused(why: u8, index: u32) -> SwdCue
-        ensures { result ≡ refused_with why index }
+        ensures { result ≡ c_api_refusal_with why index }
     {
         let mut cue = SwdCue::refusal();
         cue.outcome = OutcomeFields {
@@ -164,8 +170,8 @@ impl SwdCue {
     }
 
     fn refused_for(refusal: Refusal) -> SwdCue
-        requires { IsSmall refusal }
-        ensures { result ≡ refused_for refusal }
+        requires { CApiRefusalIndexIsSmall refusal }
+        ensures { result ≡ c_api_refusal_for refusal }
     {
         match refusal {
             Refusal::Ended => SwdCue::refused(1, 0),

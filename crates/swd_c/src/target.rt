@@ -3,10 +3,12 @@ ghost use Rattle.std.specs.Prelude.{◌≡◌, ◌≢◌, ◌<◌, ◌≤◌, �
 ghost use Rattle.swd_port.specs.PlainMemory.{PlainMemory, plain_after};
 ghost use Rattle.swd_port.specs.declared.access.Access.{Access as AccessType};
 ghost use Rattle.swd_clocked.specs.declared.clocked.Clocked.{Clocked as ClockedType};
-ghost use Rattle.swd_clocked.specs.Clocks.{memory_of};
+ghost use Rattle.swd_clocked.specs.Clocks.{clocked_memory};
 ghost use Rattle.swd_c.specs.declared.nowhere.Nowhere.{Nowhere as NowhereType};
-ghost use Rattle.swd_c.specs.Targets.{Answered, CameOf, Cycled, HasNoTarget, HasTarget, Held, IsMade, IsReadyFor};
-ghost use Rattle.swd_c.specs.Targets.{Numbers, Settled, Transfers, drive_told, flag_told, ready, transfer_told, wanted};
+ghost use Rattle.swd_c.specs.Targets.{CApiTargetAnswered, CApiTransferAnswer, CApiTargetCycled, CApiHasNoTarget};
+ghost use Rattle.swd_c.specs.Targets.{CApiHasTarget, CApiTargetHeld, CApiTargetIsMade, CApiCallerIsReady};
+ghost use Rattle.swd_c.specs.Targets.{CApiNumbers, CApiTargetSettled, CApiTargetTransfers, c_api_drive, c_api_flag};
+ghost use Rattle.swd_c.specs.Targets.{c_api_ready_memory, c_api_transfer, c_api_wanted_access};
 
 use crate::nowhere::Nowhere;
 use swd_clocked::{Clocked, ClockedFields};
@@ -32,8 +34,8 @@ const REFUSED: u8 = 255;
 
 // Returns the target with these fields over a memory.
 fn target_over(fields: &ClockedFields, memory: Memory<Nowhere>) -> Option<Clocked<Nowhere>>
-    ensures found { (c : ClockedType NowhereType) → Numbers fields.now c → IsSome result }
-    ensures same { IfSome result (λ c. Numbers fields.now c × (memory_of c ≡ memory)) }
+    ensures found { (c : ClockedType NowhereType) → CApiNumbers fields.now c → IsSome result }
+    ensures same { IfSome result (λ c. CApiNumbers fields.now c × (clocked_memory c ≡ memory)) }
 {
     if fields.target.late != 1 {
         return None;
@@ -45,7 +47,7 @@ fn target_over(fields: &ClockedFields, memory: Memory<Nowhere>) -> Option<Clocke
 /// kilobyte. `filler` is what a read returns whose value is unknown.
 #[unsafe(no_mangle)]
 pub extern "C" fn swd_target_new(target: &mut ClockedFields, wraps: u8, filler: u32)
-    ensures new { (m : PlainMemory) → HasTarget m target.new (IsMade (flag_told wraps) filler m) }
+    ensures new { (m : PlainMemory) → CApiHasTarget m target.new (CApiTargetIsMade (c_api_flag wraps) filler m) }
 {
     let quirks = Quirks {
         wrap: wraps != 0,
@@ -60,9 +62,9 @@ pub extern "C" fn swd_target_new(target: &mut ClockedFields, wraps: u8, filler: 
 #[unsafe(no_mangle)]
 pub extern "C" fn swd_target_hold(target: &mut ClockedFields, wait: u8) -> bool
     ensures holds { IsTrue result → (m : PlainMemory)
-        → HasTarget m target.old (λ c. HasTarget m target.new (Held (flag_told wait) c)) }
-    ensures found { (c : ClockedType NowhereType) → Numbers target.old c → result ≡ true }
-    ensures refused { HasNoTarget target.old → result ≡ false }
+        → CApiHasTarget m target.old (λ c. CApiHasTarget m target.new (CApiTargetHeld (c_api_flag wait) c)) }
+    ensures found { (c : ClockedType NowhereType) → CApiNumbers target.old c → result ≡ true }
+    ensures refused { CApiHasNoTarget target.old → result ≡ false }
     ensures same { result ≡ false → target.new ≡ target.old }
 {
     let Some(mut now) = target_over(target, Memory::window(0, None)) else {
@@ -76,7 +78,7 @@ pub extern "C" fn swd_target_hold(target: &mut ClockedFields, wait: u8) -> bool
 /// Returns the pending transfer: accepted, and not yet in effect.
 #[unsafe(no_mangle)]
 pub extern "C" fn swd_target_wants(target: &ClockedFields) -> SwdTransfer
-    ensures { result ≡ transfer_told (wanted target.now) }
+    ensures { result ≡ c_api_transfer (c_api_wanted_access target.now) }
 {
     let addr = target.target.tar.word;
     let pending = target.target.pending;
@@ -103,8 +105,8 @@ pub extern "C" fn swd_target_wants(target: &ClockedFields) -> SwdTransfer
 // read, 3 for written, and 4 for a bus error.
 fn answering(pending: PendingFields, addr: u32, kind: u8, word: u32) -> Option<Memory<Nowhere>>
     ensures { MatchOption result
-        ((a : AccessType) (m : PlainMemory) → CameOf pending addr kind word a m → ⊥)
-        (λ m. (a : AccessType) × CameOf pending addr kind word a m) }
+        ((a : AccessType) (m : PlainMemory) → CApiTransferAnswer pending addr kind word a m → ⊥)
+        (λ m. (a : AccessType) × CApiTransferAnswer pending addr kind word a m) }
 {
     match (pending.kind, kind) {
         (1, 2) => Some(Memory::window(addr, Some(word))),
@@ -120,12 +122,12 @@ fn answering(pending: PendingFields, addr: u32, kind: u8, word: u32) -> Option<M
 /// nothing is pending, or the transfer can't have this result.
 #[unsafe(no_mangle)]
 pub extern "C" fn swd_target_settle(target: &mut ClockedFields, kind: u8, word: u32) -> bool
-    ensures settles { IsTrue result → (a : AccessType) (m : PlainMemory) → Answered target.old kind word a m
-        → HasTarget m target.old (λ c. HasTarget (plain_after a m) target.new (Settled c)) }
+    ensures settles { IsTrue result → (a : AccessType) (m : PlainMemory) → CApiTargetAnswered target.old kind word a m
+        → CApiHasTarget m target.old (λ c. CApiHasTarget (plain_after a m) target.new (CApiTargetSettled c)) }
     ensures found { (c : ClockedType NowhereType) (a : AccessType) (m : PlainMemory)
-        → Numbers target.old c → Answered target.old kind word a m → result ≡ true }
+        → CApiNumbers target.old c → CApiTargetAnswered target.old kind word a m → result ≡ true }
     ensures refused { ((c : ClockedType NowhereType) (a : AccessType) (m : PlainMemory)
-        → Numbers target.old c → Answered target.old kind word a m → ⊥) → result ≡ false }
+        → CApiNumbers target.old c → CApiTargetAnswered target.old kind word a m → ⊥) → result ≡ false }
     ensures same { result ≡ false → target.new ≡ target.old }
 {
     let Some(memory) = answering(target.target.pending, target.target.tar.word, kind, word) else {
@@ -141,7 +143,7 @@ pub extern "C" fn swd_target_settle(target: &mut ClockedFields, kind: u8, word: 
 
 // Returns the bit that the host drives, if any.
 fn driven(drive: u8) -> Option<bool>
-    ensures { result ≡ drive_told drive }
+    ensures { result ≡ c_api_drive drive }
 {
     if drive == 2 { None } else { Some(drive == 1) }
 }
@@ -151,12 +153,14 @@ fn driven(drive: u8) -> Option<bool>
 /// `drive` is above 2. The fields are unchanged then.
 #[unsafe(no_mangle)]
 pub extern "C" fn swd_target_cycle(target: &mut ClockedFields, drive: u8) -> u8
-    ensures clocks { result < 2 → (m : PlainMemory) → (target.old.waits ≡ 1 → IsReadyFor target.old m)
-        → HasTarget m target.old (λ c. HasTarget m target.new (Cycled (drive_told drive) (result == 1) c)) }
-    ensures pending { result ≡ 2 → wanted target.old ≢ None }
-    ensures wants { result ≡ 2 → HasTarget (ready target.old) target.old (Transfers (drive_told drive)) }
-    ensures found { (c : ClockedType NowhereType) → Numbers target.old c → drive < 3 → result < 3 }
-    ensures refused { HasNoTarget target.old → result ≡ 255 }
+    ensures clocks { result < 2 → (m : PlainMemory) → (target.old.waits ≡ 1 → CApiCallerIsReady target.old m)
+        → CApiHasTarget m target.old (λ c. CApiHasTarget m target.new
+        (CApiTargetCycled (c_api_drive drive) (result == 1) c)) }
+    ensures pending { result ≡ 2 → c_api_wanted_access target.old ≢ None }
+    ensures wants { result ≡ 2 → CApiHasTarget (c_api_ready_memory target.old) target.old
+        (CApiTargetTransfers (c_api_drive drive)) }
+    ensures found { (c : ClockedType NowhereType) → CApiNumbers target.old c → drive < 3 → result < 3 }
+    ensures refused { CApiHasNoTarget target.old → result ≡ 255 }
     ensures driven { 2 < drive → result ≡ 255 }
     ensures same { 2 ≤ result → target.new ≡ target.old }
 {

@@ -1,6 +1,6 @@
 -- The row in which a part is counted has its kind for a name.
 use Rattle.std.proofs.Common.{◌≡◌, ◌+◌, Bool, true, false, ◌++◌, refl}
-use Rattle.swd_bits.specs.Listing.{port, address, direction}
+use Rattle.swd_bits.specs.Listing.{tx_line_port, tx_line_address, tx_line_direction}
 use Rattle.swd_bits.specs.declared.request.Reg4.{Reg4}
 use Rattle.swd_bits.specs.declared.request.Reg4.TheVariants.{R0, R4, R8, RC}
 use Rattle.swd_bits.specs.declared.tx.TxEnd.{TxEnd}
@@ -8,12 +8,13 @@ use Rattle.swd_bits.specs.declared.tx.TxEnd.TheVariants.{Moved, Wait, Fault, NoA
 use Rattle.swd_trace.specs.declared.item.Item.TheVariants.{Reset, Switch, Idle, Tx, Junk, Cut}
 use Rattle.swd_resync.specs.declared.part.Part.{Part}
 use Rattle.swd_resync.specs.declared.part.Part.TheVariants.{Item as Told, Skip}
-use Rattle.swd_capture.specs.Tables.{addr_rows, direction_rows, end_row, kind_end, kind_text, port_rows, row_name}
-use Rattle.swd_capture.specs.Tables.{row_of}
+use Rattle.swd_capture.specs.Tables.{capture_addr_rows, capture_direction_rows, capture_tx_end_row, capture_tx_end_kind}
+use Rattle.swd_capture.specs.Tables.{capture_part_kind, capture_port_rows, capture_row_name, capture_part_row}
 
 named_tx : (ap : Bool) (addr : Reg4) (read : Bool) (end : TxEnd)
-    → row_name (port_rows ap + addr_rows addr + direction_rows read + end_row end)
-    ≡ port ap ++ address addr ++ direction read ++ kind_end end
+    → capture_row_name (capture_port_rows ap + capture_addr_rows addr + capture_direction_rows read
+    + capture_tx_end_row end)
+    ≡ tx_line_port ap ++ tx_line_address addr ++ tx_line_direction read ++ capture_tx_end_kind end
 named_tx true R0 true (Moved word true) = refl
 named_tx true R0 true (Moved word false) = refl
 named_tx true R0 true Wait = refl
@@ -96,11 +97,11 @@ named_tx false RC false Fault = refl
 named_tx false RC false (NoAck seen) = refl
 
 -- the name of the row in which a part is counted is the text of its kind
-pub named_by_kind : (part : Part) → row_name (row_of part) ≡ kind_text part
-named_by_kind (Told (Tx tx)) = named_tx tx.request.ap tx.request.addr tx.request.read tx.result
-named_by_kind (Told (Reset n)) = refl
-named_by_kind (Told Switch) = refl
-named_by_kind (Told (Idle n)) = refl
-named_by_kind (Told (Junk b)) = refl
-named_by_kind (Told (Cut bits)) = refl
-named_by_kind (Skip n) = refl
+pub capture_row_named_by_kind : (part : Part) → capture_row_name (capture_part_row part) ≡ capture_part_kind part
+capture_row_named_by_kind (Told (Tx tx)) = named_tx tx.request.ap tx.request.addr tx.request.read tx.result
+capture_row_named_by_kind (Told (Reset n)) = refl
+capture_row_named_by_kind (Told Switch) = refl
+capture_row_named_by_kind (Told (Idle n)) = refl
+capture_row_named_by_kind (Told (Junk b)) = refl
+capture_row_named_by_kind (Told (Cut bits)) = refl
+capture_row_named_by_kind (Skip n) = refl

@@ -5,7 +5,7 @@ use Rattle.std.specs.Prelude.{◌==◌, if◌then◌else◌}
 use Rattle.std.specs.Fmt.{decimal}
 use Rattle.std.proofs.Math.Dec.{eqb-suc-zero}
 use Rattle.std.proofs.lemmas.Fmt.{decimal_digit, decimal_step}
-use Rattle.swd_capture.specs.Places.{place_text, tens_text}
+use Rattle.swd_capture.specs.Places.{capture_place_prefix, capture_tens_prefix}
 
 -- the digits of a number are those of its tens, if there are any, and its last one
 last_digit : (n tens : ℕ) → n < 2 ^ 64 → n / 10 ≡ tens
@@ -19,16 +19,17 @@ last_digit n (suc tens) h e =
     ∙ ap (λ t. (if t then [] else decimal (suc tens)) ++ last) (sym (eqb-suc-zero tens))
 
 -- so a place is what its ten begins with, its last digit and a space
-pub place_split : (n : ℕ) (rest : List ℕ) → n < 2 ^ 64
-    → place_text n ++ rest ≡ tens_text (n / 10) ++ ((48 + n % 10) ∷ 32 ∷ rest)
-place_split n rest h =
+pub capture_place_split : (n : ℕ) (rest : List ℕ) → n < 2 ^ 64
+    → capture_place_prefix n ++ rest ≡ capture_tens_prefix (n / 10) ++ ((48 + n % 10) ∷ 32 ∷ rest)
+capture_place_split n rest h =
     append_assoc (64 ∷ decimal n) (32 ∷ []) rest
     ∙ ap (λ x. 64 ∷ (x ++ 32 ∷ rest)) (last_digit n (n / 10) h refl)
     ∙ ap (λ x. 64 ∷ x) (append_assoc (if n / 10 == 0 then [] else decimal (n / 10)) ((48 + n % 10) ∷ []) (32 ∷ rest))
 
 -- and what a ten begins with is what its hundred begins with, and a digit
-pub tens_split : (n : ℕ) → 0 < n → n < 2 ^ 64 → tens_text n ≡ tens_text (n / 10) ++ (48 + n % 10) ∷ []
-tens_split zero some h = absurd (omega (arith, some))
-tens_split (suc n) some h =
+pub capture_tens_split : (n : ℕ) → 0 < n → n < 2 ^ 64
+    → capture_tens_prefix n ≡ capture_tens_prefix (n / 10) ++ (48 + n % 10) ∷ []
+capture_tens_split zero some h = absurd (omega (arith, some))
+capture_tens_split (suc n) some h =
     ap (λ t. 64 ∷ (if t then [] else decimal (suc n))) (eqb-suc-zero n)
     ∙ ap (λ x. 64 ∷ x) (last_digit (suc n) (suc n / 10) h refl)

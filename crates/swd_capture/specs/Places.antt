@@ -5,13 +5,13 @@ use Rattle.swd_trace.specs.declared.item.Item.{Item}
 use Rattle.swd_trace.specs.Texts.{bits_of_items}
 
 -- the number of bits of these items, at most 2^64 - 1: the place of the next item
-abbrev pub place_behind : List Item → ℕ
-place_behind items = min (length (bits_of_items items)) (2 ^ 64 - 1)
+abbrev pub capture_place_behind : List Item → ℕ
+capture_place_behind items = min (length (bits_of_items items)) (2 ^ 64 - 1)
 
 -- the beginning of a line with a place
-abbrev pub place_text : ℕ → List ℕ
-place_text place = codes "@" ++ decimal place ++ codes " "
+abbrev pub capture_place_prefix : ℕ → List ℕ
+capture_place_prefix place = codes "@" ++ decimal place ++ codes " "
 
 -- what the places of a ten begin with: all but a space and the last digit
-abbrev pub tens_text : ℕ → List ℕ
-tens_text tens = 64 ∷ (if tens == 0 then [] else decimal tens)
+abbrev pub capture_tens_prefix : ℕ → List ℕ
+capture_tens_prefix tens = 64 ∷ (if tens == 0 then [] else decimal tens)

@@ -1,114 +1,119 @@
 -- The output for the parts of a capture. A trace is a capture whose parts are its items. The text is this project's
 -- choice.
 use Rattle.std.specs.Prelude.{ℕ, zero, suc, Bool, true, false, List, [], ◌∷◌, ◌++◌, map, Option}
-use Rattle.swd_bits.specs.Listing.{port, direction, outcome}
+use Rattle.swd_bits.specs.Listing.{tx_line_port, tx_line_direction, tx_line_outcome}
 use Rattle.swd_bits.specs.declared.tx.Tx.{Tx as Transaction}
 use Rattle.swd_trace.specs.declared.item.Item.{Item}
 use Rattle.swd_trace.specs.declared.item.Item.TheVariants.{Reset, Switch, Idle, Tx, Junk, Cut}
 use Rattle.swd_trace.specs.Texts.{item_line}
 use Rattle.swd_resync.specs.declared.part.Part.{Part}
 use Rattle.swd_resync.specs.declared.part.Part.TheVariants.{Item as Told, Skip}
-use Rattle.swd_resync.specs.PartTexts.{part_line}
-use Rattle.swd_resync.specs.AsItems.{items_of_part, items_of}
+use Rattle.swd_resync.specs.PartTexts.{resync_part_line}
+use Rattle.swd_resync.specs.AsItems.{resync_part_items, resync_items}
 use Rattle.swd_port.specs.declared.select.Select.{Select}
 use Rattle.swd_observer.specs.declared.trace.TraceObserver.{TraceObserver}
-use Rattle.swd_observer.specs.Observing.{last_tells}
-use Rattle.swd_observer.specs.Traces.{after_items, from_made, from_unknown}
-use Rattle.swd_observer_text.specs.Accesses.{accesses, tells_text}
+use Rattle.swd_observer.specs.Observing.{observed_last_accesses}
+use Rattle.swd_observer.specs.Traces.{trace_observer_after, trace_observer_made, trace_observer_unknown}
+use Rattle.swd_observer_text.specs.Accesses.{observer_text_of_items, observer_text_reported}
 use Rattle.swd_capture.specs.declared.printed.Printed.{Printed}
 use Rattle.swd_capture.specs.declared.printed.Printed.TheVariants.{Lines, Counts, Accesses}
 use Rattle.swd_capture.specs.declared.printed.LineForm.{LineForm}
-use Rattle.swd_capture.specs.Places.{place_behind, place_text}
-use Rattle.swd_capture.specs.Names.{register, select_behind}
-use Rattle.swd_capture.specs.Flags.{flagged, flags_of}
-use Rattle.swd_capture.specs.Tables.{row_text}
+use Rattle.swd_capture.specs.Places.{capture_place_behind, capture_place_prefix}
+use Rattle.swd_capture.specs.Names.{capture_register_name, capture_select_behind}
+use Rattle.swd_capture.specs.Flags.{capture_flagged_register, capture_tx_flags}
+use Rattle.swd_capture.specs.Tables.{capture_row_printed}
 
 -- a transaction's line with the register's name, and the flags of its word
-abbrev pub named_tx : Option Select → Transaction → List ℕ
-named_tx select tx = port tx.request.ap ++ register select tx.request
-    ++ (direction tx.request.read ++ outcome tx.result)
-    ++ flags_of (flagged select tx.request) tx.result
+abbrev pub capture_named_tx : Option Select → Transaction → List ℕ
+capture_named_tx select tx = tx_line_port tx.request.ap ++ capture_register_name select tx.request
+    ++ (tx_line_direction tx.request.read ++ tx_line_outcome tx.result)
+    ++ capture_tx_flags (capture_flagged_register select tx.request) tx.result
 
-abbrev pub named_line : Option Select → Item → List ℕ
-named_line select (Tx tx) = named_tx select tx
-named_line select (Reset n) = item_line (Reset n)
-named_line select Switch = item_line Switch
-named_line select (Idle n) = item_line (Idle n)
-named_line select (Junk b) = item_line (Junk b)
-named_line select (Cut bits) = item_line (Cut bits)
+abbrev pub capture_named_line : Option Select → Item → List ℕ
+capture_named_line select (Tx tx) = capture_named_tx select tx
+capture_named_line select (Reset n) = item_line (Reset n)
+capture_named_line select Switch = item_line Switch
+capture_named_line select (Idle n) = item_line (Idle n)
+capture_named_line select (Junk b) = item_line (Junk b)
+capture_named_line select (Cut bits) = item_line (Cut bits)
 
 -- the place, if lines begin with it
-abbrev pub place_if : Bool → ℕ → List ℕ
-place_if true place = place_text place
-place_if false place = []
+abbrev pub capture_place_if : Bool → ℕ → List ℕ
+capture_place_if true place = capture_place_prefix place
+capture_place_if false place = []
 
 -- the line of the listing, or the one with the register's name
-abbrev pub line_if : Bool → Option Select → Item → List ℕ
-line_if true select item = named_line select item
-line_if false select item = item_line item
+abbrev pub capture_line_if : Bool → Option Select → Item → List ℕ
+capture_line_if true select item = capture_named_line select item
+capture_line_if false select item = item_line item
 
 -- a part's line without its place
-abbrev pub part_text : Bool → Option Select → Part → List ℕ
-part_text names select (Told item) = line_if names select item
-part_text names select (Skip n) = part_line (Skip n)
+abbrev pub capture_part_line : Bool → Option Select → Part → List ℕ
+capture_part_line names select (Told item) = capture_line_if names select item
+capture_part_line names select (Skip n) = resync_part_line (Skip n)
 
 -- the line of a part after these items, and its line feed
-abbrev pub line_behind : LineForm → List Item → Part → List ℕ
-line_behind form before part = place_if form.places (place_behind before)
-    ++ part_text form.names (select_behind before) part ++ 10 ∷ []
+abbrev pub capture_line_behind : LineForm → List Item → Part → List ℕ
+capture_line_behind form before part = capture_place_if form.places (capture_place_behind before)
+    ++ capture_part_line form.names (capture_select_behind before) part ++ 10 ∷ []
 
 -- the lines of parts after others
-abbrev pub lines_behind : LineForm → Bool → List Part → List Part → List ℕ
-lines_behind form over before [] = []
-lines_behind form over before (part ∷ parts) =
-    line_behind form (items_of over before) part ++ lines_behind form over (before ++ part ∷ []) parts
+abbrev pub capture_lines_behind : LineForm → Bool → List Part → List Part → List ℕ
+capture_lines_behind form over before [] = []
+capture_lines_behind form over before (part ∷ parts) =
+    capture_line_behind form (resync_items over before) part
+    ++ capture_lines_behind form over (before ++ part ∷ []) parts
 
 -- the observer before the first part: of a target in its reset state, or of one of which nothing is known
-abbrev pub observer_of : Bool → TraceObserver
-observer_of true = from_made
-observer_of false = from_unknown
+abbrev pub capture_observer_of : Bool → TraceObserver
+capture_observer_of true = trace_observer_made
+capture_observer_of false = trace_observer_unknown
 
-abbrev pub first_observer : Printed → TraceObserver
-first_observer (Lines form) = from_unknown
-first_observer Counts = from_unknown
-first_observer (Accesses made) = observer_of made
+abbrev pub capture_first_observer : Printed → TraceObserver
+capture_first_observer (Lines form) = trace_observer_unknown
+capture_first_observer Counts = trace_observer_unknown
+capture_first_observer (Accesses made) = capture_observer_of made
 
 -- the output for a part after others, which is due as soon as the part is decided
-abbrev pub entry : Printed → Bool → List Part → Part → List ℕ
-entry (Lines form) over before part = line_behind form (items_of over before) part
-entry Counts over before part = []
-entry (Accesses made) over before part =
-    accesses (items_of_part over part) (after_items (items_of over before) (observer_of made))
+abbrev pub capture_printed_entry : Printed → Bool → List Part → Part → List ℕ
+capture_printed_entry (Lines form) over before part = capture_line_behind form (resync_items over before) part
+capture_printed_entry Counts over before part = []
+capture_printed_entry (Accesses made) over before part =
+    observer_text_of_items (resync_part_items over part)
+    (trace_observer_after (resync_items over before) (capture_observer_of made))
 
 -- The output for the first parts of a capture, while more may follow. Places, SELECT and accesses are those of a trace
 -- with the items that the parts count as.
-abbrev pub told : Printed → Bool → List Part → List ℕ
-told (Lines form) over parts = lines_behind form over [] parts
-told Counts over parts = []
-told (Accesses made) over parts = accesses (items_of over parts) (observer_of made)
+abbrev pub capture_printed_parts : Printed → Bool → List Part → List ℕ
+capture_printed_parts (Lines form) over parts = capture_lines_behind form over [] parts
+capture_printed_parts Counts over parts = []
+capture_printed_parts (Accesses made) over parts =
+    observer_text_of_items (resync_items over parts) (capture_observer_of made)
 
 -- junk bits as parts
-abbrev pub junk_parts : List Bool → List Part
-junk_parts bits = map Told (map Junk bits)
+abbrev pub capture_junk_parts : List Bool → List Part
+capture_junk_parts bits = map Told (map Junk bits)
 
 -- the number of rows at the end: those of a table, or one for the lines of the accesses that nothing confirms
-abbrev pub row_count : Printed → ℕ
-row_count (Lines form) = 0
-row_count Counts = 86
-row_count (Accesses made) = 1
+abbrev pub capture_row_count : Printed → ℕ
+capture_row_count (Lines form) = 0
+capture_row_count Counts = 86
+capture_row_count (Accesses made) = 1
 
-abbrev pub end_row_text : Printed → Bool → List Part → ℕ → List ℕ
-end_row_text (Lines form) over parts row = []
-end_row_text Counts over parts row = row_text parts row
-end_row_text (Accesses made) over parts row =
-    tells_text (last_tells (after_items (items_of over parts) (observer_of made)).observer)
+abbrev pub capture_end_row_printed : Printed → Bool → List Part → ℕ → List ℕ
+capture_end_row_printed (Lines form) over parts row = []
+capture_end_row_printed Counts over parts row = capture_row_printed parts row
+capture_end_row_printed (Accesses made) over parts row =
+    observer_text_reported (observed_last_accesses
+    (trace_observer_after (resync_items over parts) (capture_observer_of made)).observer)
 
 -- the first `n` of these rows
-abbrev pub end_rows_text : Printed → Bool → List Part → ℕ → List ℕ
-end_rows_text printed over parts zero = []
-end_rows_text printed over parts (suc n) =
-    end_rows_text printed over parts n ++ end_row_text printed over parts n
+abbrev pub capture_end_rows_printed : Printed → Bool → List Part → ℕ → List ℕ
+capture_end_rows_printed printed over parts zero = []
+capture_end_rows_printed printed over parts (suc n) =
+    capture_end_rows_printed printed over parts n ++ capture_end_row_printed printed over parts n
 
 -- the output for a whole capture
-abbrev pub printout : Printed → Bool → List Part → List ℕ
-printout printed over parts = told printed over parts ++ end_rows_text printed over parts (row_count printed)
+abbrev pub capture_printout : Printed → Bool → List Part → List ℕ
+capture_printout printed over parts = capture_printed_parts printed over parts
+    ++ capture_end_rows_printed printed over parts (capture_row_count printed)

@@ -1,6 +1,6 @@
 //! Counts the bits of items.
 ghost use Rattle.std.specs.Prelude.{◌≡◌, length, true};
-ghost use Rattle.swd_bits.specs.Transactions.{spelling};
+ghost use Rattle.swd_bits.specs.Transactions.{tx_spelling_bits};
 ghost use Rattle.swd_trace.specs.Texts.{item_bits};
 
 use swd_bits::{MOVED_BITS, REFUSED_BITS, SWITCH_BITS, Tx, TxEnd, UNACKNOWLEDGED_BITS};
@@ -21,7 +21,7 @@ pub(crate) fn bit_count(item: &Item) -> u64
 
 // Returns how many bits a transaction has.
 fn tx_bit_count(tx: &Tx) -> u8
-    ensures { result ≡ length (spelling tx.now true true) }
+    ensures { result ≡ length (tx_spelling_bits tx.now true true) }
 {
     match tx.result {
         TxEnd::Moved { .. } => MOVED_BITS,

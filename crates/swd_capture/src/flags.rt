@@ -1,8 +1,10 @@
 //! Prints the flags of a transaction's word.
 ghost use Rattle.std.specs.Prelude.{◌≡◌, ◌+◌, ◌<◌, ◌≤◌, ◌++◌, length};
 ghost use Rattle.arrayvec.specs.ArrayString.{array_string_len};
-ghost use Rattle.swd_capture.specs.Flags.{abort_flags, csw_flags, flag, flagged, flags_in, flags_of, in_bank};
-ghost use Rattle.swd_capture.specs.Flags.{ap_flagged, dp_flagged, power_flags, sticky_flags};
+ghost use Rattle.swd_capture.specs.Flags.{capture_abort_flags, capture_csw_flags, capture_flag_name};
+ghost use Rattle.swd_capture.specs.Flags.{capture_flagged_register, capture_word_flags, capture_tx_flags};
+ghost use Rattle.swd_capture.specs.Flags.{capture_flags_in_bank, capture_ap_flagged, capture_dp_flagged};
+ghost use Rattle.swd_capture.specs.Flags.{capture_power_flags, capture_sticky_flags};
 
 use arrayvec::ArrayString;
 use swd_bits::{Reg4, Request, TxEnd};
@@ -23,14 +25,14 @@ pub(crate) enum Flagged {
 
 // Returns the register if the bank is 0.
 fn in_first_bank(bank: u8, which: Flagged) -> Flagged
-    ensures { result ≡ in_bank bank which }
+    ensures { result ≡ capture_flags_in_bank bank which }
 {
     if bank == 0 { which } else { Flagged::Nothing }
 }
 
 // Returns the debug port's register at an address.
 fn of_debug_port(select: Option<Select>, addr: Reg4, read: bool) -> Flagged
-    ensures { result ≡ dp_flagged select addr read }
+    ensures { result ≡ capture_dp_flagged select addr read }
 {
     match addr {
         Reg4::R0 => {
@@ -50,7 +52,7 @@ fn of_debug_port(select: Option<Select>, addr: Reg4, read: bool) -> Flagged
 
 // Returns the access port's register at an address.
 fn of_access_port(select: Option<Select>, addr: Reg4, read: bool) -> Flagged
-    ensures { result ≡ ap_flagged select addr read }
+    ensures { result ≡ capture_ap_flagged select addr read }
 {
     let Some(select) = select else {
         return Flagged::Nothing;
@@ -69,7 +71,7 @@ fn of_access_port(select: Option<Select>, addr: Reg4, read: bool) -> Flagged
 
 /// Returns the register whose flags the word of a transaction with this request has.
 pub(crate) fn flagged_by(select: Option<Select>, request: Request) -> Flagged
-    ensures { result ≡ flagged select request }
+    ensures { result ≡ capture_flagged_register select request }
 {
     if request.ap {
         of_access_port(select, request.addr, request.read)
@@ -82,7 +84,7 @@ pub(crate) fn flagged_by(select: Option<Select>, request: Request) -> Flagged
 fn push_flag<const N: usize>(text: &mut ArrayString<N>, word: u32, place: u8, name: &'static str)
     requires place { place < 32 }
     requires room { array_string_len text.old + (1 + length name.now) ≤ N }
-    ensures bytes { text.new.bytes ≡ text.old.bytes ++ flag place name.now word }
+    ensures bytes { text.new.bytes ≡ text.old.bytes ++ capture_flag_name place name.now word }
     ensures len { array_string_len text.new ≤ array_string_len text.old + (1 + length name.now) }
 {
     if word >> place & 1 == 1 {
@@ -93,7 +95,7 @@ fn push_flag<const N: usize>(text: &mut ArrayString<N>, word: u32, place: u8, na
 
 fn push_abort_flags<const N: usize>(text: &mut ArrayString<N>, word: u32)
     requires { array_string_len text.old + LONGEST_FLAGS ≤ N }
-    ensures bytes { text.new.bytes ≡ text.old.bytes ++ abort_flags word }
+    ensures bytes { text.new.bytes ≡ text.old.bytes ++ capture_abort_flags word }
     ensures len { array_string_len text.new ≤ array_string_len text.old + LONGEST_FLAGS }
 {
     push_flag(text, word, 0, "dapabort");
@@ -105,7 +107,7 @@ fn push_abort_flags<const N: usize>(text: &mut ArrayString<N>, word: u32)
 
 fn push_sticky_flags<const N: usize>(text: &mut ArrayString<N>, word: u32)
     requires { array_string_len text.old + 70 ≤ N }
-    ensures bytes { text.new.bytes ≡ text.old.bytes ++ sticky_flags word }
+    ensures bytes { text.new.bytes ≡ text.old.bytes ++ capture_sticky_flags word }
     ensures len { array_string_len text.new ≤ array_string_len text.old + 70 }
 {
     push_flag(text, word, 0, "orun_detect");
@@ -118,7 +120,7 @@ fn push_sticky_flags<const N: usize>(text: &mut ArrayString<N>, word: u32)
 
 fn push_power_flags<const N: usize>(text: &mut ArrayString<N>, word: u32)
     requires { array_string_len text.old + 80 ≤ N }
-    ensures bytes { text.new.bytes ≡ text.old.bytes ++ power_flags word }
+    ensures bytes { text.new.bytes ≡ text.old.bytes ++ capture_power_flags word }
     ensures len { array_string_len text.new ≤ array_string_len text.old + 80 }
 {
     push_flag(text, word, 26, "cdbgrstreq");
@@ -131,7 +133,7 @@ fn push_power_flags<const N: usize>(text: &mut ArrayString<N>, word: u32)
 
 fn push_csw_flags<const N: usize>(text: &mut ArrayString<N>, word: u32)
     requires { array_string_len text.old + LONGEST_FLAGS ≤ N }
-    ensures bytes { text.new.bytes ≡ text.old.bytes ++ csw_flags word }
+    ensures bytes { text.new.bytes ≡ text.old.bytes ++ capture_csw_flags word }
     ensures len { array_string_len text.new ≤ array_string_len text.old + LONGEST_FLAGS }
 {
     push_flag(text, word, 6, "device_en");
@@ -143,7 +145,7 @@ fn push_csw_flags<const N: usize>(text: &mut ArrayString<N>, word: u32)
 // Appends the set flags of a register's word.
 fn push_flags_in<const N: usize>(text: &mut ArrayString<N>, which: Flagged, word: u32)
     requires { array_string_len text.old + LONGEST_FLAGS ≤ N }
-    ensures bytes { text.new.bytes ≡ text.old.bytes ++ flags_in which word }
+    ensures bytes { text.new.bytes ≡ text.old.bytes ++ capture_word_flags which word }
     ensures len { array_string_len text.new ≤ array_string_len text.old + LONGEST_FLAGS }
 {
     match which {
@@ -160,7 +162,7 @@ fn push_flags_in<const N: usize>(text: &mut ArrayString<N>, which: Flagged, word
 /// Appends the set flags of a transaction's word. Appends nothing without a word or if its parity is wrong.
 pub(crate) fn push_flags<const N: usize>(text: &mut ArrayString<N>, which: Flagged, end: TxEnd)
     requires { array_string_len text.old + LONGEST_FLAGS ≤ N }
-    ensures bytes { text.new.bytes ≡ text.old.bytes ++ flags_of which end }
+    ensures bytes { text.new.bytes ≡ text.old.bytes ++ capture_tx_flags which end }
     ensures len { array_string_len text.new ≤ array_string_len text.old + LONGEST_FLAGS }
 {
     if let TxEnd::Moved {

@@ -4,8 +4,8 @@ ghost use Rattle.std.specs.Prelude.{length, replicate};
 ghost use Rattle.arrayvec.specs.ArrayString.{array_string_len};
 ghost use Rattle.swd_trace.specs.Texts.{item_line};
 ghost use Rattle.swd_trace.specs.declared.item.Item.TheVariants.{Junk};
-ghost use Rattle.swd_capture.specs.Places.{place_text, tens_text};
-ghost use Rattle.swd_capture.specs.Printing.{place_if};
+ghost use Rattle.swd_capture.specs.Places.{capture_place_prefix, capture_tens_prefix};
+ghost use Rattle.swd_capture.specs.Printing.{capture_place_if};
 
 use arrayvec::ArrayString;
 
@@ -30,8 +30,8 @@ pub(crate) struct Tens {
     len: usize,
     // These bytes, and then spaces: a copy of constant length is fastest.
     text: ArrayString<ROOM>,
-    ghost holds: { text.bytes ≡ tens_text (start / 10) ++ replicate 20 32 },
-    ghost counts: { len ≡ length (tens_text (start / 10)) },
+    ghost holds: { text.bytes ≡ capture_tens_prefix (start / 10) ++ replicate 20 32 },
+    ghost counts: { len ≡ length (capture_tens_prefix (start / 10)) },
     ghost even: { start % 10 ≡ 0 },
     ghost short: { len ≤ 20 },
 }
@@ -40,7 +40,7 @@ pub(crate) struct Tens {
 fn push_tens<const N: usize>(text: &mut ArrayString<N>, tens: u64)
     requires room { array_string_len text.old + LONGEST_TENS ≤ N }
     requires tens { tens * 10 < 2 ^ 64 }
-    ensures bytes { text.new.bytes ≡ text.old.bytes ++ tens_text tens }
+    ensures bytes { text.new.bytes ≡ text.old.bytes ++ capture_tens_prefix tens }
     ensures len { array_string_len text.new ≤ array_string_len text.old + LONGEST_TENS }
 {
     text.push_str("@");
@@ -54,11 +54,11 @@ fn push_tens<const N: usize>(text: &mut ArrayString<N>, tens: u64)
 // Replaces `@`, the digits of a number of tens (both are `len` bytes), and the spaces after them by `@` and the digits of
 // another number. Within a hundred it writes the last digit alone.
 fn change_tens(text: &mut ArrayString<ROOM>, len: usize, from: u64, to: u64)
-    requires holds { text.old.bytes ≡ tens_text from ++ replicate 20 32 }
-    requires counts { len ≡ length (tens_text from) }
+    requires holds { text.old.bytes ≡ capture_tens_prefix from ++ replicate 20 32 }
+    requires counts { len ≡ length (capture_tens_prefix from) }
     requires short { len ≤ 20 }
     requires to { to * 10 < 2 ^ 64 }
-    ensures bytes { text.new.bytes ≡ tens_text to }
+    ensures bytes { text.new.bytes ≡ capture_tens_prefix to }
     ensures len { array_string_len text.new ≤ 20 }
 {
     if from >= 10 && to / 10 == from / 10 {
@@ -106,7 +106,7 @@ impl Tens {
     #[inline(always)]
     fn push<const N: usize>(&self, text: &mut ArrayString<N>)
         requires { array_string_len text.old + LONGEST_TENS ≤ N }
-        ensures bytes { text.new.bytes ≡ text.old.bytes ++ tens_text (self.now.start / 10) }
+        ensures bytes { text.new.bytes ≡ text.old.bytes ++ capture_tens_prefix (self.now.start / 10) }
         ensures len { array_string_len text.new ≤ array_string_len text.old + LONGEST_TENS }
     {
         let end = text.len() + self.len;
@@ -118,7 +118,8 @@ impl Tens {
     #[inline(always)]
     fn push_placed<const N: usize>(&mut self, place: u64, bit: bool, text: &mut ArrayString<N>)
         requires { array_string_len text.old + LONGEST_JUNK ≤ N }
-        ensures bytes { text.new.bytes ≡ text.old.bytes ++ (place_text place ++ (item_line (Junk bit) ++ 10 ∷ [])) }
+        ensures bytes { text.new.bytes ≡ text.old.bytes
+            ++ (capture_place_prefix place ++ (item_line (Junk bit) ++ 10 ∷ [])) }
         ensures len { array_string_len text.new ≤ array_string_len text.old + LONGEST_JUNK }
     {
         self.set(place);
@@ -137,7 +138,7 @@ impl Tens {
     )
         requires { array_string_len text.old + LONGEST_JUNK ≤ N }
         ensures bytes { text.new.bytes
-            ≡ text.old.bytes ++ (place_if places place ++ (item_line (Junk bit) ++ 10 ∷ [])) }
+            ≡ text.old.bytes ++ (capture_place_if places place ++ (item_line (Junk bit) ++ 10 ∷ [])) }
         ensures len { array_string_len text.new ≤ array_string_len text.old + LONGEST_JUNK }
     {
         if places {

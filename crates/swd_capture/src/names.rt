@@ -1,11 +1,13 @@
 //! Prints registers by name, as far as SELECT is known.
 ghost use Rattle.std.specs.Prelude.{◌≡◌, ◌+◌, ◌-◌, ◌<◌, ◌≤◌, ◌++◌, ◌∷◌, [], length};
 ghost use Rattle.arrayvec.specs.ArrayString.{array_string_len};
-ghost use Rattle.swd_bits.specs.Listing.{address, direction, hex_digit, outcome, port};
-ghost use Rattle.swd_capture.specs.Names.{access_name, ap_number, ap_register, bank, banked, banked_data_name};
-ghost use Rattle.swd_capture.specs.Names.{banked_name, barrier_name, dp_register, identity_name, mem_ap_name};
-ghost use Rattle.swd_capture.specs.Names.{register, select_after, select_by, writes_select};
-ghost use Rattle.swd_capture.specs.Printing.{named_tx};
+ghost use Rattle.swd_bits.specs.Listing.{tx_line_address, tx_line_direction, tx_hex_digit, tx_line_outcome};
+ghost use Rattle.swd_capture.specs.Names.{capture_access_name, capture_ap_number, capture_ap_name, capture_bank_name};
+ghost use Rattle.swd_capture.specs.Names.{capture_dp_4_name, capture_banked_data_name, capture_dp_bank_name};
+ghost use Rattle.swd_capture.specs.Names.{capture_barrier_name, capture_dp_name, capture_identity_name};
+ghost use Rattle.swd_capture.specs.Names.{capture_mem_ap_name, capture_register_name, capture_select_after};
+ghost use Rattle.swd_capture.specs.Names.{capture_select_by_tx, capture_writes_select};
+ghost use Rattle.swd_capture.specs.Printing.{capture_named_tx};
 
 use crate::flags::{LONGEST_FLAGS, flagged_by, push_flags};
 use arrayvec::ArrayString;
@@ -24,7 +26,7 @@ pub(crate) const LONGEST_NAMED: usize = 3 + LONGEST_REGISTER + LONGEST_TX_LINE +
 
 // Returns whether a request writes SELECT.
 fn is_select_write(request: Request) -> bool
-    ensures { result ≡ writes_select request }
+    ensures { result ≡ capture_writes_select request }
 {
     match request.addr {
         Reg4::R8 => !request.ap && !request.read,
@@ -34,7 +36,7 @@ fn is_select_write(request: Request) -> bool
 
 // Returns what is known of SELECT after a transaction.
 fn selected_by(select: Option<Select>, request: Request, end: TxEnd) -> Option<Select>
-    ensures { result ≡ select_by select request end }
+    ensures { result ≡ capture_select_by_tx select request end }
 {
     match end {
         TxEnd::Moved { word, parity_ok } => {
@@ -53,7 +55,7 @@ fn selected_by(select: Option<Select>, request: Request, end: TxEnd) -> Option<S
 
 /// Returns what is known of SELECT after an item.
 pub(crate) fn selected_after(select: Option<Select>, item: &Item) -> Option<Select>
-    ensures { result ≡ select_after select item.now }
+    ensures { result ≡ capture_select_after select item.now }
 {
     match item {
         Item::Tx(tx) => selected_by(select, tx.request, tx.result),
@@ -63,7 +65,7 @@ pub(crate) fn selected_after(select: Option<Select>, item: &Item) -> Option<Sele
 }
 
 fn banked_text(number: u8) -> &'static str
-    ensures bytes { result.now ≡ banked_name number }
+    ensures bytes { result.now ≡ capture_dp_bank_name number }
     ensures len { length result.now ≤ 10 }
 {
     match number {
@@ -77,7 +79,7 @@ fn banked_text(number: u8) -> &'static str
 }
 
 fn address_text(addr: Reg4) -> &'static str
-    ensures bytes { result.now ≡ address addr }
+    ensures bytes { result.now ≡ tx_line_address addr }
     ensures len { length result.now ≤ 10 }
 {
     match addr {
@@ -89,7 +91,7 @@ fn address_text(addr: Reg4) -> &'static str
 }
 
 fn access_text(addr: Reg4) -> &'static str
-    ensures bytes { result.now ≡ access_name addr }
+    ensures bytes { result.now ≡ capture_access_name addr }
     ensures len { length result.now ≤ 10 }
 {
     match addr {
@@ -101,7 +103,7 @@ fn access_text(addr: Reg4) -> &'static str
 }
 
 fn banked_data_text(addr: Reg4) -> &'static str
-    ensures bytes { result.now ≡ banked_data_name addr }
+    ensures bytes { result.now ≡ capture_banked_data_name addr }
     ensures len { length result.now ≤ 10 }
 {
     match addr {
@@ -113,7 +115,7 @@ fn banked_data_text(addr: Reg4) -> &'static str
 }
 
 fn barrier_text(addr: Reg4) -> &'static str
-    ensures bytes { result.now ≡ barrier_name addr }
+    ensures bytes { result.now ≡ capture_barrier_name addr }
     ensures len { length result.now ≤ 10 }
 {
     match addr {
@@ -123,7 +125,7 @@ fn barrier_text(addr: Reg4) -> &'static str
 }
 
 fn identity_text(addr: Reg4) -> &'static str
-    ensures bytes { result.now ≡ identity_name addr }
+    ensures bytes { result.now ≡ capture_identity_name addr }
     ensures len { length result.now ≤ 10 }
 {
     match addr {
@@ -136,7 +138,7 @@ fn identity_text(addr: Reg4) -> &'static str
 
 // Returns the name of a MEM-AP register, by bank and address.
 fn mem_ap_text(number: u8, addr: Reg4) -> &'static str
-    ensures bytes { result.now ≡ mem_ap_name number addr }
+    ensures bytes { result.now ≡ capture_mem_ap_name number addr }
     ensures len { length result.now ≤ 10 }
 {
     match number {
@@ -151,7 +153,7 @@ fn mem_ap_text(number: u8, addr: Reg4) -> &'static str
 // Appends the number of an access port, unless it is 0.
 fn push_ap_number<const N: usize>(text: &mut ArrayString<N>, number: u8)
     requires { array_string_len text.old + 4 ≤ N }
-    ensures bytes { text.new.bytes ≡ text.old.bytes ++ ap_number number }
+    ensures bytes { text.new.bytes ≡ text.old.bytes ++ capture_ap_number number }
     ensures len { array_string_len text.new ≤ array_string_len text.old + 4 }
 {
     if number == 0 {
@@ -164,7 +166,7 @@ fn push_ap_number<const N: usize>(text: &mut ArrayString<N>, number: u8)
 
 fn digit_text(digit: u8) -> &'static str
     requires { digit < 16 }
-    ensures { result.now ≡ hex_digit digit ∷ [] }
+    ensures { result.now ≡ tx_hex_digit digit ∷ [] }
 {
     match digit {
         0 => "0",
@@ -189,7 +191,7 @@ fn digit_text(digit: u8) -> &'static str
 // Appends the number of a bank as a hexadecimal digit, unless it is 0.
 fn push_bank<const N: usize>(text: &mut ArrayString<N>, number: u8)
     requires { array_string_len text.old + 7 ≤ N }
-    ensures bytes { text.new.bytes ≡ text.old.bytes ++ bank number }
+    ensures bytes { text.new.bytes ≡ text.old.bytes ++ capture_bank_name number }
     ensures len { array_string_len text.new ≤ array_string_len text.old + 7 }
 {
     if number == 0 {
@@ -203,7 +205,7 @@ fn push_bank<const N: usize>(text: &mut ArrayString<N>, number: u8)
 // Appends the debug port's register at address 4.
 fn push_banked<const N: usize>(text: &mut ArrayString<N>, select: Option<Select>)
     requires { array_string_len text.old + LONGEST_REGISTER ≤ N }
-    ensures bytes { text.new.bytes ≡ text.old.bytes ++ banked select }
+    ensures bytes { text.new.bytes ≡ text.old.bytes ++ capture_dp_4_name select }
     ensures len { array_string_len text.new ≤ array_string_len text.old + LONGEST_REGISTER }
 {
     let Some(select) = select else {
@@ -222,7 +224,7 @@ fn push_dp_register<const N: usize>(
     read: bool,
 )
     requires { array_string_len text.old + LONGEST_REGISTER ≤ N }
-    ensures bytes { text.new.bytes ≡ text.old.bytes ++ dp_register select addr read }
+    ensures bytes { text.new.bytes ≡ text.old.bytes ++ capture_dp_name select addr read }
     ensures len { array_string_len text.new ≤ array_string_len text.old + LONGEST_REGISTER }
 {
     match addr {
@@ -236,7 +238,7 @@ fn push_dp_register<const N: usize>(
 // Appends a register of an access port.
 fn push_ap_register<const N: usize>(text: &mut ArrayString<N>, select: Option<Select>, addr: Reg4)
     requires { array_string_len text.old + LONGEST_REGISTER ≤ N }
-    ensures bytes { text.new.bytes ≡ text.old.bytes ++ ap_register select addr }
+    ensures bytes { text.new.bytes ≡ text.old.bytes ++ capture_ap_name select addr }
     ensures len { array_string_len text.new ≤ array_string_len text.old + LONGEST_REGISTER }
 {
     let Some(select) = select else {
@@ -255,7 +257,7 @@ fn push_register<const N: usize>(
     request: Request,
 )
     requires { array_string_len text.old + LONGEST_REGISTER ≤ N }
-    ensures bytes { text.new.bytes ≡ text.old.bytes ++ register select request }
+    ensures bytes { text.new.bytes ≡ text.old.bytes ++ capture_register_name select request }
     ensures len { array_string_len text.new ≤ array_string_len text.old + LONGEST_REGISTER }
 {
     if request.ap {
@@ -269,7 +271,7 @@ fn push_register<const N: usize>(
 fn push_ending<const N: usize>(text: &mut ArrayString<N>, tx: &Tx)
     requires { array_string_len text.old + LONGEST_TX_LINE ≤ N }
     ensures bytes { text.new.bytes
-        ≡ text.old.bytes ++ (direction tx.now.request.read ++ outcome tx.now.result) }
+        ≡ text.old.bytes ++ (tx_line_direction tx.now.request.read ++ tx_line_outcome tx.now.result) }
     ensures len { array_string_len text.new ≤ array_string_len text.old + LONGEST_TX_LINE }
 {
     let line = tx.line();
@@ -279,7 +281,7 @@ fn push_ending<const N: usize>(text: &mut ArrayString<N>, tx: &Tx)
 /// Appends a transaction's line with the register's name and the flags of its word, without the line feed.
 pub(crate) fn push_named<const N: usize>(text: &mut ArrayString<N>, select: Option<Select>, tx: &Tx)
     requires { array_string_len text.old + LONGEST_NAMED ≤ N }
-    ensures bytes { text.new.bytes ≡ text.old.bytes ++ named_tx select tx.now }
+    ensures bytes { text.new.bytes ≡ text.old.bytes ++ capture_named_tx select tx.now }
     ensures len { array_string_len text.new ≤ array_string_len text.old + LONGEST_NAMED }
 {
     text.push_str(if tx.request.ap { "ap " } else { "dp " });

@@ -3,9 +3,10 @@ ghost use Rattle.std.specs.Prelude.{◌≡◌, ◌+◌, ◌-◌, ◌/◌, ◌%�
 ghost use Rattle.arrayvec.specs.ArrayString.{array_string_len};
 ghost use Rattle.swd_resync.specs.declared.part.Part.{Part};
 ghost use Rattle.swd_trace.specs.declared.item.Item.TheVariants.{Tx as TxItem};
-ghost use Rattle.swd_capture.specs.Tables.{addr_name, addr_rows, direction_rows, end_name, end_row};
-ghost use Rattle.swd_capture.specs.Tables.{item_row, item_weight, other_name, port_rows, row_line, row_name};
-ghost use Rattle.swd_capture.specs.Tables.{row_of, weight_of};
+ghost use Rattle.swd_capture.specs.Tables.{capture_row_addr, capture_addr_rows, capture_direction_rows};
+ghost use Rattle.swd_capture.specs.Tables.{capture_row_end, capture_tx_end_row, capture_item_row, capture_item_weight};
+ghost use Rattle.swd_capture.specs.Tables.{capture_row_other, capture_port_rows, capture_row_line, capture_row_name};
+ghost use Rattle.swd_capture.specs.Tables.{capture_part_row, capture_part_weight};
 
 use arrayvec::ArrayString;
 use swd_bits::{Reg4, Tx, TxEnd};
@@ -32,7 +33,7 @@ pub(crate) struct Table {
 }
 
 fn row_of_end(end: TxEnd) -> usize
-    ensures row { result ≡ end_row end }
+    ensures row { result ≡ capture_tx_end_row end }
     ensures within { result < 5 }
 {
     match end {
@@ -44,14 +45,14 @@ fn row_of_end(end: TxEnd) -> usize
 }
 
 fn rows_of_port(ap: bool) -> usize
-    ensures row { result ≡ port_rows ap }
+    ensures row { result ≡ capture_port_rows ap }
     ensures within { result ≤ 40 }
 {
     if ap { 40 } else { 0 }
 }
 
 fn rows_of_addr(addr: Reg4) -> usize
-    ensures row { result ≡ addr_rows addr }
+    ensures row { result ≡ capture_addr_rows addr }
     ensures within { result ≤ 30 }
 {
     match addr {
@@ -63,14 +64,14 @@ fn rows_of_addr(addr: Reg4) -> usize
 }
 
 fn rows_of_direction(read: bool) -> usize
-    ensures row { result ≡ direction_rows read }
+    ensures row { result ≡ capture_direction_rows read }
     ensures within { result ≤ 5 }
 {
     if read { 0 } else { 5 }
 }
 
 fn row_of_tx(tx: &Tx) -> usize
-    ensures row { result ≡ item_row (TxItem tx.now) }
+    ensures row { result ≡ capture_item_row (TxItem tx.now) }
     ensures within { result < 80 }
 {
     rows_of_port(tx.request.ap)
@@ -81,7 +82,7 @@ fn row_of_tx(tx: &Tx) -> usize
 
 // Returns the row in which an item is counted.
 fn row_of_item(item: &Item) -> usize
-    ensures row { result ≡ item_row item.now }
+    ensures row { result ≡ capture_item_row item.now }
     ensures within { result < ROWS }
 {
     match item {
@@ -96,7 +97,7 @@ fn row_of_item(item: &Item) -> usize
 
 // Returns the row in which a part is counted.
 fn row_of_part(part: &Part) -> usize
-    ensures row { result ≡ row_of part.now }
+    ensures row { result ≡ capture_part_row part.now }
     ensures within { result < ROWS }
 {
     match part {
@@ -107,7 +108,7 @@ fn row_of_part(part: &Part) -> usize
 
 // Returns what an item adds to its row: a number of bits for idle cycles and cut ends, otherwise 1.
 fn weight_of_item(item: &Item) -> u64
-    ensures { result ≡ item_weight item.now }
+    ensures { result ≡ capture_item_weight item.now }
 {
     match item {
         Item::Idle(count) => *count,
@@ -118,7 +119,7 @@ fn weight_of_item(item: &Item) -> u64
 
 // Returns what a part adds to its row.
 fn weight_of_part(part: &Part) -> u64
-    ensures { result ≡ weight_of part.now }
+    ensures { result ≡ capture_part_weight part.now }
 {
     match part {
         Part::Item(item) => weight_of_item(item),
@@ -127,7 +128,7 @@ fn weight_of_part(part: &Part) -> u64
 }
 
 fn end_text(end: usize) -> &'static str
-    ensures bytes { result.now ≡ end_name end }
+    ensures bytes { result.now ≡ capture_row_end end }
     ensures len { length result.now ≤ 6 }
 {
     match end {
@@ -140,7 +141,7 @@ fn end_text(end: usize) -> &'static str
 }
 
 fn other_text(row: usize) -> &'static str
-    ensures bytes { result.now ≡ other_name row }
+    ensures bytes { result.now ≡ capture_row_other row }
     ensures len { length result.now ≤ 6 }
 {
     match row {
@@ -154,7 +155,7 @@ fn other_text(row: usize) -> &'static str
 }
 
 fn addr_text(number: usize) -> &'static str
-    ensures bytes { result.now ≡ addr_name number }
+    ensures bytes { result.now ≡ capture_row_addr number }
     ensures len { length result.now ≤ 2 }
 {
     match number {
@@ -168,7 +169,7 @@ fn addr_text(number: usize) -> &'static str
 // Appends a row's name.
 fn push_row_name<const N: usize>(text: &mut ArrayString<N>, row: usize)
     requires { array_string_len text.old + 17 ≤ N }
-    ensures bytes { text.new.bytes ≡ text.old.bytes ++ row_name row }
+    ensures bytes { text.new.bytes ≡ text.old.bytes ++ capture_row_name row }
     ensures len { array_string_len text.new ≤ array_string_len text.old + 17 }
 {
     if row < TRANSACTION_ROWS {
@@ -184,7 +185,7 @@ fn push_row_name<const N: usize>(text: &mut ArrayString<N>, row: usize)
 // Appends a row's line and its line feed. Appends nothing if the count is 0.
 fn push_row_line<const N: usize>(text: &mut ArrayString<N>, count: u64, row: usize)
     requires { array_string_len text.old + LONGEST_ROW ≤ N }
-    ensures bytes { text.new.bytes ≡ text.old.bytes ++ row_line count (row_name row) }
+    ensures bytes { text.new.bytes ≡ text.old.bytes ++ capture_row_line count (capture_row_name row) }
     ensures len { array_string_len text.new ≤ array_string_len text.old + LONGEST_ROW }
 {
     if count == 0 {
@@ -198,19 +199,20 @@ fn push_row_line<const N: usize>(text: &mut ArrayString<N>, count: u64, row: usi
 }
 
 impl Table {
-    ghost use Rattle.swd_capture.specs.Printing.{junk_parts};
-    ghost use Rattle.swd_capture.specs.Tables.{IsTableOf, row_text};
+    ghost use Rattle.swd_capture.specs.Printing.{capture_junk_parts};
+    ghost use Rattle.swd_capture.specs.Tables.{IsCaptureTableOf, capture_row_printed};
 
     /// Returns an empty table.
     pub(crate) fn new() -> Table
-        ensures { IsTableOf [] result }
+        ensures { IsCaptureTableOf [] result }
     {
         Table { counts: [0; ROWS] }
     }
 
     /// Counts a part in its row.
     pub(crate) fn add(&mut self, part: &Part)
-        ensures { (parts : List Part) → IsTableOf parts self.old → IsTableOf (parts ++ part.now ∷ []) self.new }
+        ensures { (parts : List Part) → IsCaptureTableOf parts self.old
+            → IsCaptureTableOf (parts ++ part.now ∷ []) self.new }
     {
         let row = row_of_part(part);
         self.counts[row] = self.counts[row].saturating_add(weight_of_part(part));
@@ -218,8 +220,8 @@ impl Table {
 
     /// Counts junk bits, each of them a part.
     pub(crate) fn add_junk(&mut self, count: u8)
-        ensures { (parts : List Part) (bits : List Bool) → length bits ≡ count → IsTableOf parts self.old
-            → IsTableOf (parts ++ junk_parts bits) self.new }
+        ensures { (parts : List Part) (bits : List Bool) → length bits ≡ count → IsCaptureTableOf parts self.old
+            → IsCaptureTableOf (parts ++ capture_junk_parts bits) self.new }
     {
         self.counts[JUNK_ROW] = self.counts[JUNK_ROW].saturating_add(u64::from(count));
     }
@@ -228,8 +230,8 @@ impl Table {
     pub(crate) fn push_row<const N: usize>(&self, row: usize, text: &mut ArrayString<N>)
         requires row { row < ROWS }
         requires room { array_string_len text.old + LONGEST_ROW ≤ N }
-        ensures bytes { (parts : List Part) → IsTableOf parts self.now
-            → text.new.bytes ≡ text.old.bytes ++ row_text parts row }
+        ensures bytes { (parts : List Part) → IsCaptureTableOf parts self.now
+            → text.new.bytes ≡ text.old.bytes ++ capture_row_printed parts row }
         ensures len { array_string_len text.new ≤ array_string_len text.old + LONGEST_ROW }
     {
         push_row_line(text, self.counts[row], row);

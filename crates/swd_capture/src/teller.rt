@@ -2,11 +2,12 @@
 ghost use Rattle.std.specs.Prelude.{◌≡◌, ℕ, ◌+◌, ◌-◌, ◌^◌, ◌<◌, ◌≤◌, ◌++◌, ◌∷◌, [], List, Bool, length, min};
 ghost use Rattle.arrayvec.specs.ArrayString.{array_string_len};
 ghost use Rattle.swd_resync.specs.declared.part.Part.{Part};
-ghost use Rattle.swd_resync.specs.AsItems.{items_of_part};
+ghost use Rattle.swd_resync.specs.AsItems.{resync_part_items};
 ghost use Rattle.swd_trace.specs.Texts.{bits_of_items};
 ghost use Rattle.swd_capture.specs.declared.printed.Printed.{Printed};
-ghost use Rattle.swd_capture.specs.Names.{select_from};
-ghost use Rattle.swd_capture.specs.Printing.{first_observer, line_if, part_text, place_if};
+ghost use Rattle.swd_capture.specs.Names.{capture_select_from};
+ghost use Rattle.swd_capture.specs.Printing.{capture_first_observer, capture_line_if, capture_part_line};
+ghost use Rattle.swd_capture.specs.Printing.{capture_place_if};
 
 use crate::bit_count::bit_count;
 use crate::junk_line::Tens;
@@ -50,7 +51,7 @@ pub struct Teller {
 // Appends a place, if lines begin with it.
 fn push_place<const N: usize>(text: &mut ArrayString<N>, places: bool, place: u64)
     requires { array_string_len text.old + LONGEST_PLACE ≤ N }
-    ensures bytes { text.new.bytes ≡ text.old.bytes ++ place_if places place }
+    ensures bytes { text.new.bytes ≡ text.old.bytes ++ capture_place_if places place }
     ensures len { array_string_len text.new ≤ array_string_len text.old + LONGEST_PLACE }
 {
     if !places {
@@ -70,7 +71,7 @@ fn push_item_line<const N: usize>(
     item: &Item,
 )
     requires { array_string_len text.old + LONGEST_LINE ≤ N }
-    ensures bytes { text.new.bytes ≡ text.old.bytes ++ line_if names select item.now }
+    ensures bytes { text.new.bytes ≡ text.old.bytes ++ capture_line_if names select item.now }
     ensures len { array_string_len text.new ≤ array_string_len text.old + LONGEST_LINE }
 {
     if names && let Item::Tx(tx) = item {
@@ -88,7 +89,7 @@ fn push_part_line<const N: usize>(
     part: &Part,
 )
     requires { array_string_len text.old + LONGEST_LINE ≤ N }
-    ensures bytes { text.new.bytes ≡ text.old.bytes ++ part_text names select part.now }
+    ensures bytes { text.new.bytes ≡ text.old.bytes ++ capture_part_line names select part.now }
     ensures len { array_string_len text.new ≤ array_string_len text.old + LONGEST_LINE }
 {
     match part {
@@ -99,7 +100,7 @@ fn push_part_line<const N: usize>(
 
 // Returns what is known of SELECT after a part.
 fn selected_behind(select: Option<Select>, over: bool, part: &Part) -> Option<Select>
-    ensures { result ≡ select_from select (items_of_part over part.now) }
+    ensures { result ≡ capture_select_from select (resync_part_items over part.now) }
 {
     match part {
         Part::Item(item) => selected_after(select, item),
@@ -109,7 +110,7 @@ fn selected_behind(select: Option<Select>, over: bool, part: &Part) -> Option<Se
 
 // Returns the number of bits before the next part, at most 2^64 - 1.
 fn place_behind_part(place: u64, over: bool, part: &Part) -> u64
-    ensures { result ≡ min (place + length (bits_of_items (items_of_part over part.now))) (2 ^ 64 - 1) }
+    ensures { result ≡ min (place + length (bits_of_items (resync_part_items over part.now))) (2 ^ 64 - 1) }
 {
     match part {
         Part::Item(item) => place
@@ -121,7 +122,7 @@ fn place_behind_part(place: u64, over: bool, part: &Part) -> u64
 
 // Returns the observer before the first part.
 fn observer_of_printed(printed: Printed) -> TraceObserver
-    ensures { result ≡ first_observer printed }
+    ensures { result ≡ capture_first_observer printed }
 {
     match printed {
         Printed::Accesses { made: true } => TraceObserver::of_made(),
@@ -130,15 +131,16 @@ fn observer_of_printed(printed: Printed) -> TraceObserver
 }
 
 impl Teller {
-    ghost use Rattle.swd_bits.specs.BitLists.{bits_of};
-    ghost use Rattle.swd_capture.specs.Printing.{end_row_text, entry, junk_parts, row_count, told};
+    ghost use Rattle.swd_bits.specs.BitLists.{tx_bits_of};
+    ghost use Rattle.swd_capture.specs.Printing.{capture_end_row_printed, capture_printed_entry, capture_junk_parts};
+    ghost use Rattle.swd_capture.specs.Printing.{capture_row_count, capture_printed_parts};
     ghost use Rattle.swd_capture.specs.declared.printed.Printed.TheVariants.{Lines};
-    ghost use Rattle.swd_capture.specs.Tellers.{IsAfter};
+    ghost use Rattle.swd_capture.specs.Tellers.{IsCaptureTellerAfter};
 
     /// Returns a teller that was given no parts. `over` says that the host uses overrun detection (IHI 0031, B4), so
     /// that a data phase follows WAIT and FAULT.
     pub fn new(printed: Printed, over: bool) -> Teller
-        ensures { IsAfter printed over [] result }
+        ensures { IsCaptureTellerAfter printed over [] result }
     {
         Teller {
             printed,
@@ -154,10 +156,12 @@ impl Teller {
     /// Takes the next part, and appends its output to `text`.
     pub fn tell<const N: usize>(&mut self, part: &Part, text: &mut ArrayString<N>)
         requires { array_string_len text.old + LONGEST_ENTRY ≤ N }
-        ensures after { (printed : Printed) (over : Bool) (parts : List Part) → IsAfter printed over parts self.old
-            → IsAfter printed over (parts ++ part.now ∷ []) self.new }
-        ensures bytes { (printed : Printed) (over : Bool) (parts : List Part) → IsAfter printed over parts self.old
-            → text.new.bytes ≡ text.old.bytes ++ entry printed over parts part.now }
+        ensures after { (printed : Printed) (over : Bool) (parts : List Part)
+            → IsCaptureTellerAfter printed over parts self.old
+            → IsCaptureTellerAfter printed over (parts ++ part.now ∷ []) self.new }
+        ensures bytes { (printed : Printed) (over : Bool) (parts : List Part)
+            → IsCaptureTellerAfter printed over parts self.old
+            → text.new.bytes ≡ text.old.bytes ++ capture_printed_entry printed over parts part.now }
         ensures len { array_string_len text.new ≤ array_string_len text.old + LONGEST_ENTRY }
     {
         match self.printed {
@@ -172,11 +176,14 @@ impl Teller {
     pub fn tell_junk<const N: usize>(&mut self, junk: TxBits, text: &mut ArrayString<N>)
         requires few { junk.len ≤ MOST_JUNK }
         requires room { array_string_len text.old + LONGEST_ENTRY ≤ N }
-        ensures after { (printed : Printed) (over : Bool) (parts : List Part) → IsAfter printed over parts self.old
-            → IsAfter printed over (parts ++ junk_parts (bits_of junk)) self.new }
-        ensures bytes { (printed : Printed) (over : Bool) (parts : List Part) → IsAfter printed over parts self.old
+        ensures after { (printed : Printed) (over : Bool) (parts : List Part)
+            → IsCaptureTellerAfter printed over parts self.old
+            → IsCaptureTellerAfter printed over (parts ++ capture_junk_parts (tx_bits_of junk)) self.new }
+        ensures bytes { (printed : Printed) (over : Bool) (parts : List Part)
+            → IsCaptureTellerAfter printed over parts self.old
             → (more : List ℕ) × (text.new.bytes ≡ text.old.bytes ++ more)
-            × (told printed over (parts ++ junk_parts (bits_of junk)) ≡ told printed over parts ++ more) }
+            × (capture_printed_parts printed over (parts ++ capture_junk_parts (tx_bits_of junk))
+            ≡ capture_printed_parts printed over parts ++ more) }
         ensures len { array_string_len text.new ≤ array_string_len text.old + LONGEST_ENTRY }
     {
         match self.printed {
@@ -199,11 +206,12 @@ impl Teller {
     )
         requires few { junk.len ≤ MOST_JUNK }
         requires room { array_string_len text.old + LONGEST_ENTRY ≤ N }
-        ensures after { (over : Bool) (parts : List Part) → IsAfter (Lines form) over parts self.old
-            → IsAfter (Lines form) over (parts ++ junk_parts (bits_of junk)) self.new }
-        ensures bytes { (over : Bool) (parts : List Part) → IsAfter (Lines form) over parts self.old
+        ensures after { (over : Bool) (parts : List Part) → IsCaptureTellerAfter (Lines form) over parts self.old
+            → IsCaptureTellerAfter (Lines form) over (parts ++ capture_junk_parts (tx_bits_of junk)) self.new }
+        ensures bytes { (over : Bool) (parts : List Part) → IsCaptureTellerAfter (Lines form) over parts self.old
             → (more : List ℕ) × (text.new.bytes ≡ text.old.bytes ++ more)
-            × (told (Lines form) over (parts ++ junk_parts (bits_of junk)) ≡ told (Lines form) over parts ++ more) }
+            × (capture_printed_parts (Lines form) over (parts ++ capture_junk_parts (tx_bits_of junk))
+            ≡ capture_printed_parts (Lines form) over parts ++ more) }
         ensures len { array_string_len text.new ≤ array_string_len text.old + LONGEST_ENTRY }
     {
         let mut place = self.place;
@@ -227,10 +235,11 @@ impl Teller {
         ensures printed { self.new.printed ≡ self.old.printed }
         ensures over { self.new.over ≡ self.old.over }
         ensures place { self.new.place
-            ≡ min (self.old.place + length (bits_of_items (items_of_part self.old.over part.now))) (2 ^ 64 - 1) }
-        ensures select { self.new.select ≡ select_from self.old.select (items_of_part self.old.over part.now) }
-        ensures bytes { text.new.bytes ≡ text.old.bytes ++ (place_if form.places self.old.place
-            ++ part_text form.names self.old.select part.now ++ 10 ∷ []) }
+            ≡ min (self.old.place + length (bits_of_items (resync_part_items self.old.over part.now))) (2 ^ 64 - 1) }
+        ensures select { self.new.select ≡ capture_select_from self.old.select
+            (resync_part_items self.old.over part.now) }
+        ensures bytes { text.new.bytes ≡ text.old.bytes ++ (capture_place_if form.places self.old.place
+            ++ capture_part_line form.names self.old.select part.now ++ 10 ∷ []) }
         ensures len { array_string_len text.new ≤ array_string_len text.old + LONGEST_ENTRY }
     {
         push_place(text, form.places, self.place);
@@ -242,8 +251,9 @@ impl Teller {
 
     /// Returns how many rows are printed at the end.
     pub fn rows(&self) -> usize
-        ensures count { (printed : Printed) (over : Bool) (parts : List Part) → IsAfter printed over parts self.now
-            → result ≡ row_count printed }
+        ensures count { (printed : Printed) (over : Bool) (parts : List Part)
+            → IsCaptureTellerAfter printed over parts self.now
+            → result ≡ capture_row_count printed }
         ensures most { result ≤ ROWS }
     {
         match self.printed {
@@ -257,8 +267,9 @@ impl Teller {
     pub fn push_row<const N: usize>(&self, row: usize, text: &mut ArrayString<N>)
         requires row { row < ROWS }
         requires room { array_string_len text.old + LONGEST_ENTRY ≤ N }
-        ensures bytes { (printed : Printed) (over : Bool) (parts : List Part) → IsAfter printed over parts self.now
-            → text.new.bytes ≡ text.old.bytes ++ end_row_text printed over parts row }
+        ensures bytes { (printed : Printed) (over : Bool) (parts : List Part)
+            → IsCaptureTellerAfter printed over parts self.now
+            → text.new.bytes ≡ text.old.bytes ++ capture_end_row_printed printed over parts row }
         ensures len { array_string_len text.new ≤ array_string_len text.old + LONGEST_ENTRY }
     {
         match self.printed {

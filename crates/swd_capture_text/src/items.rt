@@ -1,6 +1,6 @@
 //! Prints the items of a trace.
-ghost use Rattle.swd_io.specs.Blocks.{Writes};
-ghost use Rattle.swd_capture_text.specs.Captures.{printout_of_items};
+ghost use Rattle.swd_io.specs.Blocks.{WritesOutput};
+ghost use Rattle.swd_capture_text.specs.Captures.{print_items_output};
 
 use crate::queue::{put_part, put_rows};
 use arrayvec::ArrayString;
@@ -17,7 +17,7 @@ use swd_trace::Item;
 ///
 /// If the writer fails or takes no bytes: how many bytes of the output were written. These are exactly its first ones.
 pub fn print_items<W: Write>(printed: Printed, writer: &mut W, items: &[Item]) -> Result<(), u64>
-    ensures { Writes result (W.contents writer.old) (W.contents writer.new) (printout_of_items printed items.now) }
+    ensures { WritesOutput result (W.contents writer.old) (W.contents writer.new) (print_items_output printed items.now) }
 {
     let mut teller = Teller::new(printed, false);
     let mut line = ArrayString::new();

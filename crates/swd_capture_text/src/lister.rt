@@ -1,20 +1,22 @@
 //! Prints a trace text piece by piece.
 ghost use Rattle.std.specs.Prelude.{◌≡◌, ℕ, ◌+◌, ◌-◌, ◌^◌, ◌<◌, ◌≤◌, min, List, Bool, true, false, [], ◌∷◌, ◌++◌};
 ghost use Rattle.std.specs.Prelude.{length, take, OnOk, OnErr, IfErr};
-ghost use Rattle.swd_io.specs.Blocks.{Sends};
-ghost use Rattle.swd_io.specs.Pieces.{LeadsOn, LeadsToEnd};
-ghost use Rattle.swd_io.proofs.PieceLemmas.{leads_nowhere, leads_further, leads_to_later_end};
+ghost use Rattle.swd_io.specs.Blocks.{BlockBufferSends};
+ghost use Rattle.swd_io.specs.Pieces.{LeadsConsumerOn, LeadsConsumerToEnd};
+ghost use Rattle.swd_io.proofs.PieceLemmas.{consumer_reads_no_byte, consumer_pieces_join, consumer_pieces_fault};
 ghost use Rattle.swd_bits.specs.Bits.{low_bits};
-ghost use Rattle.swd_bits.specs.BitLists.{bits_of};
+ghost use Rattle.swd_bits.specs.BitLists.{tx_bits_of};
 ghost use Rattle.swd_resync.specs.declared.part.Part.{Part};
-ghost use Rattle.swd_text.specs.Listers.{StopsAt};
-ghost use Rattle.swd_capture.specs.Printing.{junk_parts};
-ghost use Rattle.swd_capture.specs.Tellers.{IsAfter};
-ghost use Rattle.swd_capture_text.specs.Captures.{Finishes};
-ghost use Rattle.swd_capture_text.specs.Listers.{Start, IsBehind, told_of, Tells, Lists, GoesOn, Listed, HasRead, StopsIn};
-ghost use Rattle.swd_capture_text.specs.Listers.{Ends};
-ghost use Rattle.swd_capture_text.specs.Readings.{Decides, is_over, parts_by};
-ghost use Rattle.swd_capture_text.specs.Sources.{Has, IsReady, fed_of};
+ghost use Rattle.swd_text.specs.Listers.{DecodeTextStopsAt};
+ghost use Rattle.swd_capture.specs.Printing.{capture_junk_parts};
+ghost use Rattle.swd_capture.specs.Tellers.{IsCaptureTellerAfter};
+ghost use Rattle.swd_capture_text.specs.Captures.{CaptureTextFinishes};
+ghost use Rattle.swd_capture_text.specs.Listers.{PrintStart, CaptureTextTellerAfter, capture_text_output};
+ghost use Rattle.swd_capture_text.specs.Listers.{CaptureTextQueues, CaptureTextLists, CaptureTextContinues};
+ghost use Rattle.swd_capture_text.specs.Listers.{CaptureTextListed, CaptureTextHasRead, CaptureTextStopsIn};
+ghost use Rattle.swd_capture_text.specs.Listers.{CaptureTextEnds};
+ghost use Rattle.swd_capture_text.specs.Readings.{SourceDecides, is_over, source_reading_parts};
+ghost use Rattle.swd_capture_text.specs.Sources.{SourceHas, IsSourceReady, source_fed};
 
 use crate::queue::{put_part, put_rows};
 use crate::reading::Reading;
@@ -32,7 +34,7 @@ const MOST_FED: u64 = u64::MAX - WIDTH as u64;
 
 /// A consumer of a trace text. It writes the output of each part as soon as the part is decided.
 #[derive(Drop)]
-pub(crate) struct Lister {
+pub(crate) struct CaptureLister {
     scan: Scan,
     source: Source,
     teller: Teller,
@@ -52,8 +54,9 @@ fn put_junk<W: Write>(
     teller: &mut Teller,
     junk: TxBits,
 )
-    ensures tells { (start : Start) (parts : List Part) → Tells W.contents start teller.old block.old parts
-        → Tells W.contents start teller.new block.new (parts ++ junk_parts (bits_of junk)) }
+    ensures tells { (start : PrintStart) (parts : List Part)
+        → CaptureTextQueues W.contents start teller.old block.old parts
+        → CaptureTextQueues W.contents start teller.new block.new (parts ++ capture_junk_parts (tx_bits_of junk)) }
     ensures writer { block.new.writer.ghost_name ≡ block.old.writer.ghost_name }
 {
     let mut bits = junk.bits;
@@ -68,18 +71,18 @@ fn put_junk<W: Write>(
     }
 }
 
-impl Lister {
-    pub(crate) fn new(reading: Reading, printed: Printed) -> Lister
-        ensures ready { IsReady result.source }
-        ensures has { Has reading result.source [] [] }
-        ensures decides { Decides reading [] [] }
-        ensures fed { fed_of result.source ≡ 0 }
+impl CaptureLister {
+    pub(crate) fn new(reading: Reading, printed: Printed) -> CaptureLister
+        ensures ready { IsSourceReady result.source }
+        ensures has { SourceHas reading result.source [] [] }
+        ensures decides { SourceDecides reading [] [] }
+        ensures fed { source_fed result.source ≡ 0 }
         ensures scan { result.scan ≡ false }
         ensures place { result.place ≡ 0 }
         ensures written { result.written ≡ 0 }
-        ensures after { IsAfter printed (is_over reading) [] result.teller }
+        ensures after { IsCaptureTellerAfter printed (is_over reading) [] result.teller }
     {
-        Lister {
+        CaptureLister {
             scan: Scan::new(),
             source: Source::new(reading),
             teller: Teller::new(printed, reading.is_over()),
@@ -92,9 +95,9 @@ impl Lister {
     // Also queues the output of the junk bits that are due.
     #[inline(always)]
     fn put_lost<W: Write>(&mut self, block: &mut Block<'_, W>)
-        ensures lists { (start : Start) (bits : List Bool) (parts : List Part)
-            → Lists W.contents start self.old.source self.old.teller block.old bits parts
-            → (more : List Part) × Lists W.contents start self.new.source self.new.teller block.new bits more }
+        ensures lists { (start : PrintStart) (bits : List Bool) (parts : List Part)
+            → CaptureTextLists W.contents start self.old.source self.old.teller block.old bits parts
+            → (more : List Part) × CaptureTextLists W.contents start self.new.source self.new.teller block.new bits more }
         ensures scan { self.new.scan ≡ self.old.scan }
         ensures place { self.new.place ≡ self.old.place }
         ensures writer { block.new.writer.ghost_name ≡ block.old.writer.ghost_name }
@@ -106,11 +109,11 @@ impl Lister {
 
     // Also queues the output of the parts that are due.
     fn put_due<W: Write>(&mut self, block: &mut Block<'_, W>)
-        ensures lists { (start : Start) (bits : List Bool) (parts : List Part)
-            → Lists W.contents start self.old.source self.old.teller block.old bits parts
-            → (more : List Part) × Lists W.contents start self.new.source self.new.teller block.new bits more
-            × Decides start.reading bits more }
-        ensures ready { IsReady self.new.source }
+        ensures lists { (start : PrintStart) (bits : List Bool) (parts : List Part)
+            → CaptureTextLists W.contents start self.old.source self.old.teller block.old bits parts
+            → (more : List Part) × CaptureTextLists W.contents start self.new.source self.new.teller block.new bits more
+            × SourceDecides start.reading bits more }
+        ensures ready { IsSourceReady self.new.source }
         ensures scan { self.new.scan ≡ self.old.scan }
         ensures place { self.new.place ≡ self.old.place }
         ensures writer { block.new.writer.ghost_name ≡ block.old.writer.ghost_name }
@@ -124,17 +127,17 @@ impl Lister {
     // Takes a bit, unless it is one too many.
     #[inline(always)]
     fn bit<W: Write>(&mut self, block: &mut Block<'_, W>, bit: bool) -> Result<(), TextFault>
-        requires { IsReady self.old.source }
-        ensures ok { OnOk result ((start : Start) (bits : List Bool) (parts : List Part)
-            → Lists W.contents start self.old.source self.old.teller block.old bits parts
+        requires { IsSourceReady self.old.source }
+        ensures ok { OnOk result ((start : PrintStart) (bits : List Bool) (parts : List Part)
+            → CaptureTextLists W.contents start self.old.source self.old.teller block.old bits parts
             → (more : List Part)
-            × Lists W.contents start self.new.source self.new.teller block.new (bits ++ bit ∷ []) more
-            × Decides start.reading (bits ++ bit ∷ []) more) }
-        ensures ready { IsReady self.new.source }
+            × CaptureTextLists W.contents start self.new.source self.new.teller block.new (bits ++ bit ∷ []) more
+            × SourceDecides start.reading (bits ++ bit ∷ []) more) }
+        ensures ready { IsSourceReady self.new.source }
         ensures scan { self.new.scan ≡ self.old.scan }
         ensures place { self.new.place ≡ self.old.place }
         ensures writer { block.new.writer.ghost_name ≡ block.old.writer.ghost_name }
-        ensures long { IfErr result (λ fault. (fault ≡ TextFault.TooLong) × (fed_of self.old.source ≡ 2 ^ 64 - 1)) }
+        ensures long { IfErr result (λ fault. (fault ≡ TextFault.TooLong) × (source_fed self.old.source ≡ 2 ^ 64 - 1)) }
         ensures same { OnErr result ((self.new ≡ self.old) × (block.new ≡ block.old)) }
     {
         if self.source.fed() == u64::MAX {
@@ -153,18 +156,18 @@ impl Lister {
         byte: u8,
         index: usize,
     ) -> Result<(), TextFault>
-        requires { IsReady self.old.source }
-        ensures ready { IsReady self.new.source }
+        requires { IsSourceReady self.old.source }
+        ensures ready { IsSourceReady self.new.source }
         ensures place { self.new.place ≡ self.old.place }
         ensures writer { block.new.writer.ghost_name ≡ block.old.writer.ghost_name }
-        ensures ok { OnOk result ((start : Start) (seen : List ℕ)
-            → GoesOn W.contents start self.old block.old seen
-            → GoesOn W.contents start self.new block.new (seen ++ byte ∷ [])) }
-        ensures err { IfErr result (λ fault. (start : Start) (seen : List ℕ)
-            → GoesOn W.contents start self.old block.old seen
-            → StopsAt fault (min (self.old.place + index) (2 ^ 64 - 1)) seen byte
+        ensures ok { OnOk result ((start : PrintStart) (seen : List ℕ)
+            → CaptureTextContinues W.contents start self.old block.old seen
+            → CaptureTextContinues W.contents start self.new block.new (seen ++ byte ∷ [])) }
+        ensures err { IfErr result (λ fault. (start : PrintStart) (seen : List ℕ)
+            → CaptureTextContinues W.contents start self.old block.old seen
+            → DecodeTextStopsAt fault (min (self.old.place + index) (2 ^ 64 - 1)) seen byte
             × ((comment : Bool)
-            × Listed W.contents start self.new.source comment self.new.teller block.new seen)) }
+            × CaptureTextListed W.contents start self.new.source comment self.new.teller block.new seen)) }
     {
         match self.scan.byte(byte) {
             Sign::Passed => Ok(()),
@@ -181,7 +184,7 @@ impl Lister {
     fn may_take_digits(&self, text: &[u8]) -> bool
         ensures long { result ≡ true → WIDTH ≤ length text.now }
         ensures outside { result ≡ true → self.now.scan ≡ false }
-        ensures room { result ≡ true → fed_of self.now.source + WIDTH < 2 ^ 64 }
+        ensures room { result ≡ true → source_fed self.now.source + WIDTH < 2 ^ 64 }
     {
         text.len() >= WIDTH
             && text[0] >= b'0'
@@ -191,17 +194,18 @@ impl Lister {
 
     // Takes one or more of the lowest `count` bits, and returns how many.
     fn bits_at_once<W: Write>(&mut self, block: &mut Block<'_, W>, bits: u64, count: u8) -> u8
-        requires ready { IsReady self.old.source }
+        requires ready { IsSourceReady self.old.source }
         requires some { 0 < count }
         requires within { count ≤ 64 }
-        requires room { fed_of self.old.source + count < 2 ^ 64 }
+        requires room { source_fed self.old.source + count < 2 ^ 64 }
         ensures most { result ≤ count }
-        ensures lists { (start : Start) (before : List Bool) (parts : List Part)
-            → Lists W.contents start self.old.source self.old.teller block.old before parts
+        ensures lists { (start : PrintStart) (before : List Bool) (parts : List Part)
+            → CaptureTextLists W.contents start self.old.source self.old.teller block.old before parts
             → (more : List Part)
-            × Lists W.contents start self.new.source self.new.teller block.new (before ++ low_bits result bits) more
-            × Decides start.reading (before ++ low_bits result bits) more }
-        ensures ready { IsReady self.new.source }
+            × CaptureTextLists W.contents start self.new.source self.new.teller block.new
+            (before ++ low_bits result bits) more
+            × SourceDecides start.reading (before ++ low_bits result bits) more }
+        ensures ready { IsSourceReady self.new.source }
         ensures scan { self.new.scan ≡ self.old.scan }
         ensures place { self.new.place ≡ self.old.place }
         ensures writer { block.new.writer.ghost_name ≡ block.old.writer.ghost_name }
@@ -213,13 +217,14 @@ impl Lister {
 
     // Takes digits at the front of a text at once, and returns how many: 0 or more.
     fn digits<W: Write>(&mut self, block: &mut Block<'_, W>, text: &[u8]) -> usize
-        requires { IsReady self.old.source }
-        ensures ready { IsReady self.new.source }
+        requires { IsSourceReady self.old.source }
+        ensures ready { IsSourceReady self.new.source }
         ensures place { self.new.place ≡ self.old.place }
         ensures writer { block.new.writer.ghost_name ≡ block.old.writer.ghost_name }
         ensures within { result ≤ length text.now }
-        ensures taken { (start : Start) (seen : List ℕ) → GoesOn W.contents start self.old block.old seen
-            → GoesOn W.contents start self.new block.new (seen ++ take result text.now) }
+        ensures taken { (start : PrintStart) (seen : List ℕ)
+            → CaptureTextContinues W.contents start self.old block.old seen
+            → CaptureTextContinues W.contents start self.new block.new (seen ++ take result text.now) }
     {
         if !self.may_take_digits(text) {
             return 0;
@@ -234,13 +239,14 @@ impl Lister {
     // Takes bytes at the front of a text at once, and returns how many: those of an open comment, or digits, or 0.
     #[inline(always)]
     fn bytes_at_once<W: Write>(&mut self, block: &mut Block<'_, W>, text: &[u8]) -> usize
-        requires { IsReady self.old.source }
-        ensures ready { IsReady self.new.source }
+        requires { IsSourceReady self.old.source }
+        ensures ready { IsSourceReady self.new.source }
         ensures place { self.new.place ≡ self.old.place }
         ensures writer { block.new.writer.ghost_name ≡ block.old.writer.ghost_name }
         ensures within { result ≤ length text.now }
-        ensures taken { (start : Start) (seen : List ℕ) → GoesOn W.contents start self.old block.old seen
-            → GoesOn W.contents start self.new block.new (seen ++ take result text.now) }
+        ensures taken { (start : PrintStart) (seen : List ℕ)
+            → CaptureTextContinues W.contents start self.old block.old seen
+            → CaptureTextContinues W.contents start self.new block.new (seen ++ take result text.now) }
     {
         if self.scan.in_comment() {
             return comment_len(text);
@@ -250,17 +256,17 @@ impl Lister {
 
     // Takes the bytes of a piece, up to the first one that isn't allowed.
     fn bytes<W: Write>(&mut self, block: &mut Block<'_, W>, piece: &[u8]) -> Result<(), TextFault>
-        requires { IsReady self.old.source }
-        ensures ready { IsReady self.new.source }
+        requires { IsSourceReady self.old.source }
+        ensures ready { IsSourceReady self.new.source }
         ensures writer { block.new.writer.ghost_name ≡ block.old.writer.ghost_name }
-        ensures ok { OnOk result ((start : Start) (seen : List ℕ)
-            → GoesOn W.contents start self.old block.old seen
-            → GoesOn W.contents start self.new block.new (seen ++ piece.now)) }
+        ensures ok { OnOk result ((start : PrintStart) (seen : List ℕ)
+            → CaptureTextContinues W.contents start self.old block.old seen
+            → CaptureTextContinues W.contents start self.new block.new (seen ++ piece.now)) }
         ensures place { OnOk result (self.new.place ≡ min (self.old.place + length piece.now) (2 ^ 64 - 1)) }
-        ensures err { IfErr result (λ fault. (start : Start) (seen : List ℕ)
-            → GoesOn W.contents start self.old block.old seen
+        ensures err { IfErr result (λ fault. (start : PrintStart) (seen : List ℕ)
+            → CaptureTextContinues W.contents start self.old block.old seen
             → self.old.place ≡ min (length seen) (2 ^ 64 - 1)
-            → StopsIn W.contents start block.new fault (seen ++ piece.now)) }
+            → CaptureTextStopsIn W.contents start block.new fault (seen ++ piece.now)) }
     {
         let mut index = 0;
         while index < piece.len() {
@@ -280,10 +286,11 @@ impl Lister {
 
     // Also queues the output of the parts that the end of the bits decides.
     fn put_last<W: Write>(&mut self, block: &mut Block<'_, W>)
-        ensures lists { (start : Start) (bits : List Bool) (parts : List Part)
-            → Lists W.contents start self.old.source self.old.teller block.old bits parts
-            → IsBehind start (parts_by start.reading bits) self.new.teller
-            × Sends W.contents start.from block.new (told_of start (parts_by start.reading bits)) }
+        ensures lists { (start : PrintStart) (bits : List Bool) (parts : List Part)
+            → CaptureTextLists W.contents start self.old.source self.old.teller block.old bits parts
+            → CaptureTextTellerAfter start (source_reading_parts start.reading bits) self.new.teller
+            × BlockBufferSends W.contents start.from block.new
+            (capture_text_output start (source_reading_parts start.reading bits)) }
         ensures writer { block.new.writer.ghost_name ≡ block.old.writer.ghost_name }
     {
         while let Some(part) = self.source.last() {
@@ -298,8 +305,8 @@ impl Lister {
     /// If the writer fails: how many bytes of the output were written, at most 2^64 - 1. These are exactly its first
     /// ones.
     pub(crate) fn finish<W: Write>(&mut self, writer: &mut W) -> Result<(), u64>
-        ensures { (start : Start) (seen : List ℕ) → HasRead W.contents start (self.old, writer.old) seen
-            → Finishes start.reading start.printed result seen start.from (W.contents writer.new) }
+        ensures { (start : PrintStart) (seen : List ℕ) → CaptureTextHasRead W.contents start (self.old, writer.old) seen
+            → CaptureTextFinishes start.reading start.printed result seen start.from (W.contents writer.new) }
     {
         let mut block = Block::new(writer, self.written);
         self.put_last(&mut block);
@@ -311,14 +318,14 @@ impl Lister {
     }
 }
 
-impl<W: Write> Consumer<W> for Lister {
+impl<W: Write> Consumer<W> for CaptureLister {
     type Fault = TakeFault;
 
-    ghost can_take = { λ lister. IsReady lister.source };
+    ghost can_take = { λ lister. IsSourceReady lister.source };
 
-    ghost takes = { LeadsOn (HasRead W.contents) };
+    ghost takes = { LeadsConsumerOn (CaptureTextHasRead W.contents) };
 
-    ghost stops = { LeadsToEnd (HasRead W.contents) (Ends W.contents) };
+    ghost stops = { LeadsConsumerToEnd (CaptureTextHasRead W.contents) (CaptureTextEnds W.contents) };
 
     // Writes what the piece decides before more is read.
     fn take(&mut self, writer: &mut W, piece: &[u8]) -> Result<(), TakeFault> {
@@ -334,9 +341,9 @@ impl<W: Write> Consumer<W> for Lister {
         }
     }
 
-    ghost takes_nothing = { leads_nowhere (HasRead W.contents) };
+    ghost takes_nothing = { consumer_reads_no_byte (CaptureTextHasRead W.contents) };
 
-    ghost takes_on = { leads_further (HasRead W.contents) };
+    ghost takes_on = { consumer_pieces_join (CaptureTextHasRead W.contents) };
 
-    ghost stops_later = { leads_to_later_end (HasRead W.contents) (Ends W.contents) };
+    ghost stops_later = { consumer_pieces_fault (CaptureTextHasRead W.contents) (CaptureTextEnds W.contents) };
 }

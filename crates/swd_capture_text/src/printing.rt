@@ -1,7 +1,7 @@
 //! The engine of `swd decode` with an option: prints a trace text.
 ghost use Rattle.swd_capture_text.specs.Captures.{Prints};
 
-use crate::lister::Lister;
+use crate::lister::CaptureLister;
 use crate::reading::Reading;
 use std::io::{Read, Write};
 use swd_capture::Printed;
@@ -27,7 +27,7 @@ pub fn print_capture<R: Read, W: Write>(
     ensures { Prints reading printed result (R.remaining reader.old) (R.remaining reader.new)
         (W.contents writer.old) (W.contents writer.new) }
 {
-    let mut lister = Lister::new(reading, printed);
+    let mut lister = CaptureLister::new(reading, printed);
     match read_pieces(reader, writer, &mut lister) {
         Ok(()) => {}
         Err(unread) => return Err(DecodeFault::of(unread)),

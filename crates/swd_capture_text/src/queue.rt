@@ -1,10 +1,11 @@
 //! Queues the output of parts, and of the end.
 ghost use Rattle.std.specs.Prelude.{◌≡◌, ℕ, List, Bool, ◌<◌, ◌∷◌, [], ◌++◌, Option};
-ghost use Rattle.swd_io.specs.Blocks.{Sends};
+ghost use Rattle.swd_io.specs.Blocks.{BlockBufferSends, BlockQueues};
 ghost use Rattle.swd_resync.specs.declared.part.Part.{Part};
 ghost use Rattle.swd_capture.specs.declared.printed.Printed.{Printed};
-ghost use Rattle.swd_capture.specs.Printing.{end_row_text, entry, printout, told};
-ghost use Rattle.swd_capture.specs.Tellers.{IsAfter};
+ghost use Rattle.swd_capture.specs.Printing.{capture_end_row_printed, capture_printed_entry, capture_printout};
+ghost use Rattle.swd_capture.specs.Printing.{capture_printed_parts};
+ghost use Rattle.swd_capture.specs.Tellers.{IsCaptureTellerAfter};
 
 use arrayvec::ArrayString;
 use std::io::Write;
@@ -20,11 +21,12 @@ pub(crate) fn put_part<W: Write>(
     teller: &mut Teller,
     part: &Part,
 )
-    ensures after { (printed : Printed) (over : Bool) (parts : List Part) → IsAfter printed over parts teller.old
-        → IsAfter printed over (parts ++ part.now ∷ []) teller.new }
-    ensures sends { (printed : Printed) (over : Bool) (parts : List Part) → IsAfter printed over parts teller.old
-        → (start : Option (List ℕ)) (all : List ℕ) → Sends W.contents start block.old all
-        → Sends W.contents start block.new (all ++ entry printed over parts part.now) }
+    ensures after { (printed : Printed) (over : Bool) (parts : List Part)
+        → IsCaptureTellerAfter printed over parts teller.old
+        → IsCaptureTellerAfter printed over (parts ++ part.now ∷ []) teller.new }
+    ensures sends { (printed : Printed) (over : Bool) (parts : List Part)
+        → IsCaptureTellerAfter printed over parts teller.old
+        → BlockQueues W.contents (capture_printed_entry printed over parts part.now) block.old block.new }
     ensures writer { block.new.writer.ghost_name ≡ block.old.writer.ghost_name }
 {
     line.clear();
@@ -40,9 +42,9 @@ fn put_row<W: Write>(
     row: usize,
 )
     requires { row < ROWS }
-    ensures sends { (printed : Printed) (over : Bool) (parts : List Part) → IsAfter printed over parts teller.now
-        → (start : Option (List ℕ)) (all : List ℕ) → Sends W.contents start block.old all
-        → Sends W.contents start block.new (all ++ end_row_text printed over parts row) }
+    ensures sends { (printed : Printed) (over : Bool) (parts : List Part)
+        → IsCaptureTellerAfter printed over parts teller.now
+        → BlockQueues W.contents (capture_end_row_printed printed over parts row) block.old block.new }
     ensures writer { block.new.writer.ghost_name ≡ block.old.writer.ghost_name }
 {
     line.clear();
@@ -57,8 +59,9 @@ pub(crate) fn put_rows<W: Write>(
     teller: &Teller,
 )
     ensures sends { (start : Option (List ℕ)) (printed : Printed) (over : Bool) (parts : List Part)
-        → IsAfter printed over parts teller.now → Sends W.contents start block.old (told printed over parts)
-        → Sends W.contents start block.new (printout printed over parts) }
+        → IsCaptureTellerAfter printed over parts teller.now
+        → BlockBufferSends W.contents start block.old (capture_printed_parts printed over parts)
+        → BlockBufferSends W.contents start block.new (capture_printout printed over parts) }
     ensures writer { block.new.writer.ghost_name ≡ block.old.writer.ghost_name }
 {
     for row in 0..teller.rows() {

@@ -16,19 +16,20 @@ pub enum Source {
 impl Source {
     ghost use Rattle.std.specs.Prelude.{◌≡◌, ◌+◌, ◌-◌, ◌^◌, ◌<◌, ◌≤◌, List, Bool, [], ◌∷◌, ◌++◌, IfSome, IfNone};
     ghost use Rattle.swd_bits.specs.Bits.{low_bits};
-    ghost use Rattle.swd_bits.specs.BitLists.{bits_of};
+    ghost use Rattle.swd_bits.specs.BitLists.{tx_bits_of};
     ghost use Rattle.swd_resync.specs.declared.part.Part;
-    ghost use Rattle.swd_capture.specs.Printing.{junk_parts};
+    ghost use Rattle.swd_capture.specs.Printing.{capture_junk_parts};
     ghost use Rattle.swd_capture_text.specs.declared.reading.Reading;
-    ghost use Rattle.swd_capture_text.specs.Readings.{Decides, parts_by};
-    ghost use Rattle.swd_capture_text.specs.Sources.{EndsAt, Has, IsReady, fed_of, steps_left};
+    ghost use Rattle.swd_capture_text.specs.Readings.{SourceDecides, source_reading_parts};
+    ghost use Rattle.swd_capture_text.specs.Sources.{SourceEndsAt, SourceHas, IsSourceReady, source_fed};
+    ghost use Rattle.swd_capture_text.specs.Sources.{source_steps_left};
 
     /// Returns a decoder that was fed no bits.
     pub fn new(reading: Reading) -> Source
-        ensures has { Has reading result [] [] }
-        ensures decides { Decides reading [] [] }
-        ensures ready { IsReady result }
-        ensures fed { fed_of result ≡ 0 }
+        ensures has { SourceHas reading result [] [] }
+        ensures decides { SourceDecides reading [] [] }
+        ensures ready { IsSourceReady result }
+        ensures fed { source_fed result ≡ 0 }
     {
         match reading {
             Reading::Trace => Source::Trace(Decoder::new()),
@@ -39,7 +40,7 @@ impl Source {
     /// Returns how many bits it was fed.
     #[inline(always)]
     pub fn fed(&self) -> u64
-        ensures { result ≡ fed_of self.now }
+        ensures { result ≡ source_fed self.now }
     {
         match self {
             Source::Trace(decoder) => decoder.fed(),
@@ -50,11 +51,11 @@ impl Source {
     /// Takes a bit. Take every part that is due first: call `due` until it returns `None`.
     #[inline(always)]
     pub fn take(&mut self, bit: bool)
-        requires ready { IsReady self.old }
-        requires count { fed_of self.old < 2 ^ 64 - 1 }
-        ensures has { (reading : Reading) (bits : List Bool) (parts : List Part) → Has reading self.old bits parts
-            → Has reading self.new (bits ++ bit ∷ []) parts }
-        ensures fed { fed_of self.new ≡ fed_of self.old + 1 }
+        requires ready { IsSourceReady self.old }
+        requires count { source_fed self.old < 2 ^ 64 - 1 }
+        ensures has { (reading : Reading) (bits : List Bool) (parts : List Part) → SourceHas reading self.old bits parts
+            → SourceHas reading self.new (bits ++ bit ∷ []) parts }
+        ensures fed { source_fed self.new ≡ source_fed self.old + 1 }
     {
         match self {
             Source::Trace(decoder) => decoder.take(bit),
@@ -66,15 +67,16 @@ impl Source {
     /// that is due first.
     #[inline(always)]
     pub(crate) fn take_bits(&mut self, bits: u64, count: u8) -> u8
-        requires ready { IsReady self.old }
+        requires ready { IsSourceReady self.old }
         requires some { 0 < count }
         requires within { count ≤ 64 }
-        requires room { fed_of self.old + count < 2 ^ 64 }
+        requires room { source_fed self.old + count < 2 ^ 64 }
         ensures has { (reading : Reading) (before : List Bool) (parts : List Part)
-            → Has reading self.old before parts → Has reading self.new (before ++ low_bits result bits) parts }
+            → SourceHas reading self.old before parts
+            → SourceHas reading self.new (before ++ low_bits result bits) parts }
         ensures some { 0 < result }
         ensures most { result ≤ count }
-        ensures fed { fed_of self.new ≡ fed_of self.old + result }
+        ensures fed { source_fed self.new ≡ source_fed self.old + result }
     {
         match self {
             Source::Trace(decoder) => decoder.take_bits(bits, count),
@@ -86,12 +88,13 @@ impl Source {
     #[inline(always)]
     pub fn due(&mut self) -> Option<Part>
         ensures part { IfSome result (λ part. (reading : Reading) (bits : List Bool) (parts : List Part)
-            → Has reading self.old bits parts → Has reading self.new bits (parts ++ part ∷ [])) }
-        ensures fewer { IfSome result (λ part. steps_left self.new < steps_left self.old) }
+            → SourceHas reading self.old bits parts → SourceHas reading self.new bits (parts ++ part ∷ [])) }
+        ensures fewer { IfSome result (λ part. source_steps_left self.new < source_steps_left self.old) }
         ensures none { IfNone result ((reading : Reading) (bits : List Bool) (parts : List Part)
-            → Has reading self.old bits parts → Has reading self.new bits parts × Decides reading bits parts) }
-        ensures ready { IfNone result (IsReady self.new) }
-        ensures fed { fed_of self.new ≡ fed_of self.old }
+            → SourceHas reading self.old bits parts → SourceHas reading self.new bits parts
+            × SourceDecides reading bits parts) }
+        ensures ready { IfNone result (IsSourceReady self.new) }
+        ensures fed { source_fed self.new ≡ source_fed self.old }
     {
         match self {
             Source::Trace(decoder) => match decoder.due() {
@@ -107,9 +110,10 @@ impl Source {
     #[inline(always)]
     pub(crate) fn due_junk(&mut self) -> Option<TxBits>
         ensures junk { IfSome result (λ found. (reading : Reading) (bits : List Bool) (parts : List Part)
-            → Has reading self.old bits parts → Has reading self.new bits (parts ++ junk_parts (bits_of found))) }
+            → SourceHas reading self.old bits parts
+            → SourceHas reading self.new bits (parts ++ capture_junk_parts (tx_bits_of found))) }
         ensures none { IfNone result (self.new ≡ self.old) }
-        ensures fed { fed_of self.new ≡ fed_of self.old }
+        ensures fed { source_fed self.new ≡ source_fed self.old }
     {
         match self {
             Source::Trace(decoder) => decoder.due_junk(),
@@ -121,10 +125,10 @@ impl Source {
     /// reading of all the bits.
     pub fn last(&mut self) -> Option<Part>
         ensures part { IfSome result (λ part. (reading : Reading) (bits : List Bool) (parts : List Part)
-            → EndsAt reading self.old bits parts → EndsAt reading self.new bits (parts ++ part ∷ [])) }
-        ensures fewer { IfSome result (λ part. steps_left self.new < steps_left self.old) }
+            → SourceEndsAt reading self.old bits parts → SourceEndsAt reading self.new bits (parts ++ part ∷ [])) }
+        ensures fewer { IfSome result (λ part. source_steps_left self.new < source_steps_left self.old) }
         ensures none { IfNone result ((reading : Reading) (bits : List Bool) (parts : List Part)
-            → EndsAt reading self.old bits parts → parts ≡ parts_by reading bits) }
+            → SourceEndsAt reading self.old bits parts → parts ≡ source_reading_parts reading bits) }
     {
         match self {
             Source::Trace(decoder) => match decoder.last() {

@@ -2,26 +2,26 @@
 use Rattle.std.proofs.Math.Nat.{mod-eq_of_lt}
 use Rattle.std.proofs.Common.{◌≡◌, ◌<◌, ◌^◌, Some, None, refl}
 use Rattle.swd_port.specs.declared.register.Register.{Register}
-use Rattle.swd_port.specs.declared.register.Register.TheVariants.{DpidrRead, AbortWrite, CtrlStatRead}
-use Rattle.swd_port.specs.declared.register.Register.TheVariants.{CtrlStatWrite, SelectWrite, ResendRead}
-use Rattle.swd_port.specs.declared.register.Register.TheVariants.{RdbuffRead, DpZeroRead, DpIgnoredWrite, CswRead}
-use Rattle.swd_port.specs.declared.register.Register.TheVariants.{CswWrite, TarRead, TarWrite, DrwRead, DrwWrite}
-use Rattle.swd_port.specs.declared.register.Register.TheVariants.{ApZeroRead, ApIgnoredWrite}
-use Rattle.swd_port.specs.declared.state.Line.{Line}
-use Rattle.swd_port.specs.declared.state.Line.TheVariants as lines
+use Rattle.swd_port.specs.declared.register.Register.TheVariants.{DpidrRead, AbortWrite, CtrlStatRead, CtrlStatWrite}
+use Rattle.swd_port.specs.declared.register.Register.TheVariants.{SelectWrite, ResendRead, RdbuffRead, DpZeroRead}
+use Rattle.swd_port.specs.declared.register.Register.TheVariants.{DpIgnoredWrite, CswRead, CswWrite, TarRead, TarWrite}
+use Rattle.swd_port.specs.declared.register.Register.TheVariants.{DrwRead, DrwWrite, ApZeroRead, ApIgnoredWrite}
+use Rattle.swd_port.specs.declared.state.AfterAck.{AfterAck}
+use Rattle.swd_port.specs.declared.state.AfterAck.TheVariants as lines
 use Rattle.swd_port.specs.declared.state.Reply.{Reply}
 use Rattle.swd_port.specs.declared.state.Reply.TheVariants.{Okay, Waits, Faults, Silent}
-use Rattle.swd_port.specs.Moving.{bits_driven}
-use Rattle.swd_target.proofs.FieldsLemmas.{flag_read, target_read}
+use Rattle.swd_port.specs.Moving.{port_bits_driven}
+use Rattle.swd_target.proofs.FieldsLemmas.{target_flag_restores, target_fields_restore}
 use Rattle.swd_clocked.specs.declared.clocked.Clocked.{Clocked}
 use Rattle.swd_clocked.specs.declared.frame.Frame.{Frame}
 use Rattle.swd_clocked.specs.declared.frame.Frame.TheVariants.{Asks, Lost, High, Switches, Replies, Drives, Awaits}
 use Rattle.swd_clocked.specs.declared.frame.Frame.TheVariants.{Passes}
-use Rattle.swd_clocked.specs.Fields.{fields_of, frame_fields, line_fields, register_number, reply_number}
-use Rattle.swd_clocked.specs.Fields.{read_clocked, read_frame, read_line, read_register, read_reply}
+use Rattle.swd_clocked.specs.Fields.{clocked_fields, frame_fields, clocked_line_fields, clocked_register_number}
+use Rattle.swd_clocked.specs.Fields.{clocked_reply_number, restored_clocked, restored_frame, restored_clocked_line}
+use Rattle.swd_clocked.specs.Fields.{restored_clocked_register, restored_clocked_reply}
 use Rattle.swd_clocked.specs.Frames.{frame_bits, frame_limit, frame_place}
 
-register_read : (r : Register) → read_register (register_number r) ≡ register_number r
+register_read : (r : Register) → restored_clocked_register (clocked_register_number r) ≡ clocked_register_number r
 register_read DpidrRead = refl
 register_read AbortWrite = refl
 register_read CtrlStatRead = refl
@@ -40,20 +40,21 @@ register_read DrwWrite = refl
 register_read ApZeroRead = refl
 register_read ApIgnoredWrite = refl
 
-reply_read : (r : Reply) → read_reply (reply_number r) ≡ reply_number r
+reply_read : (r : Reply) → restored_clocked_reply (clocked_reply_number r) ≡ clocked_reply_number r
 reply_read Okay = refl
 reply_read Waits = refl
 reply_read Faults = refl
 reply_read Silent = refl
 
-line_read : (l : Line) → bits_driven l < 2 ^ 33 → read_line (line_fields l) ≡ line_fields l
+line_read : (l : AfterAck) → port_bits_driven l < 2 ^ 33
+    → restored_clocked_line (clocked_line_fields l) ≡ clocked_line_fields l
 line_read lines.Idle h = refl
 line_read (lines.Drives bits) h = rw (mod-eq_of_lt h) refl
 line_read (lines.Awaits r None) h = rw (register_read r) refl
 line_read (lines.Awaits r (Some place)) h = rw (register_read r) refl
 
 frame_read : (f : Frame) → frame_bits f < 2 ^ 33 → frame_place f < frame_limit f
-    → read_frame (frame_fields f) ≡ frame_fields f
+    → restored_frame (frame_fields f) ≡ frame_fields f
 frame_read (Asks byte count) h p = rw (mod-eq_of_lt p) refl
 frame_read (Lost ones) h p = rw (mod-eq_of_lt p) refl
 frame_read High h p = refl
@@ -64,5 +65,9 @@ frame_read (Awaits r bits place) h p = rw (mod-eq_of_lt p, mod-eq_of_lt h, regis
 frame_read Passes h p = refl
 
 -- the fields of a clocked target are read as themselves
-pub clocked_read : {A : Type 0} (c : Clocked A) → read_clocked (fields_of c) ≡ fields_of c
-clocked_read c = rw (frame_read c.frame c.bits c.place, target_read c.target, flag_read c.waits) refl
+pub clocked_fields_restore : {A : Type 0} (c : Clocked A) → restored_clocked (clocked_fields c) ≡ clocked_fields c
+clocked_fields_restore c = rw (
+  frame_read c.frame c.bits c.place,
+  target_fields_restore c.target,
+  target_flag_restores c.waits,
+) refl

@@ -1,4 +1,4 @@
--- What ones and zeros do at a clocked target. For `MarkedClocked` and the law `ones_reset`.
+-- What ones and zeros do at a clocked target. For `FaultyClocked` and the law `ones_reset`.
 use Rattle.std.proofs.Common.{◌≡◌, ℕ, ◌+◌, ◌-◌, ◌/◌, ◌<◌, ◌≤◌, ◌^◌, ◌⊎◌, inl, inr, Option, Bool, true, refl, ap}
 use Rattle.std.proofs.Common.{subst, ◌∙◌, arith}
 use Rattle.std.proofs.lemmas.Bool.{cases_lt}
@@ -6,60 +6,66 @@ use lib.Count.{count_leading_zeros}
 use Rattle.swd_bits.specs.Bits.{low_bits}
 use Rattle.swd_port.specs.declared.register.Register.{Register}
 use Rattle.swd_port.specs.Port.{Target as State}
-use Rattle.swd_port.specs.Phases.{undriven}
-use Rattle.swd_port.specs.Moving.{arrival_of}
-use Rattle.swd_bits.proofs.PhaseLemmas.{word_ones}
+use Rattle.swd_port.specs.Phases.{port_undriven}
+use Rattle.swd_port.specs.Moving.{port_arrival_of}
+use Rattle.swd_bits.proofs.PhaseLemmas.{ones_data_phase_no_word}
 use Rattle.swd_target.specs.declared.target.Target.{Target}
-use Rattle.swd_target.specs.Targets.{state_of, simulation}
-use Rattle.swd_target.specs.Simulations.{Simulation, stepped}
+use Rattle.swd_target.specs.Targets.{target_state, target_simulation}
+use Rattle.swd_target.specs.Simulations.{Simulation, simulation_stepped}
 use Rattle.swd_target.specs.Requests.{DataComes}
 use Rattle.swd_clocked.specs.declared.frame.Frame.{Frame}
 use Rattle.swd_clocked.specs.declared.frame.Frame.TheVariants.{Asks, Lost, High, Switches, Replies, Drives, Awaits}
 use Rattle.swd_clocked.specs.declared.frame.Frame.TheVariants.{Passes}
 use Rattle.swd_clocked.specs.declared.clocked.Clocked.{Clocked}
-use Rattle.swd_clocked.specs.Frames.{frame_place, frame_limit, idle, shifted, ones_at_end, IsRising, rise, risen}
-use Rattle.swd_clocked.specs.Frames.{IsFalling, fall}
-use Rattle.swd_clocked.specs.Cycles.{Moved, ResetCame, DataCame, Cycles}
-use Rattle.swd_clocked.specs.Clocks.{Rises}
-use Rattle.swd_clocked.proofs.Shifts.{no_request}
+use Rattle.swd_clocked.specs.Frames.{frame_place, frame_limit, idle_frame, clocked_shifted, clocked_ones_at_end}
+use Rattle.swd_clocked.specs.Frames.{IsRisingFrame, rising_frame_ones, risen_frame_state}
+use Rattle.swd_clocked.specs.Cycles.{FrameMoved, ClockedResetCame, ClockedDataCame, Cycles}
+use Rattle.swd_clocked.specs.Clocks.{ClockedRises}
+use Rattle.swd_clocked.proofs.Shifts.{clocked_ones_no_request}
 
 -- the line reset that ones lead to, as a state and exactly
 abbrev Rose : {A : Type 0} → Frame → Target A → Clocked A → Type 0
 Rose f s t =
-    (risen t.frame (state_of t.target) ≡ risen f (state_of s))
-    × (stepped (λ c. risen t.frame) (simulation t.target) ≡ stepped (λ c. risen f) (simulation s))
+    (risen_frame_state t.frame (target_state t.target) ≡ risen_frame_state f (target_state s))
+    × (simulation_stepped (λ c. risen_frame_state t.frame) (target_simulation t.target)
+    ≡ simulation_stepped (λ c. risen_frame_state f) (target_simulation s))
 
-rose_moved : {A : Type 0} (f : Frame) (s : Target A) (w : Bool) (t : Clocked A) → Moved f s w t → Rose f s t
+rose_moved : {A : Type 0} (f : Frame) (s : Target A) (w : Bool) (t : Clocked A) → FrameMoved f s w t → Rose f s t
 rose_moved f s w t m = (
-  ap (λ (x : Frame). risen x (state_of t.target)) m.frame ∙ ap (λ (x : Target _). risen f (state_of x)) m.target,
-  ap (λ (x : Frame). stepped (λ c. risen x) (simulation t.target)) m.frame
-      ∙ ap (λ (x : Target _). stepped (λ c. risen f) (simulation x)) m.target,
+  ap (λ (x : Frame). risen_frame_state x (target_state t.target)) m.frame ∙ ap
+      (λ (x : Target _). risen_frame_state f (target_state x)) m.target,
+  ap (λ (x : Frame). simulation_stepped (λ c. risen_frame_state x) (target_simulation t.target)) m.frame
+      ∙ ap (λ (x : Target _). simulation_stepped (λ c. risen_frame_state f) (target_simulation x)) m.target,
 )
 
-rose_reset : {A : Type 0} (ones : ℕ) (s : Target A) (w : Bool) (t : Clocked A) → ResetCame s w t → Rose (Lost ones) s t
+rose_reset : {A : Type 0} (ones : ℕ) (s : Target A) (w : Bool) (t : Clocked A) → ClockedResetCame s w t
+    → Rose (Lost ones) s t
 rose_reset ones s w t r = (
-  ap (λ (x : Frame). risen x (state_of t.target)) r.frame
+  ap (λ (x : Frame). risen_frame_state x (target_state t.target)) r.frame
       ∙ r.reset.state,
-  ap (λ (x : Frame). stepped (λ c. risen x) (simulation t.target)) r.frame ∙ r.reset.exact,
+  ap (λ (x : Frame). simulation_stepped (λ c. risen_frame_state x) (target_simulation t.target)) r.frame ∙
+      r.reset.exact,
 )
 
 rose_damaged : {A : Type 0} (r : Register) (bits place : ℕ) (s : Target A) (w : Bool) (t : Clocked A)
-    → DataCame r undriven s w t → Rose (Awaits r bits place) s t
+    → ClockedDataCame r port_undriven s w t → Rose (Awaits r bits place) s t
 rose_damaged r bits place s w t d =
-    let comes = subst (λ (o : Option ℕ). DataComes (arrival_of r o) s t.target) word_ones d.comes in (
-      ap (λ (x : Frame). risen x (state_of t.target)) d.frame ∙ ap (risen idle) (comes.undone refl),
-      ap (λ (x : Frame). stepped (λ c. risen x) (simulation t.target)) d.frame
-          ∙ ap (stepped (λ c. risen idle)) comes.exact,
+    let comes = subst (λ (o : Option ℕ). DataComes (port_arrival_of r o) s t.target) ones_data_phase_no_word d.comes in (
+      ap (λ (x : Frame). risen_frame_state x (target_state t.target)) d.frame ∙ ap (risen_frame_state idle_frame)
+          (comes.undone refl),
+      ap (λ (x : Frame). simulation_stepped (λ c. risen_frame_state x) (target_simulation t.target)) d.frame
+          ∙ ap (simulation_stepped (λ c. risen_frame_state idle_frame)) comes.exact,
     )
 
-one_rose : {A : Type 0} (f : Frame) (answer : Bool) (s : Target A) (w : Bool) (t : Clocked A) → IsRising f
+one_rose : {A : Type 0} (f : Frame) (answer : Bool) (s : Target A) (w : Bool) (t : Clocked A) → IsRisingFrame f
     → frame_place f < frame_limit f → Cycles f true answer s w t → Rose f s t
 one_rose High answer s w t i p c = rose_moved _ s w t c.1
 one_rose (Asks bits count) answer s w t i p c =
     elim (cases_lt count 7) as (λ (x : (count < 7) ⊎ (7 ≤ count)). Rose (Asks bits count) s t) [
       | inl l ↦ rose_moved _ s w t (c.1.more l (λ e. refl))
       | inr g ↦ rose_moved _ s w t
-          ((c.1.whole (omega arith)).broken (λ q e. no_request q (e ∙ ap (λ n. low_bits 8 (shifted 128 n true)) i)))
+          ((c.1.whole (omega arith)).broken
+          (λ q e. clocked_ones_no_request q (e ∙ ap (λ n. low_bits 8 (clocked_shifted 128 n true)) i)))
     ]
 one_rose (Lost ones) answer s w t i p c =
     elim (cases_lt ones 49) as (λ (x : (ones < 49) ⊎ (49 ≤ ones)). Rose (Lost ones) s t) [
@@ -79,48 +85,40 @@ one_rose (Awaits r bits place) answer s w t i p c =
       | inl l ↦ elim (cases_lt place 33) as (λ (x : (place < 33) ⊎ (33 ≤ place)). Rose (Awaits r bits place) s t) [
         | inl m ↦ rose_moved _ s w t (c.1.more (λ e. absurd (omega arith)) m)
         | inr m ↦ rose_damaged r bits place s w t
-            (subst (λ n. DataCame r (shifted (2 ^ 32) n true) s w t) i (c.1.whole (omega arith)))
+            (subst (λ n. ClockedDataCame r (clocked_shifted (2 ^ 32) n true) s w t) i (c.1.whole (omega arith)))
       ]
     ]
 one_rose Passes answer s w t i p c = rose_moved _ s w t c.1
 
 -- a one, where ones lead to a line reset, leads to the same line reset
-pub one_rises : {A : Type 0} (s t : Clocked A) (answer : Bool) → IsRising s.frame
-    → frame_place s.frame < frame_limit s.frame → Cycles s.frame true answer s.target s.waits t → Rises s t
-one_rises s t answer i p c = let r = one_rose s.frame answer s.target s.waits t i p c in
+pub one_cycle_rises : {A : Type 0} (s t : Clocked A) (answer : Bool) → IsRisingFrame s.frame
+    → frame_place s.frame < frame_limit s.frame → Cycles s.frame true answer s.target s.waits t → ClockedRises s t
+one_cycle_rises s t answer i p c = let r = one_rose s.frame answer s.target s.waits t i p c in
     record { state = r.0; exact = r.1 }
 
 -- cycles that lead to the same line reset, and further such cycles, together do
-pub rises_on : {A : Type 0} (s t u : Clocked A) → Rises s t → Rises t u → Rises s u
-rises_on s t u a b = record { state = b.state ∙ a.state; exact = b.exact ∙ a.exact }
+pub clocked_rises_chain : {A : Type 0} (s t u : Clocked A) → ClockedRises s t → ClockedRises t u → ClockedRises s u
+clocked_rises_chain s t u a b = record { state = b.state ∙ a.state; exact = b.exact ∙ a.exact }
 
 -- where no cycle passed, the line reset that ones lead to is the same
-pub rises_none : {A : Type 0} (s : Clocked A) → Rises s s
-rises_none s = record { state = refl; exact = refl }
+pub clocked_rises_itself : {A : Type 0} (s : Clocked A) → ClockedRises s s
+clocked_rises_itself s = record { state = refl; exact = refl }
 
 -- where ones lead to a line reset and no more of them are needed, fifty ones have passed
-pub risen_high : (f : Frame) → IsRising f → rise f ≡ 0 → frame_place f < frame_limit f → f ≡ High
-risen_high High i e p = refl
-risen_high (Asks bits count) i e p = absurd (omega arith)
-risen_high (Lost ones) i e p = absurd (omega arith)
-risen_high (Switches place) i e p = absurd i
-risen_high (Replies reply line place) i e p = absurd i
-risen_high (Drives bits left) i e p = absurd (omega arith)
-risen_high (Awaits r bits place) i e p = absurd (omega arith)
-risen_high Passes i e p = absurd (omega arith)
-
-pub fallen : (f : Frame) → IsFalling f → fall f ≡ 0 → f ≡ idle
-fallen High i e = absurd (omega arith)
-fallen (Asks bits count) i e = rw (i.0, i.1) refl
-fallen (Lost ones) i e = absurd i
-fallen (Switches place) i e = absurd (omega arith)
-fallen (Replies reply line place) i e = absurd i
-fallen (Drives bits left) i e = absurd i
-fallen (Awaits r bits place) i e = absurd i
-fallen Passes i e = absurd i
+pub risen_frame_is_high : (f : Frame) → IsRisingFrame f → rising_frame_ones f ≡ 0 → frame_place f < frame_limit f
+    → f ≡ High
+risen_frame_is_high High i e p = refl
+risen_frame_is_high (Asks bits count) i e p = absurd (omega arith)
+risen_frame_is_high (Lost ones) i e p = absurd (omega arith)
+risen_frame_is_high (Switches place) i e p = absurd i
+risen_frame_is_high (Replies reply line place) i e p = absurd i
+risen_frame_is_high (Drives bits left) i e p = absurd (omega arith)
+risen_frame_is_high (Awaits r bits place) i e p = absurd (omega arith)
+risen_frame_is_high Passes i e p = absurd (omega arith)
 
 -- After a line reset, the switch and ones again: the second line reset changes nothing.
-again : (f : Frame) (s : State) → IsRising f → 0 < rise f → risen (Lost 0) (risen f s) ≡ risen f s
+again : (f : Frame) (s : State) → IsRisingFrame f → 0 < rising_frame_ones f
+    → risen_frame_state (Lost 0) (risen_frame_state f s) ≡ risen_frame_state f s
 again High s i l = absurd (omega arith)
 again (Asks bits count) s i l = refl
 again (Lost ones) s i l = refl
@@ -130,8 +128,9 @@ again (Drives bits left) s i l = refl
 again (Awaits r bits place) s i l = refl
 again Passes s i l = refl
 
-again_exactly : (f : Frame) (s : Simulation) → IsRising f → 0 < rise f
-    → stepped (λ c. risen (Lost 0)) (stepped (λ c. risen f) s) ≡ stepped (λ c. risen f) s
+again_exactly : (f : Frame) (s : Simulation) → IsRisingFrame f → 0 < rising_frame_ones f
+    → simulation_stepped (λ c. risen_frame_state (Lost 0)) (simulation_stepped (λ c. risen_frame_state f) s)
+    ≡ simulation_stepped (λ c. risen_frame_state f) s
 again_exactly High s i l = absurd (omega arith)
 again_exactly (Asks bits count) s i l = refl
 again_exactly (Lost ones) s i l = refl
@@ -142,49 +141,49 @@ again_exactly (Awaits r bits place) s i l = refl
 again_exactly Passes s i l = refl
 
 -- and one of them less leads to it
-pub record Risen (f g : Frame) : Type 0 where
+pub record FrameRisenByOne (f g : Frame) : Type 0 where
   pub next : Frame
   pub is : g ≡ next
-  pub rising : IsRising next
-  pub less : rise next ≡ rise f - 1
+  pub rising : IsRisingFrame next
+  pub less : rising_frame_ones next ≡ rising_frame_ones f - 1
 
-eight_ones : ones_at_end 255 ≡ 8
+eight_ones : clocked_ones_at_end 255 ≡ 8
 unfolding count_leading_zeros
 eight_ones = refl
 
 -- after a one, a frame from which ones lead to a line reset is such a frame again, one fewer being needed if any was
-pub one_frame : {A : Type 0} (f : Frame) (answer : Bool) (s : Target A) (w : Bool) (t : Clocked A) → IsRising f
-    → frame_place f < frame_limit f → Cycles f true answer s w t → Risen f t.frame
-one_frame High answer s w t i p c = record { next = High; is = c.1.frame; rising = tt; less = refl }
-one_frame (Asks bits count) answer s w t i p c =
-    elim (cases_lt count 7) as (λ (x : (count < 7) ⊎ (7 ≤ count)). Risen (Asks bits count) t.frame) [
+pub rising_frame_after_one : {A : Type 0} (f : Frame) (answer : Bool) (s : Target A) (w : Bool) (t : Clocked A)
+    → IsRisingFrame f → frame_place f < frame_limit f → Cycles f true answer s w t → FrameRisenByOne f t.frame
+rising_frame_after_one High answer s w t i p c = record { next = High; is = c.1.frame; rising = tt; less = refl }
+rising_frame_after_one (Asks bits count) answer s w t i p c =
+    elim (cases_lt count 7) as (λ (x : (count < 7) ⊎ (7 ≤ count)). FrameRisenByOne (Asks bits count) t.frame) [
       | inl l ↦ record {
-        next = Asks (shifted 128 bits true) (count + 1);
+        next = Asks (clocked_shifted 128 bits true) (count + 1);
         is = (c.1.more l (λ e. refl)).frame;
         rising =
-            ap (λ n. shifted 128 n true) i;
+            ap (λ n. clocked_shifted 128 n true) i;
         less = omega arith;
       }
       | inr g ↦
           let m = (c.1.whole (omega arith)).broken
-          (λ q e. no_request q (e ∙ ap (λ n. low_bits 8 (shifted 128 n true)) i)) in
+          (λ q e. clocked_ones_no_request q (e ∙ ap (λ n. low_bits 8 (clocked_shifted 128 n true)) i)) in
           record {
             next = Lost 8;
-            is = m.frame ∙ ap (λ n. Lost (ones_at_end (shifted 128 n true))) i
+            is = m.frame ∙ ap (λ n. Lost (clocked_ones_at_end (clocked_shifted 128 n true))) i
                 ∙ ap Lost eight_ones;
             rising = tt;
             less = omega arith;
           }
     ]
-one_frame (Lost ones) answer s w t i p c =
-    elim (cases_lt ones 49) as (λ (x : (ones < 49) ⊎ (49 ≤ ones)). Risen (Lost ones) t.frame) [
+rising_frame_after_one (Lost ones) answer s w t i p c =
+    elim (cases_lt ones 49) as (λ (x : (ones < 49) ⊎ (49 ≤ ones)). FrameRisenByOne (Lost ones) t.frame) [
       | inl l ↦ record { next = Lost (ones + 1); is = (c.1.more l refl).frame; rising = tt; less = omega arith }
       | inr g ↦ record { next = High; is = (c.1.whole (omega arith) refl).frame; rising = tt; less = omega arith }
     ]
-one_frame (Switches place) answer s w t i p c = absurd i
-one_frame (Replies reply line place) answer s w t i p c = absurd i
-one_frame (Drives bits left) answer s w t i p c =
-    elim (cases_lt 0 left) as (λ (x : (0 < left) ⊎ (left ≤ 0)). Risen (Drives bits left) t.frame) [
+rising_frame_after_one (Switches place) answer s w t i p c = absurd i
+rising_frame_after_one (Replies reply line place) answer s w t i p c = absurd i
+rising_frame_after_one (Drives bits left) answer s w t i p c =
+    elim (cases_lt 0 left) as (λ (x : (0 < left) ⊎ (left ≤ 0)). FrameRisenByOne (Drives bits left) t.frame) [
       | inl l ↦ record {
         next = Drives (bits / 2) (left - 1);
         is = (c.more (λ e. absurd (omega arith))).frame;
@@ -192,21 +191,29 @@ one_frame (Drives bits left) answer s w t i p c =
             tt;
         less = omega arith;
       }
-      | inr g ↦ record { next = idle; is = (c.turn (omega arith)).1.frame; rising = refl; less = omega arith }
+      | inr g ↦ record { next = idle_frame; is = (c.turn (omega arith)).1.frame; rising = refl; less = omega arith }
     ]
-one_frame (Awaits r bits place) answer s w t i p c =
-    elim (cases_lt 0 place) as (λ (x : (0 < place) ⊎ (place ≤ 0)). Risen (Awaits r bits place) t.frame) [
+rising_frame_after_one (Awaits r bits place) answer s w t i p c =
+    elim (cases_lt 0 place) as (λ (x : (0 < place) ⊎ (place ≤ 0)). FrameRisenByOne (Awaits r bits place) t.frame) [
       | inr g ↦ record { next = Awaits r bits 1; is = (c.1.turn (omega arith)).frame; rising = i; less = omega arith }
-      | inl l ↦ elim (cases_lt place 33) as (λ (x : (place < 33) ⊎ (33 ≤ place)). Risen (Awaits r bits place) t.frame) [
-        | inl m ↦ record {
-          next = Awaits r (shifted (2 ^ 32) bits true) (place + 1);
-          is =
-              (c.1.more (λ e. absurd (omega arith)) m).frame;
-          rising = ap (λ n. shifted (2 ^ 32) n true) i;
-          less = omega
-              arith;
-        }
-        | inr m ↦ record { next = idle; is = (c.1.whole (omega arith)).frame; rising = refl; less = omega arith }
-      ]
+      | inl l ↦ elim (cases_lt place 33) as
+          (λ (x : (place < 33) ⊎ (33 ≤ place)). FrameRisenByOne (Awaits r bits place) t.frame) [
+            | inl m ↦ record {
+              next = Awaits r (clocked_shifted (2 ^ 32) bits true) (place + 1);
+              is =
+                  (c.1.more (λ e. absurd (omega arith)) m).frame;
+              rising = ap (λ n. clocked_shifted (2 ^ 32) n true) i;
+              less = omega
+                  arith;
+            }
+            | inr m ↦ record {
+              next = idle_frame;
+              is = (c.1.whole (omega arith)).frame;
+              rising = refl;
+              less =
+                  omega arith;
+            }
+          ]
     ]
-one_frame Passes answer s w t i p c = record { next = idle; is = c.1.frame; rising = refl; less = refl }
+rising_frame_after_one Passes answer s w t i p c =
+    record { next = idle_frame; is = c.1.frame; rising = refl; less = refl }

@@ -1,84 +1,87 @@
 -- Cycles one after the other: what a request, its reply and its data leave on the line. For two functions of `laws`.
-use Rattle.std.proofs.Common.{◌≡◌, ◌≢◌, ℕ, zero, suc, ◌+◌, ◌-◌, ◌/◌, ◌%◌, ◌<◌, ◌≤◌, ◌^◌, Bool, true}
-use Rattle.std.proofs.Common.{false, not, List}
+use Rattle.std.proofs.Common.{◌≡◌, ◌≢◌, ℕ, zero, suc, ◌+◌, ◌-◌, ◌/◌, ◌%◌, ◌<◌, ◌≤◌, ◌^◌, Bool, true, false, not, List}
 use Rattle.std.proofs.Common.{[], ◌∷◌, ◌++◌, length, map, replicate, Option, Some, None, refl, sym, ap, subst, ◌∙◌}
 use Rattle.std.proofs.Common.{arith, inl, inr}
 use Rattle.std.specs.Prelude.{◌==◌, unwrap_or, ◌⊎◌, if◌then◌else◌}
-use Rattle.swd_bits.specs.Bits.{low_bits, number, odd}
-use Rattle.swd_bits.specs.Wire.{request, addr_bits}
-use Rattle.swd_bits.specs.Transactions.{phase_with, Spells, IsEnd, ending}
+use Rattle.swd_bits.specs.Bits.{low_bits, bits_number, odd}
+use Rattle.swd_bits.specs.Wire.{bits_of_request, addr_bits}
+use Rattle.swd_bits.specs.Transactions.{phase_with, SpellsTx, IsTxEnd, tx_ending_bits}
 use Rattle.swd_bits.specs.declared.request.Request.{Request}
 use Rattle.swd_bits.specs.declared.request.Reg4.{Reg4}
 use Rattle.swd_bits.specs.declared.request.Reg4.TheVariants.{R0, R4, R8, RC}
 use Rattle.swd_bits.specs.declared.tx.TxEnd.{TxEnd}
 use Rattle.swd_bits.specs.declared.tx.TxEnd.TheVariants.{Moved as WordMoved, Wait, Fault, NoAck}
-use Rattle.swd_bits.proofs.BitsLemmas.{low_bits-number, number_lt, length-low_bits}
-use Rattle.swd_bits.proofs.TxLemmas.{length_request}
+use Rattle.swd_bits.proofs.BitsLemmas.{low_bits-number, bits_number_lt, length-low_bits}
+use Rattle.swd_bits.proofs.TxLemmas.{request_bits_length}
 use Rattle.swd_port.specs.declared.register.Register.{Register}
 use Rattle.swd_port.specs.declared.state.Reply.{Reply}
 use Rattle.swd_port.specs.declared.state.Reply.TheVariants.{Okay, Waits, Faults, Silent}
-use Rattle.swd_port.specs.declared.state.Line.{Line}
-use Rattle.swd_port.specs.declared.state.Line.TheVariants as lines
+use Rattle.swd_port.specs.declared.state.AfterAck.{AfterAck}
+use Rattle.swd_port.specs.declared.state.AfterAck.TheVariants as lines
 use Rattle.swd_port.specs.declared.mark.Mark.TheVariants.{Clean, Wait as WaitMark}
 use Rattle.swd_port.specs.declared.state.Reset.TheVariants.{Fresh}
 use Rattle.swd_port.specs.Port.{Target as State}
-use Rattle.swd_port.specs.Phases.{undriven}
+use Rattle.swd_port.specs.Phases.{port_undriven}
 use Rattle.swd_target.specs.declared.target.Target.{Target}
-use Rattle.swd_target.specs.Requests.{Answers}
+use Rattle.swd_target.specs.Requests.{TargetAnswers}
 use Rattle.swd_clocked.specs.declared.frame.Frame.{Frame}
 use Rattle.swd_clocked.specs.declared.frame.Frame.TheVariants.{Asks, Lost, High, Replies, Drives, Awaits, Passes}
 use Rattle.swd_clocked.specs.declared.clocked.Clocked.{Clocked}
-use Rattle.swd_clocked.specs.Frames.{idle, shifted, frame_of, frame_replied, reply_bit, IsRising, rise, risen}
-use Rattle.swd_clocked.specs.Cycles.{Moved, Cycles, ByteCame, Requested}
-use Rattle.swd_clocked.specs.Clocks.{Clocks, Rises, state_of}
-use Rattle.swd_clocked.specs.Spelled.{Runs, leaves, drives_behind, EndsAs, frame_behind, SpellsOne, RequestsSpell}
-use Rattle.swd_clocked.specs.Spelled.{AreOnes, OnesReset}
-use Rattle.swd_clocked.proofs.Calls.{kind, kind_after, kind_seen}
-use Rattle.swd_clocked.proofs.Frames.{one_rises, rises_on, rises_none, one_frame, risen_high}
+use Rattle.swd_clocked.specs.Frames.{idle_frame, clocked_shifted, frame_after_reply, frame_replied, reply_cycle_bit}
+use Rattle.swd_clocked.specs.Frames.{IsRisingFrame, rising_frame_ones, risen_frame_state}
+use Rattle.swd_clocked.specs.Cycles.{FrameMoved, Cycles, ClockedByteCame, ClockedRequested}
+use Rattle.swd_clocked.specs.Clocks.{ClocksOneCycle, ClockedRises, clocked_state}
+use Rattle.swd_clocked.specs.Spelled.{RunsCycles, released_cycles, cycles_driven_behind, ClockedEndsAs, frame_behind}
+use Rattle.swd_clocked.specs.Spelled.{CyclesSpellOne, RequestsSpell, AreOnesCycles, OnesReset}
+use Rattle.swd_clocked.proofs.Calls.{clocked_phase_kind, clocked_kind_after_reply, clocked_kind_of_seen}
+use Rattle.swd_clocked.proofs.Frames.{one_cycle_rises, clocked_rises_chain, clocked_rises_itself}
+use Rattle.swd_clocked.proofs.Frames.{rising_frame_after_one, risen_frame_is_high}
 
 -- a cycle from a frame that is known
 cycle_on : {A : Type 0} (f : Frame) (s : Target A) (w : Bool) (m t : Clocked A) (drive : Option Bool) (b : Bool) →
-    Moved f s w m → Clocks drive b m t → Cycles f (unwrap_or drive true) b s w t
+    FrameMoved f s w m → ClocksOneCycle drive b m t → Cycles f (unwrap_or drive true) b s w t
 cycle_on f s w m t drive b h c =
     subst (λ (x : Frame). Cycles x (unwrap_or drive true) b s w t) h.frame
     (subst (λ (x : Target _). Cycles m.frame (unwrap_or drive true) b x w t) h.target
     (subst (λ (x : Bool). Cycles m.frame (unwrap_or drive true) b m.target x t) h.waits c))
 
-moved_here : {A : Type 0} (f : Frame) (s : Clocked A) → s.frame ≡ f → Moved f s.target s.waits s
+moved_here : {A : Type 0} (f : Frame) (s : Clocked A) → s.frame ≡ f → FrameMoved f s.target s.waits s
 moved_here f s is = record { frame = is; target = refl; waits = refl }
 
-moved_same : {A : Type 0} (f : Frame) (s : Target A) (w : Bool) (m t : Clocked A) → t ≡ m → Moved f s w m
-    → Moved f s w t
-moved_same f s w m t e h = subst (λ (x : Clocked _). Moved f s w x) (sym e) h
+moved_same : {A : Type 0} (f : Frame) (s : Target A) (w : Bool) (m t : Clocked A) → t ≡ m → FrameMoved f s w m
+    → FrameMoved f s w t
+moved_same f s w m t e h = subst (λ (x : Clocked _). FrameMoved f s w x) (sym e) h
 
 -- ---- the bits of a request
 
 -- bits shifted in, one after the other
 abbrev shifted_in : ℕ → List Bool → ℕ
 shifted_in bits [] = bits
-shifted_in bits (b ∷ more) = shifted_in (shifted 128 bits b) more
+shifted_in bits (b ∷ more) = shifted_in (clocked_shifted 128 bits b) more
 
-pub record Asked {A : Type 0} (l line : List Bool) (byte : ℕ) (s : Target A) (w : Bool) (t : Clocked A) : Type 0 where
+pub record RequestBitsByCycles {A : Type 0} (l line : List Bool) (byte : ℕ) (s : Target A) (w : Bool) (t : Clocked A) :
+    Type 0 where
   pub line_is : line ≡ l
-  pub came : ByteCame byte s w t
+  pub came : ClockedByteCame byte s w t
 
 asked : {A : Type 0} (l line : List Bool) (bits count : ℕ) (s : Target A) (w : Bool) (m t : Clocked A) →
-    0 < count → 0 < length l → count + length l ≡ 8 → Moved (Asks bits count) s w m → Runs (map Some l) line m t →
-    Asked l line (shifted_in bits l) s w t
+    0 < count → 0 < length l → count + length l ≡ 8 → FrameMoved (Asks bits count) s w m
+    → RunsCycles (map Some l) line m t → RequestBitsByCycles l line (shifted_in bits l) s w t
 asked [] line bits count s w m t a b e h r = absurd (omega arith)
 asked (x ∷ l) [] bits count s w m t a b e h r = absurd r
 asked (x ∷ []) (y ∷ []) bits count s w m t a b e h r =
     let c = cycle_on (Asks bits count) s w m r.0 (Some x) y h r.1 in
     record {
       line_is = ap (λ z. z ∷ []) c.0;
-      came = subst (λ (z : Clocked _). ByteCame (shifted 128 bits x) s w z) (sym r.2) (c.1.whole (omega arith));
+      came = subst (λ (z : Clocked _). ClockedByteCame (clocked_shifted 128 bits x) s w z) (sym r.2)
+          (c.1.whole (omega arith));
     }
 asked (x ∷ []) (y ∷ z ∷ line) bits count s w m t a b e h r = absurd r.2
 asked (x ∷ z ∷ l) (y ∷ line) bits count s w m t a b e h r =
     let c = cycle_on (Asks bits count) s w m r.0 (Some x) y h r.1 in
     let more = c.1.more (omega arith) (λ none. absurd (omega arith)) in
-    let rest = asked (z ∷ l) line (shifted 128 bits x) (count + 1) s w r.0 t (omega arith) (omega arith) (omega arith)
-    more r.2 in
+    let rest = asked (z ∷ l) line (clocked_shifted 128 bits x) (count + 1) s w r.0 t (omega arith) (omega arith)
+    (omega arith) more r.2 in
     record { line_is = ap (λ i. i ∷ line) c.0 ∙ ap (λ i. x ∷ i) rest.line_is; came = rest.came }
 
 -- a request without its first bit
@@ -88,7 +91,7 @@ behind_start q =
     asked ++ odd asked ∷ false ∷ true ∷ []
 
 byte_at : (ap read : Bool) (addr : Reg4) →
-    let q : Request = record { ap = ap; read = read; addr = addr } in request q ≡ low_bits 8
+    let q : Request = record { ap = ap; read = read; addr = addr } in bits_of_request q ≡ low_bits 8
     (shifted_in 255 (behind_start q))
 unfolding low_bits
 byte_at true true R0 = refl
@@ -108,18 +111,18 @@ byte_at false false R4 = refl
 byte_at false false R8 = refl
 byte_at false false RC = refl
 
-pub record Sent {A : Type 0} (q : Request) (line : List Bool) (s : Target A) (w : Bool) (t : Clocked A) : Type 0 where
-  pub line_is : line ≡ request q
-  pub requested : Requested q s w t
+pub record RequestSentByCycles {A : Type 0} (q : Request) (line : List Bool) (s : Target A) (w : Bool) (t : Clocked A) :
+    Type 0 where
+  pub line_is : line ≡ bits_of_request q
+  pub requested : ClockedRequested q s w t
 
-sent : {A : Type 0} (q : Request) (line : List Bool) (s t : Clocked A) → s.frame ≡ idle
-    → Runs (map Some (request q)) line s t →
-    Sent q line s.target s.waits t
+sent : {A : Type 0} (q : Request) (line : List Bool) (s t : Clocked A) → s.frame ≡ idle_frame
+    → RunsCycles (map Some (bits_of_request q)) line s t → RequestSentByCycles q line s.target s.waits t
 sent q [] s t is r = absurd r
 sent q (b ∷ line) s t is r =
-    let c = cycle_on idle s.target s.waits s r.0 (Some true) b (moved_here idle s is) r.1 in
+    let c = cycle_on idle_frame s.target s.waits s r.0 (Some true) b (moved_here idle_frame s is) r.1 in
     let first = c.1.more (omega arith) (λ e. refl) in
-    let eight = length_request q in
+    let eight = request_bits_length q in
     let rest = asked (behind_start q) line 255 1 s.target s.waits r.0 t (omega arith) (omega arith) (omega arith) first
     r.2 in
     record {
@@ -129,26 +132,26 @@ sent q (b ∷ line) s t is r =
 
 -- ---- one cycle after the other
 
-pub record Stepped {A : Type 0} (drive : Option Bool) (drives : List (Option Bool)) (line : List Bool)
+pub record FirstCycleOfRun {A : Type 0} (drive : Option Bool) (drives : List (Option Bool)) (line : List Bool)
     (m t : Clocked A) : Type 0 where
   pub on : Bool
   pub rest : List Bool
   pub next : Clocked A
   pub line_is : line ≡ on ∷ rest
-  pub clocks : Clocks drive on m next
-  pub runs : Runs drives rest next t
+  pub clocks : ClocksOneCycle drive on m next
+  pub runs : RunsCycles drives rest next t
 
 stepped : {A : Type 0} (drive : Option Bool) (drives : List (Option Bool)) (line : List Bool) (m t : Clocked A) →
-    Runs (drive ∷ drives) line m t → Stepped drive drives line m t
+    RunsCycles (drive ∷ drives) line m t → FirstCycleOfRun drive drives line m t
 stepped drive drives [] m t r = absurd r
 stepped drive drives (b ∷ line) m t r =
     record { on = b; rest = line; next = r.0; line_is = refl; clocks = r.1; runs = r.2 }
 
-pub record Ended {A : Type 0} (line : List Bool) (m t : Clocked A) : Type 0 where
+pub record NoCycleLeft {A : Type 0} (line : List Bool) (m t : Clocked A) : Type 0 where
   pub none : line ≡ []
   pub same : t ≡ m
 
-ended : {A : Type 0} (line : List Bool) (m t : Clocked A) → Runs [] line m t → Ended line m t
+ended : {A : Type 0} (line : List Bool) (m t : Clocked A) → RunsCycles [] line m t → NoCycleLeft line m t
 ended [] m t r = record { none = refl; same = r }
 ended (b ∷ line) m t r = absurd r
 
@@ -158,33 +161,33 @@ not_none : (n : ℕ) → 0 < n → n ≢ 0
 not_none n some e = omega (arith, some, e)
 
 -- a turnaround and the three bits that are driven
-pub record Replied {A : Type 0} (reply : Reply) (phase : Line) (drives : List (Option Bool)) (line : List Bool)
-    (s : Target A) (w : Bool) (t : Clocked A) : Type 0 where
+pub record ReplyByCycles {A : Type 0} (reply : Reply) (phase : AfterAck) (drives : List (Option Bool))
+    (line : List Bool) (s : Target A) (w : Bool) (t : Clocked A) : Type 0 where
   pub turn : Bool
   pub rest : List Bool
   pub next : Clocked A
-  pub line_is : line ≡ turn ∷ reply_bit reply 1 ∷ reply_bit reply 2 ∷ reply_bit reply 3 ∷ rest
-  pub moved : Moved (frame_of phase) s w next
-  pub runs : Runs drives rest next t
+  pub line_is : line ≡ turn ∷ reply_cycle_bit reply 1 ∷ reply_cycle_bit reply 2 ∷ reply_cycle_bit reply 3 ∷ rest
+  pub moved : FrameMoved (frame_after_reply phase) s w next
+  pub runs : RunsCycles drives rest next t
 
-replied : {A : Type 0} (reply : Reply) (phase : Line) (drives : List (Option Bool)) (line : List Bool) (s : Target A)
-    (w : Bool)
-    (m t : Clocked A) → Moved (Replies reply phase 0) s w m → Runs (leaves 4 ++ drives) line m t
-    → Replied reply phase drives line s w t
+replied : {A : Type 0} (reply : Reply) (phase : AfterAck) (drives : List (Option Bool)) (line : List Bool)
+    (s : Target A) (w : Bool)
+    (m t : Clocked A) → FrameMoved (Replies reply phase 0) s w m → RunsCycles (released_cycles 4 ++ drives) line m t
+    → ReplyByCycles reply phase drives line s w t
 replied reply phase drives line s w m t h r =
-    let a = stepped None (leaves 3 ++ drives) line m t r in
+    let a = stepped None (released_cycles 3 ++ drives) line m t r in
     let c = cycle_on (Replies reply phase 0) s w m a.next None a.on h a.clocks in
-    let a1 = stepped None (leaves 2 ++ drives) a.rest a.next t a.runs in
+    let a1 = stepped None (released_cycles 2 ++ drives) a.rest a.next t a.runs in
     let c1 = cycle_on (Replies reply phase 1) s w a.next a1.next None a1.on c.frame a1.clocks in
-    let a2 = stepped None (leaves 1 ++ drives) a1.rest a1.next t a1.runs in
+    let a2 = stepped None (released_cycles 1 ++ drives) a1.rest a1.next t a1.runs in
     let c2 = cycle_on (Replies reply phase 2) s w a1.next a2.next None a2.on c1.frame a2.clocks in
     let a3 = stepped None drives a2.rest a2.next t a2.runs in
     let c3 = cycle_on (Replies reply phase 3) s w a2.next a3.next None a3.on c2.frame a3.clocks in
     let third = a3.line_is ∙ ap (λ x. x ∷ a3.rest) (c3.driven (not_none 3 (omega arith))) in
     let second = a2.line_is ∙ ap (λ x. x ∷ a2.rest) (c2.driven (not_none 2 (omega arith)))
-    ∙ ap (λ x. reply_bit reply 2 ∷ x) third in
+    ∙ ap (λ x. reply_cycle_bit reply 2 ∷ x) third in
     let first = a1.line_is ∙ ap (λ x. x ∷ a1.rest) (c1.driven (not_none 1 (omega arith)))
-    ∙ ap (λ x. reply_bit reply 1 ∷ x) second in
+    ∙ ap (λ x. reply_cycle_bit reply 1 ∷ x) second in
     record {
       turn = a.on;
       rest = a3.rest;
@@ -195,54 +198,56 @@ replied reply phase drives line s w m t h r =
     }
 
 -- no reply: the line is left alone, and fifty ones are awaited
-pub record Silence {A : Type 0} (n ones : ℕ) (line : List Bool) (s : Target A) (w : Bool) (t : Clocked A) : Type 0 where
-  pub line_is : line ≡ replicate n true
-  pub moved : Moved (Lost (ones + n)) s w t
+pub record SilentCycles {A : Type 0} (n ones : ℕ) (line : List Bool) (s : Target A) (w : Bool) (t : Clocked A) : Type 0
+  where
+    pub line_is : line ≡ replicate n true
+    pub moved : FrameMoved (Lost (ones + n)) s w t
 
 silence : {A : Type 0} (n ones : ℕ) (line : List Bool) (s : Target A) (w : Bool) (m t : Clocked A) →
-    ones + n < 50 → Moved (Lost ones) s w m → Runs (leaves n) line m t → Silence n ones line s w t
+    ones + n < 50 → FrameMoved (Lost ones) s w m → RunsCycles (released_cycles n) line m t
+    → SilentCycles n ones line s w t
 silence zero ones line s w m t few h r =
     let e = ended line m t r in
     record {
       line_is = e.none;
-      moved = subst (λ k. Moved (Lost k) s w t) (let z : ones ≡ ones + 0 = omega arith in z)
+      moved = subst (λ k. FrameMoved (Lost k) s w t) (let z : ones ≡ ones + 0 = omega arith in z)
           (moved_same (Lost ones) s w m t e.same h);
     }
 silence (suc n) ones line s w m t few h r =
-    let a = stepped None (leaves n) line m t r in
+    let a = stepped None (released_cycles n) line m t r in
     let c = cycle_on (Lost ones) s w m a.next None a.on h a.clocks in
     let rest = silence n (ones + 1) a.rest s w a.next t (omega arith) (c.1.more (omega arith) refl) a.runs in
     record {
       line_is = a.line_is ∙ ap (λ x. x ∷ a.rest) c.0 ∙ ap (λ x. true ∷ x) rest.line_is;
-      moved = subst (λ k. Moved (Lost k) s w t) (let z : ones + 1 + n ≡ ones + suc n = omega arith in z) rest.moved;
+      moved = subst (λ k. FrameMoved (Lost k) s w t) (let z : ones + 1 + n ≡ ones + suc n = omega arith in z) rest.moved;
     }
 
 -- a turnaround after WAIT or FAULT
-pub record Turned {A : Type 0} (line : List Bool) (t : Clocked A) : Type 0 where
+pub record TurnaroundCycle {A : Type 0} (line : List Bool) (t : Clocked A) : Type 0 where
   pub line_is : line ≡ true ∷ []
-  pub frame : t.frame ≡ idle
+  pub frame : t.frame ≡ idle_frame
 
-passed : {A : Type 0} (line : List Bool) (s : Target A) (w : Bool) (m t : Clocked A) → Moved Passes s w m
-    → Runs (leaves 1) line m t → Turned line t
+passed : {A : Type 0} (line : List Bool) (s : Target A) (w : Bool) (m t : Clocked A) → FrameMoved Passes s w m
+    → RunsCycles (released_cycles 1) line m t → TurnaroundCycle line t
 passed line s w m t h r =
     let a = stepped None [] line m t r in
     let c = cycle_on Passes s w m a.next None a.on h a.clocks in
     let e = ended a.rest a.next t a.runs in
     record {
       line_is = a.line_is ∙ ap (λ x. x ∷ a.rest) c.0 ∙ ap (λ x. true ∷ x) e.none;
-      frame = (moved_same idle s w a.next t e.same c.1).frame;
+      frame = (moved_same idle_frame s w a.next t e.same c.1).frame;
     }
 
 -- ---- data
 
 -- the last bit
-pub record Last (n : ℕ) (bits : List Bool) : Type 0 where
+pub record ClockedLastBit (n : ℕ) (bits : List Bool) : Type 0 where
   pub front : List Bool
   pub last : Bool
   pub counted : length front ≡ n
   pub is : bits ≡ front ++ last ∷ []
 
-last_of : (n : ℕ) (bits : List Bool) → length bits ≡ suc n → Last n bits
+last_of : (n : ℕ) (bits : List Bool) → length bits ≡ suc n → ClockedLastBit n bits
 last_of n [] h = absurd (omega arith)
 last_of zero (b ∷ []) h = record { front = []; last = b; counted = refl; is = refl }
 last_of zero (b ∷ d ∷ bits) h = absurd (omega arith)
@@ -264,34 +269,35 @@ parity true false = (false, refl)
 parity false true = (false, refl)
 
 -- 33 bits are the phase of a word, its parity right or wrong
-pub record IsPhase (bits : List Bool) : Type 0 where
+pub record IsClockedPhase (bits : List Bool) : Type 0 where
   pub word : ℕ
   pub ok : Bool
   pub fits : word < 2 ^ 32
   pub is : bits ≡ phase_with word ok
 
-phase_of : (bits : List Bool) → length bits ≡ 33 → IsPhase bits
+phase_of : (bits : List Bool) → length bits ≡ 33 → IsClockedPhase bits
 unfolding phase_with
 phase_of bits h =
     let cut = last_of 32 bits h in
-    let word = number cut.front in
+    let word = bits_number cut.front in
     let same : low_bits 32 word ≡ cut.front = subst (λ n. low_bits n word ≡ cut.front) cut.counted
     (low_bits-number cut.front) in
     let p = parity cut.last (odd (low_bits 32 word)) in
     record {
       word = word;
       ok = p.0;
-      fits = subst (λ n. word < 2 ^ n) cut.counted (number_lt cut.front);
+      fits = subst (λ n. word < 2 ^ n) cut.counted (bits_number_lt cut.front);
       is = cut.is ∙ ap (λ x. x ++ cut.last ∷ []) (sym same) ∙ ap (λ x. low_bits 32 word ++ x ∷ []) p.1;
     }
 
 -- the bits of a read, and a turnaround
-pub record Driven {A : Type 0} (wanted : List Bool) (line : List Bool) (t : Clocked A) : Type 0 where
+pub record DataDrivenByCycles {A : Type 0} (wanted : List Bool) (line : List Bool) (t : Clocked A) : Type 0 where
   pub line_is : line ≡ wanted ++ true ∷ []
-  pub frame : t.frame ≡ idle
+  pub frame : t.frame ≡ idle_frame
 
 drives : {A : Type 0} (n bits : ℕ) (line : List Bool) (s : Target A) (w : Bool) (m t : Clocked A) →
-    Moved (Drives bits n) s w m → Runs (leaves (suc n)) line m t → Driven (low_bits n bits) line t
+    FrameMoved (Drives bits n) s w m → RunsCycles (released_cycles (suc n)) line m t
+    → DataDrivenByCycles (low_bits n bits) line t
 unfolding low_bits
 drives zero bits line s w m t h r =
     let a = stepped None [] line m t r in
@@ -299,30 +305,29 @@ drives zero bits line s w m t h r =
     let e = ended a.rest a.next t a.runs in
     record {
       line_is = a.line_is ∙ ap (λ x. x ∷ a.rest) (c.turn refl).0 ∙ ap (λ x. true ∷ x) e.none;
-      frame = (moved_same idle s w a.next t e.same (c.turn refl).1).frame;
+      frame = (moved_same idle_frame s w a.next t e.same (c.turn refl).1).frame;
     }
 drives (suc n) bits line s w m t h r =
-    let a = stepped None (leaves (suc n)) line m t r in
+    let a = stepped None (released_cycles (suc n)) line m t r in
     let c = cycle_on (Drives bits (suc n)) s w m a.next None a.on h a.clocks in
     let some : suc n ≢ 0 = not_none (suc n) (omega arith) in
     let less : suc n - 1 ≡ n = omega arith in
     let rest = drives n (bits / 2) a.rest s w a.next t
-    (subst (λ k. Moved (Drives (bits / 2) k) s w a.next) less (c.more some)) a.runs in
+    (subst (λ k. FrameMoved (Drives (bits / 2) k) s w a.next) less (c.more some)) a.runs in
     record {
       line_is = a.line_is ∙ ap (λ x. x ∷ a.rest) (c.driven some) ∙ ap (λ x. (bits % 2 == 1) ∷ x) rest.line_is;
       frame = rest.frame;
     }
 
 -- the bits of a write
-pub record Taken {A : Type 0} (wanted line : List Bool) (t : Clocked A) : Type 0 where
+pub record DataTakenByCycles {A : Type 0} (wanted line : List Bool) (t : Clocked A) : Type 0 where
   pub line_is : line ≡ wanted
-  pub frame : t.frame ≡ idle
+  pub frame : t.frame ≡ idle_frame
 
 awaits : {A : Type 0} (wanted line : List Bool) (r : Register) (bits place : ℕ) (s : Target A) (w : Bool)
     (m t : Clocked A) →
-    0 < place → 0 < length wanted → place + length wanted ≡ 34 → Moved (Awaits r bits place) s w m
-    → Runs (map Some wanted) line m t →
-    Taken wanted line t
+    0 < place → 0 < length wanted → place + length wanted ≡ 34 → FrameMoved (Awaits r bits place) s w m
+    → RunsCycles (map Some wanted) line m t → DataTakenByCycles wanted line t
 awaits [] line r bits place s w m t a b e h runs = absurd (omega arith)
 awaits (x ∷ wanted) [] r bits place s w m t a b e h runs = absurd runs
 awaits (x ∷ []) (y ∷ []) r bits place s w m t a b e h runs =
@@ -333,41 +338,45 @@ awaits (x ∷ []) (y ∷ z ∷ line) r bits place s w m t a b e h runs = absurd 
 awaits (x ∷ z ∷ wanted) (y ∷ line) r bits place s w m t a b e h runs =
     let c = cycle_on (Awaits r bits place) s w m runs.0 (Some x) y h runs.1 in
     let more = c.1.more (not_none place a) (omega arith) in
-    let rest = awaits (z ∷ wanted) line r (shifted (2 ^ 32) bits x) (place + 1) s w runs.0 t (omega arith) (omega arith)
-    (omega arith) more runs.2 in
+    let rest = awaits (z ∷ wanted) line r (clocked_shifted (2 ^ 32) bits x) (place + 1) s w runs.0 t (omega arith)
+    (omega arith) (omega arith) more runs.2 in
     record { line_is = ap (λ i. i ∷ line) c.0 ∙ ap (λ i. x ∷ i) rest.line_is; frame = rest.frame }
 
 -- ---- a whole transaction
 
 -- what follows a request is spelled with it
-spelled : (q : Request) (end : TxEnd) (sent line : List Bool) (turn last : Bool) → IsEnd end → sent ≡ request q →
-    line ≡ turn ∷ ending q.read end last → Spells (record { request = q; result = end }) (sent ++ line)
-spelled q end sent line turn last fits e h = (fits, turn, last, ap (λ x. x ++ line) e ∙ ap (λ x. request q ++ x) h)
+spelled : (q : Request) (end : TxEnd) (sent line : List Bool) (turn last : Bool) → IsTxEnd end
+    → sent ≡ bits_of_request q → line ≡ turn ∷ tx_ending_bits q.read end last
+    → SpellsTx (record { request = q; result = end }) (sent ++ line)
+spelled q end sent line turn last fits e h =
+    (fits, turn, last, ap (λ x. x ++ line) e ∙ ap (λ x. bits_of_request q ++ x) h)
 
 refused : {A : Type 0} (q : Request) (reply : Reply) (end : TxEnd) (sent line : List Bool) (m t : Clocked A)
-    → sent ≡ request q → IsEnd end →
-    ((x : Bool) → ending q.read end x ≡ reply_bit reply 1 ∷ reply_bit reply 2 ∷ reply_bit reply 3 ∷ x ∷ [])
-    → EndsAs reply end →
-    frame_behind reply ≡ idle → Moved (Replies reply lines.Idle 0) m.target m.waits m → Runs (leaves 5) line m t
-    → SpellsOne q reply (sent ++ line) t
+    → sent ≡ bits_of_request q → IsTxEnd end →
+    ((x : Bool) → tx_ending_bits q.read end x ≡ reply_cycle_bit reply 1 ∷ reply_cycle_bit reply 2
+    ∷ reply_cycle_bit reply 3 ∷ x ∷ [])
+    → ClockedEndsAs reply end →
+    frame_behind reply ≡ idle_frame → FrameMoved (Replies reply lines.Idle 0) m.target m.waits m
+    → RunsCycles (released_cycles 5) line m t
+    → CyclesSpellOne q reply (sent ++ line) t
 refused q reply end sent line m t e fits is ends frame h r =
-    let x = replied reply lines.Idle (leaves 1) line m.target m.waits m t h r in
+    let x = replied reply lines.Idle (released_cycles 1) line m.target m.waits m t h r in
     let y = passed x.rest m.target m.waits x.next t x.moved x.runs in
     record {
       end = end;
       ends = ends;
       spells = spelled q end sent line x.turn true fits e
-          (x.line_is ∙ ap (λ i. x.turn ∷ reply_bit reply 1 ∷ reply_bit reply 2 ∷ reply_bit reply 3 ∷ i) y.line_is
-          ∙ ap (λ i. x.turn ∷ i) (sym (is true)));
+          (x.line_is ∙ ap (λ i. x.turn ∷ reply_cycle_bit reply 1 ∷ reply_cycle_bit reply 2 ∷ reply_cycle_bit reply 3
+          ∷ i) y.line_is ∙ ap (λ i. x.turn ∷ i) (sym (is true)));
       frame = y.frame ∙ sym frame;
     }
 
 okay_read : {A : Type 0} (q : Request) (bits : ℕ) (sent line : List Bool) (m t : Clocked A) → q.read ≡ true
-    → sent ≡ request q →
-    Moved (Replies Okay (lines.Drives bits) 0) m.target m.waits m → Runs (leaves 38) line m t
-    → SpellsOne q Okay (sent ++ line) t
+    → sent ≡ bits_of_request q →
+    FrameMoved (Replies Okay (lines.Drives bits) 0) m.target m.waits m → RunsCycles (released_cycles 38) line m t
+    → CyclesSpellOne q Okay (sent ++ line) t
 okay_read q bits sent line m t reads e h r =
-    let x = replied Okay (lines.Drives bits) (leaves 34) line m.target m.waits m t h r in
+    let x = replied Okay (lines.Drives bits) (released_cycles 34) line m.target m.waits m t h r in
     let y = drives 33 bits x.rest m.target m.waits x.next t x.moved x.runs in
     let p = phase_of (low_bits 33 bits) (length-low_bits 33 bits) in
     let end : TxEnd = WordMoved p.word p.ok in
@@ -376,19 +385,19 @@ okay_read q bits sent line m t reads e h r =
       ends = (p.word, p.ok, refl);
       spells = spelled q end sent line x.turn true p.fits e
           (x.line_is ∙ ap (λ i. x.turn ∷ true ∷ false ∷ false ∷ i) (y.line_is ∙ ap (λ i. i ++ true ∷ []) p.is)
-          ∙ ap (λ (b : Bool). x.turn ∷ ending b end true) (sym reads));
+          ∙ ap (λ (b : Bool). x.turn ∷ tx_ending_bits b end true) (sym reads));
       frame = y.frame;
     }
 
 okay_write : {A : Type 0} (q : Request) (r : Register) (flip : Option ℕ) (phase sent line : List Bool) (m t : Clocked A)
     → q.read ≡ false → length phase ≡ 33 →
-    sent ≡ request q → Moved (Replies Okay (lines.Awaits r flip) 0) m.target m.waits m
-    → Runs (leaves 5 ++ map Some phase) line m t → SpellsOne q Okay (sent ++ line) t
+    sent ≡ bits_of_request q → FrameMoved (Replies Okay (lines.Awaits r flip) 0) m.target m.waits m
+    → RunsCycles (released_cycles 5 ++ map Some phase) line m t → CyclesSpellOne q Okay (sent ++ line) t
 okay_write q r flip phase sent line m t writes n e h runs =
-    let x = replied Okay (lines.Awaits r flip) (leaves 1 ++ map Some phase) line m.target m.waits m t h runs in
+    let x = replied Okay (lines.Awaits r flip) (released_cycles 1 ++ map Some phase) line m.target m.waits m t h runs in
     let a = stepped None (map Some phase) x.rest x.next t x.runs in
-    let c = cycle_on (Awaits r undriven 0) m.target m.waits x.next a.next None a.on x.moved a.clocks in
-    let y = awaits phase a.rest r undriven 1 m.target m.waits a.next t (omega arith) (omega arith) (omega arith)
+    let c = cycle_on (Awaits r port_undriven 0) m.target m.waits x.next a.next None a.on x.moved a.clocks in
+    let y = awaits phase a.rest r port_undriven 1 m.target m.waits a.next t (omega arith) (omega arith) (omega arith)
     (c.1.turn refl) a.runs in
     let p = phase_of phase n in
     let end : TxEnd = WordMoved p.word p.ok in
@@ -397,19 +406,19 @@ okay_write q r flip phase sent line m t writes n e h runs =
       ends = (p.word, p.ok, refl);
       spells = spelled q end sent line x.turn a.on p.fits e
           (x.line_is ∙ ap (λ i. x.turn ∷ true ∷ false ∷ false ∷ i) (a.line_is ∙ ap (λ i. a.on ∷ i) (y.line_is ∙ p.is))
-          ∙ ap (λ (b : Bool). x.turn ∷ ending b end a.on) (sym writes));
+          ∙ ap (λ (b : Bool). x.turn ∷ tx_ending_bits b end a.on) (sym writes));
       frame = y.frame;
     }
 
-silent_line : (read last : Bool) → replicate 4 true ≡ true ∷ ending read (NoAck 7) last
+silent_line : (read last : Bool) → replicate 4 true ≡ true ∷ tx_ending_bits read (NoAck 7) last
 unfolding low_bits
 silent_line read last = refl
 
-behind : {A : Type 0} (q : Request) (reply : Reply) (read : Bool) (follows : Line) (phase sent line : List Bool)
+behind : {A : Type 0} (q : Request) (reply : Reply) (read : Bool) (follows : AfterAck) (phase sent line : List Bool)
     (m t : Clocked A) → q.read ≡ read →
-    kind follows ≡ kind_after reply read → length phase ≡ 33 → sent ≡ request q
-    → Moved (frame_replied reply follows) m.target m.waits m →
-    Runs (drives_behind reply read phase) line m t → SpellsOne q reply (sent ++ line) t
+    clocked_phase_kind follows ≡ clocked_kind_after_reply reply read → length phase ≡ 33 → sent ≡ bits_of_request q
+    → FrameMoved (frame_replied reply follows) m.target m.waits m →
+    RunsCycles (cycles_driven_behind reply read phase) line m t → CyclesSpellOne q reply (sent ++ line) t
 behind q Silent read follows phase sent line m t reads k n e h r =
     let x = silence 4 1 line m.target m.waits m t (omega arith) h r in
     record {
@@ -436,10 +445,11 @@ behind q Okay false lines.Idle phase sent line m t reads k n e h r = absurd (ome
 behind q Okay false (lines.Drives bits) phase sent line m t reads k n e h r = absurd (omega arith)
 
 -- the phase that a request leaves is that of its reply
-kind_answered : {A : Type 0} (w : Bool) (q : Request) (s t : Target A) (reply : Reply) (follows : Line)
-    → Answers w q s reply follows t → kind follows ≡ kind_after reply q.read
-kind_answered true q s t reply follows x = kind_seen WaitMark q s t reply follows (x.under WaitMark tt refl refl)
-kind_answered false q s t reply follows x = kind_seen Clean q s t reply follows (x.under Clean tt refl refl)
+kind_answered : {A : Type 0} (w : Bool) (q : Request) (s t : Target A) (reply : Reply) (follows : AfterAck)
+    → TargetAnswers w q s reply follows t → clocked_phase_kind follows ≡ clocked_kind_after_reply reply q.read
+kind_answered true q s t reply follows x =
+    clocked_kind_of_seen WaitMark q s t reply follows (x.under WaitMark tt refl refl)
+kind_answered false q s t reply follows x = clocked_kind_of_seen Clean q s t reply follows (x.under Clean tt refl refl)
 
 -- a request that is sent between transactions and the cycles after it spell one transaction, with the model's reply
 pub requests_spell : {A : Type 0} → RequestsSpell A
@@ -458,34 +468,33 @@ requests_spell q phase line s m is n r =
 
 -- ---- ones
 
-pub record Risen {A : Type 0} (n : ℕ) (s t : Clocked A) : Type 0 where
-  pub rising : IsRising t.frame
-  pub left : rise t.frame ≡ rise s.frame - n
-  pub rises : Rises s t
+pub record RisenByOnesCycles {A : Type 0} (n : ℕ) (s t : Clocked A) : Type 0 where
+  pub rising : IsRisingFrame t.frame
+  pub left : rising_frame_ones t.frame ≡ rising_frame_ones s.frame - n
+  pub rises : ClockedRises s t
 
-ones_run : {A : Type 0} (drives : List (Option Bool)) (line : List Bool) (s t : Clocked A) → IsRising s.frame
-    → AreOnes drives → Runs drives line s t →
-    Risen (length drives) s t
+ones_run : {A : Type 0} (drives : List (Option Bool)) (line : List Bool) (s t : Clocked A) → IsRisingFrame s.frame
+    → AreOnesCycles drives → RunsCycles drives line s t → RisenByOnesCycles (length drives) s t
 ones_run [] line s t i h r =
     let e = ended line s t r in
-    let none : Risen 0 s s = record { rising = i; left = omega arith; rises = rises_none s } in
-    subst (λ (x : Clocked _). Risen 0 s x) (sym e.same) none
+    let none : RisenByOnesCycles 0 s s = record { rising = i; left = omega arith; rises = clocked_rises_itself s } in
+    subst (λ (x : Clocked _). RisenByOnesCycles 0 s x) (sym e.same) none
 ones_run (drive ∷ drives) line s t i h r =
     let a = stepped drive drives line s t r in
     let c = subst (λ (b : Bool). Cycles s.frame b a.on s.target s.waits a.next) h.0 a.clocks in
-    let f = one_frame s.frame a.on s.target s.waits a.next i s.place c in
-    let rest = ones_run drives a.rest a.next t (subst IsRising (sym f.is) f.rising) h.1 a.runs in
-    let less = ap rise f.is ∙ f.less in
+    let f = rising_frame_after_one s.frame a.on s.target s.waits a.next i s.place c in
+    let rest = ones_run drives a.rest a.next t (subst IsRisingFrame (sym f.is) f.rising) h.1 a.runs in
+    let less = ap rising_frame_ones f.is ∙ f.less in
     let more = rest.left in
     record {
       rising = rest.rising;
       left = omega (arith, less, more);
-      rises = rises_on s a.next t (one_rises s a.next a.on i s.place c) rest.rises;
+      rises = clocked_rises_chain s a.next t (one_cycle_rises s a.next a.on i s.place c) rest.rises;
     }
 
 -- a frame from which fifty ones are a line reset
-hears : (f : Frame) → (f ≡ idle) ⊎ ((ones : ℕ) × (f ≡ Lost ones)) → IsRising f × (rise f ≤ 50)
-    × ((x : State) → risen f x ≡ record x { reset = Fresh })
+hears : (f : Frame) → (f ≡ idle_frame) ⊎ ((ones : ℕ) × (f ≡ Lost ones)) → IsRisingFrame f × (rising_frame_ones f ≤ 50)
+    × ((x : State) → risen_frame_state f x ≡ record x { reset = Fresh })
 hears f h = elim h [
   | inl e ↦ rw e (refl, omega arith, λ x. refl)
   | inr (ones, e) ↦ rw e (tt, omega arith, λ x. refl)
@@ -497,8 +506,9 @@ ones_reset drives line s t from many ones r =
     let (rising, few, to) = hears s.frame from in
     let x = ones_run drives line s t rising ones r in
     let left = x.left in
-    let high : t.frame ≡ High = risen_high t.frame x.rising (omega (arith, left, many, few)) t.place in
+    let high : t.frame ≡ High = risen_frame_is_high t.frame x.rising (omega (arith, left, many, few)) t.place in
     record {
       frame = high;
-      state = sym (ap (λ (f : Frame). risen f (state_of t)) high) ∙ x.rises.state ∙ to (state_of s);
+      state = sym (ap (λ (f : Frame). risen_frame_state f (clocked_state t)) high) ∙ x.rises.state ∙ to
+          (clocked_state s);
     }

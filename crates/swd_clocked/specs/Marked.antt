@@ -2,90 +2,92 @@
 use Rattle.std.specs.Prelude.{ℕ, ◌≡◌, ◌≢◌, ◌-◌, Bool, true, false, List, Option, is_some, unwrap_or}
 use Rattle.swd_bits.specs.declared.request.Request.{Request}
 use Rattle.swd_port.specs.declared.mark.Mark.{Mark}
-use Rattle.swd_port.specs.Port.{Tally, Target as State}
-use Rattle.swd_port.specs.Choices.{IsMark, is_deaf, is_wait}
-use Rattle.swd_port.specs.Asking.{tally_after}
+use Rattle.swd_port.specs.Port.{PortTally, Target as State}
+use Rattle.swd_port.specs.Choices.{IsPortMark, is_port_deaf, is_port_wait}
+use Rattle.swd_port.specs.Asking.{port_tally_after}
 use Rattle.swd_target.specs.declared.plan.Plan.{Plan}
 use Rattle.swd_target.specs.Simulations.{Simulation}
 use Rattle.swd_target.specs.Plans as plans
 use Rattle.swd_clocked.specs.declared.frame.Frame.{Frame}
-use Rattle.swd_clocked.specs.declared.marked.MarkedClocked.{MarkedClocked}
-use Rattle.swd_clocked.specs.Frames.{idle}
-use Rattle.swd_clocked.specs.Cycles.{Cycles, Moved}
+use Rattle.swd_clocked.specs.declared.marked.FaultyClocked.{FaultyClocked}
+use Rattle.swd_clocked.specs.Frames.{idle_frame}
+use Rattle.swd_clocked.specs.Cycles.{Cycles, FrameMoved}
 use Rattle.swd_clocked.specs.Clocks as clocks
-use Rattle.swd_clocked.specs.Damage.{changes, turned, IsLast}
+use Rattle.swd_clocked.specs.Damage.{mark_changes_cycle, cycle_bit_turned, IsLastRequestCycle}
 
 -- the state of the port model, in which a word may be unknown, and below the simulated target
-abbrev pub state_of : {A : Type 0} → MarkedClocked A → State
-state_of m = clocks.state_of m.clocked
+abbrev pub marked_clocked_state : {A : Type 0} → FaultyClocked A → State
+marked_clocked_state m = clocks.clocked_state m.clocked
 
-abbrev pub simulation_of : {A : Type 0} → MarkedClocked A → Simulation
-simulation_of m = clocks.simulation_of m.clocked
+abbrev pub marked_clocked_simulation : {A : Type 0} → FaultyClocked A → Simulation
+marked_clocked_simulation m = clocks.clocked_simulation m.clocked
 
 -- the frame of the target
-abbrev pub frame_in : {A : Type 0} → MarkedClocked A → Frame
-frame_in m = m.clocked.frame
+abbrev pub marked_clocked_frame : {A : Type 0} → FaultyClocked A → Frame
+marked_clocked_frame m = m.clocked.frame
 
 -- the mark of the last request that used one
-abbrev pub mark_of : {A : Type 0} → MarkedClocked A → Mark
-mark_of m = m.mark
+abbrev pub marked_clocked_mark : {A : Type 0} → FaultyClocked A → Mark
+marked_clocked_mark m = m.mark
 
 -- how many further cycles don't reach the target, after a request that it didn't see
-abbrev pub unseen_of : {A : Type 0} → MarkedClocked A → ℕ
-unseen_of m = m.unseen
+abbrev pub marked_clocked_unseen : {A : Type 0} → FaultyClocked A → ℕ
+marked_clocked_unseen m = m.unseen
 
 -- the marks of its requests, and below its counts of requests and its cycles
-abbrev pub plan_of : {A : Type 0} → MarkedClocked A → List Mark
-plan_of m = plans.marks_of m.plan
+abbrev pub marked_clocked_plan : {A : Type 0} → FaultyClocked A → List Mark
+marked_clocked_plan m = plans.plan_marks m.plan
 
-abbrev pub tally_of : {A : Type 0} → MarkedClocked A → Tally
-tally_of m = plans.tally_of m.plan
+abbrev pub marked_clocked_tally : {A : Type 0} → FaultyClocked A → PortTally
+marked_clocked_tally m = plans.plan_tally m.plan
 
-abbrev pub cycles_of : {A : Type 0} → MarkedClocked A → ℕ
-cycles_of m = clocks.cycles_of m.clocked
+abbrev pub marked_clocked_cycles : {A : Type 0} → FaultyClocked A → ℕ
+marked_clocked_cycles m = clocks.clocked_cycles m.clocked
 
 -- the number of its contended cycles so far
-abbrev pub contended_of : {A : Type 0} → MarkedClocked A → ℕ
-contended_of m = clocks.contended_of m.clocked
+abbrev pub marked_clocked_contended : {A : Type 0} → FaultyClocked A → ℕ
+marked_clocked_contended m = clocks.clocked_contended m.clocked
 
 -- a cycle that reaches the target under a mark, where WAIT is asked for or not
-pub record Reaches {A : Type 0} (mark : Mark) (w : Bool) (drive : Option Bool) (answer : Bool)
-    (s t : MarkedClocked A) : Type 0 where
+pub record CycleReaches {A : Type 0} (mark : Mark) (w : Bool) (drive : Option Bool) (answer : Bool)
+    (s t : FaultyClocked A) : Type 0 where
   pub bit : Bool
-  pub cycles : let c = changes s.clocked.frame mark (is_some drive) in
-      Cycles s.clocked.frame (turned c (unwrap_or drive true)) bit s.clocked.target w t.clocked
-  pub sees : answer ≡ turned (changes s.clocked.frame mark (is_some drive)) bit
+  pub cycles : let c = mark_changes_cycle s.clocked.frame mark (is_some drive) in
+      Cycles s.clocked.frame (cycle_bit_turned c (unwrap_or drive true)) bit s.clocked.target w t.clocked
+  pub sees : answer ≡ cycle_bit_turned (mark_changes_cycle s.clocked.frame mark (is_some drive)) bit
   pub marked : t.mark ≡ mark
   pub heard : t.unseen ≡ 0
 
 -- a cycle that doesn't reach the target; `more` cycles after it won't either
-pub record Misses {A : Type 0} (more : ℕ) (drive : Option Bool) (answer : Bool) (s t : MarkedClocked A) : Type 0 where
-  pub moved : Moved idle s.clocked.target s.clocked.waits t.clocked
-  pub sees : answer ≡ unwrap_or drive true
-  pub left : t.unseen ≡ more
+pub record CycleMisses {A : Type 0} (more : ℕ) (drive : Option Bool) (answer : Bool) (s t : FaultyClocked A) : Type 0
+  where
+    pub moved : FrameMoved idle_frame s.clocked.target s.clocked.waits t.clocked
+    pub sees : answer ≡ unwrap_or drive true
+    pub left : t.unseen ≡ more
 
 -- the next mark of a plan is used, and it is this one
-pub record Uses {A : Type 0} (mark : Mark) (s t : Plan A) : Type 0 where
-  pub is : mark ≡ plans.mark_next s
-  pub legal : IsMark mark
-  pub marks : plans.marks_of t ≡ plans.marks_of s
-  pub tally : plans.tally_of t ≡ tally_after mark (plans.tally_of s)
+pub record CycleUsesMark {A : Type 0} (mark : Mark) (s t : Plan A) : Type 0 where
+  pub is : mark ≡ plans.plan_next_mark s
+  pub legal : IsPortMark mark
+  pub marks : plans.plan_marks t ≡ plans.plan_marks s
+  pub tally : plans.plan_tally t ≡ port_tally_after mark (plans.plan_tally s)
 
 -- The last bit of a request uses a mark. A target that doesn't see the request also misses the cycles of its turnaround
 -- and acknowledgement.
-pub record Meets {A : Type 0} (drive : Option Bool) (answer : Bool) (s t : MarkedClocked A) : Type 0 where
-  pub uses : Uses t.mark s.plan t.plan
-  pub deaf : is_deaf t.mark ≡ true → Misses 4 drive answer s t
-  pub hears : is_deaf t.mark ≡ false → Reaches t.mark (is_wait t.mark) drive answer s t
+pub record CycleMeetsMark {A : Type 0} (drive : Option Bool) (answer : Bool) (s t : FaultyClocked A) : Type 0 where
+  pub uses : CycleUsesMark t.mark s.plan t.plan
+  pub deaf : is_port_deaf t.mark ≡ true → CycleMisses 4 drive answer s t
+  pub hears : is_port_deaf t.mark ≡ false → CycleReaches t.mark (is_port_wait t.mark) drive answer s t
 
 -- a cycle that uses no mark
-pub record Keeps {A : Type 0} (s t : MarkedClocked A) : Type 0 where
+pub record CycleKeepsPlan {A : Type 0} (s t : FaultyClocked A) : Type 0 where
   pub plan : t.plan ≡ s.plan
   pub mark : t.mark ≡ s.mark
 
 -- One cycle, with the bit that the host drives, if any, and the bit that it sees: an undriven line reads 1.
-pub record MarkedCycles {A : Type 0} (drive : Option Bool) (answer : Bool) (s t : MarkedClocked A) : Type 0 where
-  pub missed : s.unseen ≢ 0 → Misses (s.unseen - 1) drive answer s t × Keeps s t
-  pub met : s.unseen ≡ 0 → (q : Request) → IsLast s.clocked.frame (unwrap_or drive true) q → Meets drive answer s t
-  pub other : s.unseen ≡ 0 → ((q : Request) → IsLast s.clocked.frame (unwrap_or drive true) q → ⊥)
-      → Reaches s.mark s.clocked.waits drive answer s t × Keeps s t
+pub record MarkedCycles {A : Type 0} (drive : Option Bool) (answer : Bool) (s t : FaultyClocked A) : Type 0 where
+  pub missed : s.unseen ≢ 0 → CycleMisses (s.unseen - 1) drive answer s t × CycleKeepsPlan s t
+  pub met : s.unseen ≡ 0 → (q : Request) → IsLastRequestCycle s.clocked.frame (unwrap_or drive true) q
+      → CycleMeetsMark drive answer s t
+  pub other : s.unseen ≡ 0 → ((q : Request) → IsLastRequestCycle s.clocked.frame (unwrap_or drive true) q → ⊥)
+      → CycleReaches s.mark s.clocked.waits drive answer s t × CycleKeepsPlan s t

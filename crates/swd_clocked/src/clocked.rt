@@ -1,14 +1,14 @@
 //! A simulated target, clock by clock.
 ghost use Rattle.std.specs.Prelude.{◌≡◌, ◌<◌, ◌^◌, ◌+◌, is_some, true, false};
-ghost use Rattle.swd_port.specs.Port.{made_target};
-ghost use Rattle.swd_target.specs.Simulations.{made_with};
-ghost use Rattle.swd_clocked.specs.Frames.{frame_bits, frame_place, frame_limit, idle, counted, contends, reply_bit};
-ghost use Rattle.swd_clocked.specs.Frames.{unswitched};
+ghost use Rattle.swd_port.specs.Port.{port_made_target};
+ghost use Rattle.swd_target.specs.Simulations.{simulation_made_with};
+ghost use Rattle.swd_clocked.specs.Frames.{frame_bits, frame_place, frame_limit, idle_frame, cycles_counted};
+ghost use Rattle.swd_clocked.specs.Frames.{contended_cycle, reply_cycle_bit, unswitched_frame};
 
 use crate::frame::Frame;
 use std::alloc::{Allocator, Global};
 use swd_bits::{Request, SWITCH};
-use swd_port::{Count, Line, Register, Reply};
+use swd_port::{AfterAck, Count, Register, Reply};
 use swd_target::port::Target;
 use swd_target::{Memory, Quirks};
 
@@ -39,21 +39,22 @@ pub struct Clocked<A: Allocator = Global> {
 }
 
 impl<A: Allocator> Clocked<A> {
-    ghost use Rattle.swd_clocked.specs.Clocks.{state_of, simulation_of, frame_in, is_held, cycles_of, contended_of};
-    ghost use Rattle.swd_clocked.specs.Clocks.{memory_of, quirks_of};
-    ghost use Rattle.swd_clocked.specs.Clocks.{Clocks, Holds, Settles};
-    ghost use Rattle.swd_clocked.specs.Cycles.{Moved, Requested, ByteCame, AsksBit, LostBit, HeardBit, DataCame};
-    ghost use Rattle.swd_clocked.specs.Cycles.{Cycles, AwaitsBit, DrivesBit, RepliesBit, SwitchesBit};
+    ghost use Rattle.swd_clocked.specs.Clocks.{clocked_state, clocked_simulation, clocked_frame, is_clocked_wait_held};
+    ghost use Rattle.swd_clocked.specs.Clocks.{clocked_cycles, clocked_contended, CountsNoCycle, clocked_memory};
+    ghost use Rattle.swd_clocked.specs.Clocks.{clocked_quirks, ClocksOneCycle, ClockedHoldsWait, ClockedSettles};
+    ghost use Rattle.swd_clocked.specs.Cycles.{FrameMoved, ClockedRequested, ClockedByteCame, AsksCycle, LostCycle};
+    ghost use Rattle.swd_clocked.specs.Cycles.{HeardCycle, ClockedDataCame, Cycles, AwaitsCycle, DrivesCycle};
+    ghost use Rattle.swd_clocked.specs.Cycles.{ReplyCycle, SwitchCycle};
 
     /// Creates a target before its first line reset, with this memory behind its access port. WAIT isn't held, and
     /// DPIDR reads 2ba01477.
     pub fn new(memory: Memory<A>, quirks: Quirks) -> Clocked<A>
-        ensures state { state_of result ≡ made_target 0x2ba0_1477 memory }
-        ensures exact { simulation_of result ≡ made_with quirks memory }
-        ensures frame { frame_in result ≡ idle }
-        ensures held { is_held result ≡ false }
-        ensures cycles { cycles_of result ≡ 0 }
-        ensures contended { contended_of result ≡ 0 }
+        ensures state { clocked_state result ≡ port_made_target 0x2ba0_1477 memory }
+        ensures exact { clocked_simulation result ≡ simulation_made_with quirks memory }
+        ensures frame { clocked_frame result ≡ idle_frame }
+        ensures held { is_clocked_wait_held result ≡ false }
+        ensures cycles { clocked_cycles result ≡ 0 }
+        ensures contended { clocked_contended result ≡ 0 }
     {
         Clocked {
             target: Target::new(memory, quirks),
@@ -67,34 +68,34 @@ impl<A: Allocator> Clocked<A> {
     /// Makes the target busy, or not. While busy it answers WAIT instead of OK to each request that may get WAIT. A
     /// read of CTRL/STAT then finds power-up not acknowledged, unless it was read as acknowledged before.
     pub fn hold(&mut self, wait: bool)
-        ensures holds { Holds wait self.old self.new }
-        ensures cycles { cycles_of self.new ≡ cycles_of self.old }
-        ensures contended { contended_of self.new ≡ contended_of self.old }
-        ensures quirks { quirks_of self.new ≡ quirks_of self.old }
+        ensures holds { ClockedHoldsWait wait self.old self.new }
+        ensures cycles { clocked_cycles self.new ≡ clocked_cycles self.old }
+        ensures contended { clocked_contended self.new ≡ clocked_contended self.old }
+        ensures quirks { clocked_quirks self.new ≡ clocked_quirks self.old }
     {
         self.waits = wait;
     }
 
     /// Completes the pending DRW transfer, if any. Without the quirk `late` no transfer is ever pending.
     pub fn settle(&mut self)
-        ensures settles { Settles self.old self.new }
-        ensures cycles { cycles_of self.new ≡ cycles_of self.old }
-        ensures contended { contended_of self.new ≡ contended_of self.old }
-        ensures quirks { quirks_of self.new ≡ quirks_of self.old }
+        ensures settles { ClockedSettles self.old self.new }
+        ensures cycles { clocked_cycles self.new ≡ clocked_cycles self.old }
+        ensures contended { clocked_contended self.new ≡ clocked_contended self.old }
+        ensures quirks { clocked_quirks self.new ≡ clocked_quirks self.old }
     {
         self.target.complete();
     }
 
     /// Returns the memory behind the access port.
     pub fn memory(&self) -> &Memory<A>
-        ensures { result.now ≡ (state_of self.now).memory }
+        ensures { result.now ≡ (clocked_state self.now).memory }
     {
         self.target.memory()
     }
 
     // Consumes the target, and returns the memory behind the access port.
     pub(crate) fn into_memory(self) -> Memory<A>
-        ensures { result ≡ (state_of self).memory }
+        ensures { result ≡ (clocked_state self).memory }
     {
         self.target.into_memory()
     }
@@ -102,13 +103,13 @@ impl<A: Allocator> Clocked<A> {
     /// Performs one clock with the bit that the host drives, if any. Returns the bit on the line: the target's where it
     /// drives, else the host's, and 1 where nobody drives.
     pub fn cycle(&mut self, drive: Option<bool>) -> bool
-        ensures clocks { Clocks drive result self.old self.new }
-        ensures cycles { cycles_of self.new ≡ counted 1 (cycles_of self.old) }
-        ensures contended { contended_of self.new ≡ contended_of self.old
-            + contends (frame_in self.old) (is_some drive) }
-        ensures quirks { quirks_of self.new ≡ quirks_of self.old }
-        ensures quiet { (quirks_of self.old).late ≡ true → (state_of self.old).pending ≡ None
-            → memory_of self.new ≡ memory_of self.old }
+        ensures clocks { ClocksOneCycle drive result self.old self.new }
+        ensures cycles { clocked_cycles self.new ≡ cycles_counted 1 (clocked_cycles self.old) }
+        ensures contended { clocked_contended self.new ≡ clocked_contended self.old
+            + contended_cycle (clocked_frame self.old) (is_some drive) }
+        ensures quirks { clocked_quirks self.new ≡ clocked_quirks self.old }
+        ensures quiet { (clocked_quirks self.old).late ≡ true → (clocked_state self.old).pending ≡ None
+            → clocked_memory self.new ≡ clocked_memory self.old }
     {
         self.clock(drive.unwrap_or(true), drive.is_some())
     }
@@ -117,11 +118,12 @@ impl<A: Allocator> Clocked<A> {
     #[inline(always)]
     pub(crate) fn clock(&mut self, bit: bool, driven: bool) -> bool
         ensures clocks { Cycles self.old.frame bit result self.old.target self.old.waits self.new }
-        ensures cycles { cycles_of self.new ≡ counted 1 (cycles_of self.old) }
-        ensures contended { contended_of self.new ≡ contended_of self.old + contends (frame_in self.old) driven }
-        ensures quirks { quirks_of self.new ≡ quirks_of self.old }
-        ensures quiet { (quirks_of self.old).late ≡ true → (state_of self.old).pending ≡ None
-            → memory_of self.new ≡ memory_of self.old }
+        ensures cycles { clocked_cycles self.new ≡ cycles_counted 1 (clocked_cycles self.old) }
+        ensures contended { clocked_contended self.new ≡ clocked_contended self.old
+            + contended_cycle (clocked_frame self.old) driven }
+        ensures quirks { clocked_quirks self.new ≡ clocked_quirks self.old }
+        ensures quiet { (clocked_quirks self.old).late ≡ true → (clocked_state self.old).pending ≡ None
+            → clocked_memory self.new ≡ clocked_memory self.old }
     {
         self.cycles = self.cycles.saturating_add(1);
         self.frame.note(&mut self.contended, driven);
@@ -159,9 +161,10 @@ impl<A: Allocator> Clocked<A> {
 
     // Counts a cycle that doesn't reach the target, which is between transactions after it.
     pub(crate) fn miss(&mut self, driven: bool)
-        ensures moved { Moved idle self.old.target self.old.waits self.new }
-        ensures cycles { self.new.cycles ≡ counted 1 self.old.cycles }
-        ensures contended { contended_of self.new ≡ contended_of self.old + contends (frame_in self.old) driven }
+        ensures moved { FrameMoved idle_frame self.old.target self.old.waits self.new }
+        ensures cycles { self.new.cycles ≡ cycles_counted 1 self.old.cycles }
+        ensures contended { clocked_contended self.new ≡ clocked_contended self.old
+            + contended_cycle (clocked_frame self.old) driven }
     {
         self.cycles = self.cycles.saturating_add(1);
         self.frame.note(&mut self.contended, driven);
@@ -170,12 +173,11 @@ impl<A: Allocator> Clocked<A> {
 
     fn ask_bit(&mut self, bits: u8, count: u8, bit: bool)
         requires { count < 8 }
-        ensures asks { AsksBit bits count bit self.old.target self.old.waits self.new }
-        ensures cycles { self.new.cycles ≡ self.old.cycles }
-        ensures contended { contended_of self.new ≡ contended_of self.old }
-        ensures quirks { quirks_of self.new ≡ quirks_of self.old }
-        ensures quiet { (quirks_of self.old).late ≡ true → (state_of self.old).pending ≡ None
-            → memory_of self.new ≡ memory_of self.old }
+        ensures asks { AsksCycle bits count bit self.old.target self.old.waits self.new }
+        ensures clocks { CountsNoCycle self.old self.new }
+        ensures quirks { clocked_quirks self.new ≡ clocked_quirks self.old }
+        ensures quiet { (clocked_quirks self.old).late ≡ true → (clocked_state self.old).pending ≡ None
+            → clocked_memory self.new ≡ clocked_memory self.old }
     {
         if count == 0 && !bit {
             self.frame = Frame::IDLE;
@@ -192,12 +194,11 @@ impl<A: Allocator> Clocked<A> {
     // Takes eight bits that begin with Start.
     #[inline(never)]
     fn byte(&mut self, bits: u8)
-        ensures came { ByteCame bits self.old.target self.old.waits self.new }
-        ensures cycles { self.new.cycles ≡ self.old.cycles }
-        ensures contended { contended_of self.new ≡ contended_of self.old }
-        ensures quirks { quirks_of self.new ≡ quirks_of self.old }
-        ensures quiet { (quirks_of self.old).late ≡ true → (state_of self.old).pending ≡ None
-            → memory_of self.new ≡ memory_of self.old }
+        ensures came { ClockedByteCame bits self.old.target self.old.waits self.new }
+        ensures clocks { CountsNoCycle self.old self.new }
+        ensures quirks { clocked_quirks self.new ≡ clocked_quirks self.old }
+        ensures quiet { (clocked_quirks self.old).late ≡ true → (clocked_state self.old).pending ≡ None
+            → clocked_memory self.new ≡ clocked_memory self.old }
     {
         match Request::of(bits) {
             Some(request) => self.request(request),
@@ -206,12 +207,11 @@ impl<A: Allocator> Clocked<A> {
     }
 
     fn request(&mut self, request: Request)
-        ensures requested { Requested request self.old.target self.old.waits self.new }
-        ensures cycles { self.new.cycles ≡ self.old.cycles }
-        ensures contended { contended_of self.new ≡ contended_of self.old }
-        ensures quirks { quirks_of self.new ≡ quirks_of self.old }
-        ensures quiet { (quirks_of self.old).late ≡ true → (state_of self.old).pending ≡ None
-            → memory_of self.new ≡ memory_of self.old }
+        ensures requested { ClockedRequested request self.old.target self.old.waits self.new }
+        ensures clocks { CountsNoCycle self.old self.new }
+        ensures quirks { clocked_quirks self.new ≡ clocked_quirks self.old }
+        ensures quiet { (clocked_quirks self.old).late ≡ true → (clocked_state self.old).pending ≡ None
+            → clocked_memory self.new ≡ clocked_memory self.old }
     {
         let (reply, phase) = self.target.request(self.waits, request);
         self.frame = Frame::replied(reply, phase);
@@ -220,12 +220,11 @@ impl<A: Allocator> Clocked<A> {
     #[inline(never)]
     fn lost_bit(&mut self, ones: u8, bit: bool)
         requires { ones < 50 }
-        ensures hears { LostBit ones bit self.old.target self.old.waits self.new }
-        ensures cycles { self.new.cycles ≡ self.old.cycles }
-        ensures contended { contended_of self.new ≡ contended_of self.old }
-        ensures quirks { quirks_of self.new ≡ quirks_of self.old }
-        ensures quiet { (quirks_of self.old).late ≡ true → (state_of self.old).pending ≡ None
-            → memory_of self.new ≡ memory_of self.old }
+        ensures hears { LostCycle ones bit self.old.target self.old.waits self.new }
+        ensures clocks { CountsNoCycle self.old self.new }
+        ensures quirks { clocked_quirks self.new ≡ clocked_quirks self.old }
+        ensures quiet { (clocked_quirks self.old).late ≡ true → (clocked_state self.old).pending ≡ None
+            → clocked_memory self.new ≡ clocked_memory self.old }
     {
         if !bit {
             self.frame = Frame::Lost(0);
@@ -240,12 +239,11 @@ impl<A: Allocator> Clocked<A> {
     #[inline(never)]
     fn switch_bit(&mut self, place: u8, bit: bool)
         requires { place < 16 }
-        ensures switches { SwitchesBit place bit self.old.target self.old.waits self.new }
-        ensures cycles { self.new.cycles ≡ self.old.cycles }
-        ensures contended { contended_of self.new ≡ contended_of self.old }
-        ensures quirks { quirks_of self.new ≡ quirks_of self.old }
-        ensures quiet { (quirks_of self.old).late ≡ true → (state_of self.old).pending ≡ None
-            → memory_of self.new ≡ memory_of self.old }
+        ensures switches { SwitchCycle place bit self.old.target self.old.waits self.new }
+        ensures clocks { CountsNoCycle self.old self.new }
+        ensures quirks { clocked_quirks self.new ≡ clocked_quirks self.old }
+        ensures quiet { (clocked_quirks self.old).late ≡ true → (clocked_state self.old).pending ≡ None
+            → clocked_memory self.new ≡ clocked_memory self.old }
     {
         if bit == (SWITCH >> place & 1 == 1) {
             self.frame = if place == 15 {
@@ -261,12 +259,11 @@ impl<A: Allocator> Clocked<A> {
     // Takes a bit that shows that the bits since the ones are no switch.
     fn other_bit(&mut self, place: u8, bit: bool)
         requires { place < 16 }
-        ensures hears { HeardBit (unswitched place) bit self.old.target self.old.waits self.new }
-        ensures cycles { self.new.cycles ≡ self.old.cycles }
-        ensures contended { contended_of self.new ≡ contended_of self.old }
-        ensures quirks { quirks_of self.new ≡ quirks_of self.old }
-        ensures quiet { (quirks_of self.old).late ≡ true → (state_of self.old).pending ≡ None
-            → memory_of self.new ≡ memory_of self.old }
+        ensures hears { HeardCycle (unswitched_frame place) bit self.old.target self.old.waits self.new }
+        ensures clocks { CountsNoCycle self.old self.new }
+        ensures quirks { clocked_quirks self.new ≡ clocked_quirks self.old }
+        ensures quiet { (clocked_quirks self.old).late ≡ true → (clocked_state self.old).pending ≡ None
+            → clocked_memory self.new ≡ clocked_memory self.old }
     {
         match place {
             1 => self.ask_bit(255, 0, bit),
@@ -288,15 +285,14 @@ impl<A: Allocator> Clocked<A> {
     }
 
     #[inline(always)]
-    fn reply_bit(&mut self, reply: Reply, line: Line, place: u8, bit: bool) -> bool
+    fn reply_bit(&mut self, reply: Reply, line: AfterAck, place: u8, bit: bool) -> bool
         requires frame { self.old.frame ≡ Frame.Replies reply line place }
         requires place { place < 4 }
-        ensures replies { RepliesBit reply line place bit result self.old.target self.old.waits self.new }
-        ensures cycles { self.new.cycles ≡ self.old.cycles }
-        ensures contended { contended_of self.new ≡ contended_of self.old }
-        ensures quirks { quirks_of self.new ≡ quirks_of self.old }
-        ensures quiet { (quirks_of self.old).late ≡ true → (state_of self.old).pending ≡ None
-            → memory_of self.new ≡ memory_of self.old }
+        ensures replies { ReplyCycle reply line place bit result self.old.target self.old.waits self.new }
+        ensures clocks { CountsNoCycle self.old self.new }
+        ensures quirks { clocked_quirks self.new ≡ clocked_quirks self.old }
+        ensures quiet { (clocked_quirks self.old).late ≡ true → (clocked_state self.old).pending ≡ None
+            → clocked_memory self.new ≡ clocked_memory self.old }
     {
         self.frame = if place == 3 {
             Frame::after_reply(line)
@@ -314,12 +310,11 @@ impl<A: Allocator> Clocked<A> {
     fn drive_bit(&mut self, bits: u64, left: u8, bit: bool) -> bool
         requires bits { bits < 2 ^ 33 }
         requires left { left < 34 }
-        ensures drives { DrivesBit bits left bit result self.old.target self.old.waits self.new }
-        ensures cycles { self.new.cycles ≡ self.old.cycles }
-        ensures contended { contended_of self.new ≡ contended_of self.old }
-        ensures quirks { quirks_of self.new ≡ quirks_of self.old }
-        ensures quiet { (quirks_of self.old).late ≡ true → (state_of self.old).pending ≡ None
-            → memory_of self.new ≡ memory_of self.old }
+        ensures drives { DrivesCycle bits left bit result self.old.target self.old.waits self.new }
+        ensures clocks { CountsNoCycle self.old self.new }
+        ensures quirks { clocked_quirks self.new ≡ clocked_quirks self.old }
+        ensures quiet { (clocked_quirks self.old).late ≡ true → (clocked_state self.old).pending ≡ None
+            → clocked_memory self.new ≡ clocked_memory self.old }
     {
         if left == 0 {
             self.frame = Frame::IDLE;
@@ -333,12 +328,11 @@ impl<A: Allocator> Clocked<A> {
     fn await_bit(&mut self, register: Register, bits: u64, place: u8, bit: bool)
         requires bits { bits < 2 ^ 33 }
         requires place { place < 34 }
-        ensures awaits { AwaitsBit register bits place bit self.old.target self.old.waits self.new }
-        ensures cycles { self.new.cycles ≡ self.old.cycles }
-        ensures contended { contended_of self.new ≡ contended_of self.old }
-        ensures quirks { quirks_of self.new ≡ quirks_of self.old }
-        ensures quiet { (quirks_of self.old).late ≡ true → (state_of self.old).pending ≡ None
-            → memory_of self.new ≡ memory_of self.old }
+        ensures awaits { AwaitsCycle register bits place bit self.old.target self.old.waits self.new }
+        ensures clocks { CountsNoCycle self.old self.new }
+        ensures quirks { clocked_quirks self.new ≡ clocked_quirks self.old }
+        ensures quiet { (clocked_quirks self.old).late ≡ true → (clocked_state self.old).pending ≡ None
+            → clocked_memory self.new ≡ clocked_memory self.old }
     {
         if place == 0 {
             self.frame = Frame::Awaits(register, bits, 1);
@@ -356,12 +350,11 @@ impl<A: Allocator> Clocked<A> {
     #[inline(never)]
     fn arrive(&mut self, register: Register, bits: u64)
         requires { bits < 2 ^ 33 }
-        ensures came { DataCame register bits self.old.target self.old.waits self.new }
-        ensures cycles { self.new.cycles ≡ self.old.cycles }
-        ensures contended { contended_of self.new ≡ contended_of self.old }
-        ensures quirks { quirks_of self.new ≡ quirks_of self.old }
-        ensures quiet { (quirks_of self.old).late ≡ true → (state_of self.old).pending ≡ None
-            → memory_of self.new ≡ memory_of self.old }
+        ensures came { ClockedDataCame register bits self.old.target self.old.waits self.new }
+        ensures clocks { CountsNoCycle self.old self.new }
+        ensures quirks { clocked_quirks self.new ≡ clocked_quirks self.old }
+        ensures quiet { (clocked_quirks self.old).late ≡ true → (clocked_state self.old).pending ≡ None
+            → clocked_memory self.new ≡ clocked_memory self.old }
     {
         self.frame = Frame::IDLE;
         self.target.arrive(register, bits);
@@ -370,7 +363,7 @@ impl<A: Allocator> Clocked<A> {
 
 // Returns whether this cycle of a reply is driven high; cycle 0 is the turnaround.
 fn is_driving(reply: Reply, place: u8) -> bool
-    ensures { result ≡ reply_bit reply place }
+    ensures { result ≡ reply_cycle_bit reply place }
 {
     match place {
         1 => matches!(&reply, Reply::Okay),

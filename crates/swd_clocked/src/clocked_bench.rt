@@ -1,27 +1,29 @@
 //! A simulated target, clock by clock, as a wire with a plan of fault injections.
 ghost use Rattle.std.specs.Prelude.{◌≡◌, ◌<◌, ◌^◌, true, IfOk, IfErr};
 ghost use Rattle.swd_port.specs.declared.wire.Due.TheVariants.{Nothing, Take, Give, Pass};
-ghost use Rattle.swd_port.specs.Port.{idle_link, made};
-ghost use Rattle.swd_port.specs.Completion.{completed};
-ghost use Rattle.swd_port.specs.Asking.{Asks, tally_after};
-ghost use Rattle.swd_port.specs.Leading.{MayLead, MayRelease, LeadsNow};
-ghost use Rattle.swd_port.specs.Stories.{MayStep, IsSeen, IsStep};
+ghost use Rattle.swd_port.specs.Port.{port_idle_link, port_made};
+ghost use Rattle.swd_port.specs.Completion.{port_completed};
+ghost use Rattle.swd_port.specs.Asking.{PortAsks, port_tally_after};
+ghost use Rattle.swd_port.specs.Leading.{PortMayLead, MayRelease, PortLeadsNow};
+ghost use Rattle.swd_port.specs.Stories.{PortMayStep, IsPortSeen, IsPortStep};
 ghost use Rattle.swd_port.specs.declared.cue.Cue.TheVariants.{Ask};
-ghost use Rattle.swd_port.specs.Moving.{TakesNow, Gives, PassesNow};
-ghost use Rattle.swd_target.specs.Marks.{IsPlan};
-ghost use Rattle.swd_target.specs.Simulations.{made_with, transferred};
-ghost use Rattle.swd_target.specs.Stepping.{led, given, seen_by, stepped_by, link_by, tally_by, StepsAlone};
-ghost use Rattle.swd_target.specs.Targets.{IsChosen};
-ghost use Rattle.swd_clocked.specs.Frames.{counted};
-ghost use Rattle.swd_clocked.specs.Rests.{rests};
+ghost use Rattle.swd_port.specs.Moving.{PortTakesNow, PortGives, PortPassesNow};
+ghost use Rattle.swd_target.specs.Marks.{IsLegalPlan};
+ghost use Rattle.swd_target.specs.Simulations.{simulation_made_with, simulation_transferred};
+ghost use Rattle.swd_target.specs.Stepping.{simulation_led, simulation_given, simulation_seen_at_cue};
+ghost use Rattle.swd_target.specs.Stepping.{simulation_after_cue, simulation_link_at_cue, simulation_tally_at_cue};
+ghost use Rattle.swd_target.specs.Stepping.{TargetStepsAlone};
+ghost use Rattle.swd_target.specs.Targets.{IsChoiceByQuirks};
+ghost use Rattle.swd_clocked.specs.Frames.{cycles_counted};
+ghost use Rattle.swd_clocked.specs.Rests.{frame_fits_due};
 
-use crate::marked::MarkedClocked;
+use crate::marked::FaultyClocked;
 use std::alloc::{Allocator, Global};
 use swd_bits::Request;
 use swd_port::{Cue, Due, Mark, Wire};
 use swd_target::{Memory, Quirks};
 
-/// A [`MarkedClocked`] as a [`Wire`], which performs each call by the target's cycles alone. Each request uses the next
+/// A [`FaultyClocked`] as a [`Wire`], which performs each call by the target's cycles alone. Each request uses the next
 /// mark of the plan; after its end all marks are `Clean`.
 ///
 /// It behaves exactly like a `swd_target::Bench` with the same memory, quirks and plan.
@@ -35,16 +37,18 @@ use swd_target::{Memory, Quirks};
 /// ```
 #[derive(Debug, Drop)]
 pub struct ClockedBench<A: Allocator = Global> {
-    marked: Box<MarkedClocked<A>, A>,
+    marked: Box<FaultyClocked<A>, A>,
     due: Due,
-    ghost resting: { rests due marked.value.clocked.frame ≡ true },
+    ghost resting: { frame_fits_due due marked.value.clocked.frame ≡ true },
     ghost heard: { marked.value.unseen ≡ 0 },
     ghost uncontended: { marked.value.clocked.contended.ticks ≡ 0 },
 }
 
 impl<A: Allocator> ClockedBench<A> {
-    ghost use Rattle.swd_clocked.specs.ClockedBenches.{port_of, link_of, tally_of, simulation_of, plan_of, next_mark};
-    ghost use Rattle.swd_clocked.specs.ClockedBenches.{choice_of, cycles_of, lead_cycles};
+    ghost use Rattle.swd_clocked.specs.ClockedBenches.{clocked_bench_port, clocked_bench_link, clocked_bench_tally};
+    ghost use Rattle.swd_clocked.specs.ClockedBenches.{clocked_bench_simulation, clocked_bench_plan};
+    ghost use Rattle.swd_clocked.specs.ClockedBenches.{clocked_bench_next_mark};
+    ghost use Rattle.swd_clocked.specs.ClockedBenches.{clocked_bench_choice, clocked_bench_cycles, lead_cycles};
 
     /// Creates a clocked target before its first line reset, with this memory behind its access port.
     ///
@@ -57,14 +61,14 @@ impl<A: Allocator> ClockedBench<A> {
         quirks: Quirks,
         plan: Vec<Mark, A>,
     ) -> Result<ClockedBench<A>, (Memory<A>, Vec<Mark, A>)>
-        requires { IsPlan plan.items }
-        ensures port { IfOk result (λ b. port_of b ≡ made 0x2ba0_1477 memory) }
-        ensures exact { IfOk result (λ b. simulation_of b ≡ made_with quirks memory) }
-        ensures plan { IfOk result (λ b. plan_of b ≡ plan.items) }
-        ensures cycles { IfOk result (λ b. cycles_of b ≡ 0) }
+        requires { IsLegalPlan plan.items }
+        ensures port { IfOk result (λ b. clocked_bench_port b ≡ port_made 0x2ba0_1477 memory) }
+        ensures exact { IfOk result (λ b. clocked_bench_simulation b ≡ simulation_made_with quirks memory) }
+        ensures plan { IfOk result (λ b. clocked_bench_plan b ≡ plan.items) }
+        ensures cycles { IfOk result (λ b. clocked_bench_cycles b ≡ 0) }
         ensures handed_back { IfErr result (λ e. (e.0 ≡ memory) × (e.1.items ≡ plan.items)) }
     {
-        match Box::new(alloc, MarkedClocked::new(memory, quirks, plan)) {
+        match Box::new(alloc, FaultyClocked::new(memory, quirks, plan)) {
             Ok(marked) => Ok(ClockedBench {
                 marked,
                 due: Due::Nothing,
@@ -75,37 +79,40 @@ impl<A: Allocator> ClockedBench<A> {
 
     /// Completes the pending DRW transfer, if any. Without the quirk `late` no transfer is ever pending.
     pub fn settle(&mut self)
-        ensures port { port_of self.new ≡ completed (choice_of self.old) (port_of self.old) }
-        ensures choice { IsChosen (simulation_of self.old).quirks (choice_of self.old) }
-        ensures exact { simulation_of self.new ≡ transferred (simulation_of self.old) }
-        ensures plan { plan_of self.new ≡ plan_of self.old }
-        ensures cycles { cycles_of self.new ≡ cycles_of self.old }
+        ensures port { clocked_bench_port self.new
+            ≡ port_completed (clocked_bench_choice self.old) (clocked_bench_port self.old) }
+        ensures choice { IsChoiceByQuirks (clocked_bench_simulation self.old).quirks (clocked_bench_choice self.old) }
+        ensures exact { clocked_bench_simulation self.new ≡ simulation_transferred (clocked_bench_simulation self.old) }
+        ensures plan { clocked_bench_plan self.new ≡ clocked_bench_plan self.old }
+        ensures cycles { clocked_bench_cycles self.new ≡ clocked_bench_cycles self.old }
     {
         self.marked.settle();
     }
 
     /// Returns the memory behind the access port.
     pub fn memory(&self) -> &Memory<A>
-        ensures { result.now ≡ (port_of self.now).target.memory }
+        ensures { result.now ≡ (clocked_bench_port self.now).target.memory }
     {
         self.marked.memory()
     }
 
     /// Returns the number of cycles so far, saturating at `u64::MAX`.
     pub fn cycles(&self) -> u64
-        ensures { result ≡ cycles_of self.now }
+        ensures { result ≡ clocked_bench_cycles self.now }
     {
         self.marked.cycles()
     }
 
     // Sends ones and zeros, cycle by cycle.
     fn lead_now(&mut self, ones: u32, undriven: u32, switch: bool, zeros: u32)
-        requires leads { MayLead (port_of self.old).link.due ones switch zeros }
-        requires releases { MayRelease (port_of self.old).link.due ones undriven }
-        ensures now { LeadsNow (port_of self.old) ones (port_of self.new) }
-        ensures exact { simulation_of self.new ≡ led ones (link_of self.old) (simulation_of self.old) }
-        ensures plan { plan_of self.new ≡ plan_of self.old }
-        ensures cycles { cycles_of self.new ≡ counted (lead_cycles ones switch zeros) (cycles_of self.old) }
+        requires leads { PortMayLead (clocked_bench_port self.old).link.due ones switch zeros }
+        requires releases { MayRelease (clocked_bench_port self.old).link.due ones undriven }
+        ensures now { PortLeadsNow (clocked_bench_port self.old) ones (clocked_bench_port self.new) }
+        ensures exact { clocked_bench_simulation self.new
+            ≡ simulation_led ones (clocked_bench_link self.old) (clocked_bench_simulation self.old) }
+        ensures plan { clocked_bench_plan self.new ≡ clocked_bench_plan self.old }
+        ensures cycles { clocked_bench_cycles self.new
+            ≡ cycles_counted (lead_cycles ones switch zeros) (clocked_bench_cycles self.old) }
     {
         if ones > 0 {
             self.marked.send_reset(ones, undriven, switch);
@@ -116,17 +123,21 @@ impl<A: Allocator> ClockedBench<A> {
 
     // Performs a request under the next mark.
     fn ask_now(&mut self, request: Request) -> u8
-        requires { (port_of self.old).link.due ≡ Nothing }
+        requires { (clocked_bench_port self.old).link.due ≡ Nothing }
         ensures range { result < 8 }
-        ensures step { Asks (port_of self.old) request result (port_of self.new) }
-        ensures sees { result ≡ seen_by (next_mark self.old) (Ask request) (link_of self.old) (simulation_of self.old) }
-        ensures exact { simulation_of self.new
-            ≡ stepped_by (next_mark self.old) (Ask request) (link_of self.old) (simulation_of self.old) }
-        ensures link { link_of self.new
-            ≡ link_by (next_mark self.old) (Ask request) (link_of self.old) (simulation_of self.old) }
-        ensures tally { tally_of self.new ≡ tally_after (next_mark self.old) (tally_of self.old) }
-        ensures plan { plan_of self.new ≡ plan_of self.old }
-        ensures cycles { cycles_of self.new ≡ counted 12 (cycles_of self.old) }
+        ensures step { PortAsks (clocked_bench_port self.old) request result (clocked_bench_port self.new) }
+        ensures sees { result ≡ simulation_seen_at_cue (clocked_bench_next_mark self.old) (Ask request)
+            (clocked_bench_link self.old) (clocked_bench_simulation self.old) }
+        ensures exact { clocked_bench_simulation self.new
+            ≡ simulation_after_cue (clocked_bench_next_mark self.old) (Ask request) (clocked_bench_link self.old)
+            (clocked_bench_simulation self.old) }
+        ensures link { clocked_bench_link self.new
+            ≡ simulation_link_at_cue (clocked_bench_next_mark self.old) (Ask request) (clocked_bench_link self.old)
+            (clocked_bench_simulation self.old) }
+        ensures tally { clocked_bench_tally self.new
+            ≡ port_tally_after (clocked_bench_next_mark self.old) (clocked_bench_tally self.old) }
+        ensures plan { clocked_bench_plan self.new ≡ clocked_bench_plan self.old }
+        ensures cycles { clocked_bench_cycles self.new ≡ cycles_counted 12 (clocked_bench_cycles self.old) }
     {
         let seen = self.marked.ask_request(request);
         self.due = Due::after(request.read, seen);
@@ -135,12 +146,12 @@ impl<A: Allocator> ClockedBench<A> {
 
     // Returns the data phase of a read.
     fn take_now(&mut self) -> u64
-        requires { (port_of self.old).link.due ≡ Take }
+        requires { (clocked_bench_port self.old).link.due ≡ Take }
         ensures range { result < 2 ^ 33 }
-        ensures now { TakesNow (port_of self.old) result (port_of self.new) }
-        ensures exact { simulation_of self.new ≡ simulation_of self.old }
-        ensures plan { plan_of self.new ≡ plan_of self.old }
-        ensures cycles { cycles_of self.new ≡ counted 34 (cycles_of self.old) }
+        ensures now { PortTakesNow (clocked_bench_port self.old) result (clocked_bench_port self.new) }
+        ensures exact { clocked_bench_simulation self.new ≡ clocked_bench_simulation self.old }
+        ensures plan { clocked_bench_plan self.new ≡ clocked_bench_plan self.old }
+        ensures cycles { clocked_bench_cycles self.new ≡ cycles_counted 34 (clocked_bench_cycles self.old) }
     {
         let bits = self.marked.take_bits();
         self.due = Due::Nothing;
@@ -149,14 +160,15 @@ impl<A: Allocator> ClockedBench<A> {
 
     // Sends the data phase of a write.
     fn give_now(&mut self, bits: u64)
-        requires due { (port_of self.old).link.due ≡ Give }
+        requires due { (clocked_bench_port self.old).link.due ≡ Give }
         requires range { bits < 2 ^ 33 }
-        ensures step { Gives (port_of self.old) bits (port_of self.new) }
-        ensures link { link_of self.new ≡ idle_link }
-        ensures tally { tally_of self.new ≡ tally_of self.old }
-        ensures exact { simulation_of self.new ≡ given bits (link_of self.old) (simulation_of self.old) }
-        ensures plan { plan_of self.new ≡ plan_of self.old }
-        ensures cycles { cycles_of self.new ≡ counted 34 (cycles_of self.old) }
+        ensures step { PortGives (clocked_bench_port self.old) bits (clocked_bench_port self.new) }
+        ensures link { clocked_bench_link self.new ≡ port_idle_link }
+        ensures tally { clocked_bench_tally self.new ≡ clocked_bench_tally self.old }
+        ensures exact { clocked_bench_simulation self.new
+            ≡ simulation_given bits (clocked_bench_link self.old) (clocked_bench_simulation self.old) }
+        ensures plan { clocked_bench_plan self.new ≡ clocked_bench_plan self.old }
+        ensures cycles { clocked_bench_cycles self.new ≡ cycles_counted 34 (clocked_bench_cycles self.old) }
     {
         self.marked.give_bits(bits);
         self.due = Due::Nothing;
@@ -164,11 +176,11 @@ impl<A: Allocator> ClockedBench<A> {
 
     // Passes the turnaround after WAIT or FAULT.
     fn pass_now(&mut self)
-        requires { (port_of self.old).link.due ≡ Pass }
-        ensures now { PassesNow (port_of self.old) (port_of self.new) }
-        ensures exact { simulation_of self.new ≡ simulation_of self.old }
-        ensures plan { plan_of self.new ≡ plan_of self.old }
-        ensures cycles { cycles_of self.new ≡ counted 1 (cycles_of self.old) }
+        requires { (clocked_bench_port self.old).link.due ≡ Pass }
+        ensures now { PortPassesNow (clocked_bench_port self.old) (clocked_bench_port self.new) }
+        ensures exact { clocked_bench_simulation self.new ≡ clocked_bench_simulation self.old }
+        ensures plan { clocked_bench_plan self.new ≡ clocked_bench_plan self.old }
+        ensures cycles { clocked_bench_cycles self.new ≡ cycles_counted 1 (clocked_bench_cycles self.old) }
     {
         self.marked.pass_by();
         self.due = Due::Nothing;
@@ -176,12 +188,13 @@ impl<A: Allocator> ClockedBench<A> {
 }
 
 impl<A: Allocator> Wire for ClockedBench<A> {
-    ghost use Rattle.swd_clocked.specs.ClockedBenches.{port_of, link_of, tally_of, simulation_of, plan_of, next_mark};
-    ghost use Rattle.swd_clocked.specs.ClockedBenches.{cycles_of, cycles_by};
+    ghost use Rattle.swd_clocked.specs.ClockedBenches.{clocked_bench_port, clocked_bench_link, clocked_bench_tally};
+    ghost use Rattle.swd_clocked.specs.ClockedBenches.{clocked_bench_simulation, clocked_bench_plan};
+    ghost use Rattle.swd_clocked.specs.ClockedBenches.{clocked_bench_next_mark, clocked_bench_cycles, cycles_of_cue};
 
-    ghost port = { port_of };
+    ghost port = { clocked_bench_port };
 
-    ghost plan = { plan_of };
+    ghost plan = { clocked_bench_plan };
 
     fn due(&self) -> Due {
         self.due
@@ -190,18 +203,23 @@ impl<A: Allocator> Wire for ClockedBench<A> {
     /// Performs the cue. The n-th request uses the n-th mark of the plan, or `Clean` after its end.
     #[inline(always)]
     fn step(&mut self, cue: Cue) -> u64
-        requires { MayStep (port_of self.old).link.due cue }
-        ensures seen { IsSeen cue result }
-        ensures step { IsStep cue result (port_of self.old) (port_of self.new) }
-        ensures alone { StepsAlone cue result (port_of self.old) (port_of self.new) }
-        ensures sees { result ≡ seen_by (next_mark self.old) cue (link_of self.old) (simulation_of self.old) }
-        ensures exact { simulation_of self.new
-            ≡ stepped_by (next_mark self.old) cue (link_of self.old) (simulation_of self.old) }
-        ensures link { link_of self.new
-            ≡ link_by (next_mark self.old) cue (link_of self.old) (simulation_of self.old) }
-        ensures tally { tally_of self.new ≡ tally_by (next_mark self.old) cue (tally_of self.old) }
-        ensures plan { plan_of self.new ≡ plan_of self.old }
-        ensures cycles { cycles_of self.new ≡ counted (cycles_by cue) (cycles_of self.old) }
+        requires { PortMayStep (clocked_bench_port self.old).link.due cue }
+        ensures seen { IsPortSeen cue result }
+        ensures step { IsPortStep cue result (clocked_bench_port self.old) (clocked_bench_port self.new) }
+        ensures alone { TargetStepsAlone cue result (clocked_bench_port self.old) (clocked_bench_port self.new) }
+        ensures sees { result ≡ simulation_seen_at_cue (clocked_bench_next_mark self.old) cue
+            (clocked_bench_link self.old) (clocked_bench_simulation self.old) }
+        ensures exact { clocked_bench_simulation self.new
+            ≡ simulation_after_cue (clocked_bench_next_mark self.old) cue (clocked_bench_link self.old)
+            (clocked_bench_simulation self.old) }
+        ensures link { clocked_bench_link self.new
+            ≡ simulation_link_at_cue (clocked_bench_next_mark self.old) cue (clocked_bench_link self.old)
+            (clocked_bench_simulation self.old) }
+        ensures tally { clocked_bench_tally self.new
+            ≡ simulation_tally_at_cue (clocked_bench_next_mark self.old) cue (clocked_bench_tally self.old) }
+        ensures plan { clocked_bench_plan self.new ≡ clocked_bench_plan self.old }
+        ensures cycles { clocked_bench_cycles self.new
+            ≡ cycles_counted (cycles_of_cue cue) (clocked_bench_cycles self.old) }
     {
         match cue {
             Cue::Lead {

@@ -1,17 +1,18 @@
 //! A clocked target as a struct of integers, for callers that store it themselves, such as programs in C.
 ghost use Rattle.std.specs.Prelude.{◌≡◌, ◌<◌, ◌^◌, IfSome, IsSome};
-ghost use Rattle.swd_port.specs.Moving.{bits_driven};
+ghost use Rattle.swd_port.specs.Moving.{port_bits_driven};
 ghost use Rattle.swd_clocked.specs.declared.clocked.Clocked.{Clocked as ClockedType};
-ghost use Rattle.swd_clocked.specs.Clocks.{memory_of};
-ghost use Rattle.swd_clocked.specs.Fields.{fields_of, frame_fields, line_fields, line_with, plain_frame};
-ghost use Rattle.swd_clocked.specs.Fields.{register_number, reply_number};
-ghost use Rattle.swd_clocked.specs.Fields.{read_clocked, read_frame, read_line, read_register, read_reply};
+ghost use Rattle.swd_clocked.specs.Clocks.{clocked_memory};
+ghost use Rattle.swd_clocked.specs.Fields.{clocked_fields, frame_fields, clocked_line_fields, clocked_line_with};
+ghost use Rattle.swd_clocked.specs.Fields.{plain_frame, clocked_register_number, clocked_reply_number};
+ghost use Rattle.swd_clocked.specs.Fields.{restored_clocked, restored_frame, restored_clocked_line};
+ghost use Rattle.swd_clocked.specs.Fields.{restored_clocked_register, restored_clocked_reply};
 ghost use Rattle.swd_clocked.specs.Frames.{frame_bits, frame_limit, frame_place};
 
 use crate::clocked::Clocked;
 use crate::frame::Frame;
 use std::alloc::Allocator;
-use swd_port::{Count, Line, Register, Reply};
+use swd_port::{AfterAck, Count, Register, Reply};
 use swd_target::{Memory, TargetFields};
 
 /// The state of a clocked target without its memory, as integers laid out as in C. [`Clocked::fields`] returns it, and
@@ -51,7 +52,7 @@ pub struct LineFields {
 }
 
 fn number_of_register(register: Register) -> u8
-    ensures { result ≡ register_number register }
+    ensures { result ≡ clocked_register_number register }
 {
     match register {
         Register::DpidrRead => 1,
@@ -77,7 +78,7 @@ fn number_of_register(register: Register) -> u8
 // Here and below, invalid numbers may give any result: `ClockedFields::clocked` rejects a target whose own fields
 // differ.
 fn register_with(number: u8) -> Register
-    ensures { register_number result ≡ read_register number }
+    ensures { clocked_register_number result ≡ restored_clocked_register number }
 {
     match number {
         1 => Register::DpidrRead,
@@ -101,7 +102,7 @@ fn register_with(number: u8) -> Register
 }
 
 fn number_of_reply(reply: Reply) -> u8
-    ensures { result ≡ reply_number reply }
+    ensures { result ≡ clocked_reply_number reply }
 {
     match reply {
         Reply::Okay => 1,
@@ -112,7 +113,7 @@ fn number_of_reply(reply: Reply) -> u8
 }
 
 fn reply_with(number: u8) -> Reply
-    ensures { reply_number result ≡ read_reply number }
+    ensures { clocked_reply_number result ≡ restored_clocked_reply number }
 {
     match number {
         1 => Reply::Okay,
@@ -124,7 +125,7 @@ fn reply_with(number: u8) -> Reply
 
 // Returns the fields of no data phase, with these bits and this register.
 fn line_with(bits: u64, register: u8) -> LineFields
-    ensures { result ≡ line_with 0 bits register 0 0 }
+    ensures { result ≡ clocked_line_with 0 bits register 0 0 }
 {
     LineFields {
         bits,
@@ -136,18 +137,18 @@ fn line_with(bits: u64, register: u8) -> LineFields
 }
 
 impl LineFields {
-    fn of(line: Line) -> LineFields
-        ensures { result ≡ line_fields line }
+    fn of(line: AfterAck) -> LineFields
+        ensures { result ≡ clocked_line_fields line }
     {
         let none = line_with(0, 0);
         match line {
-            Line::Idle => LineFields { kind: 1, ..none },
-            Line::Drives(bits) => LineFields {
+            AfterAck::Idle => LineFields { kind: 1, ..none },
+            AfterAck::Drives(bits) => LineFields {
                 kind: 2,
                 bits,
                 ..none
             },
-            Line::Awaits(register, flip) => LineFields {
+            AfterAck::Awaits(register, flip) => LineFields {
                 bits: 0,
                 kind: 3,
                 register: number_of_register(register),
@@ -157,20 +158,20 @@ impl LineFields {
         }
     }
 
-    fn line(self) -> Line
-        ensures line { line_fields result ≡ read_line self }
-        ensures driven { bits_driven result < 2 ^ 33 }
+    fn line(self) -> AfterAck
+        ensures line { clocked_line_fields result ≡ restored_clocked_line self }
+        ensures driven { port_bits_driven result < 2 ^ 33 }
     {
         match self.kind {
-            1 => Line::Idle,
-            2 => Line::Drives(self.bits % (1 << 33)),
+            1 => AfterAck::Idle,
+            2 => AfterAck::Drives(self.bits % (1 << 33)),
             _ => {
                 let flip = if self.flips == 1 {
                     Some(self.flip)
                 } else {
                     None
                 };
-                Line::Awaits(register_with(self.register), flip)
+                AfterAck::Awaits(register_with(self.register), flip)
             }
         }
     }
@@ -219,7 +220,7 @@ impl FrameFields {
     }
 
     fn frame(self) -> Frame
-        ensures frame { frame_fields result ≡ read_frame self }
+        ensures frame { frame_fields result ≡ restored_frame self }
         ensures bits { frame_bits result < 2 ^ 33 }
         ensures place { frame_place result < frame_limit result }
     {
@@ -250,8 +251,8 @@ fn as_many(cycles: u64) -> u64
 impl ClockedFields {
     /// Returns a clocked target with these fields over a memory, or `None` if no target has them.
     pub fn clocked<A: Allocator>(&self, memory: Memory<A>) -> Option<Clocked<A>>
-        ensures found { (c : ClockedType A) → fields_of c ≡ self.now → IsSome result }
-        ensures same { IfSome result (λ c. (fields_of c ≡ self.now) × (memory_of c ≡ memory)) }
+        ensures found { (c : ClockedType A) → clocked_fields c ≡ self.now → IsSome result }
+        ensures same { IfSome result (λ c. (clocked_fields c ≡ self.now) × (clocked_memory c ≡ memory)) }
     {
         let clocked = self.read(memory);
         if clocked.fields() == *self {
@@ -262,8 +263,8 @@ impl ClockedFields {
     }
 
     fn read<A: Allocator>(&self, memory: Memory<A>) -> Clocked<A>
-        ensures numbers { fields_of result ≡ read_clocked self.now }
-        ensures memory { memory_of result ≡ memory }
+        ensures numbers { clocked_fields result ≡ restored_clocked self.now }
+        ensures memory { clocked_memory result ≡ memory }
     {
         Clocked {
             target: self.target.target(memory),
@@ -278,7 +279,7 @@ impl ClockedFields {
 impl<A: Allocator> Clocked<A> {
     /// Returns the fields of the target, without its memory.
     pub fn fields(&self) -> ClockedFields
-        ensures { result ≡ fields_of self.now }
+        ensures { result ≡ clocked_fields self.now }
     {
         ClockedFields {
             cycles: self.cycles,

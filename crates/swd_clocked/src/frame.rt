@@ -1,8 +1,8 @@
 //! The frames of a clocked target: its place in a transaction or between two.
 ghost use Rattle.std.specs.Prelude.{◌≡◌, ◌<◌, ◌^◌, ◌+◌};
-ghost use Rattle.swd_port.specs.Moving.{bits_driven};
+ghost use Rattle.swd_port.specs.Moving.{port_bits_driven};
 
-use swd_port::{Count, Line, Register, Reply};
+use swd_port::{AfterAck, Count, Register, Reply};
 
 /// The meaning of the next cycles. Shift registers are preset with ones, as an undriven line reads.
 #[derive(Clone, Copy, Debug, PartialEq, Eq)]
@@ -16,7 +16,7 @@ pub(crate) enum Frame {
     /// The bits of the switch, of which this many came after the ones.
     Switches(u8),
     /// A turnaround, and a reply that is driven, of which this many cycles passed.
-    Replies(Reply, Line, u8),
+    Replies(Reply, AfterAck, u8),
     /// These bits, which are driven for this many cycles more, and then a turnaround.
     Drives(u64, u8),
     /// A turnaround, and the bits of a write, of which this many cycles passed.
@@ -26,15 +26,15 @@ pub(crate) enum Frame {
 }
 
 impl Frame {
-    ghost use Rattle.swd_clocked.specs.Frames.{idle, frame_bits, frame_place, frame_limit, frame_of, frame_replied};
-    ghost use Rattle.swd_clocked.specs.Frames.{is_released, contends};
+    ghost use Rattle.swd_clocked.specs.Frames.{idle_frame, frame_bits, frame_place, frame_limit, frame_after_reply};
+    ghost use Rattle.swd_clocked.specs.Frames.{frame_replied, is_released_frame, contended_cycle};
 
     /// The frame between transactions.
     pub(crate) const IDLE: Frame = Frame::Asks(0xff, 0);
 
     // Returns whether the host has to release the line: the target drives it, or nobody does.
     fn is_released(self) -> bool
-        ensures { result ≡ is_released self }
+        ensures { result ≡ is_released_frame self }
     {
         match self {
             Frame::Replies(_, _, _) | Frame::Drives(_, _) | Frame::Passes => true,
@@ -45,7 +45,7 @@ impl Frame {
 
     // Counts a cycle that the host drives where it should release the line.
     pub(crate) fn note(self, contended: &mut Count, driven: bool)
-        ensures { contended.new.ticks ≡ contended.old.ticks + contends self driven }
+        ensures { contended.new.ticks ≡ contended.old.ticks + contended_cycle self driven }
     {
         if driven && self.is_released() {
             contended.tick();
@@ -54,8 +54,8 @@ impl Frame {
 
     // Returns the frame after a request was replied to. The request's last bit is a one, which counts where there is no
     // reply.
-    pub(crate) fn replied(reply: Reply, phase: Line) -> Frame
-        requires { bits_driven phase < 2 ^ 33 }
+    pub(crate) fn replied(reply: Reply, phase: AfterAck) -> Frame
+        requires { port_bits_driven phase < 2 ^ 33 }
         ensures frame { result ≡ frame_replied reply phase }
         ensures bits { frame_bits result < 2 ^ 33 }
         ensures place { frame_place result < frame_limit result }
@@ -67,16 +67,16 @@ impl Frame {
     }
 
     // Returns the frame after a reply that was driven.
-    pub(crate) fn after_reply(line: Line) -> Frame
-        requires { bits_driven line < 2 ^ 33 }
-        ensures frame { result ≡ frame_of line }
+    pub(crate) fn after_reply(line: AfterAck) -> Frame
+        requires { port_bits_driven line < 2 ^ 33 }
+        ensures frame { result ≡ frame_after_reply line }
         ensures bits { frame_bits result < 2 ^ 33 }
         ensures place { frame_place result < frame_limit result }
     {
         match line {
-            Line::Idle => Frame::Passes,
-            Line::Drives(bits) => Frame::Drives(bits, 33),
-            Line::Awaits(register, _) => Frame::Awaits(register, 0x1_ffff_ffff, 0),
+            AfterAck::Idle => Frame::Passes,
+            AfterAck::Drives(bits) => Frame::Drives(bits, 33),
+            AfterAck::Awaits(register, _) => Frame::Awaits(register, 0x1_ffff_ffff, 0),
         }
     }
 }

@@ -1,8 +1,9 @@
 //! Laws of the clocked target and its bench. A function here does nothing: its contract is the law.
 ghost use Rattle.std.specs.Prelude.{◌≡◌, ◌≤◌};
-ghost use Rattle.swd_port.specs.Choices.{disturbed_among, lost_among};
+ghost use Rattle.swd_port.specs.Choices.{port_disturbed_among, port_lost_among};
 ghost use Rattle.swd_clocked.specs.declared.clocked_bench.ClockedBench.{ClockedBench};
-ghost use Rattle.swd_clocked.specs.ClockedBenches.{port_of, plan_of, marks_so_far, contended_of};
+ghost use Rattle.swd_clocked.specs.ClockedBenches.{clocked_bench_port, clocked_bench_plan, clocked_bench_marks};
+ghost use Rattle.swd_clocked.specs.ClockedBenches.{clocked_bench_contended};
 ghost use Rattle.swd_clocked.specs.Spelled.{RequestsSpell, OnesReset};
 
 use crate::clocked_bench::ClockedBench;
@@ -12,16 +13,19 @@ use swd_port::Wire;
 /// States that a bench counts disturbed and lost requests by the marks that it used. So each count is at most that of
 /// its whole plan.
 pub fn marks_used<A: Allocator>()
-    ensures disturbed { (b : ClockedBench A) → (port_of b).tally.disturbed ≡ disturbed_among (marks_so_far b) }
-    ensures lost { (b : ClockedBench A) → (port_of b).tally.lost ≡ lost_among (marks_so_far b) }
-    ensures disturbed_most { (b : ClockedBench A) → (port_of b).tally.disturbed ≤ disturbed_among (plan_of b) }
-    ensures lost_most { (b : ClockedBench A) → (port_of b).tally.lost ≤ lost_among (plan_of b) }
+    ensures disturbed { (b : ClockedBench A)
+        → (clocked_bench_port b).tally.disturbed ≡ port_disturbed_among (clocked_bench_marks b) }
+    ensures lost { (b : ClockedBench A) → (clocked_bench_port b).tally.lost ≡ port_lost_among (clocked_bench_marks b) }
+    ensures disturbed_most { (b : ClockedBench A)
+        → (clocked_bench_port b).tally.disturbed ≤ port_disturbed_among (clocked_bench_plan b) }
+    ensures lost_most { (b : ClockedBench A)
+        → (clocked_bench_port b).tally.lost ≤ port_lost_among (clocked_bench_plan b) }
 {}
 
 /// States that a bench never drives the line as host where it should release it, after any calls and under any plan. So
 /// host and target never drive it in the same cycle, and nobody drives it in a turnaround.
 pub fn never_contended<A: Allocator>()
-    ensures { (b : ClockedBench A) → contended_of b ≡ 0 }
+    ensures { (b : ClockedBench A) → clocked_bench_contended b ≡ 0 }
 {}
 
 /// States that a request sent between transactions and the cycles after it spell one transaction on the line (IHI 0031,

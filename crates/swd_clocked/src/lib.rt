@@ -13,4 +13,4 @@ mod phases;
 pub use clocked::Clocked;
 pub use clocked_bench::ClockedBench;
 pub use fields::{ClockedFields, FrameFields, LineFields};
-pub use marked::MarkedClocked;
+pub use marked::FaultyClocked;

@@ -1,14 +1,14 @@
 //! A simulated target, clock by clock, with a plan of fault injections: a target and the wire to it.
 ghost use Rattle.std.specs.Prelude.{◌≡◌, ◌-◌, ◌+◌, ◌^◌, ◌<◌, is_some, unwrap_or, true, min, IfSome, IfNone};
 ghost use Rattle.swd_bits.specs.declared.request.Request.{Request};
-ghost use Rattle.swd_port.specs.Port.{made_target};
+ghost use Rattle.swd_port.specs.Port.{port_made_target};
 ghost use Rattle.swd_port.specs.declared.mark.Mark.TheVariants.{Clean};
-ghost use Rattle.swd_port.specs.Choices.{is_deaf, is_wait};
-ghost use Rattle.swd_target.specs.Marks.{IsPlan, is_legal};
-ghost use Rattle.swd_target.specs.Simulations.{made_with};
+ghost use Rattle.swd_port.specs.Choices.{is_port_deaf, is_port_wait};
+ghost use Rattle.swd_target.specs.Marks.{IsLegalPlan, is_legal_mark};
+ghost use Rattle.swd_target.specs.Simulations.{simulation_made_with};
 ghost use Rattle.swd_target.specs.Plans as plans;
-ghost use Rattle.swd_clocked.specs.Frames.{idle, counted, contends};
-ghost use Rattle.swd_clocked.specs.Damage.{changes, turned, IsLast};
+ghost use Rattle.swd_clocked.specs.Frames.{idle_frame, cycles_counted, contended_cycle};
+ghost use Rattle.swd_clocked.specs.Damage.{mark_changes_cycle, cycle_bit_turned, IsLastRequestCycle};
 
 use crate::clocked::Clocked;
 use crate::frame::Frame;
@@ -28,7 +28,7 @@ const UNSEEN: u8 = 4;
 /// cycles.
 ///
 /// ```ignore
-/// let mut target = MarkedClocked::new(memory, quirks, plan);
+/// let mut target = FaultyClocked::new(memory, quirks, plan);
 /// for _ in 0..50 {
 ///     target.cycle(Some(true)); // a line reset
 /// }
@@ -36,7 +36,7 @@ const UNSEEN: u8 = 4;
 /// // then DPIDR's request, bit by bit, and the acknowledgement with None
 /// ```
 #[derive(Debug, Drop)]
-pub struct MarkedClocked<A: Allocator = Global> {
+pub struct FaultyClocked<A: Allocator = Global> {
     pub(crate) clocked: Clocked<A>,
     pub(crate) plan: Plan<A>,
     // The mark of the last request.
@@ -45,53 +45,54 @@ pub struct MarkedClocked<A: Allocator = Global> {
     pub(crate) unseen: u8,
     // The number of requests that used a mark, saturating at 2^64 - 1.
     requests: u64,
-    ghost legal: { is_legal mark ≡ true },
-    ghost counts: { requests ≡ min (plans.tally_of plan).asked (2 ^ 64 - 1) },
+    ghost legal: { is_legal_mark mark ≡ true },
+    ghost counts: { requests ≡ min (plans.plan_tally plan).asked (2 ^ 64 - 1) },
 }
 
 // Returns whether the target doesn't see the request.
 fn is_deaf(mark: Mark) -> bool
-    ensures { result ≡ is_deaf mark }
+    ensures { result ≡ is_port_deaf mark }
 {
     matches!(&mark, Mark::Deaf)
 }
 
 // Returns whether WAIT is asked for.
 fn is_wait(mark: Mark) -> bool
-    ensures { result ≡ is_wait mark }
+    ensures { result ≡ is_port_wait mark }
 {
     matches!(&mark, Mark::Wait)
 }
 
 // Returns the bit, inverted if `change`.
 fn turned(change: bool, bit: bool) -> bool
-    ensures { result ≡ turned change bit }
+    ensures { result ≡ cycle_bit_turned change bit }
 {
     if change { !bit } else { bit }
 }
 
-impl<A: Allocator> MarkedClocked<A> {
-    ghost use Rattle.swd_clocked.specs.Clocks.{Settles};
-    ghost use Rattle.swd_clocked.specs.Marked.{state_of, simulation_of, frame_in, mark_of, unseen_of, plan_of};
-    ghost use Rattle.swd_clocked.specs.Marked.{tally_of};
-    ghost use Rattle.swd_clocked.specs.Marked.{cycles_of, contended_of, MarkedCycles, Meets, Misses, Reaches, Uses};
-    ghost use Rattle.swd_clocked.specs.Marked.{Keeps};
+impl<A: Allocator> FaultyClocked<A> {
+    ghost use Rattle.swd_clocked.specs.Clocks.{ClockedSettles};
+    ghost use Rattle.swd_clocked.specs.Marked.{marked_clocked_state, marked_clocked_simulation, marked_clocked_frame};
+    ghost use Rattle.swd_clocked.specs.Marked.{marked_clocked_mark, marked_clocked_unseen, marked_clocked_plan};
+    ghost use Rattle.swd_clocked.specs.Marked.{marked_clocked_tally, marked_clocked_cycles, marked_clocked_contended};
+    ghost use Rattle.swd_clocked.specs.Marked.{MarkedCycles, CycleMeetsMark, CycleMisses, CycleReaches, CycleUsesMark};
+    ghost use Rattle.swd_clocked.specs.Marked.{CycleKeepsPlan};
 
     /// Creates a target before its first line reset, with this memory behind its access port and this plan of marks.
     /// DPIDR reads 2ba01477.
-    pub fn new(memory: Memory<A>, quirks: Quirks, plan: Vec<Mark, A>) -> MarkedClocked<A>
-        requires { IsPlan plan.items }
-        ensures state { state_of result ≡ made_target 0x2ba0_1477 memory }
-        ensures exact { simulation_of result ≡ made_with quirks memory }
-        ensures frame { frame_in result ≡ idle }
-        ensures mark { mark_of result ≡ Clean }
-        ensures unseen { unseen_of result ≡ 0 }
-        ensures plan { plan_of result ≡ plan.items }
-        ensures requests { (tally_of result).asked ≡ 0 }
-        ensures cycles { cycles_of result ≡ 0 }
-        ensures contended { contended_of result ≡ 0 }
+    pub fn new(memory: Memory<A>, quirks: Quirks, plan: Vec<Mark, A>) -> FaultyClocked<A>
+        requires { IsLegalPlan plan.items }
+        ensures state { marked_clocked_state result ≡ port_made_target 0x2ba0_1477 memory }
+        ensures exact { marked_clocked_simulation result ≡ simulation_made_with quirks memory }
+        ensures frame { marked_clocked_frame result ≡ idle_frame }
+        ensures mark { marked_clocked_mark result ≡ Clean }
+        ensures unseen { marked_clocked_unseen result ≡ 0 }
+        ensures plan { marked_clocked_plan result ≡ plan.items }
+        ensures requests { (marked_clocked_tally result).asked ≡ 0 }
+        ensures cycles { marked_clocked_cycles result ≡ 0 }
+        ensures contended { marked_clocked_contended result ≡ 0 }
     {
-        MarkedClocked {
+        FaultyClocked {
             clocked: Clocked::new(memory, quirks),
             plan: Plan::new(plan),
             mark: Mark::Clean,
@@ -102,29 +103,29 @@ impl<A: Allocator> MarkedClocked<A> {
 
     // Consumes the target, and returns its memory and all its marks.
     pub(crate) fn into_parts(self) -> (Memory<A>, Vec<Mark, A>)
-        ensures memory { result.0 ≡ (state_of self).memory }
-        ensures plan { result.1.items ≡ plan_of self }
+        ensures memory { result.0 ≡ (marked_clocked_state self).memory }
+        ensures plan { result.1.items ≡ marked_clocked_plan self }
     {
         (self.clocked.into_memory(), self.plan.into_marks())
     }
 
     /// Returns the memory behind the access port.
     pub fn memory(&self) -> &Memory<A>
-        ensures { result.now ≡ (state_of self.now).memory }
+        ensures { result.now ≡ (marked_clocked_state self.now).memory }
     {
         self.clocked.memory()
     }
 
     /// Returns the number of cycles so far, saturating at `u64::MAX`.
     pub fn cycles(&self) -> u64
-        ensures { result ≡ cycles_of self.now }
+        ensures { result ≡ marked_clocked_cycles self.now }
     {
         self.clocked.cycles
     }
 
     /// Returns the number of requests so far that used a mark, saturating at `u64::MAX`.
     pub fn requests(&self) -> u64
-        ensures { result ≡ min (tally_of self.now).asked (2 ^ 64 - 1) }
+        ensures { result ≡ min (marked_clocked_tally self.now).asked (2 ^ 64 - 1) }
     {
         self.requests
     }
@@ -134,9 +135,9 @@ impl<A: Allocator> MarkedClocked<A> {
     #[inline(always)]
     pub fn cycle(&mut self, drive: Option<bool>) -> bool
         ensures cycles { MarkedCycles drive result self.old self.new }
-        ensures count { cycles_of self.new ≡ counted 1 (cycles_of self.old) }
-        ensures contended { contended_of self.new ≡ contended_of self.old
-            + contends (frame_in self.old) (is_some drive) }
+        ensures count { marked_clocked_cycles self.new ≡ cycles_counted 1 (marked_clocked_cycles self.old) }
+        ensures contended { marked_clocked_contended self.new ≡ marked_clocked_contended self.old
+            + contended_cycle (marked_clocked_frame self.old) (is_some drive) }
     {
         if self.unseen > 0 {
             return self.miss(self.unseen - 1, drive);
@@ -149,8 +150,8 @@ impl<A: Allocator> MarkedClocked<A> {
 
     // Returns the request whose last bit this is, if any.
     fn last_of(&self, bit: bool) -> Option<Request>
-        ensures found { IfSome result (λ q. IsLast (frame_in self.now) bit q) }
-        ensures none { IfNone result ((q : Request) → IsLast (frame_in self.now) bit q → ⊥) }
+        ensures found { IfSome result (λ q. IsLastRequestCycle (marked_clocked_frame self.now) bit q) }
+        ensures none { IfNone result ((q : Request) → IsLastRequestCycle (marked_clocked_frame self.now) bit q → ⊥) }
     {
         match self.clocked.frame {
             Frame::Asks(bits, 7) => Request::of(bits / 2 + u8::from(bit) * 128),
@@ -162,10 +163,10 @@ impl<A: Allocator> MarkedClocked<A> {
     #[inline(never)]
     fn last_bit(&mut self, drive: Option<bool>) -> bool
         requires { self.old.unseen ≡ 0 }
-        ensures meets { Meets drive result self.old self.new }
-        ensures count { cycles_of self.new ≡ counted 1 (cycles_of self.old) }
-        ensures contended { contended_of self.new ≡ contended_of self.old
-            + contends (frame_in self.old) (is_some drive) }
+        ensures meets { CycleMeetsMark drive result self.old self.new }
+        ensures count { marked_clocked_cycles self.new ≡ cycles_counted 1 (marked_clocked_cycles self.old) }
+        ensures contended { marked_clocked_contended self.new ≡ marked_clocked_contended self.old
+            + contended_cycle (marked_clocked_frame self.old) (is_some drive) }
     {
         self.use_mark();
         if is_deaf(self.mark) {
@@ -176,7 +177,7 @@ impl<A: Allocator> MarkedClocked<A> {
     }
 
     fn use_mark(&mut self)
-        ensures uses { Uses self.new.mark self.old.plan self.new.plan }
+        ensures uses { CycleUsesMark self.new.mark self.old.plan self.new.plan }
         ensures clocked { self.new.clocked ≡ self.old.clocked }
         ensures unseen { self.new.unseen ≡ self.old.unseen }
     {
@@ -187,11 +188,11 @@ impl<A: Allocator> MarkedClocked<A> {
     // Performs a cycle that doesn't reach the target; `more` cycles after it won't either.
     #[inline(never)]
     fn miss(&mut self, more: u8, drive: Option<bool>) -> bool
-        ensures misses { Misses more drive result self.old self.new }
-        ensures keeps { Keeps self.old self.new }
-        ensures count { cycles_of self.new ≡ counted 1 (cycles_of self.old) }
-        ensures contended { contended_of self.new ≡ contended_of self.old
-            + contends (frame_in self.old) (is_some drive) }
+        ensures misses { CycleMisses more drive result self.old self.new }
+        ensures keeps { CycleKeepsPlan self.old self.new }
+        ensures count { marked_clocked_cycles self.new ≡ cycles_counted 1 (marked_clocked_cycles self.old) }
+        ensures contended { marked_clocked_contended self.new ≡ marked_clocked_contended self.old
+            + contended_cycle (marked_clocked_frame self.old) (is_some drive) }
     {
         self.unseen = more;
         self.clocked.miss(drive.is_some());
@@ -202,11 +203,11 @@ impl<A: Allocator> MarkedClocked<A> {
     #[inline(always)]
     fn reach(&mut self, drive: Option<bool>) -> bool
         requires { self.old.unseen ≡ 0 }
-        ensures reaches { Reaches self.old.mark self.old.clocked.waits drive result self.old self.new }
-        ensures keeps { Keeps self.old self.new }
-        ensures count { cycles_of self.new ≡ counted 1 (cycles_of self.old) }
-        ensures contended { contended_of self.new ≡ contended_of self.old
-            + contends (frame_in self.old) (is_some drive) }
+        ensures reaches { CycleReaches self.old.mark self.old.clocked.waits drive result self.old self.new }
+        ensures keeps { CycleKeepsPlan self.old self.new }
+        ensures count { marked_clocked_cycles self.new ≡ cycles_counted 1 (marked_clocked_cycles self.old) }
+        ensures contended { marked_clocked_contended self.new ≡ marked_clocked_contended self.old
+            + contended_cycle (marked_clocked_frame self.old) (is_some drive) }
     {
         let change = self.is_changed(drive.is_some());
         let bit = turned(change, drive.unwrap_or(true));
@@ -215,7 +216,7 @@ impl<A: Allocator> MarkedClocked<A> {
 
     // Returns whether the mark changes the bit of this cycle. `driven`: the host drives it.
     fn is_changed(&self, driven: bool) -> bool
-        ensures { result ≡ changes (frame_in self.now) self.now.mark driven }
+        ensures { result ≡ mark_changes_cycle (marked_clocked_frame self.now) self.now.mark driven }
     {
         match (self.mark, self.clocked.frame) {
             (Mark::Mute(place), Frame::Replies(_, _, now)) => now == place + 1,
@@ -227,11 +228,11 @@ impl<A: Allocator> MarkedClocked<A> {
 
     /// Completes the pending DRW transfer, if any. Without the quirk `late` no transfer is ever pending.
     pub fn settle(&mut self)
-        ensures settles { Settles self.old.clocked self.new.clocked }
-        ensures keeps { Keeps self.old self.new }
-        ensures unseen { unseen_of self.new ≡ unseen_of self.old }
-        ensures cycles { cycles_of self.new ≡ cycles_of self.old }
-        ensures contended { contended_of self.new ≡ contended_of self.old }
+        ensures settles { ClockedSettles self.old.clocked self.new.clocked }
+        ensures keeps { CycleKeepsPlan self.old self.new }
+        ensures unseen { marked_clocked_unseen self.new ≡ marked_clocked_unseen self.old }
+        ensures cycles { marked_clocked_cycles self.new ≡ marked_clocked_cycles self.old }
+        ensures contended { marked_clocked_contended self.new ≡ marked_clocked_contended self.old }
     {
         self.clocked.settle();
     }

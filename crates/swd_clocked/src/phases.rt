@@ -1,27 +1,27 @@
 //! Whole phases at a clocked target with a plan, cycle by cycle, as a host drives them.
 ghost use Rattle.std.specs.Prelude.{◌≡◌, ◌≤◌, ◌<◌, ◌^◌, ◌-◌, ◌+◌, true, is_some, unwrap_or};
-ghost use Rattle.swd_port.specs.Phases.{undriven};
-ghost use Rattle.swd_port.specs.Choices.{flip_of};
-ghost use Rattle.swd_port.specs.Phases.{flipped};
+ghost use Rattle.swd_port.specs.Phases.{port_undriven, port_flipped};
+ghost use Rattle.swd_port.specs.Choices.{port_flip_of};
 
 use crate::frame::Frame;
-use crate::marked::MarkedClocked;
+use crate::marked::FaultyClocked;
 use std::alloc::Allocator;
 use swd_bits::{Request, SWITCH, SWITCH_BITS};
 
-impl<A: Allocator> MarkedClocked<A> {
-    ghost use Rattle.swd_clocked.specs.Frames.{idle, frame_bits, frame_register, counted, reset_cycles};
-    ghost use Rattle.swd_clocked.specs.Frames.{IsRising, rise, IsFalling, fall};
-    ghost use Rattle.swd_clocked.specs.Marked.{frame_in, mark_of, unseen_of, cycles_of, contended_of};
-    ghost use Rattle.swd_clocked.specs.Phases.{Goes, Brings, Leads, Sent, SeesReply, Asked};
+impl<A: Allocator> FaultyClocked<A> {
+    ghost use Rattle.swd_clocked.specs.Clocks.{CountsCycles};
+    ghost use Rattle.swd_clocked.specs.Frames.{idle_frame, frame_bits, frame_register, reset_cycles};
+    ghost use Rattle.swd_clocked.specs.Frames.{IsRisingFrame, rising_frame_ones, IsFallingFrame, falling_frame_zeros};
+    ghost use Rattle.swd_clocked.specs.Marked.{marked_clocked_frame, marked_clocked_mark, marked_clocked_unseen};
+    ghost use Rattle.swd_clocked.specs.Phases.{CyclesMoveFrame, CyclesBringData, CyclesLeadToReset, CyclesSendRequest};
+    ghost use Rattle.swd_clocked.specs.Phases.{CyclesSeeReply, CyclesAskRequest};
 
     // Sends the eight bits of a request.
     fn send_request(&mut self, request: Request)
-        requires frame { frame_in self.old ≡ idle }
-        requires heard { unseen_of self.old ≡ 0 }
-        ensures sent { Sent request self.old self.new }
-        ensures cycles { cycles_of self.new ≡ counted 8 (cycles_of self.old) }
-        ensures contended { contended_of self.new ≡ contended_of self.old }
+        requires frame { marked_clocked_frame self.old ≡ idle_frame }
+        requires heard { marked_clocked_unseen self.old ≡ 0 }
+        ensures sent { CyclesSendRequest request self.old self.new }
+        ensures clocks { CountsCycles 8 self.old.clocked self.new.clocked }
     {
         let bits = request.bits();
         let mut rest = bits;
@@ -35,9 +35,8 @@ impl<A: Allocator> MarkedClocked<A> {
     // Returns the three bits of a reply after its turnaround, the first in time least significant.
     fn see_reply(&mut self) -> u8
         ensures range { result < 8 }
-        ensures sees { SeesReply result self.old self.new }
-        ensures cycles { cycles_of self.new ≡ counted 4 (cycles_of self.old) }
-        ensures contended { contended_of self.new ≡ contended_of self.old }
+        ensures sees { CyclesSeeReply result self.old self.new }
+        ensures clocks { CountsCycles 4 self.old.clocked self.new.clocked }
     {
         let _ = self.cycle(None); // the turnaround after a request
         let first = self.cycle(None);
@@ -48,12 +47,11 @@ impl<A: Allocator> MarkedClocked<A> {
 
     // Sends a request, and returns the three bits of its reply, the first in time least significant.
     pub(crate) fn ask_request(&mut self, request: Request) -> u8
-        requires frame { frame_in self.old ≡ idle }
-        requires heard { unseen_of self.old ≡ 0 }
+        requires frame { marked_clocked_frame self.old ≡ idle_frame }
+        requires heard { marked_clocked_unseen self.old ≡ 0 }
         ensures range { result < 8 }
-        ensures asked { Asked request result self.old self.new }
-        ensures cycles { cycles_of self.new ≡ counted 12 (cycles_of self.old) }
-        ensures contended { contended_of self.new ≡ contended_of self.old }
+        ensures asked { CyclesAskRequest request result self.old self.new }
+        ensures clocks { CountsCycles 12 self.old.clocked self.new.clocked }
     {
         self.send_request(request);
         self.see_reply()
@@ -61,13 +59,13 @@ impl<A: Allocator> MarkedClocked<A> {
 
     // Returns the 33 bits of a read as they arrive, the first in time least significant, and passes a turnaround.
     pub(crate) fn take_bits(&mut self) -> u64
-        requires frame { frame_in self.old ≡ Frame.Drives (frame_bits (frame_in self.old)) 33 }
-        requires heard { unseen_of self.old ≡ 0 }
+        requires frame { marked_clocked_frame self.old ≡ Frame.Drives (frame_bits (marked_clocked_frame self.old)) 33 }
+        requires heard { marked_clocked_unseen self.old ≡ 0 }
         ensures range { result < 2 ^ 33 }
-        ensures bits { result ≡ flipped (flip_of (mark_of self.old)) (frame_bits (frame_in self.old)) }
-        ensures goes { Goes idle self.old self.new }
-        ensures cycles { cycles_of self.new ≡ counted 34 (cycles_of self.old) }
-        ensures contended { contended_of self.new ≡ contended_of self.old }
+        ensures bits { result ≡ port_flipped (port_flip_of (marked_clocked_mark self.old))
+            (frame_bits (marked_clocked_frame self.old)) }
+        ensures goes { CyclesMoveFrame idle_frame self.old self.new }
+        ensures clocks { CountsCycles 34 self.old.clocked self.new.clocked }
     {
         let mut bits = 0u64;
         for place in 0..33u8 {
@@ -80,12 +78,13 @@ impl<A: Allocator> MarkedClocked<A> {
 
     // Passes a turnaround, and sends the 33 bits of a write.
     pub(crate) fn give_bits(&mut self, bits: u64)
-        requires frame { frame_in self.old ≡ Frame.Awaits (frame_register (frame_in self.old)) undriven 0 }
-        requires heard { unseen_of self.old ≡ 0 }
+        requires frame { marked_clocked_frame self.old
+            ≡ Frame.Awaits (frame_register (marked_clocked_frame self.old)) port_undriven 0 }
+        requires heard { marked_clocked_unseen self.old ≡ 0 }
         requires bits { bits < 2 ^ 33 }
-        ensures brings { Brings (flipped (flip_of (mark_of self.old)) bits) self.old self.new }
-        ensures cycles { cycles_of self.new ≡ counted 34 (cycles_of self.old) }
-        ensures contended { contended_of self.new ≡ contended_of self.old }
+        ensures brings { CyclesBringData (port_flipped (port_flip_of (marked_clocked_mark self.old)) bits) self.old
+            self.new }
+        ensures clocks { CountsCycles 34 self.old.clocked self.new.clocked }
     {
         let mut rest = bits;
         let _ = self.cycle(None); // the turnaround before a write's data
@@ -98,11 +97,10 @@ impl<A: Allocator> MarkedClocked<A> {
 
     // Passes the turnaround after WAIT or FAULT.
     pub(crate) fn pass_by(&mut self)
-        requires frame { frame_in self.old ≡ Frame.Passes }
-        requires heard { unseen_of self.old ≡ 0 }
-        ensures goes { Goes idle self.old self.new }
-        ensures cycles { cycles_of self.new ≡ counted 1 (cycles_of self.old) }
-        ensures contended { contended_of self.new ≡ contended_of self.old }
+        requires frame { marked_clocked_frame self.old ≡ Frame.Passes }
+        requires heard { marked_clocked_unseen self.old ≡ 0 }
+        ensures goes { CyclesMoveFrame idle_frame self.old self.new }
+        ensures clocks { CountsCycles 1 self.old.clocked self.new.clocked }
     {
         let _ = self.cycle(None); // the turnaround after WAIT or FAULT
     }
@@ -110,16 +108,15 @@ impl<A: Allocator> MarkedClocked<A> {
     // Sends a line reset, with the switch or without. The first `undriven` ones are left undriven, among them those in
     // which a data phase in progress passes.
     pub(crate) fn send_reset(&mut self, ones: u32, undriven: u32, switch: bool)
-        requires frame { IsRising (frame_in self.old) }
-        requires heard { unseen_of self.old ≡ 0 }
-        requires enough { rise (frame_in self.old) ≤ ones }
-        requires quiet { rise (frame_in self.old) ≤ 50 + undriven }
-        requires some { 0 < rise (frame_in self.old) }
+        requires frame { IsRisingFrame (marked_clocked_frame self.old) }
+        requires heard { marked_clocked_unseen self.old ≡ 0 }
+        requires enough { rising_frame_ones (marked_clocked_frame self.old) ≤ ones }
+        requires quiet { rising_frame_ones (marked_clocked_frame self.old) ≤ 50 + undriven }
+        requires some { 0 < rising_frame_ones (marked_clocked_frame self.old) }
         requires least { 50 ≤ ones }
-        ensures frame { frame_in self.new ≡ Frame.High }
-        ensures leads { Leads self.old self.new }
-        ensures cycles { cycles_of self.new ≡ counted (reset_cycles ones switch) (cycles_of self.old) }
-        ensures contended { contended_of self.new ≡ contended_of self.old }
+        ensures frame { marked_clocked_frame self.new ≡ Frame.High }
+        ensures leads { CyclesLeadToReset self.old self.new }
+        ensures clocks { CountsCycles (reset_cycles ones switch) self.old.clocked self.new.clocked }
     {
         self.send_ones(ones, undriven);
         if switch {
@@ -130,14 +127,13 @@ impl<A: Allocator> MarkedClocked<A> {
 
     // Sends ones, of which the first `undriven` are left undriven.
     fn send_ones(&mut self, count: u32, undriven: u32)
-        requires frame { IsRising (frame_in self.old) }
-        requires heard { unseen_of self.old ≡ 0 }
-        requires enough { rise (frame_in self.old) ≤ count }
-        requires quiet { rise (frame_in self.old) ≤ 50 + undriven }
-        ensures frame { frame_in self.new ≡ Frame.High }
-        ensures leads { Leads self.old self.new }
-        ensures cycles { cycles_of self.new ≡ counted count (cycles_of self.old) }
-        ensures contended { contended_of self.new ≡ contended_of self.old }
+        requires frame { IsRisingFrame (marked_clocked_frame self.old) }
+        requires heard { marked_clocked_unseen self.old ≡ 0 }
+        requires enough { rising_frame_ones (marked_clocked_frame self.old) ≤ count }
+        requires quiet { rising_frame_ones (marked_clocked_frame self.old) ≤ 50 + undriven }
+        ensures frame { marked_clocked_frame self.new ≡ Frame.High }
+        ensures leads { CyclesLeadToReset self.old self.new }
+        ensures clocks { CountsCycles count self.old.clocked self.new.clocked }
     {
         for place in 0..count {
             self.send_one(if place < undriven { None } else { Some(true) });
@@ -147,25 +143,24 @@ impl<A: Allocator> MarkedClocked<A> {
     // Sends one of the ones, left undriven while a data phase is in progress.
     fn send_one(&mut self, drive: Option<bool>)
         requires one { unwrap_or drive true ≡ true }
-        requires frame { IsRising (frame_in self.old) }
-        requires heard { unseen_of self.old ≡ 0 }
-        requires quiet { is_some drive ≡ true → rise (frame_in self.old) ≤ 50 }
-        ensures frame { IsRising (frame_in self.new) }
-        ensures rise { rise (frame_in self.new) ≡ rise (frame_in self.old) - 1 }
-        ensures leads { Leads self.old self.new }
-        ensures cycles { cycles_of self.new ≡ counted 1 (cycles_of self.old) }
-        ensures contended { contended_of self.new ≡ contended_of self.old }
+        requires frame { IsRisingFrame (marked_clocked_frame self.old) }
+        requires heard { marked_clocked_unseen self.old ≡ 0 }
+        requires quiet { is_some drive ≡ true → rising_frame_ones (marked_clocked_frame self.old) ≤ 50 }
+        ensures frame { IsRisingFrame (marked_clocked_frame self.new) }
+        ensures rise { rising_frame_ones (marked_clocked_frame self.new)
+            ≡ rising_frame_ones (marked_clocked_frame self.old) - 1 }
+        ensures leads { CyclesLeadToReset self.old self.new }
+        ensures clocks { CountsCycles 1 self.old.clocked self.new.clocked }
     {
         let _ = self.cycle(drive);
     }
 
     // Sends the sixteen bits of the switch.
     fn send_switch(&mut self)
-        requires frame { frame_in self.old ≡ Frame.High }
-        requires heard { unseen_of self.old ≡ 0 }
-        ensures goes { Goes (Frame.Lost 0) self.old self.new }
-        ensures cycles { cycles_of self.new ≡ counted 16 (cycles_of self.old) }
-        ensures contended { contended_of self.new ≡ contended_of self.old }
+        requires frame { marked_clocked_frame self.old ≡ Frame.High }
+        requires heard { marked_clocked_unseen self.old ≡ 0 }
+        ensures goes { CyclesMoveFrame (Frame.Lost 0) self.old self.new }
+        ensures clocks { CountsCycles 16 self.old.clocked self.new.clocked }
     {
         for place in 0..SWITCH_BITS {
             let _ = self.cycle(Some(SWITCH >> place & 1 == 1));
@@ -174,12 +169,11 @@ impl<A: Allocator> MarkedClocked<A> {
 
     // Sends zeros.
     pub(crate) fn send_zeros(&mut self, count: u32)
-        requires frame { IsFalling (frame_in self.old) }
-        requires heard { unseen_of self.old ≡ 0 }
-        requires enough { fall (frame_in self.old) ≤ count }
-        ensures goes { Goes idle self.old self.new }
-        ensures cycles { cycles_of self.new ≡ counted count (cycles_of self.old) }
-        ensures contended { contended_of self.new ≡ contended_of self.old }
+        requires frame { IsFallingFrame (marked_clocked_frame self.old) }
+        requires heard { marked_clocked_unseen self.old ≡ 0 }
+        requires enough { falling_frame_zeros (marked_clocked_frame self.old) ≤ count }
+        ensures goes { CyclesMoveFrame idle_frame self.old self.new }
+        ensures clocks { CountsCycles count self.old.clocked self.new.clocked }
     {
         for place in 0..count {
             self.send_zero();
@@ -187,13 +181,13 @@ impl<A: Allocator> MarkedClocked<A> {
     }
 
     fn send_zero(&mut self)
-        requires frame { IsFalling (frame_in self.old) }
-        requires heard { unseen_of self.old ≡ 0 }
-        ensures frame { IsFalling (frame_in self.new) }
-        ensures fall { fall (frame_in self.new) ≡ fall (frame_in self.old) - 1 }
-        ensures goes { Goes (frame_in self.new) self.old self.new }
-        ensures cycles { cycles_of self.new ≡ counted 1 (cycles_of self.old) }
-        ensures contended { contended_of self.new ≡ contended_of self.old }
+        requires frame { IsFallingFrame (marked_clocked_frame self.old) }
+        requires heard { marked_clocked_unseen self.old ≡ 0 }
+        ensures frame { IsFallingFrame (marked_clocked_frame self.new) }
+        ensures fall { falling_frame_zeros (marked_clocked_frame self.new)
+            ≡ falling_frame_zeros (marked_clocked_frame self.old) - 1 }
+        ensures goes { CyclesMoveFrame (marked_clocked_frame self.new) self.old self.new }
+        ensures clocks { CountsCycles 1 self.old.clocked self.new.clocked }
     {
         let _ = self.cycle(Some(false));
     }

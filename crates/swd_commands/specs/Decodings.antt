@@ -7,13 +7,13 @@ use Rattle.swd_capture_text.specs.declared.reading.Reading.{Reading}
 use Rattle.swd_capture_text.specs.declared.reading.Reading.TheVariants.{Trace, Capture}
 
 -- accesses, counts, lines with places or names, or the lines of a capture; `None` for the listing of a trace
-abbrev pub printed_for : DecodeLine → Option Printed
-printed_for decode =
+abbrev pub decode_command_printed : DecodeLine → Option Printed
+decode_command_printed decode =
     if decode.accesses then Some (Accesses decode.made) else
     if decode.count then Some Counts else
     if (decode.places || decode.names) || decode.resync
     then Some (Lines (record { places = decode.places; names = decode.names })) else None
 
 -- a capture by --resync, with data phases after WAIT and FAULT by --overrun
-abbrev pub reading_for : DecodeLine → Reading
-reading_for decode = if decode.resync then Capture decode.overrun else Trace
+abbrev pub decode_command_reading : DecodeLine → Reading
+decode_command_reading decode = if decode.resync then Capture decode.overrun else Trace

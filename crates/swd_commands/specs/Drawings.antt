@@ -7,11 +7,12 @@ use Rattle.swd_capture_text.specs.declared.reading.Reading.TheVariants.{Trace, C
 use Rattle.swd_draw.specs.Draws.{Draws}
 
 -- a capture by --resync, with data phases after WAIT and FAULT by --overrun
-abbrev pub drawn_as : DrawLine → Reading
-drawn_as draw = if draw.resync then Capture draw.overrun else Trace
+abbrev pub draw_command_reading : DrawLine → Reading
+draw_command_reading draw = if draw.resync then Capture draw.overrun else Trace
 
 -- the drawing of a trace or a capture is written; the status is 0, or 2 at an error
-abbrev pub PerformsDraw : DrawLine → ℕ → Option (List ℕ) → Option (List ℕ) → Option (List ℕ) → Option (List ℕ) → Type 0
-PerformsDraw draw status text left old new =
-    (answer : Result (Unit {0}) DecodeFault) × Draws (drawn_as draw) answer text left old new
+abbrev pub PerformsDrawCommand : DrawLine → ℕ → Option (List ℕ) → Option (List ℕ) → Option (List ℕ) → Option (List ℕ)
+    → Type 0
+PerformsDrawCommand draw status text left old new =
+    (answer : Result (Unit {0}) DecodeFault) × Draws (draw_command_reading draw) answer text left old new
     × (status ≡ (if is_ok answer then 0 else 2))

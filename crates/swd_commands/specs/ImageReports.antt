@@ -4,7 +4,7 @@ use Rattle.swd_commands.specs.declared.image_report.Destination.{Destination}
 use Rattle.swd_commands.specs.declared.image_report.Destination.TheVariants.{File, Errors}
 
 -- the bytes of a destination are those of its file, or of standard error
-abbrev pub contents_in : {M E : Type 0} → (M → Option (List ℕ)) → (E → Option (List ℕ)) → Destination M E
+abbrev pub command_report_contents : {M E : Type 0} → (M → Option (List ℕ)) → (E → Option (List ℕ)) → Destination M E
     → Option (List ℕ)
-contents_in file errors (File to) = file to
-contents_in file errors (Errors to) = errors to
+command_report_contents file errors (File to) = file to
+command_report_contents file errors (Errors to) = errors to

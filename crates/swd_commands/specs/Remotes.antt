@@ -2,42 +2,42 @@
 use Rattle.std.specs.Prelude.{◌≡◌, ◌⊎◌, ℕ, Bool, false, List, Option, Some, Result, Ok}
 use Rattle.swd_port.specs.declared.call.Call.{Call}
 use Rattle.swd_port.specs.Port.{Port}
-use Rattle.swd_remote.specs.declared.kept.Line.{Line}
+use Rattle.swd_remote.specs.declared.kept.RemoteStreams.{RemoteStreams}
 use Rattle.swd_remote.specs.declared.remote.Fault.{Fault}
-use Rattle.swd_remote.specs.WholeRuns.{GoesOver, IsUnused}
+use Rattle.swd_remote.specs.WholeRuns.{GoesOver, IsUnusedRemote}
 use Rattle.swd_run.specs.declared.engine.Finished.{Finished}
-use Rattle.swd_run.specs.Records.{Files}
+use Rattle.swd_run.specs.Records.{RunFiles}
 use Rattle.swd_ends.specs.declared.remote.RemoteFault.{RemoteFault}
 use Rattle.swd_ends.specs.RemoteRuns.{RunsRemote}
 use Rattle.swd_words.specs.declared.command.RunLine.{RunLine}
-use Rattle.swd_commands.specs.Statuses.{AreFor, status_of_run}
+use Rattle.swd_commands.specs.Statuses.{AreRunCommandFiles, command_status_of_run}
 
 -- the status is 1 if the run has a report but the other end is gone, and otherwise that of the run
-abbrev pub status_at : Bool → Option Fault → Result Finished RemoteFault → ℕ
-status_at strict (Some fault) (Ok finished) = 1
-status_at strict _ answer = status_of_run strict answer
+abbrev pub remote_command_status : Bool → Option Fault → Result Finished RemoteFault → ℕ
+remote_command_status strict (Some fault) (Ok finished) = 1
+remote_command_status strict _ answer = command_status_of_run strict answer
 
 -- what was sent and received over a line by the calls of the wire, up to this state of the line
-abbrev pub WentOver : {R W : Type 0} → (R → Option (List ℕ)) → (W → Option (List ℕ)) → Option (List ℕ) → Option (List ℕ)
-    → Line R W
+abbrev pub CommandWentOver : {R W : Type 0} → (R → Option (List ℕ)) → (W → Option (List ℕ)) → Option (List ℕ)
+    → Option (List ℕ) → RemoteStreams R W
     → List Call → Type 0
-WentOver remaining contents sent left line calls = ∥ GoesOver remaining contents sent left line calls ∥₁
+CommandWentOver remaining contents sent left line calls = ∥ GoesOver remaining contents sent left line calls ∥₁
 
 -- The script is run over a line. Its report is written to a file or to standard error, and its trace and accesses to
 -- the files that are named for them. Nothing else is known of these files. Only tests show that the line is over the
 -- standard streams.
-abbrev pub PerformsAt : {R W : Type 0} → (ℕ → Port) → RunLine → ℕ → (R → Option (List ℕ)) → (W → Option (List ℕ))
-    → Option (List ℕ) → Option (List ℕ) → Line R W → Option (List ℕ) → Type 0
-PerformsAt story run status remaining contents sent left line script =
+abbrev pub PerformsRemoteRun : {R W : Type 0} → (ℕ → Port) → RunLine → ℕ → (R → Option (List ℕ)) → (W → Option (List ℕ))
+    → Option (List ℕ) → Option (List ℕ) → RemoteStreams R W → Option (List ℕ) → Type 0
+PerformsRemoteRun story run status remaining contents sent left line script =
     (answer : Result Finished RemoteFault) × (before : Option (List ℕ)) × (after : Option (List ℕ))
-    × (unwritten : Files) × (written : Files) × AreFor run false unwritten
-    × RunsRemote story run.tries run.resumes (WentOver remaining contents sent left line)
-    (IsUnused remaining contents sent left line)
-    answer script before after unwritten written × (status ≡ status_at run.strict line.fault answer)
+    × (unwritten : RunFiles) × (written : RunFiles) × AreRunCommandFiles run false unwritten
+    × RunsRemote story run.tries run.resumes (CommandWentOver remaining contents sent left line)
+    (IsUnusedRemote remaining contents sent left line)
+    answer script before after unwritten written × (status ≡ remote_command_status run.strict line.fault answer)
 
 -- or a file can't be opened: the status is 2, and nothing was sent or read
-abbrev pub PerformsRemote : {R W : Type 0} → (ℕ → Port) → RunLine → ℕ → (R → Option (List ℕ)) → (W → Option (List ℕ))
-    → Option (List ℕ) → Option (List ℕ) → Line R W → Option (List ℕ) → Type 0
-PerformsRemote story run status remaining contents sent left line script =
-    ((status ≡ 2) × IsUnused remaining contents sent left line)
-    ⊎ PerformsAt story run status remaining contents sent left line script
+abbrev pub PerformsRemoteCommand : {R W : Type 0} → (ℕ → Port) → RunLine → ℕ → (R → Option (List ℕ))
+    → (W → Option (List ℕ)) → Option (List ℕ) → Option (List ℕ) → RemoteStreams R W → Option (List ℕ) → Type 0
+PerformsRemoteCommand story run status remaining contents sent left line script =
+    ((status ≡ 2) × IsUnusedRemote remaining contents sent left line)
+    ⊎ PerformsRemoteRun story run status remaining contents sent left line script

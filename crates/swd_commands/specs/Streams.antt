@@ -9,33 +9,34 @@ use Rattle.std_io.specs.declared.io.kind.ErrorKind.TheVariants.{BrokenPipe, Writ
 use Rattle.swd_commands.specs.declared.watched.Watched.{Watched}
 
 -- the bytes of a watched stream are those of the stream itself
-abbrev pub watched : {S : Type 0} → (S → Option (List ℕ)) → Watched S → Option (List ℕ)
-watched bytes stream = bytes stream.stream
+abbrev pub stream_watched : {S : Type 0} → (S → Option (List ℕ)) → Watched S → Option (List ℕ)
+stream_watched bytes stream = bytes stream.stream
 
 -- the kind of an error, if there is one
-abbrev pub kind_of : Option Error → Option ErrorKind
-kind_of error = option_map error_kind error
+abbrev pub stream_error_kind : Option Error → Option ErrorKind
+stream_error_kind error = option_map error_kind error
 
 -- the kind that is kept after a call: that of its error, and without one the kind before
-abbrev pub after_call : {V : Type 0} → Option ErrorKind → Result V Error → Option ErrorKind
-after_call before (Ok value) = before
-after_call before (Err error) = Some (error_kind error)
+abbrev pub stream_kind_after_call : {V : Type 0} → Option ErrorKind → Result V Error → Option ErrorKind
+stream_kind_after_call before (Ok value) = before
+stream_kind_after_call before (Err error) = Some (error_kind error)
 
 -- the same after a write, which fails with `WriteZero` if it takes none of some bytes
-abbrev pub after_write : Option ErrorKind → Result ℕ Error → List ℕ → Option ErrorKind
-after_write before (Ok count) bytes = if (length bytes == 0) || not (count == 0) then before else Some WriteZero
-after_write before (Err error) bytes = Some (error_kind error)
+abbrev pub stream_kind_after_write : Option ErrorKind → Result ℕ Error → List ℕ → Option ErrorKind
+stream_kind_after_write before (Ok count) bytes =
+    if (length bytes == 0) || not (count == 0) then before else Some WriteZero
+stream_kind_after_write before (Err error) bytes = Some (error_kind error)
 
 -- the reader of what was written is gone
-abbrev pub is_closed_at : ErrorKind → Bool
-is_closed_at BrokenPipe = true
-is_closed_at _ = false
+abbrev pub is_closed_stream_kind : ErrorKind → Bool
+is_closed_stream_kind BrokenPipe = true
+is_closed_stream_kind _ = false
 
-abbrev pub is_closed : Option Error → Bool
-is_closed None = false
-is_closed (Some error) = is_closed_at (error_kind error)
+abbrev pub is_command_stream_closed : Option Error → Bool
+is_command_stream_closed None = false
+is_command_stream_closed (Some error) = is_closed_stream_kind (error_kind error)
 
 -- The status of a command by the error of standard output: 141 if its reader is gone, which is what a shell shows of a
 -- program that was ended by SIGPIPE, signal 13. Otherwise the command's own.
-abbrev pub status_over : Option Error → ℕ → ℕ
-status_over error status = if is_closed error then 141 else status
+abbrev pub command_status_over : Option Error → ℕ → ℕ
+command_status_over error status = if is_command_stream_closed error then 141 else status

@@ -5,7 +5,7 @@ use Rattle.swd_commands.specs.declared.trace.Sources.{Sources}
 
 -- the file is neither the script's, nor the plan's, nor the memory's, nor another one that is written, and its name
 -- isn't `-`, which would be standard output
-pub record IsBeside (file : Identity) (name : List ℕ) (read : Sources) : Type 0 where
+pub record IsCommandFileBeside (file : Identity) (name : List ℕ) (read : Sources) : Type 0 where
   pub named : name ≢ codes "-"
   pub script : read.script ≢ Some file
   pub plan : read.plan ≢ Some file

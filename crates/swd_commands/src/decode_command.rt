@@ -1,7 +1,7 @@
 //! Performs `swd decode`.
 ghost use Rattle.std.specs.Prelude.{◌≡◌};
-ghost use Rattle.swd_commands.specs.Decodings.{printed_for, reading_for};
-ghost use Rattle.swd_commands.specs.Statuses.{PerformsDecode};
+ghost use Rattle.swd_commands.specs.Decodings.{decode_command_printed, decode_command_reading};
+ghost use Rattle.swd_commands.specs.Statuses.{PerformsDecodeCommand};
 
 use crate::streams::conversion_status;
 use crate::watched::KeepsError;
@@ -13,7 +13,7 @@ use swd_words::DecodeLine;
 
 // Returns how the bits are read.
 fn reading(decode: &DecodeLine) -> Reading
-    ensures { result ≡ reading_for decode.now }
+    ensures { result ≡ decode_command_reading decode.now }
 {
     if decode.resync {
         Reading::Capture {
@@ -26,7 +26,7 @@ fn reading(decode: &DecodeLine) -> Reading
 
 // Returns what is printed, or `None` for the listing of a trace.
 fn printed(decode: &DecodeLine) -> Option<Printed>
-    ensures { result ≡ printed_for decode.now }
+    ensures { result ≡ decode_command_printed decode.now }
 {
     if decode.accesses {
         return Some(Printed::Accesses { made: decode.made });
@@ -52,7 +52,7 @@ pub(crate) fn perform_decode<R: Read + KeepsError, O: Write + KeepsError, E: Wri
     output: &mut O,
     errors: &mut E,
 ) -> u8
-    ensures { PerformsDecode (reading_for decode.now) (printed_for decode.now) result
+    ensures { PerformsDecodeCommand (decode_command_reading decode.now) (decode_command_printed decode.now) result
         (R.remaining input.old) (R.remaining input.new) (O.contents output.old) (O.contents output.new) }
 {
     match printed(decode) {

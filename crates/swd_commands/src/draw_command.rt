@@ -1,6 +1,6 @@
 //! Performs `swd draw`.
 ghost use Rattle.std.specs.Prelude.{◌≡◌};
-ghost use Rattle.swd_commands.specs.Drawings.{drawn_as, PerformsDraw};
+ghost use Rattle.swd_commands.specs.Drawings.{draw_command_reading, PerformsDrawCommand};
 
 use crate::streams::conversion_status;
 use crate::watched::KeepsError;
@@ -11,7 +11,7 @@ use swd_words::DrawLine;
 
 // Returns how the bits are read.
 fn reading(draw: &DrawLine) -> Reading
-    ensures { result ≡ drawn_as draw.now }
+    ensures { result ≡ draw_command_reading draw.now }
 {
     if draw.resync {
         Reading::Capture { over: draw.overrun }
@@ -28,7 +28,7 @@ pub(crate) fn perform_draw<R: Read + KeepsError, O: Write + KeepsError, E: Write
     output: &mut O,
     errors: &mut E,
 ) -> u8
-    ensures { PerformsDraw draw.now result
+    ensures { PerformsDrawCommand draw.now result
         (R.remaining input.old) (R.remaining input.new) (O.contents output.old) (O.contents output.new) }
 {
     let answer = draw_capture(reading(draw), input, output);

@@ -1,9 +1,9 @@
 //! Performs `swd load`, `swd verify` and `swd dump`, at a remote target on the standard streams or at a simulated one.
 ghost use Rattle.std.specs.Prelude.{◌≡◌};
 ghost use Rattle.swd_commands.specs.Images.{PerformsAction, PerformsDump, PerformsLoad, PerformsVerify};
+ghost use Rattle.swd_commands.specs.Images.{command_result_reached as reached_by, command_status_of_fault};
+ghost use Rattle.swd_commands.specs.Images.{command_status_of_image, command_status_loaded, command_status_verified};
 ghost use Rattle.swd_commands.specs.Targeted.{PerformsImage};
-ghost use Rattle.swd_commands.specs.Images.{reached as reached_by, status_of_fault, status_of_image};
-ghost use Rattle.swd_commands.specs.Images.{status_of_loaded, status_of_verified};
 
 use crate::image_file::{read_image_file, write_image_file};
 use crate::image_report::{open_report, report_writer};
@@ -20,7 +20,7 @@ use swd_image::{ByteDifference, ImageFault};
 use swd_image_ends::{dump_remote, load_pieces_remote, verify_pieces_remote};
 use swd_image_files::Image;
 use swd_port::Story;
-use swd_remote::{Fault, Line};
+use swd_remote::{Fault, RemoteStreams};
 use swd_words::{ImageAction, ImageLine};
 
 /// Makes the one call of an image, at the target behind the streams or at a simulated one. Prints a line with the result
@@ -33,14 +33,21 @@ pub fn perform_image<
     O: Write + KeepsError + Drop,
     E: Write,
     A: Allocator + Copy,
->(alloc: A, image: &ImageLine, input: I, files: &F, output: O, errors: &mut E) -> (u8, Line<I, O>)
+>(
+    alloc: A,
+    image: &ImageLine,
+    input: I,
+    files: &F,
+    output: O,
+    errors: &mut E,
+) -> (u8, RemoteStreams<I, O>)
     ensures { PerformsImage A P.at image.now result.0 I.remaining O.contents (O.contents output) (I.remaining input)
         result.1 }
 {
     match &image.memory {
         Some(memory) => {
             let status = perform_simulated(alloc, image, memory, files, errors);
-            (status, Line::unused(input, output))
+            (status, RemoteStreams::unused(input, output))
         }
         None => perform_action::<P, _, _, _, _, _>(alloc, image, input, files, output, errors),
     }
@@ -54,7 +61,14 @@ fn perform_action<
     O: Write + KeepsError + Drop,
     E: Write,
     A: Allocator + Copy,
->(alloc: A, image: &ImageLine, input: I, files: &F, output: O, errors: &mut E) -> (u8, Line<I, O>)
+>(
+    alloc: A,
+    image: &ImageLine,
+    input: I,
+    files: &F,
+    output: O,
+    errors: &mut E,
+) -> (u8, RemoteStreams<I, O>)
     ensures { PerformsAction P.at image.now result.0 I.remaining O.contents (O.contents output) (I.remaining input)
         result.1 image.now.action }
 {
@@ -79,17 +93,24 @@ fn perform_load<
     O: Write + KeepsError + Drop,
     E: Write,
     A: Allocator + Copy,
->(alloc: A, image: &ImageLine, input: I, files: &F, output: O, errors: &mut E) -> (u8, Line<I, O>)
+>(
+    alloc: A,
+    image: &ImageLine,
+    input: I,
+    files: &F,
+    output: O,
+    errors: &mut E,
+) -> (u8, RemoteStreams<I, O>)
     ensures { PerformsLoad P.at image.now result.0 I.remaining O.contents (O.contents output) (I.remaining input)
         result.1 }
 {
     let read = match read_image_file(alloc, image, files, errors) {
         Ok(read) => read,
-        Err(status) => return (status, Line::unused(input, output)),
+        Err(status) => return (status, RemoteStreams::unused(input, output)),
     };
     let opened = match open_report(files, image, read.identity, None, errors) {
         Ok(opened) => opened,
-        Err(status) => return (status, Line::unused(input, output)),
+        Err(status) => return (status, RemoteStreams::unused(input, output)),
     };
     let whole = &read.file;
     let (tries, resumes) = (image.tries, image.resumes);
@@ -118,17 +139,24 @@ fn perform_verify<
     O: Write + KeepsError + Drop,
     E: Write,
     A: Allocator + Copy,
->(alloc: A, image: &ImageLine, input: I, files: &F, output: O, errors: &mut E) -> (u8, Line<I, O>)
+>(
+    alloc: A,
+    image: &ImageLine,
+    input: I,
+    files: &F,
+    output: O,
+    errors: &mut E,
+) -> (u8, RemoteStreams<I, O>)
     ensures { PerformsVerify P.at image.now result.0 I.remaining O.contents (O.contents output) (I.remaining input)
         result.1 }
 {
     let read = match read_image_file(alloc, image, files, errors) {
         Ok(read) => read,
-        Err(status) => return (status, Line::unused(input, output)),
+        Err(status) => return (status, RemoteStreams::unused(input, output)),
     };
     let opened = match open_report(files, image, read.identity, None, errors) {
         Ok(opened) => opened,
-        Err(status) => return (status, Line::unused(input, output)),
+        Err(status) => return (status, RemoteStreams::unused(input, output)),
     };
     let whole = &read.file;
     let (tries, resumes) = (image.tries, image.resumes);
@@ -165,18 +193,21 @@ fn perform_dump<
     files: &F,
     output: O,
     errors: &mut E,
-) -> (u8, Line<I, O>)
+) -> (u8, RemoteStreams<I, O>)
     ensures { PerformsDump P.at image.now result.0 I.remaining O.contents (O.contents output) (I.remaining input)
         result.1 count }
 {
     let name = image.file.as_str();
     let Opened { mut file, identity } = match open_image(files, name) {
         Ok(opened) => opened,
-        Err(why) => return (cannot_open(errors, name, &why), Line::unused(input, output)),
+        Err(why) => return (
+            cannot_open(errors, name, &why),
+            RemoteStreams::unused(input, output),
+        ),
     };
     let opened = match open_report(files, image, identity, None, errors) {
         Ok(opened) => opened,
-        Err(status) => return (status, Line::unused(input, output)),
+        Err(status) => return (status, RemoteStreams::unused(input, output)),
     };
     let (tries, resumes) = (image.tries, image.resumes);
     let mut report = report_writer(opened, &mut *errors);
@@ -205,7 +236,7 @@ fn perform_dump<
 fn call_streams<'a, S: KeepsError, R: KeepsError, W: KeepsError>(
     image: &'a ImageLine,
     report: &Option<S>,
-    line: &Line<R, W>,
+    line: &RemoteStreams<R, W>,
 ) -> [Stream<'a>; 3] {
     [
         Stream::record(&image.report, report),
@@ -238,7 +269,7 @@ pub(crate) fn loaded_status<E: Write, A: Allocator>(
     offset: u32,
     whole: &Image<A>,
 ) -> u8
-    ensures { result ≡ status_of_image status_of_loaded gone answer }
+    ensures { result ≡ command_status_of_image command_status_loaded gone answer }
 {
     match reached(errors, answer, gone, streams) {
         Ok(()) => {
@@ -258,7 +289,7 @@ pub(crate) fn verified_status<E: Write, A: Allocator>(
     offset: u32,
     whole: &Image<A>,
 ) -> u8
-    ensures { result ≡ status_of_image status_of_verified gone answer }
+    ensures { result ≡ command_status_of_image command_status_verified gone answer }
 {
     match reached(errors, answer, gone, streams) {
         Ok(None) => {
@@ -307,7 +338,7 @@ fn fault_status<E: Write>(
     gone: Option<Fault>,
     streams: &[Stream<'_>],
 ) -> u8
-    ensures { result ≡ status_of_fault fault }
+    ensures { result ≡ command_status_of_fault fault }
 {
     match fault {
         ImageFault::Range | ImageFault::Memory => engine_status(errors, Err(fault)),

@@ -1,8 +1,8 @@
 //! Reads and writes the files of images.
 ghost use Rattle.std.specs.Prelude.{◌≡◌, ◌+◌, ◌≤◌, ◌^◌, IfErr, IfOk, length};
-ghost use Rattle.swd_image_ends.specs.Pieces.{pieces_in};
-ghost use Rattle.swd_image_files.specs.Texts.{file_of};
-ghost use Rattle.swd_commands.specs.Images.{ArePiecesOf, IsWritten, WritesBytes};
+ghost use Rattle.swd_image_ends.specs.Pieces.{pieces_to_load};
+ghost use Rattle.swd_image_files.specs.Texts.{image_file_of_piece};
+ghost use Rattle.swd_commands.specs.Images.{AreCommandPieces, IsCommandWritten, CommandWritesBytes};
 
 use crate::open_files::{Files, Opened};
 use crate::report::{DONE, cannot_open, cannot_use};
@@ -31,7 +31,7 @@ pub fn read_image_file<F: Files, E: Write, A: Allocator + Copy>(
     files: &F,
     errors: &mut E,
 ) -> Result<Opened<Image<A>>, u8>
-    ensures pieces { IfOk result (λ read. ArePiecesOf image.now (pieces_in read.file)) }
+    ensures pieces { IfOk result (λ read. AreCommandPieces image.now (pieces_to_load read.file)) }
     ensures status { IfErr result (λ status. status ≡ 2) }
 {
     let name = image.file.as_str();
@@ -49,7 +49,7 @@ pub fn read_opened_image<R: Read + Drop, E: Write, A: Allocator + Copy>(
     opened: Opened<R>,
     errors: &mut E,
 ) -> Result<Opened<Image<A>>, u8>
-    ensures pieces { IfOk result (λ read. ArePiecesOf image.now (pieces_in read.file)) }
+    ensures pieces { IfOk result (λ read. AreCommandPieces image.now (pieces_to_load read.file)) }
     ensures status { IfErr result (λ status. status ≡ 2) }
 {
     let name = image.file.as_str();
@@ -77,7 +77,7 @@ pub fn write_image_file<F: Files, E: Write>(
     bytes: &[u8],
 ) -> u8
     requires { image.now.addr + length bytes.now ≤ 2 ^ 32 }
-    ensures { IsWritten result (file_of image.now.format image.now.addr bytes.now) }
+    ensures { IsCommandWritten result (image_file_of_piece image.now.format image.now.addr bytes.now) }
 {
     let name = image.file.as_str();
     if let Err(why) = files.cut_off(file) {
@@ -97,7 +97,8 @@ fn write_bytes<M: Write + KeepsError, E: Write>(
     bytes: &[u8],
 ) -> u8
     requires { addr + length bytes.now ≤ 2 ^ 32 }
-    ensures { WritesBytes result (M.contents file.old) (M.contents file.new) (file_of format addr bytes.now) }
+    ensures { CommandWritesBytes result (M.contents file.old) (M.contents file.new)
+        (image_file_of_piece format addr bytes.now) }
 {
     match write_image(format, addr, bytes, file) {
         Ok(()) => {

@@ -2,7 +2,7 @@
 ghost use Rattle.std.specs.Prelude.{◌≡◌, IfErr, IfOk, is_some};
 ghost use Rattle.std.specs.Io.{WritesAtMost};
 ghost use Rattle.std.specs.Io.KnownBytes.{Keeps, WriteAppends};
-ghost use Rattle.swd_commands.specs.ImageReports.{contents_in};
+ghost use Rattle.swd_commands.specs.ImageReports.{command_report_contents};
 
 use crate::open_files::{Files, Identity};
 use crate::report::cannot_open;
@@ -20,12 +20,12 @@ pub(crate) enum Destination<M, E> {
 }
 
 impl<M: Write, E: Write> Write for Destination<M, E> {
-    ghost contents = { λ destination. contents_in M.contents E.contents destination };
+    ghost contents = { λ destination. command_report_contents M.contents E.contents destination };
 
     fn write(&mut self, buf: &[u8]) -> io::Result<usize>
         ensures bound { WritesAtMost result buf.now }
-        ensures bytes { WriteAppends (contents_in M.contents E.contents self.old)
-            (contents_in M.contents E.contents self.new) result buf.now }
+        ensures bytes { WriteAppends (command_report_contents M.contents E.contents self.old)
+            (command_report_contents M.contents E.contents self.new) result buf.now }
     {
         match self {
             Destination::File(file) => file.write(buf),
@@ -34,8 +34,8 @@ impl<M: Write, E: Write> Write for Destination<M, E> {
     }
 
     fn flush(&mut self) -> io::Result<()>
-        ensures bytes { Keeps (contents_in M.contents E.contents self.old)
-            (contents_in M.contents E.contents self.new) }
+        ensures bytes { Keeps (command_report_contents M.contents E.contents self.old)
+            (command_report_contents M.contents E.contents self.new) }
     {
         match self {
             Destination::File(file) => file.flush(),

@@ -1,11 +1,11 @@
 //! Reads and writes the file of a simulated target's memory, and reads its plan.
 ghost use Rattle.std.specs.Prelude.{◌≡◌, ◌+◌, ◌≤◌, ◌^◌, IfErr, IfOk};
-ghost use Rattle.swd_io.specs.Pieces.{IsText};
-ghost use Rattle.swd_target.specs.Marks.{IsPlan};
-ghost use Rattle.swd_image_ends.specs.Memories.{IsWhole};
-ghost use Rattle.swd_commands.specs.Simulated.{WritesBack};
+ghost use Rattle.swd_io.specs.Pieces.{IsReaderText};
+ghost use Rattle.swd_target.specs.Marks.{IsLegalPlan};
+ghost use Rattle.swd_image_ends.specs.Memories.{AreImageEndWholeWords};
+ghost use Rattle.swd_commands.specs.Simulated.{CommandWritesBack};
 
-use crate::noted::{Noted, Seen};
+use crate::noted::{Seen, TrackedReader};
 use crate::open_files::{Files, Identity};
 use crate::reason::plan_status;
 use crate::report::{FAULT, cannot_open, cannot_use};
@@ -34,8 +34,8 @@ pub fn read_memory<R: Read + KeepsError, E: Write, A: Allocator + Copy>(
     reader: &mut R,
     errors: &mut E,
 ) -> Result<Vec<u8, A>, u8>
-    ensures text { IfOk result (λ bytes. IsText (R.remaining reader.old) bytes.items) }
-    ensures whole { IfOk result (λ bytes. IsWhole memory.now.base bytes.items) }
+    ensures text { IfOk result (λ bytes. IsReaderText (R.remaining reader.old) bytes.items) }
+    ensures whole { IfOk result (λ bytes. AreImageEndWholeWords memory.now.base bytes.items) }
     ensures status { IfErr result (λ status. status ≡ 2) }
 {
     let name = memory.file.as_str();
@@ -65,10 +65,10 @@ pub fn read_noted<R: Read + KeepsError, E: Write, A: Allocator + Copy>(
     reader: &mut R,
     errors: &mut E,
 ) -> Result<Vec<Mark, A>, u8>
-    ensures legal { IfOk result (λ marks. IsPlan marks.items) }
+    ensures legal { IfOk result (λ marks. IsLegalPlan marks.items) }
     ensures status { IfErr result (λ status. status ≡ 2) }
 {
-    let mut plan = Noted {
+    let mut plan = TrackedReader {
         reader,
         seen: Seen::new(),
     };
@@ -94,7 +94,7 @@ pub fn write_back<F: Files, E: Write, A: Allocator + Copy>(
     errors: &mut E,
 ) -> Result<(), u8>
     requires { memory.now.base + count ≤ 2 ^ 32 }
-    ensures { WritesBack after.now memory.now.base count result (F.Made.Write.contents file.old)
+    ensures { CommandWritesBack after.now memory.now.base count result (F.Made.Write.contents file.old)
         (F.Made.Write.contents file.new) }
 {
     let name = memory.file.as_str();

@@ -1,8 +1,8 @@
 //! Performs `swd target --memory`: a simulated target on the standard streams, whose memory is in a file.
 ghost use Rattle.std.specs.Prelude.{◌≡◌, ◌+◌, ◌<◌, ◌≤◌, ◌^◌, [], ℕ, IfErr, IfOk, List, None, Option};
-ghost use Rattle.swd_target.specs.Marks.{IsPlan};
-ghost use Rattle.swd_image_ends.specs.Memories.{IsWhole};
-ghost use Rattle.swd_commands.specs.MemoryTargets.{ServesBytes, ServesMemory, ServesOver, session_room};
+ghost use Rattle.swd_target.specs.Marks.{IsLegalPlan};
+ghost use Rattle.swd_image_ends.specs.Memories.{AreImageEndWholeWords};
+ghost use Rattle.swd_commands.specs.MemoryTargets.{ServesBytes, ServesMemory, TargetCommandServes, target_command_room};
 
 use crate::memory_file::{Plan, read_memory, read_noted, write_back};
 use crate::open_files::{Files, Identity};
@@ -100,7 +100,7 @@ fn read_served_marks<F: Files, E: Write, A: Allocator + Copy>(
     files: &F,
     errors: &mut E,
 ) -> Result<Plan<A>, u8>
-    ensures legal { IfOk result (λ plan. IsPlan plan.marks.items) }
+    ensures legal { IfOk result (λ plan. IsLegalPlan plan.marks.items) }
     ensures none { IfOk result (λ plan. memory.now.plan ≡ None → plan.marks.items ≡ []) }
     ensures status { IfErr result (λ status. status ≡ 2) }
 {
@@ -127,7 +127,7 @@ fn read_served_marks<F: Files, E: Write, A: Allocator + Copy>(
 // Returns the room of a session at a memory of so many words: 16 transfers for each word, and 65,536 more. It is smaller
 // only where the log would have more than 2^32 - 1 transfers, with one for each word.
 fn session_room(words: u32) -> u32
-    ensures { result ≡ session_room words }
+    ensures { result ≡ target_command_room words }
 {
     let room = 16 * u64::from(words) + 65_536;
     room.min(u64::from(u32::MAX - words)) as u32
@@ -152,8 +152,8 @@ fn serve_bytes<
     output: &mut O,
     errors: &mut E,
 ) -> u8
-    requires whole { IsWhole memory.now.base bytes.now }
-    requires plan { IsPlan marks.items }
+    requires whole { AreImageEndWholeWords memory.now.base bytes.now }
+    requires plan { IsLegalPlan marks.items }
     ensures { ServesBytes A result (I.remaining input.old) (I.remaining input.new) (O.contents output.old)
         (O.contents output.new) memory.now.base bytes.now marks.items }
 {
@@ -201,7 +201,7 @@ fn serve_over<I: Read + KeepsError, F: Files, O: Write + KeepsError, E: Write, A
     errors: &mut E,
 ) -> u8
     requires { memory.now.base + count ≤ 2 ^ 32 }
-    ensures { ServesOver pins memory.now.base count result (I.remaining input.old) (I.remaining input.new)
+    ensures { TargetCommandServes pins memory.now.base count result (I.remaining input.old) (I.remaining input.new)
         (O.contents output.old) (O.contents output.new) (F.Made.Write.contents file.old)
         (F.Made.Write.contents file.new) }
 {

@@ -16,12 +16,12 @@ pub(crate) type LineStart = ArrayVec<u8, SHOWN>;
 
 // A place in a text: the number of a line, from 1 and at most 2^64 - 1, and what of it was passed.
 #[derive(Drop)]
-struct Place {
+struct TextPosition {
     line: u64,
     start: LineStart,
 }
 
-impl Place {
+impl TextPosition {
     // Passes these bytes.
     fn pass(&mut self, bytes: &[u8]) {
         for byte in bytes {
@@ -45,7 +45,7 @@ impl Place {
 #[derive(Drop)]
 pub(crate) struct Seen {
     // Where the piece begins.
-    from: Place,
+    from: TextPosition,
     // The bytes of the last read.
     piece: ArrayVec<u8, PIECE>,
 }
@@ -54,7 +54,7 @@ impl Seen {
     /// Nothing was read yet.
     pub(crate) fn new() -> Seen {
         Seen {
-            from: Place {
+            from: TextPosition {
                 line: 1,
                 start: ArrayVec::new(),
             },
@@ -71,7 +71,7 @@ impl Seen {
 
     /// Returns the first bytes of the line with this number, if it is in the piece that was read last.
     pub(crate) fn line(&self, number: u64) -> LineStart {
-        let mut place = Place {
+        let mut place = TextPosition {
             line: self.from.line,
             start: ArrayVec::new(),
         };
@@ -92,12 +92,12 @@ impl Seen {
 
 /// A reader of a text that keeps what it read last.
 #[derive(Drop)]
-pub(crate) struct Noted<R> {
+pub(crate) struct TrackedReader<R> {
     pub(crate) reader: R,
     pub(crate) seen: Seen,
 }
 
-impl<R: KeepsError> KeepsError for Noted<R> {
+impl<R: KeepsError> KeepsError for TrackedReader<R> {
     ghost kept = { λ noted. R.kept noted.reader };
 
     fn kept_error(&self) -> Option<io::Error> {
@@ -105,7 +105,7 @@ impl<R: KeepsError> KeepsError for Noted<R> {
     }
 }
 
-impl<R: Read> Read for Noted<R> {
+impl<R: Read> Read for TrackedReader<R> {
     ghost remaining = { λ noted. R.remaining noted.reader };
 
     fn read(&mut self, buf: &mut [u8]) -> io::Result<usize> {

@@ -1,10 +1,10 @@
 //! Runs a script at a simulated target, and says on standard error how far the run is.
 ghost use Rattle.std.specs.Prelude.{◌≡◌, ℕ};
-ghost use Rattle.swd_script.specs.Laws.{IsRunnable};
-ghost use Rattle.swd_script.specs.Readers.{meaning};
-ghost use Rattle.swd_target.specs.Marks.{IsPlan};
-ghost use Rattle.swd_run.specs.Records.{files_of};
-ghost use Rattle.swd_run.specs.Running.{AnswersScript, RunsText};
+ghost use Rattle.swd_script.specs.Laws.{IsScriptRunnable};
+ghost use Rattle.swd_script.specs.Readers.{read_script_meaning};
+ghost use Rattle.swd_target.specs.Marks.{IsLegalPlan};
+ghost use Rattle.swd_run.specs.Records.{run_files_of};
+ghost use Rattle.swd_run.specs.Running.{ScriptRunAnswers, RunsText};
 
 use crate::clock::Clock;
 use crate::progress::{Progress, wanted_total};
@@ -56,12 +56,12 @@ fn run_to_same<O: Write, T: Write + Drop, E: Write, C: Clock, L: Loan, A: Alloca
     report: &mut SameReport<'_, O, E, C, L>,
     records: &mut Records<T>,
 ) -> Result<Finished, EngineFault>
-    requires script { IsRunnable (meaning script.now) }
-    requires plan { IsPlan plan.items }
+    requires script { IsScriptRunnable (read_script_meaning script.now) }
+    requires plan { IsLegalPlan plan.items }
     ensures same { report.new.progress.report.ghost_name ≡ report.old.progress.report.ghost_name }
-    ensures answers { AnswersScript run.now.tries run.now.resumes (meaning script.now) plan.items result
+    ensures answers { ScriptRunAnswers run.now.tries run.now.resumes (read_script_meaning script.now) plan.items result
         (O.contents report.old.progress.report.now) (O.contents report.new.progress.report.now)
-        (files_of T.contents records.old) (files_of T.contents records.new) }
+        (run_files_of T.contents records.old) (run_files_of T.contents records.new) }
 {
     run_script(alloc, script, plan, run.tries, run.resumes, report, records)
 }
@@ -76,12 +76,13 @@ fn run_to<'a, L: Loan, O: Write, T: Write + Drop, E: Write, C: Clock, A: Allocat
     records: &mut Records<T>,
 ) -> (Result<Finished, EngineFault>, Progress<'a, O, E, C>)
     requires loan { L.name ≡ progress.report.ghost_name }
-    requires script { IsRunnable (meaning script.now) }
-    requires plan { IsPlan plan.items }
+    requires script { IsScriptRunnable (read_script_meaning script.now) }
+    requires plan { IsLegalPlan plan.items }
     ensures same { result.1.report.ghost_name ≡ progress.entry.report.ghost_name }
-    ensures answers { AnswersScript run.now.tries run.now.resumes (meaning script.now) plan.items result.0
+    ensures answers { ScriptRunAnswers run.now.tries run.now.resumes (read_script_meaning script.now) plan.items
+        result.0
         (O.contents progress.entry.report.now) (O.contents result.1.report.now)
-        (files_of T.contents records.old) (files_of T.contents records.new) }
+        (run_files_of T.contents records.old) (run_files_of T.contents records.new) }
 {
     let mut report = SameReport::<'a, O, E, C, L> {
         progress,
@@ -103,11 +104,11 @@ fn run_read<O: Write, T: Write + Drop, E: Write, C: Clock, A: Allocator + Copy>(
     clock: &C,
     errors: &mut E,
 ) -> Result<Finished, EngineFault>
-    requires script { IsRunnable (meaning script.now) }
-    requires plan { IsPlan plan.items }
-    ensures { AnswersScript run.now.tries run.now.resumes (meaning script.now) plan.items result
-        (O.contents output.old) (O.contents output.new) (files_of T.contents records.old)
-        (files_of T.contents records.new) }
+    requires script { IsScriptRunnable (read_script_meaning script.now) }
+    requires plan { IsLegalPlan plan.items }
+    ensures { ScriptRunAnswers run.now.tries run.now.resumes (read_script_meaning script.now) plan.items result
+        (O.contents output.old) (O.contents output.new) (run_files_of T.contents records.old)
+        (run_files_of T.contents records.new) }
 {
     let total = wanted_total(run, script.batches.as_slice());
     let progress = Progress::new(output, errors, clock, total);
@@ -140,8 +141,8 @@ pub(crate) fn run_paced<
     errors: &mut E,
 ) -> Result<Finished, RunFault>
     ensures { RunsText run.now.tries run.now.resumes result (S.remaining script.old) (P.remaining plan.old)
-        (O.contents output.old) (O.contents output.new) (files_of T.contents records.old)
-        (files_of T.contents records.new) }
+        (O.contents output.old) (O.contents output.new) (run_files_of T.contents records.old)
+        (run_files_of T.contents records.new) }
 {
     let Texts { script, plan } = match read_texts(alloc, script, plan) {
         Ok(texts) => texts,

@@ -1,15 +1,15 @@
 //! Carries out the program's arguments.
 ghost use Rattle.std.specs.Prelude.{◌≡◌, ◌≢◌, ◌⊎◌, IfNone, IfSome, Some, codes};
-ghost use Rattle.swd_commands.specs.Inputs.{IsStandard, named, served_file};
-ghost use Rattle.swd_commands.specs.Statuses.{AnswersOver, Performs, PerformsOver, PerformsRun, PerformsUnder};
-ghost use Rattle.swd_commands.specs.Statuses.{status_of_run};
+ghost use Rattle.swd_commands.specs.Inputs.{CommandReadsStdin, command_named_file, command_served_file};
+ghost use Rattle.swd_commands.specs.Statuses.{AnswersCommandHelp, PerformsCommand, PerformsCommandOver};
+ghost use Rattle.swd_commands.specs.Statuses.{PerformsRunCommand, PerformsRunCommandUnder, command_status_of_run};
 
 use crate::clock::Clock;
 use crate::decode_command::perform_decode;
 use crate::draw_command::perform_draw;
 use crate::image_command::perform_image;
 use crate::memory_target::perform_memory_target;
-use crate::noted::{Noted, Seen};
+use crate::noted::{Seen, TrackedReader};
 use crate::open_files::{Files, Identity};
 use crate::paced_run::run_paced;
 use crate::reason::texts_status;
@@ -27,7 +27,7 @@ use std::io::{Read, Write};
 use swd_bits::one_text;
 use swd_run::{Finished, Records, RunFault};
 use swd_text::encode_text;
-use swd_words::{DecodeLine, DrawLine, Line, LineFault, RunLine, ServedMemory, line};
+use swd_words::{CommandLine, DecodeLine, DrawLine, LineFault, RunLine, ServedMemory, line};
 
 /// Carries out the arguments, the program's name first, and returns the status. Standard output gets the requested
 /// text and nothing else. The lines on standard error that say how far a run is are spaced by the clock.
@@ -57,7 +57,7 @@ pub fn run_words<I: Read, F: Files, O: Write, C: Clock, E: Write>(
 // Prints why the arguments are no command, or the help or the version, and returns the status.
 fn refuse<O: Write + KeepsError, E: Write>(fault: LineFault, output: &mut O, errors: &mut E) -> u8
     ensures memory { fault ≡ LineFault.Memory → result ≡ 2 }
-    ensures clap { (fault ≡ LineFault.Memory) ⊎ AnswersOver (O.kept output.new) result }
+    ensures clap { (fault ≡ LineFault.Memory) ⊎ AnswersCommandHelp (O.kept output.new) result }
 {
     match fault {
         LineFault::Clap(error) => answer_by_clap(&error, output, errors),
@@ -71,7 +71,7 @@ fn answer_by_clap<O: Write + KeepsError, E: Write>(
     output: &mut O,
     errors: &mut E,
 ) -> u8
-    ensures { AnswersOver (O.kept output.new) result }
+    ensures { AnswersCommandHelp (O.kept output.new) result }
 {
     let status = if error.use_stderr() {
         let _ = write!(errors, "{error}");
@@ -95,7 +95,7 @@ fn print_help<O: Write + KeepsError, E: Write>(error: &Error, output: &mut O, er
 
 // Returns the file of a served memory.
 fn served_file(memory: &ServedMemory) -> &str
-    ensures { result.now ≡ served_file memory.now }
+    ensures { result.now ≡ command_served_file memory.now }
 {
     match memory {
         ServedMemory::Script(texts) => texts.script.as_str(),
@@ -105,21 +105,21 @@ fn served_file(memory: &ServedMemory) -> &str
 
 // Returns the file that a command reads, such as the script of a run, or the file of a dump. Returns `None` for standard
 // input: without a name, and for `-`.
-fn file_of(line: &Line) -> Option<&str>
-    ensures standard { IfNone result (IsStandard line.now) }
-    ensures file { IfSome result (λ name. (named line.now ≡ Some name.now) × (name.now ≢ codes "-")) }
+fn file_of(line: &CommandLine) -> Option<&str>
+    ensures standard { IfNone result (CommandReadsStdin line.now) }
+    ensures file { IfSome result (λ name. (command_named_file line.now ≡ Some name.now) × (name.now ≢ codes "-")) }
 {
     let name = match line {
-        Line::One(file)
-        | Line::Encode(file)
-        | Line::Decode(DecodeLine { file, .. })
-        | Line::Draw(DrawLine { file, .. }) => match file {
+        CommandLine::One(file)
+        | CommandLine::Encode(file)
+        | CommandLine::Decode(DecodeLine { file, .. })
+        | CommandLine::Draw(DrawLine { file, .. }) => match file {
             Some(name) => name.as_str(),
             None => return None,
         },
-        Line::Run(run) => run.script.as_str(),
-        Line::Target(target) => served_file(&target.memory),
-        Line::Image(image) => image.file.as_str(),
+        CommandLine::Run(run) => run.script.as_str(),
+        CommandLine::Target(target) => served_file(&target.memory),
+        CommandLine::Image(image) => image.file.as_str(),
     };
     if name == "-" { None } else { Some(name) }
 }
@@ -127,27 +127,27 @@ fn file_of(line: &Line) -> Option<&str>
 // Opens the file that a command reads, and performs the command.
 fn carry_out<I: Read + KeepsError, F: Files, O: Write + KeepsError, C: Clock, E: Write>(
     alloc: Global,
-    line: &Line,
+    line: &CommandLine,
     input: &mut I,
     files: &F,
     output: &mut O,
     clock: &C,
     errors: &mut E,
 ) -> u8
-    ensures { IsStandard line.now
-        → PerformsOver (O.kept output.new) line.now result (I.remaining input.old) (I.remaining input.new)
+    ensures { CommandReadsStdin line.now
+        → PerformsCommandOver (O.kept output.new) line.now result (I.remaining input.old) (I.remaining input.new)
         (O.contents output.old) (O.contents output.new) }
 {
     let Some(name) = file_of(line) else {
         return perform(alloc, line, input, None, files, output, clock, errors);
     };
-    if let Line::Image(image) = line {
+    if let CommandLine::Image(image) = line {
         let (status, _) = perform_image::<Untold, _, _, _, _, _>(
             alloc, image, input, files, output, errors,
         );
         return status;
     }
-    if let Line::Target(target) = line
+    if let CommandLine::Target(target) = line
         && let ServedMemory::File(memory) = &target.memory
     {
         return perform_memory_target(alloc, target, memory, input, files, output, errors);
@@ -156,7 +156,7 @@ fn carry_out<I: Read + KeepsError, F: Files, O: Write + KeepsError, C: Clock, E:
         Ok(opened) => {
             let source = Some(opened.identity);
             let mut file = Watched::new(opened.file);
-            if let Line::Target(target) = line
+            if let CommandLine::Target(target) = line
                 && let ServedMemory::Script(texts) = &target.memory
             {
                 let script = &mut file;
@@ -164,7 +164,7 @@ fn carry_out<I: Read + KeepsError, F: Files, O: Write + KeepsError, C: Clock, E:
                     alloc, target, texts, script, source, input, files, output, errors,
                 );
             }
-            if let Line::Run(run) = line
+            if let CommandLine::Run(run) = line
                 && run.remote
             {
                 let (status, _) = perform_remote::<Untold, _, _, _, _, _, _>(
@@ -181,7 +181,7 @@ fn carry_out<I: Read + KeepsError, F: Files, O: Write + KeepsError, C: Clock, E:
 // Performs a command whose result goes to standard output. `input` is the file that it reads, or standard input.
 fn perform<R: Read + KeepsError, F: Files, O: Write + KeepsError, C: Clock, E: Write>(
     alloc: Global,
-    line: &Line,
+    line: &CommandLine,
     input: &mut R,
     source: Option<Identity>,
     files: &F,
@@ -189,7 +189,7 @@ fn perform<R: Read + KeepsError, F: Files, O: Write + KeepsError, C: Clock, E: W
     clock: &C,
     errors: &mut E,
 ) -> u8
-    ensures { PerformsOver (O.kept output.new) line.now result (R.remaining input.old) (R.remaining input.new)
+    ensures { PerformsCommandOver (O.kept output.new) line.now result (R.remaining input.old) (R.remaining input.new)
         (O.contents output.old) (O.contents output.new) }
 {
     let own = make_call(alloc, line, input, source, files, output, clock, errors);
@@ -199,7 +199,7 @@ fn perform<R: Read + KeepsError, F: Files, O: Write + KeepsError, C: Clock, E: W
 // Makes the one call of a command.
 fn make_call<R: Read + KeepsError, F: Files, O: Write + KeepsError, C: Clock, E: Write>(
     alloc: Global,
-    line: &Line,
+    line: &CommandLine,
     input: &mut R,
     source: Option<Identity>,
     files: &F,
@@ -207,33 +207,38 @@ fn make_call<R: Read + KeepsError, F: Files, O: Write + KeepsError, C: Clock, E:
     clock: &C,
     errors: &mut E,
 ) -> u8
-    ensures { Performs line.now result (R.remaining input.old) (R.remaining input.new)
+    ensures { PerformsCommand line.now result (R.remaining input.old) (R.remaining input.new)
         (O.contents output.old) (O.contents output.new) }
 {
     let name = file_of(line).unwrap_or(INPUT);
     match line {
-        Line::One(_) => {
+        CommandLine::One(_) => {
             let answer = one_text(input, output);
             conversion_status(errors, answer, name, input, output)
         }
-        Line::Decode(decode) => perform_decode(decode, name, input, output, errors),
-        Line::Draw(draw) => perform_draw(draw, name, input, output, errors),
-        Line::Encode(_) => {
+        CommandLine::Decode(decode) => perform_decode(decode, name, input, output, errors),
+        CommandLine::Draw(draw) => perform_draw(draw, name, input, output, errors),
+        CommandLine::Encode(_) => {
             let answer = encode_text(alloc, input, output);
             conversion_status(errors, answer, name, input, output)
         }
-        Line::Run(run) if run.remote => {
+        CommandLine::Run(run) if run.remote => {
             tell(errors, "SCRIPT is a file: standard input is the target's")
         }
-        Line::Run(run) => perform_run(alloc, run, input, source, files, output, clock, errors),
-        Line::Target(target) => match &target.memory {
+        CommandLine::Run(run) => perform_run(
+            alloc, run, input, source, files, output, clock, errors,
+        ),
+        CommandLine::Target(target) => match &target.memory {
             ServedMemory::Script(_) => {
                 tell(errors, "SCRIPT is a file: standard input is the debugger's")
             }
             ServedMemory::File(_) => tell(errors, "cannot open -: it has to be a file"),
         },
-        Line::Image(image) if image.memory.is_some() => tell(errors, "FILE has to be a file"),
-        Line::Image(_) => tell(errors, "FILE is a file: standard input is the target's"),
+        CommandLine::Image(image) if image.memory.is_some() => tell(
+            errors,
+            "FILE has to be a file",
+        ),
+        CommandLine::Image(_) => tell(errors, "FILE is a file: standard input is the target's"),
     }
 }
 
@@ -248,7 +253,7 @@ fn perform_run<S: Read + KeepsError, F: Files, O: Write + KeepsError, C: Clock, 
     clock: &C,
     errors: &mut E,
 ) -> u8
-    ensures { PerformsRun run.now.plan run.now result (S.remaining script.old)
+    ensures { PerformsRunCommand run.now.plan run.now result (S.remaining script.old)
         (O.contents output.old) (O.contents output.new) }
 {
     let Some(name) = &run.plan else {
@@ -309,18 +314,19 @@ fn perform_under<
     clock: &C,
     errors: &mut E,
 ) -> u8
-    ensures { PerformsUnder run.now result (S.remaining script.old) (P.remaining plan.old) (O.contents output.old)
+    ensures { PerformsRunCommandUnder run.now result (S.remaining script.old) (P.remaining plan.old)
+        (O.contents output.old)
         (O.contents output.new) }
 {
     let mut records = match open_records(run, true, files, read, errors) {
         Ok(records) => records,
         Err(status) => return status,
     };
-    let mut script = Noted {
+    let mut script = TrackedReader {
         reader: script,
         seen: Seen::new(),
     };
-    let mut plan = Noted {
+    let mut plan = TrackedReader {
         reader: plan,
         seen: Seen::new(),
     };
@@ -369,7 +375,7 @@ fn answer_status<E: Write>(
     plan: &Seen,
     streams: &[Stream<'_>],
 ) -> u8
-    ensures { result ≡ status_of_run strict answer }
+    ensures { result ≡ command_status_of_run strict answer }
 {
     if answer.is_err() && tell_failure(errors, streams) {
         return FAULT;

@@ -1,15 +1,16 @@
 //! Performs `swd run --remote`: a run at a remote target on the standard streams.
 ghost use Rattle.std.specs.Prelude.{◌≡◌, [], List, Option, false, ℕ};
 ghost use Rattle.std.specs.FinMap.{empty};
-ghost use Rattle.swd_port.specs.Port.{made};
-ghost use Rattle.swd_remote.specs.WholeRuns.{IsUnused};
-ghost use Rattle.swd_run.specs.Records.{files_of};
+ghost use Rattle.swd_port.specs.Port.{port_made};
+ghost use Rattle.swd_remote.specs.WholeRuns.{IsUnusedRemote};
+ghost use Rattle.swd_run.specs.Records.{run_files_of};
 ghost use Rattle.swd_ends.specs.RemoteRuns.{RunsRemote};
-ghost use Rattle.swd_commands.specs.Remotes.{PerformsAt, PerformsRemote, WentOver, status_at};
-ghost use Rattle.swd_commands.specs.Statuses.{AreFor};
+ghost use Rattle.swd_commands.specs.Remotes.{PerformsRemoteRun, PerformsRemoteCommand, CommandWentOver};
+ghost use Rattle.swd_commands.specs.Remotes.{remote_command_status};
+ghost use Rattle.swd_commands.specs.Statuses.{AreRunCommandFiles};
 
 use crate::clock::Clock;
-use crate::noted::{Noted, Seen};
+use crate::noted::{Seen, TrackedReader};
 use crate::open_files::{Files, Identity};
 use crate::progress::{Progress, wanted_total};
 use crate::reason::script_status;
@@ -22,7 +23,7 @@ use std::io;
 use std::io::{Read, Write};
 use swd_ends::{RemoteFault, run_remote, run_remote_script};
 use swd_port::Story;
-use swd_remote::{Fault, Line};
+use swd_remote::{Fault, RemoteStreams};
 use swd_run::{Finished, Records};
 use swd_script::read_script;
 use swd_words::RunLine;
@@ -31,7 +32,7 @@ use swd_words::RunLine;
 pub struct Untold;
 
 impl Story for Untold {
-    ghost at = { λ _. made 0 (record { words = empty; log = []; room = 0 }) };
+    ghost at = { λ _. port_made 0 (record { words = empty; log = []; room = 0 }) };
 }
 
 // The destination of the report.
@@ -79,13 +80,13 @@ pub fn perform_remote<
     output: O,
     clock: &C,
     errors: &mut E,
-) -> (u8, Line<I, O>)
-    ensures { PerformsRemote P.at run.now result.0 I.remaining O.contents (O.contents output) (I.remaining input)
+) -> (u8, RemoteStreams<I, O>)
+    ensures { PerformsRemoteCommand P.at run.now result.0 I.remaining O.contents (O.contents output) (I.remaining input)
         result.1 (S.remaining script.old) }
 {
     let Some(name) = &run.report else {
         let status = tell(errors, "--remote and --report FILE go together");
-        return (status, Line::unused(input, output));
+        return (status, RemoteStreams::unused(input, output));
     };
     let read = Sources {
         script: source,
@@ -98,7 +99,7 @@ pub fn perform_remote<
         Ok(report) => report,
         Err(why) => {
             let status = cannot_open(errors, name.as_str(), &why);
-            return (status, Line::unused(input, output));
+            return (status, RemoteStreams::unused(input, output));
         }
     };
     let beside = Sources {
@@ -107,7 +108,7 @@ pub fn perform_remote<
     };
     let records = match open_records(run, false, files, beside, errors) {
         Ok(opened) => opened,
-        Err(status) => return (status, Line::unused(input, output)),
+        Err(status) => return (status, RemoteStreams::unused(input, output)),
     };
     match report.file {
         Some(file) => {
@@ -142,12 +143,12 @@ fn report_to_file<
     mut records: Records<T>,
     clock: &C,
     errors: &mut E,
-) -> (u8, Line<I, O>)
-    requires { AreFor run.now false (files_of T.contents records) }
-    ensures { PerformsAt P.at run.now result.0 I.remaining O.contents (O.contents output) (I.remaining input)
+) -> (u8, RemoteStreams<I, O>)
+    requires { AreRunCommandFiles run.now false (run_files_of T.contents records) }
+    ensures { PerformsRemoteRun P.at run.now result.0 I.remaining O.contents (O.contents output) (I.remaining input)
         result.1 (S.remaining script.old) }
 {
-    let mut noted = Noted {
+    let mut noted = TrackedReader {
         reader: script,
         seen: Seen::new(),
     };
@@ -188,17 +189,17 @@ fn run_paced<
     records: &mut Records<T>,
     clock: &C,
     errors: &mut E,
-) -> (Result<Finished, RemoteFault>, Line<I, O>)
+) -> (Result<Finished, RemoteFault>, RemoteStreams<I, O>)
     ensures { (old : Option (List ℕ)) × (new : Option (List ℕ)) × RunsRemote P.at run.now.tries run.now.resumes
-        (WentOver I.remaining O.contents (O.contents output) (I.remaining input) result.1)
-        (IsUnused I.remaining O.contents (O.contents output) (I.remaining input) result.1)
-        result.0 (S.remaining script.old) old new (files_of T.contents records.old) (files_of T.contents records.new) }
+        (CommandWentOver I.remaining O.contents (O.contents output) (I.remaining input) result.1)
+        (IsUnusedRemote I.remaining O.contents (O.contents output) (I.remaining input) result.1)
+        result.0 (S.remaining script.old) old new (run_files_of T.contents records.old) (run_files_of T.contents records.new) }
 {
     let script = match read_script(alloc, script) {
         Ok(script) => script,
         Err(unread) => return (
             Err(RemoteFault::unread(unread)),
-            Line::unused(input, output),
+            RemoteStreams::unused(input, output),
         ),
     };
     let total = wanted_total(run, script.batches.as_slice());
@@ -235,12 +236,12 @@ fn report_to_errors<
     output: O,
     mut records: Records<T>,
     errors: &mut E,
-) -> (u8, Line<I, O>)
-    requires { AreFor run.now false (files_of T.contents records) }
-    ensures { PerformsAt P.at run.now result.0 I.remaining O.contents (O.contents output) (I.remaining input)
+) -> (u8, RemoteStreams<I, O>)
+    requires { AreRunCommandFiles run.now false (run_files_of T.contents records) }
+    ensures { PerformsRemoteRun P.at run.now result.0 I.remaining O.contents (O.contents output) (I.remaining input)
         result.1 (S.remaining script.old) }
 {
-    let mut noted = Noted {
+    let mut noted = TrackedReader {
         reader: script,
         seen: Seen::new(),
     };
@@ -266,7 +267,7 @@ fn remote_streams<'a, T: KeepsError, S: KeepsError>(
     run: &'a RunLine,
     report: Stream<'a>,
     records: &Records<T>,
-    script: &Noted<S>,
+    script: &TrackedReader<S>,
 ) -> [Stream<'a>; 4] {
     [
         report,
@@ -277,7 +278,7 @@ fn remote_streams<'a, T: KeepsError, S: KeepsError>(
 }
 
 // Returns the streams of a connection.
-fn line_streams<R: KeepsError, W: KeepsError>(line: &Line<R, W>) -> [Stream<'static>; 2] {
+fn line_streams<R: KeepsError, W: KeepsError>(line: &RemoteStreams<R, W>) -> [Stream<'static>; 2] {
     [
         Stream::sent(&line.writer),
         Stream::read(INPUT, &line.reader),
@@ -289,12 +290,12 @@ fn reached_status<'a, R: KeepsError, W: KeepsError, T: KeepsError, S: KeepsError
     errors: &mut E,
     run: &'a RunLine,
     answer: Result<Finished, RemoteFault>,
-    line: &Line<R, W>,
+    line: &RemoteStreams<R, W>,
     report: Stream<'a>,
     records: &Records<T>,
-    script: &Noted<S>,
+    script: &TrackedReader<S>,
 ) -> u8
-    ensures { result ≡ status_at run.now.strict line.now.fault answer }
+    ensures { result ≡ remote_command_status run.now.strict line.now.fault answer }
 {
     let streams = remote_streams(run, report, records, script);
     if answer.is_err() && tell_failure(errors, streams.as_slice()) {

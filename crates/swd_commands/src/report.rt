@@ -1,6 +1,7 @@
 //! Prints the program's errors, and returns its status.
 ghost use Rattle.std.specs.Prelude.{◌≡◌, is_ok};
-ghost use Rattle.swd_commands.specs.Statuses.{has_failed, status_of, status_of_end, status_of_run};
+ghost use Rattle.swd_commands.specs.Statuses.{command_run_failed, command_status_of, command_status_of_end};
+ghost use Rattle.swd_commands.specs.Statuses.{command_status_of_run};
 
 use std::fmt::{Display, Formatter};
 use std::io::Write;
@@ -26,9 +27,9 @@ pub const CLOSED: u8 = 128 + 13;
 
 /// A name, displayed on one line: control characters are escaped.
 #[derive(Drop)]
-pub struct Shown<'a>(pub &'a str);
+pub struct Escaped<'a>(pub &'a str);
 
-impl Display for Shown<'_> {
+impl Display for Escaped<'_> {
     fn fmt<W: fmt::Write>(&self, f: &mut Formatter<W>) -> fmt::Result {
         for c in self.0.chars() {
             if c.is_control() {
@@ -54,7 +55,7 @@ pub fn tell<E: Write>(errors: &mut E, what: &str) -> u8
 pub fn cannot_open<E: Write>(errors: &mut E, name: &str, why: &io::Error) -> u8
     ensures { result ≡ 2 }
 {
-    let _ = writeln!(errors, "swd: cannot open {}: {why}", Shown(name));
+    let _ = writeln!(errors, "swd: cannot open {}: {why}", Escaped(name));
     FAULT
 }
 
@@ -62,13 +63,13 @@ pub fn cannot_open<E: Write>(errors: &mut E, name: &str, why: &io::Error) -> u8
 pub fn cannot_use<E: Write, F: Display>(errors: &mut E, name: &str, why: &F) -> u8
     ensures { result ≡ 2 }
 {
-    let _ = writeln!(errors, "swd: {}: {why}", Shown(name));
+    let _ = writeln!(errors, "swd: {}: {why}", Escaped(name));
     FAULT
 }
 
 /// Prints the error of a conversion, if there is one, and returns the status: 0 or 2.
 pub fn engine_status<E: Write, F: Display + Drop>(errors: &mut E, answer: Result<(), F>) -> u8
-    ensures { result ≡ status_of (is_ok answer) }
+    ensures { result ≡ command_status_of (is_ok answer) }
 {
     match answer {
         Ok(()) => DONE,
@@ -85,7 +86,7 @@ pub fn run_status<E: Write, F: Display + Drop>(
     answer: Result<Finished, F>,
     strict: bool,
 ) -> u8
-    ensures { result ≡ status_of_run strict answer }
+    ensures { result ≡ command_status_of_run strict answer }
 {
     match answer {
         Ok(finished) => finished_status(errors, finished, strict),
@@ -97,7 +98,7 @@ pub fn run_status<E: Write, F: Display + Drop>(
 /// of an `until` never came, or a strict run met a bus error. Prints a line for the word that differs. If an access met
 /// a bus error and the simulated target's room is used up, prints a line for that first.
 pub fn finished_status<E: Write>(errors: &mut E, finished: Finished, strict: bool) -> u8
-    ensures { result ≡ status_of_end (has_failed strict finished) finished.ended }
+    ensures { result ≡ command_status_of_end (command_run_failed strict finished) finished.ended }
 {
     tell_full(errors, finished);
     if let Some(difference) = finished.differs {
@@ -143,7 +144,7 @@ fn tell_difference<E: Write>(errors: &mut E, difference: Difference) {
         ),
         Answer::Written | Answer::BusFault => writeln!(
             errors,
-            "swd: script line {line}: {addr:08x} gave a bus fault, not {expected:08x}"
+            "swd: script line {line}: {addr:08x} gave a bus error, not {expected:08x}"
         ),
     };
 }

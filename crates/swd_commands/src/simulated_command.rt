@@ -1,13 +1,14 @@
 //! Performs `swd load`, `swd verify` and `swd dump` at a simulated target, whose memory is in a file.
 ghost use Rattle.std.specs.Prelude.{◌≡◌, ◌+◌, ◌≤◌, ◌^◌, [], ℕ, IfErr, IfOk, List, None, Option, is_some};
 ghost use Rattle.swd_host.specs.Reports.{IsAtRest};
-ghost use Rattle.swd_target.specs.Benches.{port_of};
-ghost use Rattle.swd_target.specs.Marks.{IsPlan};
-ghost use Rattle.swd_image_ends.specs.Memories.{IsWhole};
-ghost use Rattle.swd_image_ends.specs.Pieces.{pieces_in};
-ghost use Rattle.swd_commands.specs.Images.{ArePiecesOf};
-ghost use Rattle.swd_commands.specs.Simulated.{DumpsOver, LoadsOver, SimulatesAction, SimulatesImage, Simulates};
-ghost use Rattle.swd_commands.specs.Simulated.{SimulatesDump, SimulatesLoad, SimulatesVerify, VerifiesOver};
+ghost use Rattle.swd_target.specs.Benches.{bench_port};
+ghost use Rattle.swd_target.specs.Marks.{IsLegalPlan};
+ghost use Rattle.swd_image_ends.specs.Memories.{AreImageEndWholeWords};
+ghost use Rattle.swd_image_ends.specs.Pieces.{pieces_to_load};
+ghost use Rattle.swd_commands.specs.Images.{AreCommandPieces};
+ghost use Rattle.swd_commands.specs.Simulated.{DumpCommandSimulated, LoadCommandSimulated, SimulatesAction};
+ghost use Rattle.swd_commands.specs.Simulated.{SimulatesImage, SimulatesCommandTarget};
+ghost use Rattle.swd_commands.specs.Simulated.{SimulatesDump, SimulatesLoad, SimulatesVerify, VerifyCommandSimulated};
 
 use crate::image_command::{loaded_status, reached, verified_status};
 use crate::image_file::{read_opened_image, write_image_file};
@@ -89,8 +90,8 @@ fn simulate_action<F: Files, E: Write, A: Allocator + Copy>(
     files: &F,
     errors: &mut E,
 ) -> u8
-    requires whole { IsWhole memory.now.base bytes.now }
-    requires plan { IsPlan marks.items }
+    requires whole { AreImageEndWholeWords memory.now.base bytes.now }
+    requires plan { IsLegalPlan marks.items }
     ensures { SimulatesAction A image.now image.now.action memory.now.base bytes.now marks.items result }
 {
     match image.action {
@@ -112,7 +113,7 @@ fn read_marks<F: Files, E: Write, A: Allocator + Copy>(
     files: &F,
     errors: &mut E,
 ) -> Result<Plan<A>, u8>
-    ensures legal { IfOk result (λ plan. IsPlan plan.marks.items) }
+    ensures legal { IfOk result (λ plan. IsLegalPlan plan.marks.items) }
     ensures none { IfOk result (λ plan. memory.now.plan ≡ None → plan.marks.items ≡ []) }
     ensures status { IfErr result (λ status. status ≡ 2) }
 {
@@ -157,9 +158,9 @@ fn target_of<E: Write, A: Allocator + Copy>(
     marks: Vec<Mark, A>,
     errors: &mut E,
 ) -> Result<Bench<A>, u8>
-    requires whole { IsWhole memory.now.base bytes.now }
-    requires plan { IsPlan marks.items }
-    ensures target { IfOk result (Simulates memory.now.base bytes.now marks.items) }
+    requires whole { AreImageEndWholeWords memory.now.base bytes.now }
+    requires plan { IsLegalPlan marks.items }
+    ensures target { IfOk result (SimulatesCommandTarget memory.now.base bytes.now marks.items) }
     ensures status { IfErr result (λ status. status ≡ 2) }
 {
     match simulated_target(alloc, memory.base, bytes, spare, marks) {
@@ -177,7 +178,7 @@ fn read_image_apart<F: Files, E: Write, A: Allocator + Copy>(
     files: &F,
     errors: &mut E,
 ) -> Result<Opened<Image<A>>, u8>
-    ensures pieces { IfOk result (λ read. ArePiecesOf image.now (pieces_in read.file)) }
+    ensures pieces { IfOk result (λ read. AreCommandPieces image.now (pieces_to_load read.file)) }
     ensures status { IfErr result (λ status. status ≡ 2) }
 {
     let name = image.file.as_str();
@@ -198,8 +199,8 @@ fn simulate_load<F: Files, E: Write, A: Allocator + Copy>(
     files: &F,
     errors: &mut E,
 ) -> u8
-    requires whole { IsWhole memory.now.base bytes.now }
-    requires plan { IsPlan marks.items }
+    requires whole { AreImageEndWholeWords memory.now.base bytes.now }
+    requires plan { IsLegalPlan marks.items }
     ensures { SimulatesLoad A image.now memory.now.base bytes.now marks.items result }
 {
     let name = memory.file.as_str();
@@ -247,10 +248,10 @@ fn load_over<F: Files, E: Write, A: Allocator + Copy>(
     opened: Option<Option<F::Made>>,
     errors: &mut E,
 ) -> u8
-    requires rests { IsAtRest (port_of bench) }
+    requires rests { IsAtRest (bench_port bench) }
     requires fits { memory.now.base + count ≤ 2 ^ 32 }
     requires named { is_some opened ≡ is_some image.now.report }
-    ensures { LoadsOver image.now (pieces_in whole.now) bench memory.now.base count result
+    ensures { LoadCommandSimulated image.now (pieces_to_load whole.now) bench memory.now.base count result
         (F.Made.Write.contents file.old) (F.Made.Write.contents file.new) }
 {
     let (tries, resumes) = (image.tries, image.resumes);
@@ -276,8 +277,8 @@ fn simulate_verify<F: Files, E: Write, A: Allocator + Copy>(
     files: &F,
     errors: &mut E,
 ) -> u8
-    requires whole { IsWhole memory.now.base bytes.now }
-    requires plan { IsPlan marks.items }
+    requires whole { AreImageEndWholeWords memory.now.base bytes.now }
+    requires plan { IsLegalPlan marks.items }
     ensures { SimulatesVerify A image.now memory.now.base bytes.now marks.items result }
 {
     let opened = match read_image_apart(alloc, image, read, files, errors) {
@@ -305,9 +306,9 @@ fn verify_over<M: Write + Drop, E: Write, A: Allocator + Copy>(
     opened: Option<Option<M>>,
     errors: &mut E,
 ) -> u8
-    requires rests { IsAtRest (port_of bench) }
+    requires rests { IsAtRest (bench_port bench) }
     requires named { is_some opened ≡ is_some image.now.report }
-    ensures { VerifiesOver image.now (pieces_in whole.now) bench result }
+    ensures { VerifyCommandSimulated image.now (pieces_to_load whole.now) bench result }
 {
     let (tries, resumes) = (image.tries, image.resumes);
     let mut report = report_writer(opened, &mut *errors);
@@ -329,8 +330,8 @@ fn simulate_dump<F: Files, E: Write, A: Allocator + Copy>(
     files: &F,
     errors: &mut E,
 ) -> u8
-    requires whole { IsWhole memory.now.base bytes.now }
-    requires plan { IsPlan marks.items }
+    requires whole { AreImageEndWholeWords memory.now.base bytes.now }
+    requires plan { IsLegalPlan marks.items }
     ensures { SimulatesDump A image.now count memory.now.base bytes.now marks.items result }
 {
     let name = image.file.as_str();
@@ -360,9 +361,9 @@ fn dump_over<F: Files, E: Write, A: Allocator + Copy>(
     opened: Option<Option<F::Made>>,
     errors: &mut E,
 ) -> u8
-    requires rests { IsAtRest (port_of bench) }
+    requires rests { IsAtRest (bench_port bench) }
     requires named { is_some opened ≡ is_some image.now.report }
-    ensures { DumpsOver image.now count bench result }
+    ensures { DumpCommandSimulated image.now count bench result }
 {
     let (addr, tries, resumes) = (image.addr, image.tries, image.resumes);
     let mut report = report_writer(opened, &mut *errors);

@@ -1,9 +1,9 @@
 //! Prints why a stream of a command failed.
 ghost use Rattle.std.specs.Prelude.{◌≡◌, Some, is_ok};
-ghost use Rattle.swd_commands.specs.Statuses.{status_of};
-ghost use Rattle.swd_commands.specs.Streams.{is_closed as is_closed_by, status_over};
+ghost use Rattle.swd_commands.specs.Statuses.{command_status_of};
+ghost use Rattle.swd_commands.specs.Streams.{is_command_stream_closed as is_closed_by, command_status_over};
 
-use crate::report::{CLOSED, FAULT, Shown, engine_status, tell};
+use crate::report::{CLOSED, Escaped, FAULT, engine_status, tell};
 use crate::watched::KeepsError;
 use std::fmt::Display;
 use std::io;
@@ -99,9 +99,9 @@ impl<'a> Stream<'a> {
         let _ = match self.used {
             Use::Output if is_closed(error) => Ok(()),
             Use::Send if is_closed(error) => writeln!(errors, "swd: the other end went away"),
-            Use::Read => writeln!(errors, "swd: read failed: {}: {error}", Shown(self.name)),
+            Use::Read => writeln!(errors, "swd: read failed: {}: {error}", Escaped(self.name)),
             Use::Write | Use::Output | Use::Send => {
-                writeln!(errors, "swd: write failed: {}: {error}", Shown(self.name))
+                writeln!(errors, "swd: write failed: {}: {error}", Escaped(self.name))
             }
         };
     }
@@ -142,7 +142,7 @@ pub fn streams_status<E: Write, F: Display + Drop>(
     answer: Result<(), F>,
     streams: &[Stream<'_>],
 ) -> u8
-    ensures { result ≡ status_of (is_ok answer) }
+    ensures { result ≡ command_status_of (is_ok answer) }
 {
     if answer.is_err() && tell_failure(errors, streams) {
         return FAULT;
@@ -158,7 +158,7 @@ pub fn conversion_status<I: KeepsError, O: KeepsError, E: Write, F: Display + Dr
     input: &I,
     output: &O,
 ) -> u8
-    ensures { result ≡ status_of (is_ok answer) }
+    ensures { result ≡ command_status_of (is_ok answer) }
 {
     let streams = [Stream::output(output), Stream::read(name, input)];
     streams_status(errors, answer, streams.as_slice())
@@ -174,7 +174,7 @@ fn is_closed(error: &io::Error) -> bool
 /// Returns the status of a command whose standard output has this error: 141 if its reader is gone, else the command's
 /// own.
 pub fn status_after(output: Option<io::Error>, status: u8) -> u8
-    ensures { result ≡ status_over output status }
+    ensures { result ≡ command_status_over output status }
 {
     match output {
         Some(error) if is_closed(&error) => CLOSED,

@@ -1,9 +1,9 @@
 //! Performs `swd target`: a simulated target on the standard streams.
 ghost use Rattle.std.specs.Prelude.{◌≡◌, ℕ, IfErr, IfOk, is_some, true, false, List, Option};
-ghost use Rattle.swd_bitbang.specs.Traces.{is_cut_off};
-ghost use Rattle.swd_commands.specs.Targets.{IsServedStatus, ServesHost};
+ghost use Rattle.swd_bitbang.specs.Traces.{is_pins_trace_cut_off};
+ghost use Rattle.swd_commands.specs.Targets.{IsServedCommandStatus, TargetCommandServesHost};
 
-use crate::noted::{Noted, Seen};
+use crate::noted::{Seen, TrackedReader};
 use crate::open_files::{Files, Identity};
 use crate::reason::texts_status;
 use crate::report::{DONE, FAULT, cannot_open, tell};
@@ -36,7 +36,8 @@ pub fn perform_target<
     output: &mut O,
     errors: &mut E,
 ) -> u8
-    ensures { (plan : Option (List ℕ)) × ServesHost A result (S.remaining script.old) plan (I.remaining input.old)
+    ensures { (plan : Option (List ℕ)) × TargetCommandServesHost A result (S.remaining script.old) plan
+        (I.remaining input.old)
         (I.remaining input.new) (O.contents output.old) (O.contents output.new) }
 {
     let Some(name) = &texts.plan else {
@@ -101,7 +102,7 @@ fn serve_under<
     output: &mut O,
     errors: &mut E,
 ) -> u8
-    ensures { ServesHost A result (S.remaining script.old) (P.remaining plan.old) (I.remaining input.old)
+    ensures { TargetCommandServesHost A result (S.remaining script.old) (P.remaining plan.old) (I.remaining input.old)
         (I.remaining input.new) (O.contents output.old) (O.contents output.new) }
 {
     let (log, trace) = match open_session(target, files, read, errors) {
@@ -109,11 +110,11 @@ fn serve_under<
         Err(status) => return status,
     };
     let kept = trace_for(alloc, &trace);
-    let mut script = Noted {
+    let mut script = TrackedReader {
         reader: script,
         seen: Seen::new(),
     };
-    let mut plan = Noted {
+    let mut plan = TrackedReader {
         reader: plan,
         seen: Seen::new(),
     };
@@ -198,7 +199,7 @@ pub fn served_streams<'a, I: KeepsError, O: KeepsError, M: KeepsError>(
 
 /// Returns whether both files were written completely, and the trace isn't truncated.
 pub fn are_complete<M, A: Allocator>(files: &LiveFiles<M>, kept: &Trace<A>) -> bool
-    ensures { result ≡ true → is_cut_off kept.now ≡ false }
+    ensures { result ≡ true → is_pins_trace_cut_off kept.now ≡ false }
 {
     files.are_whole() && !kept.is_cut()
 }
@@ -211,7 +212,7 @@ pub fn served_status<E: Write>(
     done: bool,
     streams: &[Stream<'_>],
 ) -> u8
-    ensures { IsServedStatus served (done ≡ true) result }
+    ensures { IsServedCommandStatus served (done ≡ true) result }
 {
     match served {
         Served::Quit | Served::Ended => {

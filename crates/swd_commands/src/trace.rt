@@ -1,7 +1,7 @@
 //! Opens the files of plans, traces, accesses and dumps, and refuses a file that is already in use.
 ghost use Rattle.std.specs.Prelude.{◌≡◌, ◌≢◌, IfErr, IfOk, IfSome, OnErr, OnOk, Some, codes, is_some, true};
-ghost use Rattle.swd_commands.specs.Statuses.{names_record};
-ghost use Rattle.swd_commands.specs.Traces.{IsBeside};
+ghost use Rattle.swd_commands.specs.Statuses.{run_command_names_file};
+ghost use Rattle.swd_commands.specs.Traces.{IsCommandFileBeside};
 
 use crate::open_files::{Files, Identity, Opened};
 use crate::report::{FAULT, cannot_open};
@@ -58,7 +58,7 @@ fn named_file(name: &str) -> io::Result<()>
 /// Returns an error if the file is one of these under any name, or may be. Also for `-`, and if the file can't be
 /// opened or created. An existing file isn't truncated then.
 pub fn open_trace<F: Files>(files: &F, name: &str, read: Sources) -> io::Result<Opened<F::Made>>
-    ensures { IfOk result (λ trace. IsBeside trace.identity name.now read) }
+    ensures { IfOk result (λ trace. IsCommandFileBeside trace.identity name.now read) }
 {
     named_file(name)?;
     let script = match read.script {
@@ -141,7 +141,7 @@ pub fn open_records<F: Files, E: Write>(
 ) -> Result<Records<Watched<F::Made>>, u8>
     ensures ok { IfOk result (λ records. (is_some records.trace ≡ is_some run.now.trace)
         × (is_some records.accesses ≡ is_some run.now.accesses) × (records.made ≡ made)) }
-    ensures err { IfErr result (λ status. (status ≡ 2) × (names_record run.now ≡ true)) }
+    ensures err { IfErr result (λ status. (status ≡ 2) × (run_command_names_file run.now ≡ true)) }
 {
     let trace = match open_record(files, &run.trace, read) {
         Ok(trace) => trace,

@@ -3,7 +3,7 @@ ghost use Rattle.std.specs.Prelude.{◌≡◌, Option};
 ghost use Rattle.std.specs.Io.{ReadsAtMost, WritesAtMost};
 ghost use Rattle.std.specs.Io.KnownBytes.{Keeps, ReadConsumes, WriteAppends};
 ghost use Rattle.std_io.specs.declared.io.error.Error.{Error};
-ghost use Rattle.swd_commands.specs.Streams.{after_call, after_write, kind_of};
+ghost use Rattle.swd_commands.specs.Streams.{stream_kind_after_call, stream_kind_after_write, stream_error_kind};
 
 use crate::open_files::Opened;
 use std::io;
@@ -71,7 +71,8 @@ impl<R: Read> Read for Watched<R> {
     fn read(&mut self, buf: &mut [u8]) -> io::Result<usize>
         ensures bound { ReadsAtMost result buf.new }
         ensures bytes { ReadConsumes (R.remaining self.old.stream) (R.remaining self.new.stream) result buf.new }
-        ensures error { kind_of self.new.error ≡ after_call (kind_of self.old.error) result }
+        ensures error { stream_error_kind self.new.error
+            ≡ stream_kind_after_call (stream_error_kind self.old.error) result }
     {
         let result = self.stream.read(buf);
         if let Err(error) = &result {
@@ -87,7 +88,8 @@ impl<W: Write> Write for Watched<W> {
     fn write(&mut self, buf: &[u8]) -> io::Result<usize>
         ensures bound { WritesAtMost result buf.now }
         ensures bytes { WriteAppends (W.contents self.old.stream) (W.contents self.new.stream) result buf.now }
-        ensures error { kind_of self.new.error ≡ after_write (kind_of self.old.error) result buf.now }
+        ensures error { stream_error_kind self.new.error
+            ≡ stream_kind_after_write (stream_error_kind self.old.error) result buf.now }
     {
         let result = self.stream.write(buf);
         match &result {
@@ -100,7 +102,8 @@ impl<W: Write> Write for Watched<W> {
 
     fn flush(&mut self) -> io::Result<()>
         ensures bytes { Keeps (W.contents self.old.stream) (W.contents self.new.stream) }
-        ensures error { kind_of self.new.error ≡ after_call (kind_of self.old.error) result }
+        ensures error { stream_error_kind self.new.error
+            ≡ stream_kind_after_call (stream_error_kind self.old.error) result }
     {
         let result = self.stream.flush();
         if let Err(error) = &result {

@@ -272,7 +272,7 @@ where
     }
 }
 
-// A lost run is resumed, and done whole; a strict one fails for its bus fault, and is traced.
+// A lost run is resumed, and done whole; a strict one fails for its bus error, and is traced.
 #[test]
 fn a_lost_run_is_resumed_and_traced(rt: HostRuntime) {
     let words = [

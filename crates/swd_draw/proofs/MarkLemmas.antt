@@ -4,54 +4,55 @@ use Rattle.std.proofs.Common.{append_assoc, arith}
 use Rattle.std.specs.Prelude.{◌==◌}
 use Rattle.std.proofs.lemmas.List.{append-nil}
 use Rattle.swd_bits.specs.Bits.{low_bits}
-use Rattle.swd_trace.specs.Texts.{digit}
-use Rattle.swd_trace.proofs.NumberLemmas.{next_bit, no_bits}
+use Rattle.swd_trace.specs.Texts.{trace_digit}
+use Rattle.swd_trace.proofs.NumberLemmas.{decoder_bits_next, decoder_bits_none}
 use Rattle.swd_draw.specs.Marks.{level_piece, times, wave}
 
 -- nothing is repeated 0 times
-pub times_none : (old piece : List ℕ) → old ++ times 0 piece ≡ old
+pub svg_times_none : (old piece : List ℕ) → old ++ times 0 piece ≡ old
 unfolding times
-times_none old piece = append-nil old
+svg_times_none old piece = append-nil old
 
 -- one piece more
-pub times_more : (old piece : List ℕ) (n : ℕ) → (old ++ times n piece) ++ piece ≡ old ++ times (n + 1) piece
+pub svg_times_more : (old piece : List ℕ) (n : ℕ) → (old ++ times n piece) ++ piece ≡ old ++ times (n + 1) piece
 unfolding times
-times_more old piece n = append_assoc old (times n piece) piece ∙ ap (λ k. old ++ times k piece) (sym (add-one n))
+svg_times_more old piece n = append_assoc old (times n piece) piece ∙ ap (λ k. old ++ times k piece) (sym (add-one n))
 
 -- one bit more is written, and one fewer is left
-pub digit_more : (old new all : List ℕ) (len at v : ℕ) → at < len → new ≡ old ++ digit (v % 2 == 1) ∷ [] →
-    old ++ map digit (low_bits (len - at) v) ≡ all → new ++ map digit (low_bits (len - (at + 1)) (v / 2)) ≡ all
-digit_more old new all len at v h e k =
+pub svg_digit_more : (old new all : List ℕ) (len at v : ℕ) → at < len → new ≡ old ++ trace_digit (v % 2 == 1) ∷ [] →
+    old ++ map trace_digit (low_bits (len - at) v) ≡ all
+    → new ++ map trace_digit (low_bits (len - (at + 1)) (v / 2)) ≡ all
+svg_digit_more old new all len at v h e k =
     let less : len - at - 1 ≡ len - (at + 1) = omega arith in
     let front : low_bits (len - at) v ≡ (v % 2 == 1) ∷ low_bits (len - (at + 1)) (v / 2) =
-    next_bit (len - at) v (omega arith) ∙ ap (λ n. (v % 2 == 1) ∷ low_bits n (v / 2)) less in
-    ap (λ x. x ++ map digit (low_bits (len - (at + 1)) (v / 2))) e
-    ∙ append_assoc old (digit (v % 2 == 1) ∷ []) (map digit (low_bits (len - (at + 1)) (v / 2)))
-    ∙ ap (λ x. old ++ map digit x) (sym front) ∙ k
+    decoder_bits_next (len - at) v (omega arith) ∙ ap (λ n. (v % 2 == 1) ∷ low_bits n (v / 2)) less in
+    ap (λ x. x ++ map trace_digit (low_bits (len - (at + 1)) (v / 2))) e
+    ∙ append_assoc old (trace_digit (v % 2 == 1) ∷ []) (map trace_digit (low_bits (len - (at + 1)) (v / 2)))
+    ∙ ap (λ x. old ++ map trace_digit x) (sym front) ∙ k
 
 -- and all are written
-pub digits_done : (text all : List ℕ) (len at v : ℕ) → len ≤ at → text ++ map digit (low_bits (len - at) v) ≡ all
-    → text ≡ all
-digits_done text all len at v h k =
+pub svg_digits_done : (text all : List ℕ) (len at v : ℕ) → len ≤ at
+    → text ++ map trace_digit (low_bits (len - at) v) ≡ all → text ≡ all
+svg_digits_done text all len at v h k =
     let none : len - at ≡ 0 = omega arith in
-    sym (append-nil text) ∙ ap (λ x. text ++ map digit x) (sym (no_bits (len - at) v none)) ∙ k
+    sym (append-nil text) ∙ ap (λ x. text ++ map trace_digit x) (sym (decoder_bits_none (len - at) v none)) ∙ k
 
 -- the same of a wave
-pub wave_more : (old new all : List ℕ) (len at v : ℕ) → at < len → new ≡ old ++ level_piece (v % 2 == 1) →
+pub svg_wave_more : (old new all : List ℕ) (len at v : ℕ) → at < len → new ≡ old ++ level_piece (v % 2 == 1) →
     old ++ wave (low_bits (len - at) v) ≡ all → new ++ wave (low_bits (len - (at + 1)) (v / 2)) ≡ all
 unfolding wave
-wave_more old new all len at v h e k =
+svg_wave_more old new all len at v h e k =
     let less : len - at - 1 ≡ len - (at + 1) = omega arith in
     let front : low_bits (len - at) v ≡ (v % 2 == 1) ∷ low_bits (len - (at + 1)) (v / 2) =
-    next_bit (len - at) v (omega arith) ∙ ap (λ n. (v % 2 == 1) ∷ low_bits n (v / 2)) less in
+    decoder_bits_next (len - at) v (omega arith) ∙ ap (λ n. (v % 2 == 1) ∷ low_bits n (v / 2)) less in
     ap (λ x. x ++ wave (low_bits (len - (at + 1)) (v / 2))) e
     ∙ append_assoc old (level_piece (v % 2 == 1)) (wave (low_bits (len - (at + 1)) (v / 2)))
     ∙ ap (λ x. old ++ wave x) (sym front) ∙ k
 
 -- where no bit is left, the whole wave is written
-pub wave_done : (text all : List ℕ) (len at v : ℕ) → len ≤ at → text ++ wave (low_bits (len - at) v) ≡ all
+pub svg_wave_done : (text all : List ℕ) (len at v : ℕ) → len ≤ at → text ++ wave (low_bits (len - at) v) ≡ all
     → text ≡ all
 unfolding wave
-wave_done text all len at v h k =
+svg_wave_done text all len at v h k =
     let none : len - at ≡ 0 = omega arith in
-    sym (append-nil text) ∙ ap (λ x. text ++ wave x) (sym (no_bits (len - at) v none)) ∙ k
+    sym (append-nil text) ∙ ap (λ x. text ++ wave x) (sym (decoder_bits_none (len - at) v none)) ∙ k

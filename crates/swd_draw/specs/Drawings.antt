@@ -6,50 +6,50 @@ use Rattle.swd_trace.specs.declared.item.Item.TheVariants.{Reset, Switch, Idle, 
 use Rattle.swd_resync.specs.declared.part.Part.{Part}
 use Rattle.swd_resync.specs.declared.part.Part.TheVariants.{Item as Told, Skip}
 use Rattle.swd_draw.specs.Marks.{shade_class}
-use Rattle.swd_draw.specs.Rows.{rows}
+use Rattle.swd_draw.specs.Rows.{drawing_rows}
 use Rattle.swd_draw.specs.declared.field.Shade.{Shade}
 use Rattle.swd_draw.specs.declared.field.Shade.TheVariants.{Host, Target, Undriven, Wrong, Unknown}
 
 -- ---- which parts are drawn
 
 -- whether a part is a transaction, as a number
-abbrev pub item_weight : Item → ℕ
-item_weight (Reset n) = 0
-item_weight Switch = 0
-item_weight (Idle n) = 0
-item_weight (Tx tx) = 1
-item_weight (Junk b) = 0
-item_weight (Cut bits) = 0
+abbrev pub drawn_item_weight : Item → ℕ
+drawn_item_weight (Reset n) = 0
+drawn_item_weight Switch = 0
+drawn_item_weight (Idle n) = 0
+drawn_item_weight (Tx tx) = 1
+drawn_item_weight (Junk b) = 0
+drawn_item_weight (Cut bits) = 0
 
-abbrev pub weight : Part → ℕ
-weight (Told item) = item_weight item
-weight (Skip n) = 0
+abbrev pub drawn_weight : Part → ℕ
+drawn_weight (Told item) = drawn_item_weight item
+drawn_weight (Skip n) = 0
 
 -- the number of transactions
-abbrev pub weights : List Part → ℕ
-weights [] = 0
-weights (part ∷ parts) = weight part + weights parts
+abbrev pub drawn_weights : List Part → ℕ
+drawn_weights [] = 0
+drawn_weights (part ∷ parts) = drawn_weight part + drawn_weights parts
 
 -- the first parts, up to the last of `room` parts or of `txs` transactions
 unfoldable pub first_parts : ℕ → ℕ → List Part → List Part
 first_parts zero txs parts = []
 first_parts (suc room) zero parts = []
 first_parts (suc room) (suc txs) [] = []
-first_parts (suc room) (suc txs) (part ∷ parts) = part ∷ first_parts room (suc txs - weight part) parts
+first_parts (suc room) (suc txs) (part ∷ parts) = part ∷ first_parts room (suc txs - drawn_weight part) parts
 
 -- whether there are more parts
 unfoldable pub is_longer : ℕ → ℕ → List Part → Bool
 is_longer room txs [] = false
 is_longer zero txs (part ∷ parts) = true
 is_longer (suc room) zero (part ∷ parts) = true
-is_longer (suc room) (suc txs) (part ∷ parts) = is_longer room (suc txs - weight part) parts
+is_longer (suc room) (suc txs) (part ∷ parts) = is_longer room (suc txs - drawn_weight part) parts
 
 -- a drawing has at most 200 parts, and at most 80 transactions
 abbrev pub drawn : List Part → List Part
 drawn parts = first_parts 200 80 parts
 
-abbrev pub goes_past : List Part → Bool
-goes_past parts = is_longer 200 80 parts
+abbrev pub drawing_continues : List Part → Bool
+drawing_continues parts = is_longer 200 80 parts
 
 -- ---- the text
 
@@ -99,9 +99,9 @@ end_text = codes "</svg>" ++ 10 ∷ []
 
 -- the drawing of these parts, where the trace has more of them or not
 abbrev pub drawing_of : Bool → List Part → Bool → List ℕ
-drawing_of over parts longer = head (length parts) longer ++ rows over [] parts ++ end_text
+drawing_of over parts longer = head (length parts) longer ++ drawing_rows over [] parts ++ end_text
 
 -- the drawing of the parts of a trace or a capture: of the first of them. `over` says that a data phase follows WAIT
 -- and FAULT.
 abbrev pub drawing : Bool → List Part → List ℕ
-drawing over parts = drawing_of over (drawn parts) (goes_past parts)
+drawing over parts = drawing_of over (drawn parts) (drawing_continues parts)

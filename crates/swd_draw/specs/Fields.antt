@@ -1,9 +1,9 @@
 -- The fields of transactions and of other parts.
 use Rattle.std.specs.Prelude.{ℕ, zero, suc, ◌^◌, ◌%◌, Bool, true, false, not, List, [], ◌∷◌, ◌++◌, length}
 use Rattle.std.specs.Prelude.{if◌then◌else◌}
-use Rattle.swd_bits.specs.Bits.{low_bits, number, odd}
-use Rattle.swd_bits.specs.BitLists.{bits_of}
-use Rattle.swd_bits.specs.Wire.{addr_bits, ack}
+use Rattle.swd_bits.specs.Bits.{low_bits, bits_number, odd}
+use Rattle.swd_bits.specs.BitLists.{tx_bits_of}
+use Rattle.swd_bits.specs.Wire.{addr_bits, bits_of_ack}
 use Rattle.swd_bits.specs.declared.ack.Ack.TheVariants.{Ok as AckOk, Wait as AckWait, Fault as AckFault}
 use Rattle.swd_bits.specs.declared.request.Request.{Request}
 use Rattle.swd_bits.specs.declared.tx.Tx.{Tx as Transaction}
@@ -18,73 +18,70 @@ use Rattle.swd_draw.specs.declared.field.Shade.{Shade}
 use Rattle.swd_draw.specs.declared.field.Shade.TheVariants.{Host, Target, Undriven, Wrong, Unknown, Hidden}
 
 -- a list of bits, in one number
-abbrev pub spelled : List Bool → TxBits
-spelled bits = record { len = length bits; bits = number bits }
+abbrev pub drawn_field_bits : List Bool → TxBits
+drawn_field_bits bits = record { len = length bits; bits = bits_number bits }
 
-abbrev pub field : Name → Shade → List Bool → Field
-field name shade bits = record { name = name; shade = shade; bits = spelled bits }
+abbrev pub drawn_field : Name → Shade → List Bool → Field
+drawn_field name shade bits = record { name = name; shade = shade; bits = drawn_field_bits bits }
 
 -- the packet request: IHI 0031, B4, "Packet request"
-abbrev pub request_fields : Request → List Field
-request_fields q =
-    field Start Host (true ∷ [])
-    ∷ field Port Host (q.ap ∷ [])
-    ∷ field Direction Host (q.read ∷ [])
-    ∷ field Address Host (addr_bits q.addr)
-    ∷ field Parity Host (odd (q.ap ∷ q.read ∷ addr_bits q.addr) ∷ [])
-    ∷ field Stop Host (false ∷ [])
-    ∷ field Park Host (true ∷ []) ∷ []
+abbrev pub drawn_request_fields : Request → List Field
+drawn_request_fields q =
+    drawn_field Start Host (true ∷ []) ∷ drawn_field Port Host (q.ap ∷ []) ∷ drawn_field Direction Host (q.read ∷ [])
+    ∷ drawn_field Address Host (addr_bits q.addr)
+    ∷ drawn_field Parity Host (odd (q.ap ∷ q.read ∷ addr_bits q.addr) ∷ []) ∷ drawn_field Stop Host (false ∷ [])
+    ∷ drawn_field Park Host (true ∷ []) ∷ []
 
 -- a turnaround, in which nobody drives the line
-abbrev pub turnaround : Field
-turnaround = field Turnaround Undriven (true ∷ [])
+abbrev pub drawn_turnaround : Field
+drawn_turnaround = drawn_field Turnaround Undriven (true ∷ [])
 
 -- the acknowledgement; three bits that aren't one may come from anyone
-abbrev pub ack_field : TxEnd → Field
-ack_field (Moved word ok) = field Ack Target (ack AckOk)
-ack_field Wait = field Ack Target (ack AckWait)
-ack_field Fault = field Ack Target (ack AckFault)
-ack_field (NoAck seen) = record { name = Ack; shade = Unknown; bits = record { len = 3; bits = seen % 2 ^ 3 } }
+abbrev pub drawn_ack_field : TxEnd → Field
+drawn_ack_field (Moved word ok) = drawn_field Ack Target (bits_of_ack AckOk)
+drawn_ack_field Wait = drawn_field Ack Target (bits_of_ack AckWait)
+drawn_ack_field Fault = drawn_field Ack Target (bits_of_ack AckFault)
+drawn_ack_field (NoAck seen) = record { name = Ack; shade = Unknown; bits = record { len = 3; bits = seen % 2 ^ 3 } }
 
 -- the parity bit of a word, inverted unless `ok`
-abbrev pub word_parity : ℕ → Bool → Bool
-word_parity word ok = if ok then odd (low_bits 32 word) else not (odd (low_bits 32 word))
+abbrev pub drawn_word_parity : ℕ → Bool → Bool
+drawn_word_parity word ok = if ok then odd (low_bits 32 word) else not (odd (low_bits 32 word))
 
 abbrev pub parity_shade : Shade → Bool → Shade
 parity_shade shade true = shade
 parity_shade shade false = Wrong
 
 -- the data phase: the word, and its parity
-abbrev pub word_fields : Name → Shade → ℕ → Bool → List Field
-word_fields name shade word ok =
+abbrev pub drawn_word_fields : Name → Shade → ℕ → Bool → List Field
+drawn_word_fields name shade word ok =
     record { name = name; shade = shade; bits = record { len = 32; bits = word } }
-    ∷ field Parity (parity_shade shade ok) (word_parity word ok ∷ []) ∷ []
+    ∷ drawn_field Parity (parity_shade shade ok) (drawn_word_parity word ok ∷ []) ∷ []
 
 -- a turnaround is behind the data of a read, and before those of a write
-abbrev pub moved_fields : Bool → ℕ → Bool → List Field
-moved_fields true word ok = word_fields ReadData Target word ok ++ turnaround ∷ []
-moved_fields false word ok = turnaround ∷ word_fields WriteData Host word ok
+abbrev pub drawn_moved_fields : Bool → ℕ → Bool → List Field
+drawn_moved_fields true word ok = drawn_word_fields ReadData Target word ok ++ drawn_turnaround ∷ []
+drawn_moved_fields false word ok = drawn_turnaround ∷ drawn_word_fields WriteData Host word ok
 
 -- the fields behind the acknowledgement
-abbrev pub tail_fields : Bool → TxEnd → List Field
-tail_fields read (Moved word ok) = moved_fields read word ok
-tail_fields read Wait = turnaround ∷ []
-tail_fields read Fault = turnaround ∷ []
-tail_fields read (NoAck seen) = []
+abbrev pub drawn_tail_fields : Bool → TxEnd → List Field
+drawn_tail_fields read (Moved word ok) = drawn_moved_fields read word ok
+drawn_tail_fields read Wait = drawn_turnaround ∷ []
+drawn_tail_fields read Fault = drawn_turnaround ∷ []
+drawn_tail_fields read (NoAck seen) = []
 
 -- the fields of a transaction
-abbrev pub tx_fields : Transaction → List Field
-tx_fields tx =
-    request_fields tx.request
-    ++ (turnaround ∷ ack_field tx.result ∷ tail_fields tx.request.read tx.result)
+abbrev pub drawn_tx_fields : Transaction → List Field
+drawn_tx_fields tx =
+    drawn_request_fields tx.request
+    ++ (drawn_turnaround ∷ drawn_ack_field tx.result ∷ drawn_tail_fields tx.request.read tx.result)
 
 -- a data phase without meaning behind WAIT and FAULT
-abbrev pub ignored_fields : ℕ → List Field
-ignored_fields zero = []
-ignored_fields (suc n) =
+abbrev pub drawn_ignored_fields : ℕ → List Field
+drawn_ignored_fields zero = []
+drawn_ignored_fields (suc n) =
     record { name = Ignored; shade = Hidden; bits = record { len = suc n; bits = 0 } } ∷ []
 
 -- the bits of some fields
-abbrev pub bits_in : List Field → List Bool
-bits_in [] = []
-bits_in (f ∷ fields) = bits_of f.bits ++ bits_in fields
+abbrev pub bits_of_drawn_fields : List Field → List Bool
+bits_of_drawn_fields [] = []
+bits_of_drawn_fields (f ∷ fields) = tx_bits_of f.bits ++ bits_of_drawn_fields fields

@@ -1,17 +1,16 @@
 -- The SVG text of waves and boxes. The drawing is this project's choice.
 use Rattle.std.specs.Prelude.{ℕ, zero, suc, ◌+◌, ◌*◌, ◌%◌, ◌^◌, nat_lt, Bool, true, false, List, [], ◌∷◌, ◌++◌, map}
-use Rattle.std.specs.Prelude.{codes}
-use Rattle.std.specs.Prelude.{if◌then◌else◌, ◌==◌}
+use Rattle.std.specs.Prelude.{codes, if◌then◌else◌, ◌==◌}
 use Rattle.std.specs.Fmt.{decimal}
-use Rattle.swd_bits.specs.BitLists.{bits_of}
+use Rattle.swd_bits.specs.BitLists.{tx_bits_of}
 use Rattle.swd_bits.specs.Listing.{hex8}
 use Rattle.swd_bits.specs.declared.tx_bits.TxBits.{TxBits}
-use Rattle.swd_trace.specs.Texts.{digit}
+use Rattle.swd_trace.specs.Texts.{trace_digit}
 use Rattle.swd_draw.specs.declared.field.Field.{Field}
 use Rattle.swd_draw.specs.declared.field.Name.{Name}
 use Rattle.swd_draw.specs.declared.field.Name.TheVariants.{Start, Port, Direction, Address, Parity, Stop, Park}
-use Rattle.swd_draw.specs.declared.field.Name.TheVariants.{Turnaround, Ack, ReadData, WriteData, Ignored, Switch}
-use Rattle.swd_draw.specs.declared.field.Name.TheVariants.{Junk, Cut, Reset, Idle, Skip}
+use Rattle.swd_draw.specs.declared.field.Name.TheVariants.{Turnaround, Ack, ReadData, WriteData, Ignored, Switch, Junk}
+use Rattle.swd_draw.specs.declared.field.Name.TheVariants.{Cut, Reset, Idle, Skip}
 use Rattle.swd_draw.specs.declared.field.Shade.{Shade}
 use Rattle.swd_draw.specs.declared.field.Shade.TheVariants.{Host, Target, Undriven, Wrong, Unknown, Hidden}
 
@@ -75,11 +74,11 @@ wave (b ∷ bits) = level_piece b ++ wave bits
 
 -- the wave of SWDIO in a field
 abbrev pub field_wave : Shade → TxBits → List ℕ
-field_wave Host bits = wave (bits_of bits)
-field_wave Target bits = wave (bits_of bits)
+field_wave Host bits = wave (tx_bits_of bits)
+field_wave Target bits = wave (tx_bits_of bits)
 field_wave Undriven bits = times bits.len between_piece
-field_wave Wrong bits = wave (bits_of bits)
-field_wave Unknown bits = wave (bits_of bits)
+field_wave Wrong bits = wave (tx_bits_of bits)
+field_wave Unknown bits = wave (tx_bits_of bits)
 field_wave Hidden bits = times bits.len between_piece
 
 abbrev pub waves : List Field → List ℕ
@@ -89,8 +88,8 @@ waves (f ∷ fields) = field_wave f.shade f.bits ++ waves fields
 -- ---- boxes
 
 -- the left edge of a bit
-abbrev pub left : ℕ → ℕ
-left at = 64 + 12 * at
+abbrev pub box_left_edge : ℕ → ℕ
+box_left_edge at = 64 + 12 * at
 
 -- a box over `width` units from `x` on
 unfoldable pub rect_text : ℕ → ℕ → Shade → List ℕ
@@ -111,41 +110,41 @@ turned_text x text =
     codes "<text transform='translate(" ++ decimal x ++ codes ",110)rotate(-90)'>" ++ text ++ codes "</text>"
 
 -- a name over `len` bits, centred at `x`
-abbrev pub title : ℕ → ℕ → List ℕ → List ℕ
-title x len name = if nat_lt len 3 then turned_text (x + 3) name else top_text x name
+abbrev pub box_title : ℕ → ℕ → List ℕ → List ℕ
+box_title x len name = if nat_lt len 3 then turned_text (x + 3) name else top_text x name
 
 -- a box over `len` bits from the bit `at` on, with its name and its value, and a line feed
 unfoldable pub box_text : ℕ → ℕ → Shade → List ℕ → List ℕ → List ℕ
 box_text at len shade name value =
-    rect_text (left at) (12 * len) shade ++ title (left at + 6 * len) len name
-    ++ bottom_text (left at + 6 * len) value ++ 10 ∷ []
+    rect_text (box_left_edge at) (12 * len) shade ++ box_title (box_left_edge at + 6 * len) len name
+    ++ bottom_text (box_left_edge at + 6 * len) value ++ 10 ∷ []
 
 -- an acknowledgement by its number, or its bits
 unfoldable pub ack_value : TxBits → List ℕ
 ack_value bits =
     if bits.bits == 1 then codes "OK" else if bits.bits == 2 then codes "WAIT" else
-    if bits.bits == 4 then codes "FAULT" else map digit (bits_of bits)
+    if bits.bits == 4 then codes "FAULT" else map trace_digit (tx_bits_of bits)
 
 -- the value in a field's box: the word, the name of the acknowledgement, or the bits
 unfoldable pub value_text : Name → TxBits → List ℕ
-value_text Start bits = map digit (bits_of bits)
-value_text Port bits = map digit (bits_of bits)
-value_text Direction bits = map digit (bits_of bits)
-value_text Address bits = map digit (bits_of bits)
-value_text Parity bits = map digit (bits_of bits)
-value_text Stop bits = map digit (bits_of bits)
-value_text Park bits = map digit (bits_of bits)
+value_text Start bits = map trace_digit (tx_bits_of bits)
+value_text Port bits = map trace_digit (tx_bits_of bits)
+value_text Direction bits = map trace_digit (tx_bits_of bits)
+value_text Address bits = map trace_digit (tx_bits_of bits)
+value_text Parity bits = map trace_digit (tx_bits_of bits)
+value_text Stop bits = map trace_digit (tx_bits_of bits)
+value_text Park bits = map trace_digit (tx_bits_of bits)
 value_text Turnaround bits = []
 value_text Ack bits = ack_value bits
 value_text ReadData bits = hex8 (bits.bits % 2 ^ 32)
 value_text WriteData bits = hex8 (bits.bits % 2 ^ 32)
 value_text Ignored bits = []
-value_text Switch bits = map digit (bits_of bits)
-value_text Junk bits = map digit (bits_of bits)
-value_text Cut bits = map digit (bits_of bits)
-value_text Reset bits = map digit (bits_of bits)
-value_text Idle bits = map digit (bits_of bits)
-value_text Skip bits = map digit (bits_of bits)
+value_text Switch bits = map trace_digit (tx_bits_of bits)
+value_text Junk bits = map trace_digit (tx_bits_of bits)
+value_text Cut bits = map trace_digit (tx_bits_of bits)
+value_text Reset bits = map trace_digit (tx_bits_of bits)
+value_text Idle bits = map trace_digit (tx_bits_of bits)
+value_text Skip bits = map trace_digit (tx_bits_of bits)
 
 abbrev pub field_box : ℕ → Field → List ℕ
 field_box at f = box_text at f.bits.len f.shade (name_text f.name) (value_text f.name f.bits)
@@ -156,6 +155,6 @@ boxes at [] = []
 boxes at (f ∷ fields) = field_box at f ++ boxes (at + f.bits.len) fields
 
 -- their number of bits, from the bit `at` on
-abbrev pub end_of : ℕ → List Field → ℕ
-end_of at [] = at
-end_of at (f ∷ fields) = end_of (at + f.bits.len) fields
+abbrev pub strip_end_bit : ℕ → List Field → ℕ
+strip_end_bit at [] = at
+strip_end_bit at (f ∷ fields) = strip_end_bit (at + f.bits.len) fields

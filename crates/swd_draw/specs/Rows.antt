@@ -3,18 +3,17 @@ use Rattle.std.specs.Prelude.{ℕ, ◌+◌, ◌*◌, nat_lt, Bool, true, false, 
 use Rattle.std.specs.Prelude.{if◌then◌else◌}
 use Rattle.std.specs.Fmt.{decimal}
 use Rattle.swd_bits.specs.declared.tx_bits.TxBits.{TxBits}
-use Rattle.swd_trace.specs.Reading.{switch}
+use Rattle.swd_trace.specs.Reading.{switch_item}
 use Rattle.swd_trace.specs.declared.item.Item.{Item}
 use Rattle.swd_trace.specs.declared.item.Item.TheVariants.{Reset, Switch, Idle, Tx, Junk, Cut}
-use Rattle.swd_resync.specs.Divisions.{phase_behind}
+use Rattle.swd_resync.specs.Divisions.{resync_phase_behind}
 use Rattle.swd_resync.specs.declared.part.Part.{Part}
 use Rattle.swd_resync.specs.declared.part.Part.TheVariants.{Item as Told, Skip}
-use Rattle.swd_capture.specs.Printing.{entry}
+use Rattle.swd_capture.specs.Printing.{capture_printed_entry}
 use Rattle.swd_capture.specs.declared.printed.Printed.{Printed}
 use Rattle.swd_capture.specs.declared.printed.Printed.TheVariants.{Lines}
-use Rattle.swd_draw.specs.Fields.{field, ignored_fields, tx_fields}
-use Rattle.swd_draw.specs.Marks.{box_text, boxes, break_piece, clock_piece, end_of}
-use Rattle.swd_draw.specs.Marks.{name_text, times, waves}
+use Rattle.swd_draw.specs.Fields.{drawn_field, drawn_ignored_fields, drawn_tx_fields}
+use Rattle.swd_draw.specs.Marks.{box_text, boxes, break_piece, clock_piece, strip_end_bit, name_text, times, waves}
 use Rattle.swd_draw.specs.declared.field.Field.{Field}
 use Rattle.swd_draw.specs.declared.field.Name.{Name}
 use Rattle.swd_draw.specs.declared.field.Name.TheVariants.{Reset as InReset, Idle as InIdle, Skip as InSkip}
@@ -54,38 +53,40 @@ run_body name n =
 -- the waves of SWCLK and SWDIO, and the boxes
 unfoldable pub fields_body : List Field → List ℕ
 fields_body fields =
-    codes "<path d='M58,40h6" ++ times (end_of 0 fields) clock_piece ++ codes "'/><path d='M58,56h6" ++ waves fields
-    ++ codes "'/>" ++ boxes 0 fields
+    codes "<path d='M58,40h6" ++ times (strip_end_bit 0 fields) clock_piece ++ codes "'/><path d='M58,56h6"
+    ++ waves fields ++ codes "'/>" ++ boxes 0 fields
 
 -- a cut end is a field of its bits, which are at most 49
-abbrev pub cut_field : TxBits → Field
-cut_field bits =
+abbrev pub drawn_cut_field : TxBits → Field
+drawn_cut_field bits =
     record { name = InCut; shade = Unknown; bits = record { len = min bits.len 49; bits = bits.bits } }
 
-abbrev pub item_body : Bool → Item → List ℕ
-item_body over (Reset n) = run_body InReset n
-item_body over Switch = fields_body (field InSwitch Host switch ∷ [])
-item_body over (Idle n) = run_body InIdle n
-item_body over (Tx tx) = fields_body (tx_fields tx ++ ignored_fields (phase_behind over tx.result))
-item_body over (Junk b) = fields_body (field InJunk Unknown (b ∷ []) ∷ [])
-item_body over (Cut bits) = fields_body (cut_field bits ∷ [])
+abbrev pub drawn_item_body : Bool → Item → List ℕ
+drawn_item_body over (Reset n) = run_body InReset n
+drawn_item_body over Switch = fields_body (drawn_field InSwitch Host switch_item ∷ [])
+drawn_item_body over (Idle n) = run_body InIdle n
+drawn_item_body over (Tx tx) = fields_body
+    (drawn_tx_fields tx ++ drawn_ignored_fields (resync_phase_behind over tx.result))
+drawn_item_body over (Junk b) = fields_body (drawn_field InJunk Unknown (b ∷ []) ∷ [])
+drawn_item_body over (Cut bits) = fields_body (drawn_cut_field bits ∷ [])
 
-abbrev pub part_body : Bool → Part → List ℕ
-part_body over (Told item) = item_body over item
-part_body over (Skip n) = run_body InSkip n
+abbrev pub drawn_part_body : Bool → Part → List ℕ
+drawn_part_body over (Told item) = drawn_item_body over item
+drawn_part_body over (Skip n) = run_body InSkip n
 
 -- ---- rows
 
 -- the line of a part: its place, and its line in the listing
-abbrev pub placed : Printed
-placed = Lines (record { places = true; names = false })
+abbrev pub drawn_line_form : Printed
+drawn_line_form = Lines (record { places = true; names = false })
 
 -- the top of a row
-abbrev pub row_top : ℕ → ℕ
-row_top n = 64 + 140 * n
+abbrev pub drawing_row_top : ℕ → ℕ
+drawing_row_top n = 64 + 140 * n
 
 unfoldable pub row_head : ℕ → List ℕ
-row_head n = codes "<g transform='translate(0," ++ decimal (row_top n) ++ codes ")'><text x='10' y='14' class='l'>"
+row_head n = codes "<g transform='translate(0," ++ decimal (drawing_row_top n)
+    ++ codes ")'><text x='10' y='14' class='l'>"
 
 unfoldable pub row_names : List ℕ
 row_names = codes "</text><text x='10' y='36'>SWCLK</text><text x='10' y='60'>SWDIO</text>"
@@ -94,11 +95,12 @@ unfoldable pub row_end : List ℕ
 row_end = codes "</g>" ++ 10 ∷ []
 
 -- the row of a part after others
-abbrev pub row : Bool → List Part → Part → List ℕ
-row over before part =
-    row_head (length before) ++ entry placed over before part ++ row_names ++ part_body over part ++ row_end
+abbrev pub drawing_row : Bool → List Part → Part → List ℕ
+drawing_row over before part =
+    row_head (length before) ++ capture_printed_entry drawn_line_form over before part ++ row_names
+    ++ drawn_part_body over part ++ row_end
 
 -- the rows of parts after others
-abbrev pub rows : Bool → List Part → List Part → List ℕ
-rows over before [] = []
-rows over before (part ∷ parts) = row over before part ++ rows over (before ++ part ∷ []) parts
+abbrev pub drawing_rows : Bool → List Part → List Part → List ℕ
+drawing_rows over before [] = []
+drawing_rows over before (part ∷ parts) = drawing_row over before part ++ drawing_rows over (before ++ part ∷ []) parts

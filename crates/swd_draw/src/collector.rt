@@ -1,16 +1,17 @@
 //! Collects the parts of a trace text that are drawn.
 ghost use Rattle.std.specs.Prelude.{◌≡◌, ℕ, ◌+◌, ◌-◌, ◌^◌, ◌<◌, min, List, Bool, [], ◌∷◌, ◌++◌};
 ghost use Rattle.std.specs.Prelude.{length, OnOk, OnErr, IfErr};
-ghost use Rattle.swd_io.specs.Pieces.{LeadsOn, LeadsToEnd};
-ghost use Rattle.swd_io.proofs.PieceLemmas.{leads_nowhere, leads_further, leads_to_later_end};
+ghost use Rattle.swd_io.specs.Pieces.{LeadsConsumerOn, LeadsConsumerToEnd};
+ghost use Rattle.swd_io.proofs.PieceLemmas.{consumer_reads_no_byte, consumer_pieces_join, consumer_pieces_fault};
 ghost use Rattle.swd_resync.specs.declared.part.Part.{Part};
-ghost use Rattle.swd_text.specs.Listers.{StopsAt};
+ghost use Rattle.swd_text.specs.Listers.{DecodeTextStopsAt};
 ghost use Rattle.swd_capture_text.specs.declared.reading.Reading.{Reading};
-ghost use Rattle.swd_capture_text.specs.Readings.{Decides, parts_by};
-ghost use Rattle.swd_capture_text.specs.Sources.{IsReady, fed_of};
-ghost use Rattle.swd_draw.specs.Collecting.{Ends, Gathers, GoesOn, HasRead, Keeps, StopsIn};
+ghost use Rattle.swd_capture_text.specs.Readings.{SourceDecides, source_reading_parts};
+ghost use Rattle.swd_capture_text.specs.Sources.{IsSourceReady, source_fed};
+ghost use Rattle.swd_draw.specs.Collecting.{CollectorEnds, CollectorGathers, CollectorContinues, CollectorHasRead};
+ghost use Rattle.swd_draw.specs.Collecting.{KeepsDrawn, CollectorStopsIn};
 
-use crate::kept::Kept;
+use crate::kept::DrawnParts;
 use swd_bits::{Scan, Sign};
 use swd_capture_text::{Reading, Source};
 use swd_io::Consumer;
@@ -21,7 +22,7 @@ use swd_text::TextFault;
 pub(crate) struct Collector {
     scan: Scan,
     source: Source,
-    kept: Kept,
+    kept: DrawnParts,
     // The number of bytes taken, at most 2^64 - 1.
     place: u64,
 }
@@ -29,13 +30,13 @@ pub(crate) struct Collector {
 impl Collector {
     /// Returns a collector that has taken nothing.
     pub(crate) fn new(reading: Reading) -> Collector
-        ensures ready { IsReady result.source }
-        ensures read { HasRead reading (result, tt) [] }
+        ensures ready { IsSourceReady result.source }
+        ensures read { CollectorHasRead reading (result, tt) [] }
     {
         Collector {
             scan: Scan::new(),
             source: Source::new(reading),
-            kept: Kept::new(),
+            kept: DrawnParts::new(),
             place: 0,
         }
     }
@@ -43,10 +44,10 @@ impl Collector {
     // Takes the parts that are due.
     fn take_due(&mut self)
         ensures gathers { (reading : Reading) (bits : List Bool) (parts : List Part)
-            → Gathers reading self.old.source self.old.kept bits parts
-            → (more : List Part) × Gathers reading self.new.source self.new.kept bits more
-            × Decides reading bits more }
-        ensures ready { IsReady self.new.source }
+            → CollectorGathers reading self.old.source self.old.kept bits parts
+            → (more : List Part) × CollectorGathers reading self.new.source self.new.kept bits more
+            × SourceDecides reading bits more }
+        ensures ready { IsSourceReady self.new.source }
         ensures scan { self.new.scan ≡ self.old.scan }
         ensures place { self.new.place ≡ self.old.place }
     {
@@ -57,15 +58,15 @@ impl Collector {
 
     // Takes a bit, unless it is one too many.
     fn bit(&mut self, bit: bool) -> Result<(), TextFault>
-        requires { IsReady self.old.source }
+        requires { IsSourceReady self.old.source }
         ensures ok { OnOk result ((reading : Reading) (bits : List Bool) (parts : List Part)
-            → Gathers reading self.old.source self.old.kept bits parts
-            → (more : List Part) × Gathers reading self.new.source self.new.kept (bits ++ bit ∷ []) more
-            × Decides reading (bits ++ bit ∷ []) more) }
-        ensures ready { IsReady self.new.source }
+            → CollectorGathers reading self.old.source self.old.kept bits parts
+            → (more : List Part) × CollectorGathers reading self.new.source self.new.kept (bits ++ bit ∷ []) more
+            × SourceDecides reading (bits ++ bit ∷ []) more) }
+        ensures ready { IsSourceReady self.new.source }
         ensures scan { self.new.scan ≡ self.old.scan }
         ensures place { self.new.place ≡ self.old.place }
-        ensures long { IfErr result (λ fault. (fault ≡ TextFault.TooLong) × (fed_of self.old.source ≡ 2 ^ 64 - 1)) }
+        ensures long { IfErr result (λ fault. (fault ≡ TextFault.TooLong) × (source_fed self.old.source ≡ 2 ^ 64 - 1)) }
         ensures same { OnErr result (self.new ≡ self.old) }
     {
         if self.source.fed() == u64::MAX {
@@ -78,14 +79,14 @@ impl Collector {
 
     // Takes the byte at an index of a piece, or returns why it isn't allowed there.
     fn byte(&mut self, byte: u8, index: usize) -> Result<(), TextFault>
-        requires { IsReady self.old.source }
-        ensures ready { IsReady self.new.source }
+        requires { IsSourceReady self.old.source }
+        ensures ready { IsSourceReady self.new.source }
         ensures place { self.new.place ≡ self.old.place }
         ensures ok { OnOk result ((reading : Reading) (seen : List ℕ)
-            → GoesOn reading self.old seen → GoesOn reading self.new (seen ++ byte ∷ [])) }
+            → CollectorContinues reading self.old seen → CollectorContinues reading self.new (seen ++ byte ∷ [])) }
         ensures err { IfErr result (λ fault. (reading : Reading) (seen : List ℕ)
-            → GoesOn reading self.old seen
-            → StopsAt fault (min (self.old.place + index) (2 ^ 64 - 1)) seen byte) }
+            → CollectorContinues reading self.old seen
+            → DecodeTextStopsAt fault (min (self.old.place + index) (2 ^ 64 - 1)) seen byte) }
     {
         match self.scan.byte(byte) {
             Sign::Passed => Ok(()),
@@ -98,14 +99,14 @@ impl Collector {
 
     // Takes the bytes of a piece, up to the first one that isn't allowed.
     fn bytes(&mut self, piece: &[u8]) -> Result<(), TextFault>
-        requires { IsReady self.old.source }
-        ensures ready { IsReady self.new.source }
+        requires { IsSourceReady self.old.source }
+        ensures ready { IsSourceReady self.new.source }
         ensures ok { OnOk result ((reading : Reading) (seen : List ℕ)
-            → GoesOn reading self.old seen → GoesOn reading self.new (seen ++ piece.now)) }
+            → CollectorContinues reading self.old seen → CollectorContinues reading self.new (seen ++ piece.now)) }
         ensures place { OnOk result (self.new.place ≡ min (self.old.place + length piece.now) (2 ^ 64 - 1)) }
         ensures err { IfErr result (λ fault. (reading : Reading) (seen : List ℕ)
-            → GoesOn reading self.old seen → self.old.place ≡ min (length seen) (2 ^ 64 - 1)
-            → StopsIn reading fault (seen ++ piece.now)) }
+            → CollectorContinues reading self.old seen → self.old.place ≡ min (length seen) (2 ^ 64 - 1)
+            → CollectorStopsIn reading fault (seen ++ piece.now)) }
     {
         let mut index = 0;
         while index < piece.len() {
@@ -121,8 +122,8 @@ impl Collector {
     /// Takes the parts that the end of the bits decides.
     pub(crate) fn take_last(&mut self)
         ensures { (reading : Reading) (bits : List Bool) (parts : List Part)
-            → Gathers reading self.old.source self.old.kept bits parts
-            → Keeps (parts_by reading bits) self.new.kept }
+            → CollectorGathers reading self.old.source self.old.kept bits parts
+            → KeepsDrawn (source_reading_parts reading bits) self.new.kept }
     {
         while let Some(part) = self.source.last() {
             self.kept.add(&part);
@@ -130,7 +131,7 @@ impl Collector {
     }
 
     /// Returns what it keeps.
-    pub(crate) fn kept(&self) -> &Kept
+    pub(crate) fn kept(&self) -> &DrawnParts
         ensures { result.now ≡ self.now.kept }
     {
         &self.kept
@@ -140,19 +141,19 @@ impl Collector {
 impl Consumer<()> for Collector {
     type Fault = TextFault;
 
-    ghost can_take = { λ collector. IsReady collector.source };
+    ghost can_take = { λ collector. IsSourceReady collector.source };
 
-    ghost takes = { LeadsOn HasRead };
+    ghost takes = { LeadsConsumerOn CollectorHasRead };
 
-    ghost stops = { LeadsToEnd HasRead Ends };
+    ghost stops = { LeadsConsumerToEnd CollectorHasRead CollectorEnds };
 
     fn take(&mut self, _writer: &mut (), piece: &[u8]) -> Result<(), TextFault> {
         self.bytes(piece)
     }
 
-    ghost takes_nothing = { leads_nowhere HasRead };
+    ghost takes_nothing = { consumer_reads_no_byte CollectorHasRead };
 
-    ghost takes_on = { leads_further HasRead };
+    ghost takes_on = { consumer_pieces_join CollectorHasRead };
 
-    ghost stops_later = { leads_to_later_end HasRead Ends };
+    ghost stops_later = { consumer_pieces_fault CollectorHasRead CollectorEnds };
 }

@@ -1,10 +1,10 @@
 //! Draws a trace or a capture from its text.
-ghost use Rattle.std.specs.Prelude.{◌≡◌, ℕ, ◌≤◌, List, Option, [], ◌++◌, length};
-ghost use Rattle.swd_io.specs.Blocks.{Sends, Writes};
+ghost use Rattle.std.specs.Prelude.{◌≡◌, ◌≤◌, [], length};
+ghost use Rattle.swd_io.specs.Blocks.{WritesOutput, BlockQueues};
 ghost use Rattle.swd_draw.specs.Collecting.{Collects};
 ghost use Rattle.swd_draw.specs.Drawings.{drawing_of};
 ghost use Rattle.swd_draw.specs.Draws.{Draws};
-ghost use Rattle.swd_draw.specs.Rows.{rows};
+ghost use Rattle.swd_draw.specs.Rows.{drawing_rows};
 ghost use Rattle.swd_resync.specs.declared.part.Part.{Part};
 
 use crate::collector::Collector;
@@ -23,8 +23,7 @@ const CHUNK: usize = 1024;
 // Appends a text of any length to the output.
 fn put_text<W: Write>(block: &mut Block<'_, W>, text: &[u8])
     ensures writer { block.new.writer.ghost_name ≡ block.old.writer.ghost_name }
-    ensures sends { (start : Option (List ℕ)) (all : List ℕ) → Sends W.contents start block.old all
-        → Sends W.contents start block.new (all ++ text.now) }
+    ensures sends { BlockQueues W.contents text.now block.old block.new }
 {
     let mut at = 0;
     while at < text.len() {
@@ -38,8 +37,7 @@ fn put_text<W: Write>(block: &mut Block<'_, W>, text: &[u8])
 fn put_rows<W: Write>(block: &mut Block<'_, W>, over: bool, parts: &[Part])
     requires { length parts.now ≤ 200 }
     ensures writer { block.new.writer.ghost_name ≡ block.old.writer.ghost_name }
-    ensures sends { (start : Option (List ℕ)) (all : List ℕ) → Sends W.contents start block.old all
-        → Sends W.contents start block.new (all ++ rows over [] parts.now) }
+    ensures sends { BlockQueues W.contents (drawing_rows over [] parts.now) block.old block.new }
 {
     let form = LineForm {
         places: true,
@@ -68,7 +66,7 @@ fn write_drawing<W: Write>(
     longer: bool,
 ) -> Result<(), u64>
     requires { length parts.now ≤ 200 }
-    ensures { Writes result (W.contents writer.old) (W.contents writer.new) (drawing_of over parts.now longer) }
+    ensures { WritesOutput result (W.contents writer.old) (W.contents writer.new) (drawing_of over parts.now longer) }
 {
     let mut block = Block::new(writer, 0);
     let mut text = RowText::new();

@@ -1,7 +1,7 @@
 //! Keeps the parts that are drawn.
 ghost use Rattle.std.specs.Prelude.{◌≡◌, ◌≤◌, ◌∷◌, [], ◌++◌, List, length};
 ghost use Rattle.swd_resync.specs.declared.part.Part.{Part};
-ghost use Rattle.swd_draw.specs.Drawings.{weight};
+ghost use Rattle.swd_draw.specs.Drawings.{drawn_weight};
 
 use swd_resync::Part;
 use swd_trace::Item;
@@ -14,7 +14,7 @@ const MOST_TRANSACTIONS: u8 = 80;
 
 /// The first parts of a trace, up to the last that is drawn.
 #[derive(Drop)]
-pub(crate) struct Kept {
+pub(crate) struct DrawnParts {
     parts: [Part; MOST_PARTS],
     // The number of parts that are kept.
     count: usize,
@@ -27,7 +27,7 @@ pub(crate) struct Kept {
 
 // Returns 1 for a transaction, and 0 for another part.
 fn weight_of(part: &Part) -> u8
-    ensures weight { result ≡ weight part.now }
+    ensures weight { result ≡ drawn_weight part.now }
     ensures most { result ≤ 1 }
 {
     match part {
@@ -36,14 +36,14 @@ fn weight_of(part: &Part) -> u8
     }
 }
 
-impl Kept {
-    ghost use Rattle.swd_draw.specs.Collecting.{kept_parts, Keeps};
+impl DrawnParts {
+    ghost use Rattle.swd_draw.specs.Collecting.{drawn_kept_parts, KeepsDrawn};
 
     /// Returns one that was given no parts.
-    pub(crate) fn new() -> Kept
-        ensures { Keeps [] result }
+    pub(crate) fn new() -> DrawnParts
+        ensures { KeepsDrawn [] result }
     {
-        Kept {
+        DrawnParts {
             parts: [Part::Skip(0); MOST_PARTS],
             count: 0,
             left: MOST_TRANSACTIONS,
@@ -53,7 +53,7 @@ impl Kept {
 
     /// Takes the next part. It is kept if it is drawn.
     pub(crate) fn add(&mut self, part: &Part)
-        ensures { (parts : List Part) → Keeps parts self.old → Keeps (parts ++ part.now ∷ []) self.new }
+        ensures { (parts : List Part) → KeepsDrawn parts self.old → KeepsDrawn (parts ++ part.now ∷ []) self.new }
     {
         if self.count >= MOST_PARTS || self.left == 0 {
             self.longer = true;
@@ -66,7 +66,7 @@ impl Kept {
 
     /// Returns the parts that are drawn.
     pub(crate) fn parts(&self) -> &[Part]
-        ensures parts { result.now ≡ kept_parts self.now }
+        ensures parts { result.now ≡ drawn_kept_parts self.now }
         ensures most { length result.now ≤ MOST_PARTS }
     {
         &self.parts[..self.count]

@@ -2,11 +2,10 @@
 ghost use Rattle.std.specs.Prelude.{◌≡◌, ◌+◌, ◌*◌, ◌<◌, ◌≤◌, ◌++◌, ◌∷◌, [], length, map};
 ghost use Rattle.std.specs.Fmt.{decimal};
 ghost use Rattle.arrayvec.specs.ArrayString.{array_string_len};
-ghost use Rattle.swd_bits.specs.BitLists.{bits_of};
-ghost use Rattle.swd_trace.specs.Texts.{digit};
+ghost use Rattle.swd_bits.specs.BitLists.{tx_bits_of};
+ghost use Rattle.swd_trace.specs.Texts.{trace_digit};
 ghost use Rattle.swd_draw.specs.Marks.{ack_value, bottom_text, box_text, field_wave, level_piece, rect_text, times};
-ghost use Rattle.swd_draw.specs.Marks.{title};
-ghost use Rattle.swd_draw.specs.Marks.{top_text, turned_text, value_text, wave};
+ghost use Rattle.swd_draw.specs.Marks.{box_title, top_text, turned_text, value_text, wave};
 
 use crate::field::{Name, Shade};
 use arrayvec::ArrayString;
@@ -100,7 +99,7 @@ fn push_title<const N: usize>(text: &mut ArrayString<N>, x: u64, len: u8, name: 
     requires short { length name.now ≤ 16 }
     requires within { x < 65536 }
     requires room { array_string_len text.old + 90 ≤ N }
-    ensures bytes { text.new.bytes ≡ text.old.bytes ++ title x len name.now }
+    ensures bytes { text.new.bytes ≡ text.old.bytes ++ box_title x len name.now }
     ensures len { array_string_len text.new ≤ array_string_len text.old + 90 }
 {
     if len < 3 {
@@ -157,7 +156,7 @@ fn level_text(bit: bool) -> &'static str
 // Appends the wave of bits.
 fn push_wave<const N: usize>(text: &mut ArrayString<N>, bits: TxBits)
     requires { array_string_len text.old + LONGEST_PIECE * bits.len ≤ N }
-    ensures bytes { text.new.bytes ≡ text.old.bytes ++ wave (bits_of bits) }
+    ensures bytes { text.new.bytes ≡ text.old.bytes ++ wave (tx_bits_of bits) }
     ensures len { array_string_len text.new ≤ array_string_len text.old + LONGEST_PIECE * bits.len }
 {
     let mut rest = bits.bits;
@@ -181,7 +180,7 @@ pub(crate) fn push_field_wave<const N: usize>(text: &mut ArrayString<N>, shade: 
 }
 
 fn digit_text(bit: bool) -> &'static str
-    ensures { result.now ≡ digit bit ∷ [] }
+    ensures { result.now ≡ trace_digit bit ∷ [] }
 {
     if bit { "1" } else { "0" }
 }
@@ -189,7 +188,7 @@ fn digit_text(bit: bool) -> &'static str
 // Appends bits as digits.
 fn push_digits<const N: usize>(text: &mut ArrayString<N>, bits: TxBits)
     requires { array_string_len text.old + bits.len ≤ N }
-    ensures bytes { text.new.bytes ≡ text.old.bytes ++ map digit (bits_of bits) }
+    ensures bytes { text.new.bytes ≡ text.old.bytes ++ map trace_digit (tx_bits_of bits) }
     ensures len { array_string_len text.new ≡ array_string_len text.old + bits.len }
 {
     let mut rest = bits.bits;

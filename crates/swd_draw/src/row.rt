@@ -2,10 +2,11 @@
 ghost use Rattle.std.specs.Prelude.{◌≡◌, ◌+◌, ◌≤◌, ◌++◌, ◌∷◌, [], List, length};
 ghost use Rattle.arrayvec.specs.ArrayString.{array_string_len};
 ghost use Rattle.swd_resync.specs.declared.part.Part.{Part};
-ghost use Rattle.swd_capture.specs.Tellers.{IsAfter};
-ghost use Rattle.swd_trace.specs.Reading.{switch};
-ghost use Rattle.swd_draw.specs.Fields.{field, ignored_fields, tx_fields};
-ghost use Rattle.swd_draw.specs.Rows.{cut_field, fields_body, item_body, part_body, placed, row, row_end, row_head};
+ghost use Rattle.swd_capture.specs.Tellers.{IsCaptureTellerAfter};
+ghost use Rattle.swd_trace.specs.Reading.{switch_item};
+ghost use Rattle.swd_draw.specs.Fields.{drawn_field, drawn_ignored_fields, drawn_tx_fields};
+ghost use Rattle.swd_draw.specs.Rows.{drawn_cut_field, fields_body, drawn_item_body, drawn_part_body, drawn_line_form};
+ghost use Rattle.swd_draw.specs.Rows.{drawing_row, row_end, row_head};
 ghost use Rattle.swd_draw.specs.Strips.{strip_text};
 
 use crate::field::{Field, Name, Shade};
@@ -61,7 +62,8 @@ fn push_field(text: &mut RowText, field: Field)
 fn push_tx(text: &mut RowText, tx: &Tx, ignored: u8)
     requires len { ignored ≤ 33 }
     requires room { array_string_len text.old + LONGEST_BODY ≤ ROOM }
-    ensures bytes { text.new.bytes ≡ text.old.bytes ++ fields_body (tx_fields tx.now ++ ignored_fields ignored) }
+    ensures bytes { text.new.bytes ≡ text.old.bytes
+        ++ fields_body (drawn_tx_fields tx.now ++ drawn_ignored_fields ignored) }
     ensures len { array_string_len text.new ≤ array_string_len text.old + LONGEST_BODY }
 {
     let mut strip = Strip::new();
@@ -72,7 +74,7 @@ fn push_tx(text: &mut RowText, tx: &Tx, ignored: u8)
 
 // Returns the field of a switch sequence.
 fn switch_field() -> Field
-    ensures field { result ≡ field Name.Switch Shade.Host switch }
+    ensures field { result ≡ drawn_field Name.Switch Shade.Host switch_item }
     ensures len { result.bits.len ≤ 49 }
 {
     Field {
@@ -87,7 +89,7 @@ fn switch_field() -> Field
 
 // Returns the field of a cut end.
 fn cut(bits: TxBits) -> Field
-    ensures field { result ≡ cut_field bits }
+    ensures field { result ≡ drawn_cut_field bits }
     ensures len { result.bits.len ≤ 49 }
 {
     Field {
@@ -103,7 +105,7 @@ fn cut(bits: TxBits) -> Field
 // Appends the waves and the boxes of an item.
 fn push_item(text: &mut RowText, over: bool, item: &Item)
     requires { array_string_len text.old + LONGEST_BODY ≤ ROOM }
-    ensures bytes { text.new.bytes ≡ text.old.bytes ++ item_body over item.now }
+    ensures bytes { text.new.bytes ≡ text.old.bytes ++ drawn_item_body over item.now }
     ensures len { array_string_len text.new ≤ array_string_len text.old + LONGEST_BODY }
 {
     match item {
@@ -119,7 +121,7 @@ fn push_item(text: &mut RowText, over: bool, item: &Item)
 // Appends the waves and the boxes of a part.
 fn push_body(text: &mut RowText, over: bool, part: &Part)
     requires { array_string_len text.old + LONGEST_BODY ≤ ROOM }
-    ensures bytes { text.new.bytes ≡ text.old.bytes ++ part_body over part.now }
+    ensures bytes { text.new.bytes ≡ text.old.bytes ++ drawn_part_body over part.now }
     ensures len { array_string_len text.new ≤ array_string_len text.old + LONGEST_BODY }
 {
     match part {
@@ -152,10 +154,11 @@ pub(crate) fn push_row(
 )
     requires index { index ≤ 200 }
     requires room { array_string_len text.old ≡ 0 }
-    ensures after { (before : List Part) → IsAfter placed over before teller.old
-        → IsAfter placed over (before ++ part.now ∷ []) teller.new }
-    ensures bytes { (before : List Part) → IsAfter placed over before teller.old → index ≡ length before
-        → text.new.bytes ≡ text.old.bytes ++ row over before part.now }
+    ensures after { (before : List Part) → IsCaptureTellerAfter drawn_line_form over before teller.old
+        → IsCaptureTellerAfter drawn_line_form over (before ++ part.now ∷ []) teller.new }
+    ensures bytes { (before : List Part) → IsCaptureTellerAfter drawn_line_form over before teller.old
+        → index ≡ length before
+        → text.new.bytes ≡ text.old.bytes ++ drawing_row over before part.now }
 {
     push_head(text, index);
     teller.tell(part, text);

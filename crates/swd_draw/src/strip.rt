@@ -34,11 +34,11 @@ pub(crate) struct Strip {
 impl Strip {
     ghost use Rattle.std.specs.Prelude.{◌≡◌, ◌++◌};
     ghost use Rattle.swd_draw.specs.Marks.{field_wave};
-    ghost use Rattle.swd_draw.specs.Strips.{Added, IsEmpty};
+    ghost use Rattle.swd_draw.specs.Strips.{StripAdded, IsEmptyStrip};
 
     /// Returns a strip of no fields.
     pub(crate) fn new() -> Strip
-        ensures { IsEmpty result }
+        ensures { IsEmptyStrip result }
     {
         Strip {
             wave: ArrayString::new(),
@@ -53,7 +53,7 @@ impl Strip {
         requires bits { self.old.at + field.bits.len ≤ MOST_BITS }
         requires digits { field.bits.len ≤ MOST_DIGITS }
         requires count { self.old.count < MOST_FIELDS }
-        ensures { Added self.old self.new (field ∷ []) }
+        ensures { StripAdded self.old self.new (field ∷ []) }
     {
         let Field { name, shade, bits } = field;
         push_field_wave(&mut self.wave, shade, bits);

@@ -2,9 +2,10 @@
 ghost use Rattle.std.specs.Prelude.{◌≡◌, ◌+◌, ◌≤◌, ◌∷◌, []};
 ghost use Rattle.swd_bits.specs.Wire.{addr_bits};
 ghost use Rattle.swd_bits.specs.Bits.{odd};
-ghost use Rattle.swd_draw.specs.Fields.{ack_field, field, ignored_fields, moved_fields, parity_shade, request_fields};
-ghost use Rattle.swd_draw.specs.Fields.{tail_fields, turnaround, tx_fields, word_parity};
-ghost use Rattle.swd_draw.specs.Strips.{Added};
+ghost use Rattle.swd_draw.specs.Fields.{drawn_ack_field, drawn_field, drawn_ignored_fields, drawn_moved_fields};
+ghost use Rattle.swd_draw.specs.Fields.{parity_shade, drawn_request_fields};
+ghost use Rattle.swd_draw.specs.Fields.{drawn_tail_fields, drawn_turnaround, drawn_tx_fields, drawn_word_parity};
+ghost use Rattle.swd_draw.specs.Strips.{StripAdded};
 
 use crate::field::{Field, Name, Shade};
 use crate::strip::Strip;
@@ -12,7 +13,7 @@ use swd_bits::{Reg4, Request, Tx, TxBits, TxEnd};
 
 /// Returns a field of one bit.
 pub(crate) fn one_bit(name: Name, shade: Shade, bit: bool) -> Field
-    ensures { result ≡ field name shade (bit ∷ []) }
+    ensures { result ≡ drawn_field name shade (bit ∷ []) }
 {
     let bits = TxBits {
         len: 1,
@@ -23,7 +24,7 @@ pub(crate) fn one_bit(name: Name, shade: Shade, bit: bool) -> Field
 
 // Returns the field of the address bits.
 fn address(addr: Reg4) -> Field
-    ensures { result ≡ field Name.Address Shade.Host (addr_bits addr) }
+    ensures { result ≡ drawn_field Name.Address Shade.Host (addr_bits addr) }
 {
     let bits = match addr {
         Reg4::R0 => 0,
@@ -57,7 +58,7 @@ fn parity(request: Request) -> bool
 fn add_request(strip: &mut Strip, request: Request)
     requires at { strip.old.at ≡ 0 }
     requires count { strip.old.count ≡ 0 }
-    ensures added { Added strip.old strip.new (request_fields request) }
+    ensures added { StripAdded strip.old strip.new (drawn_request_fields request) }
     ensures at { strip.new.at ≡ 8 }
 {
     strip.add(one_bit(Name::Start, Shade::Host, true));
@@ -71,14 +72,14 @@ fn add_request(strip: &mut Strip, request: Request)
 
 // Returns the field of a turnaround.
 fn turn() -> Field
-    ensures { result ≡ turnaround }
+    ensures { result ≡ drawn_turnaround }
 {
     one_bit(Name::Turnaround, Shade::Undriven, true)
 }
 
 // Returns the field of the acknowledgement.
 fn ack(end: TxEnd) -> Field
-    ensures field { result ≡ ack_field end }
+    ensures field { result ≡ drawn_ack_field end }
     ensures len { result.bits.len ≡ 3 }
 {
     let (shade, bits) = match end {
@@ -110,7 +111,7 @@ fn word_field(name: Name, shade: Shade, word: u32) -> Field
 
 // Returns the parity bit of a word, inverted unless `parity_ok`.
 fn word_bit(word: u32, parity_ok: bool) -> bool
-    ensures { result ≡ word_parity word parity_ok }
+    ensures { result ≡ drawn_word_parity word parity_ok }
 {
     let odd = word.count_ones() % 2 == 1;
     if parity_ok { odd } else { !odd }
@@ -118,7 +119,7 @@ fn word_bit(word: u32, parity_ok: bool) -> bool
 
 // Returns the field of a word's parity bit.
 fn word_parity_field(shade: Shade, word: u32, parity_ok: bool) -> Field
-    ensures { result ≡ field Name.Parity (parity_shade shade parity_ok) (word_parity word parity_ok ∷ []) }
+    ensures { result ≡ drawn_field Name.Parity (parity_shade shade parity_ok) (drawn_word_parity word parity_ok ∷ []) }
 {
     let shade = if parity_ok { shade } else { Shade::Wrong };
     one_bit(Name::Parity, shade, word_bit(word, parity_ok))
@@ -128,7 +129,7 @@ fn word_parity_field(shade: Shade, word: u32, parity_ok: bool) -> Field
 fn add_moved(strip: &mut Strip, read: bool, word: u32, parity_ok: bool)
     requires at { strip.old.at ≤ 12 }
     requires count { strip.old.count ≤ 9 }
-    ensures added { Added strip.old strip.new (moved_fields read word parity_ok) }
+    ensures added { StripAdded strip.old strip.new (drawn_moved_fields read word parity_ok) }
     ensures at { strip.new.at ≤ strip.old.at + 34 }
     ensures count { strip.new.count ≤ strip.old.count + 3 }
 {
@@ -147,7 +148,7 @@ fn add_moved(strip: &mut Strip, read: bool, word: u32, parity_ok: bool)
 fn add_tail(strip: &mut Strip, read: bool, end: TxEnd)
     requires at { strip.old.at ≤ 12 }
     requires count { strip.old.count ≤ 9 }
-    ensures added { Added strip.old strip.new (tail_fields read end) }
+    ensures added { StripAdded strip.old strip.new (drawn_tail_fields read end) }
     ensures at { strip.new.at ≤ strip.old.at + 34 }
     ensures count { strip.new.count ≤ strip.old.count + 3 }
 {
@@ -162,7 +163,7 @@ fn add_tail(strip: &mut Strip, read: bool, end: TxEnd)
 pub(crate) fn add_tx(strip: &mut Strip, tx: &Tx)
     requires at { strip.old.at ≡ 0 }
     requires count { strip.old.count ≡ 0 }
-    ensures added { Added strip.old strip.new (tx_fields tx.now) }
+    ensures added { StripAdded strip.old strip.new (drawn_tx_fields tx.now) }
     ensures at { strip.new.at ≤ 46 }
     ensures count { strip.new.count ≤ 12 }
 {
@@ -177,7 +178,7 @@ pub(crate) fn add_ignored(strip: &mut Strip, len: u8)
     requires at { strip.old.at ≤ 46 }
     requires len { len ≤ 33 }
     requires count { strip.old.count ≤ 12 }
-    ensures { Added strip.old strip.new (ignored_fields len) }
+    ensures { StripAdded strip.old strip.new (drawn_ignored_fields len) }
 {
     if len == 0 {
         return;

@@ -1,12 +1,12 @@
 -- A target's log and the trace of its pins only grow. For `LiveFiles`.
 use Rattle.std.proofs.Common.{◌≡◌, ◌≢◌, ℕ, zero, suc, ◌+◌, ◌<◌, ◌≤◌, ◌⊎◌, inl, inr, Bool, true, false, List, [], ◌∷◌}
-use Rattle.std.proofs.Common.{◌++◌, drop, get_or, Option, Some, None, refl, sym, ap, subst, ◌∙◌, append_assoc, append-nil}
-use Rattle.std.proofs.Common.{arith}
+use Rattle.std.proofs.Common.{◌++◌, drop, get_or, Option, Some, None, refl, sym, ap, subst, ◌∙◌, append_assoc}
+use Rattle.std.proofs.Common.{append-nil, arith}
 use lib.Count.{count_leading_zeros}
 use Rattle.std.specs.Prelude.{◌==◌, unwrap_or, if◌then◌else◌}
 use Rattle.std.proofs.lemmas.Bool.{cases_lt}
 use Rattle.swd_bits.specs.Bits.{low_bits}
-use Rattle.swd_bits.specs.Wire.{request}
+use Rattle.swd_bits.specs.Wire.{bits_of_request}
 use Rattle.swd_bits.specs.declared.request.Request.{Request}
 use Rattle.swd_bits.specs.declared.request.Reg4.{Reg4}
 use Rattle.swd_bits.specs.declared.request.Reg4.TheVariants.{R0, R4, R8, RC}
@@ -14,48 +14,49 @@ use Rattle.swd_port.specs.declared.access.Transfer.{Transfer}
 use Rattle.swd_port.specs.declared.mark.Mark.{Mark}
 use Rattle.swd_port.specs.declared.register.Register.{Register}
 use Rattle.swd_port.specs.declared.state.Drw.{Drw}
-use Rattle.swd_port.specs.declared.state.Line.{Line}
-use Rattle.swd_port.specs.declared.state.Line.TheVariants as lines
+use Rattle.swd_port.specs.declared.state.AfterAck.{AfterAck}
+use Rattle.swd_port.specs.declared.state.AfterAck.TheVariants as lines
 use Rattle.swd_port.specs.declared.state.Reply.{Reply}
 use Rattle.swd_port.specs.declared.state.Reply.TheVariants.{Okay, Waits, Faults, Silent}
 use Rattle.swd_port.specs.declared.mark.Mark.TheVariants.{Clean, Wait}
-use Rattle.swd_port.specs.PlainMemory.{PlainMemory, succeeds_at, address, done, transfer_of}
-use Rattle.swd_port.specs.Port.{Port, Target as State, Tally, idle_link}
-use Rattle.swd_port.specs.Choices.{IsMark, is_deaf, is_wait}
-use Rattle.swd_port.specs.Completion.{Completes, access_at, memory_after}
-use Rattle.swd_port.specs.Asking.{target_after}
-use Rattle.swd_port.specs.Moving.{Arrival}
+use Rattle.swd_port.specs.PlainMemory.{PlainMemory, succeeds_at, plain_address, plain_done, plain_transfer_of}
+use Rattle.swd_port.specs.Port.{Port, Target as State, PortTally, port_idle_link}
+use Rattle.swd_port.specs.Choices.{IsPortMark, is_port_deaf, is_port_wait}
+use Rattle.swd_port.specs.Completion.{PortCompletes, pending_access_at, memory_after_pending}
+use Rattle.swd_port.specs.Asking.{port_target_after}
+use Rattle.swd_port.specs.Moving.{PortArrival}
 use Rattle.swd_target.specs.declared.target.Target.{Target}
-use Rattle.swd_target.specs.Requests.{Answers, DataComes}
+use Rattle.swd_target.specs.Requests.{TargetAnswers, DataComes}
 use Rattle.swd_clocked.specs.declared.frame.Frame.{Frame}
 use Rattle.swd_clocked.specs.declared.frame.Frame.TheVariants.{Asks, Lost, High, Switches, Replies, Drives, Awaits}
 use Rattle.swd_clocked.specs.declared.frame.Frame.TheVariants.{Passes}
 use Rattle.swd_clocked.specs.declared.clocked.Clocked.{Clocked}
-use Rattle.swd_clocked.specs.declared.marked.MarkedClocked.{MarkedClocked}
-use Rattle.swd_clocked.specs.Frames.{idle, shifted, frame_of, frame_place, frame_limit, frame_replied}
-use Rattle.swd_clocked.specs.Frames.{ones_at_end, switch_bit, unswitched}
-use Rattle.swd_clocked.specs.Cycles.{Moved, ByteCame, AsksBit, LostBit, HeardBit, SwitchesBit}
-use Rattle.swd_clocked.specs.Cycles.{DrivesBit, AwaitsBit, Cycles}
-use Rattle.swd_clocked.specs.Damage.{IsLast}
+use Rattle.swd_clocked.specs.declared.marked.FaultyClocked.{FaultyClocked}
+use Rattle.swd_clocked.specs.Frames.{idle_frame, clocked_shifted, frame_after_reply, frame_place, frame_limit}
+use Rattle.swd_clocked.specs.Frames.{frame_replied, clocked_ones_at_end, switch_cycle_bit, unswitched_frame}
+use Rattle.swd_clocked.specs.Cycles.{FrameMoved, ClockedByteCame, AsksCycle, LostCycle, HeardCycle, SwitchCycle}
+use Rattle.swd_clocked.specs.Cycles.{DrivesCycle, AwaitsCycle, Cycles}
+use Rattle.swd_clocked.specs.Damage.{IsLastRequestCycle}
 use Rattle.swd_clocked.specs.Marked as marked
 use Rattle.swd_sequences.specs.declared.character.Character.{Character}
 use Rattle.swd_sequences.specs.declared.character.Character.TheVariants.{Moves, Looks, Drives as Turns, Quits}
 use Rattle.swd_bitbang.specs.declared.trace.Trace.{Trace}
 use Rattle.swd_bitbang.specs.declared.pins.Pins.{Pins}
-use Rattle.swd_bitbang.specs.declared.pins.Sign.{Sign}
+use Rattle.swd_bitbang.specs.declared.pins.PinReply.{PinReply}
 use Rattle.swd_bitbang.specs.Traces as traces
-use Rattle.swd_bitbang.specs.Steps.{Steps, ShowsBy, SeesBy, driven}
-use Rattle.swd_bitbang.specs.Sessions.{Session}
-use Rattle.swd_bitbang.specs.Watching.{Reaches}
-use Rattle.swd_ends.specs.LiveFiles.{Grows, IsSound, is_sound, trace_at, transfers_at}
+use Rattle.swd_bitbang.specs.Steps.{PinsStep, PinsShowBy, PinsSeenBy, pins_driven}
+use Rattle.swd_bitbang.specs.Sessions.{PinsSession}
+use Rattle.swd_bitbang.specs.Watching.{PinsReach}
+use Rattle.swd_ends.specs.LiveFiles.{LiveLogGrows, IsLiveFrameSound, live_pins_sound, live_trace_at, live_transfers_at}
 
 -- LISTS
 
-grows_same : {X : Type 0} (xs ys : List X) → ys ≡ xs → Grows xs ys
+grows_same : {X : Type 0} (xs ys : List X) → ys ≡ xs → LiveLogGrows xs ys
 grows_same xs ys e = ([], e ∙ sym (append-nil xs))
 
-pub grows_on : {X : Type 0} (xs ys zs : List X) → Grows xs ys → Grows ys zs → Grows xs zs
-grows_on xs ys zs f g = (f.0 ++ g.0, g.1 ∙ ap (λ l. l ++ g.0) f.1 ∙ append_assoc xs f.0 g.0)
+pub live_log_grows_further : {X : Type 0} (xs ys zs : List X) → LiveLogGrows xs ys → LiveLogGrows ys zs
+    → LiveLogGrows xs zs
+live_log_grows_further xs ys zs f g = (f.0 ++ g.0, g.1 ∙ ap (λ l. l ++ g.0) f.1 ∙ append_assoc xs f.0 g.0)
 
 -- A REQUEST IS FOUND, OR THERE IS NONE
 
@@ -92,69 +93,73 @@ candidate bits = record {
 }
 
 candidate_at : (port read : Bool) (addr : Reg4)
-    → candidate (request (record { ap = port; read = read; addr = addr })) ≡ record { ap = port; read = read; addr = addr }
+    → candidate (bits_of_request (record { ap = port; read = read; addr = addr }))
+    ≡ record { ap = port; read = read; addr = addr }
 candidate_at port read R0 = refl
 candidate_at port read R4 = refl
 candidate_at port read R8 = refl
 candidate_at port read RC = refl
 
-request_or_none : (bits : List Bool) → ((q : Request) × (request q ≡ bits)) ⊎ ((q : Request) → request q ≢ bits)
-request_or_none bits = elim (bits_same (request (candidate bits)) bits)
-    as (λ (_ : (request (candidate bits) ≡ bits) ⊎ (request (candidate bits) ≢ bits)).
-    ((q : Request) × (request q ≡ bits)) ⊎ ((q : Request) → request q ≢ bits)) [
+request_or_none : (bits : List Bool) → ((q : Request) × (bits_of_request q ≡ bits))
+    ⊎ ((q : Request) → bits_of_request q ≢ bits)
+request_or_none bits = elim (bits_same (bits_of_request (candidate bits)) bits)
+    as (λ (_ : (bits_of_request (candidate bits) ≡ bits) ⊎ (bits_of_request (candidate bits) ≢ bits)).
+    ((q : Request) × (bits_of_request q ≡ bits)) ⊎ ((q : Request) → bits_of_request q ≢ bits)) [
       | inl e ↦ inl (candidate bits, e)
-      | inr n ↦ inr (λ q e. n (ap request (ap candidate (sym e) ∙ candidate_at q.ap q.read q.addr) ∙ e))
+      | inr n ↦ inr (λ q e. n (ap bits_of_request (ap candidate (sym e) ∙ candidate_at q.ap q.read q.addr) ∙ e))
     ]
 
 -- THE MEMORY
 
-if_grows : (b : Bool) (m n : PlainMemory) → Grows m.log n.log → Grows m.log (if b then n else m).log
+if_grows : (b : Bool) (m n : PlainMemory) → LiveLogGrows m.log n.log → LiveLogGrows m.log (if b then n else m).log
 if_grows true m n g = g
 if_grows false m n g = grows_same m.log m.log refl
 
-memory_grows : (p : Option Drw) (at : ℕ) (m : PlainMemory) → Grows m.log (memory_after p at m).log
+memory_grows : (p : Option Drw) (at : ℕ) (m : PlainMemory) → LiveLogGrows m.log (memory_after_pending p at m).log
 memory_grows None at m = grows_same m.log m.log refl
 memory_grows (Some drw) at m =
-    let a = access_at at drw in
-    if_grows (succeeds_at (address a) m) m (done a m) (transfer_of a m ∷ [], refl)
+    let a = pending_access_at at drw in
+    if_grows (succeeds_at (plain_address a) m) m (plain_done a m) (plain_transfer_of a m ∷ [], refl)
 
-completes_grow : (s t : Port) → Completes s t → Grows s.target.memory.log t.target.memory.log
-completes_grow s t h = elim h as (λ (_ : Completes s t). Grows s.target.memory.log t.target.memory.log) [
+completes_grow : (s t : Port) → PortCompletes s t → LiveLogGrows s.target.memory.log t.target.memory.log
+completes_grow s t h = elim h as (λ (_ : PortCompletes s t). LiveLogGrows s.target.memory.log t.target.memory.log) [
   | inl e ↦ grows_same _ _ (ap (λ (x : Port). x.target.memory.log) e)
-  | inr f ↦ subst (λ (l : List Transfer). Grows s.target.memory.log l) (sym (ap (λ (x : Port). x.target.memory.log) f.2))
+  | inr f ↦ subst (λ (l : List Transfer). LiveLogGrows s.target.memory.log l)
+      (sym (ap (λ (x : Port). x.target.memory.log) f.2))
       (memory_grows s.target.pending (unwrap_or s.target.tar f.0.address) s.target.memory)
 ]
 
 replied_alike : (busy : Bool) (reply : Reply) (r : Register) (port : Bool) (x : State)
-    → (target_after busy reply r port x).memory ≡ x.memory
+    → (port_target_after busy reply r port x).memory ≡ x.memory
 replied_alike busy Okay r port x = refl
 replied_alike busy Waits r port x = refl
 replied_alike busy Faults r port x = refl
 replied_alike busy Silent r port x = refl
 
 -- a mark under which WAIT is asked for, or isn't
-mark_for : (w : Bool) → (mark : Mark) × IsMark mark × (is_deaf mark ≡ false) × (is_wait mark ≡ w)
+mark_for : (w : Bool) → (mark : Mark) × IsPortMark mark × (is_port_deaf mark ≡ false) × (is_port_wait mark ≡ w)
 mark_for true = (Wait, tt, refl, refl)
 mark_for false = (Clean, tt, refl, refl)
 
-answers_grow : {A : Type 0} (w : Bool) (q : Request) (s : Target A) (reply : Reply) (phase : Line) (t : Target A)
-    → Answers w q s reply phase t → Grows s.memory.log t.memory.log
+answers_grow : {A : Type 0} (w : Bool) (q : Request) (s : Target A) (reply : Reply) (phase : AfterAck) (t : Target A)
+    → TargetAnswers w q s reply phase t → LiveLogGrows s.memory.log t.memory.log
 answers_grow w q s reply phase t h =
     let m = mark_for w in
-    let none : Tally = record { asked = 0; disturbed = 0; lost = 0 } in
-    let asks = (h.under m.0 m.1 m.2 m.3).step idle_link none in
+    let none : PortTally = record { asked = 0; disturbed = 0; lost = 0 } in
+    let asks = (h.under m.0 m.1 m.2 m.3).step port_idle_link none in
     let a = asks.0 in
     let b = asks.1 in
     let before = completes_grow _ a asks.3 in
     let now = ap (λ (x : Port). x.target.memory.log) asks.4.after
-    ∙ ap (λ (x : PlainMemory). x.log) (replied_alike (is_wait m.0) _ _ q.ap a.target) in
+    ∙ ap (λ (x : PlainMemory). x.log) (replied_alike (is_port_wait m.0) _ _ q.ap a.target) in
     let after = completes_grow b _ asks.5 in
-    grows_on _ a.target.memory.log _ before (grows_on _ b.target.memory.log _ (grows_same _ _ now) after)
+    live_log_grows_further _ a.target.memory.log _ before
+    (live_log_grows_further _ b.target.memory.log _ (grows_same _ _ now) after)
 
-data_grows : {A : Type 0} (a : Arrival) (s t : Target A) → DataComes a s t → Grows s.memory.log t.memory.log
+data_grows : {A : Type 0} (a : PortArrival) (s t : Target A) → DataComes a s t → LiveLogGrows s.memory.log t.memory.log
 data_grows a s t h = elim h.later [
   | inl e ↦ grows_same _ _ (ap (λ (x : State). x.memory.log) e)
-  | inr f ↦ subst (λ (l : List Transfer). Grows s.memory.log l) (sym (ap (λ (x : State). x.memory.log) f.2))
+  | inr f ↦ subst (λ (l : List Transfer). LiveLogGrows s.memory.log l) (sym (ap (λ (x : State). x.memory.log) f.2))
       (memory_grows _ _ s.memory)
 ]
 
@@ -162,66 +167,68 @@ data_grows a s t h = elim h.later [
 
 -- the log grew, and the frame is one that cycles lead to
 record After {A : Type 0} (s : Target A) (t : Clocked A) : Type 0 where
-  grows : Grows s.memory.log t.target.memory.log
-  sound : IsSound t.frame
+  grows : LiveLogGrows s.memory.log t.target.memory.log
+  sound : IsLiveFrameSound t.frame
 
-moved : {A : Type 0} (f : Frame) (s : Target A) (w : Bool) (t : Clocked A) → IsSound f → Moved f s w t → After s t
+moved : {A : Type 0} (f : Frame) (s : Target A) (w : Bool) (t : Clocked A) → IsLiveFrameSound f → FrameMoved f s w t
+    → After s t
 moved f s w t sound h = record {
   grows = grows_same _ _ (ap (λ (x : Target _). x.memory.log) h.target);
-  sound = subst IsSound (sym h.frame) sound;
+  sound = subst IsLiveFrameSound (sym h.frame) sound;
 }
 
-sound_replied : (reply : Reply) (phase : Line) → IsSound (frame_replied reply phase)
+sound_replied : (reply : Reply) (phase : AfterAck) → IsLiveFrameSound (frame_replied reply phase)
 sound_replied Okay phase = tt
 sound_replied Waits phase = tt
 sound_replied Faults phase = tt
 sound_replied Silent phase = tt
 
-sound_phase : (line : Line) → IsSound (frame_of line)
+sound_phase : (line : AfterAck) → IsLiveFrameSound (frame_after_reply line)
 sound_phase lines.Idle = tt
 sound_phase (lines.Drives bits) = tt
 sound_phase (lines.Awaits r flip) = tt
 
-sound_reply : (last : Bool) (reply : Reply) (line : Line) (place : ℕ)
-    → IsSound (if last then frame_of line else Replies reply line place)
+sound_reply : (last : Bool) (reply : Reply) (line : AfterAck) (place : ℕ)
+    → IsLiveFrameSound (if last then frame_after_reply line else Replies reply line place)
 sound_reply true reply line place = sound_phase line
 sound_reply false reply line place = tt
 
-sound_switched : (last : Bool) (place : ℕ) → IsSound (if last then Lost 0 else Switches (place + 1))
+sound_switched : (last : Bool) (place : ℕ) → IsLiveFrameSound (if last then Lost 0 else Switches (place + 1))
 sound_switched true place = tt
 sound_switched false place = λ e. absurd (omega arith)
 
-byte_grows : {A : Type 0} (byte : ℕ) (s : Target A) (w : Bool) (t : Clocked A) → ByteCame byte s w t → After s t
+byte_grows : {A : Type 0} (byte : ℕ) (s : Target A) (w : Bool) (t : Clocked A) → ClockedByteCame byte s w t → After s t
 byte_grows byte s w t h = elim (request_or_none (low_bits 8 byte))
-    as (λ (_ : ((q : Request) × (request q ≡ low_bits 8 byte)) ⊎ ((q : Request) → request q ≢ low_bits 8 byte)). After s t) [
+    as (λ (_ : ((q : Request) × (bits_of_request q ≡ low_bits 8 byte))
+    ⊎ ((q : Request) → bits_of_request q ≢ low_bits 8 byte)). After s t) [
       | inl q ↦ (let r = h.whole q.0 q.1 in record {
         grows = answers_grow w q.0 s r.reply r.phase t.target r.answers;
-        sound = subst IsSound (sym r.frame) (sound_replied r.reply r.phase);
+        sound = subst IsLiveFrameSound (sym r.frame) (sound_replied r.reply r.phase);
       })
       | inr n ↦ moved _ s w t tt (h.broken n)
     ]
 
 asks_on : {A : Type 0} (bits count : ℕ) (b : Bool) (s : Target A) (w : Bool) (t : Clocked A) → count < 8
-    → (count ≡ 0 → b ≡ true) → AsksBit bits count b s w t → After s t
+    → (count ≡ 0 → b ≡ true) → AsksCycle bits count b s w t → After s t
 asks_on bits count b s w t l first h = elim (cases_lt count 7) as (λ (_ : (count < 7) ⊎ (7 ≤ count)). After s t) [
   | inl m ↦ moved _ s w t tt (h.more m first)
   | inr g ↦ byte_grows _ s w t (h.whole (omega arith))
 ]
 
 asks_grow : {A : Type 0} (bits count : ℕ) (b : Bool) (s : Target A) (w : Bool) (t : Clocked A) → count < 8
-    → AsksBit bits count b s w t → After s t
+    → AsksCycle bits count b s w t → After s t
 asks_grow bits count true s w t l h = asks_on bits count true s w t l (λ e. refl) h
-asks_grow bits zero false s w t l h = moved idle s w t tt (h.quiet refl refl)
+asks_grow bits zero false s w t l h = moved idle_frame s w t tt (h.quiet refl refl)
 asks_grow bits (suc n) false s w t l h = asks_on bits (suc n) false s w t l (λ e. absurd (omega arith)) h
 
 lost_grow : {A : Type 0} (ones : ℕ) (b : Bool) (s : Target A) (w : Bool) (t : Clocked A) → ones < 50
-    → LostBit ones b s w t → After s t
+    → LostCycle ones b s w t → After s t
 lost_grow ones false s w t l h = moved _ s w t tt (h.low refl)
 lost_grow ones true s w t l h = elim (cases_lt ones 49) as (λ (_ : (ones < 49) ⊎ (49 ≤ ones)). After s t) [
   | inl m ↦ moved _ s w t tt (h.more m refl)
   | inr g ↦ (let r = h.whole (omega arith) refl in record {
     grows = grows_same _ _ (ap (λ (x : State). x.memory.log) r.reset.state);
-    sound = subst IsSound (sym r.frame) tt;
+    sound = subst IsLiveFrameSound (sym r.frame) tt;
   })
 ]
 
@@ -232,7 +239,7 @@ IsHeard (Lost ones) = ones < 50
 IsHeard frame = ⊥
 
 heard_grow : {A : Type 0} (f : Frame) (b : Bool) (s : Target A) (w : Bool) (t : Clocked A) → IsHeard f
-    → HeardBit f b s w t → After s t
+    → HeardCycle f b s w t → After s t
 heard_grow (Asks bits count) b s w t l h = asks_grow bits count b s w t l h
 heard_grow (Lost ones) b s w t l h = lost_grow ones b s w t l h
 heard_grow High b s w t l h = absurd l
@@ -243,7 +250,7 @@ heard_grow (Awaits r bits place) b s w t l h = absurd l
 heard_grow Passes b s w t l h = absurd l
 
 -- a switch that turned out to be none leaves such a frame
-unswitched_heard : (place : ℕ) → place < 16 → (place ≡ 0 → ⊥) → IsHeard (unswitched place)
+unswitched_heard : (place : ℕ) → place < 16 → (place ≡ 0 → ⊥) → IsHeard (unswitched_frame place)
 unfolding count_leading_zeros
 unswitched_heard zero l n = absurd (n refl)
 unswitched_heard (suc zero) l n = omega arith
@@ -254,49 +261,51 @@ unswitched_heard (suc (suc (suc (suc (suc zero))))) l n = omega arith
 unswitched_heard (suc (suc (suc (suc (suc (suc zero)))))) l n = omega arith
 unswitched_heard (suc (suc (suc (suc (suc (suc (suc zero))))))) l n = omega arith
 unswitched_heard (suc (suc (suc (suc (suc (suc (suc (suc zero)))))))) l n = omega arith
-unswitched_heard (suc (suc (suc (suc (suc (suc (suc (suc (suc zero))))))))) l n = let two : ones_at_end 207 ≡ 2 = refl in omega arith
-unswitched_heard (suc (suc (suc (suc (suc (suc (suc (suc (suc (suc zero)))))))))) l n = let two : ones_at_end 207 ≡ 2
+unswitched_heard (suc (suc (suc (suc (suc (suc (suc (suc (suc zero))))))))) l n = let two : clocked_ones_at_end 207 ≡ 2 = refl in omega arith
+unswitched_heard (suc (suc (suc (suc (suc (suc (suc (suc (suc (suc zero)))))))))) l n = let two : clocked_ones_at_end 207 ≡ 2
     = refl in omega arith
-unswitched_heard (suc (suc (suc (suc (suc (suc (suc (suc (suc (suc (suc zero))))))))))) l n = let two : ones_at_end
+unswitched_heard (suc (suc (suc (suc (suc (suc (suc (suc (suc (suc (suc zero))))))))))) l n = let two : clocked_ones_at_end
     207 ≡ 2 = refl in omega arith
 unswitched_heard (suc (suc (suc (suc (suc (suc (suc (suc (suc (suc (suc (suc zero)))))))))))) l n = omega arith
 unswitched_heard (suc (suc (suc (suc (suc (suc (suc (suc (suc (suc (suc (suc (suc zero))))))))))))) l n = omega arith
-unswitched_heard (suc (suc (suc (suc (suc (suc (suc (suc (suc (suc (suc (suc (suc (suc zero)))))))))))))) l n = omega arith
-unswitched_heard (suc (suc (suc (suc (suc (suc (suc (suc (suc (suc (suc (suc (suc (suc (suc zero))))))))))))))) l n = omega arith
+unswitched_heard (suc (suc (suc (suc (suc (suc (suc (suc (suc (suc (suc (suc (suc (suc zero)))))))))))))) l n =
+    omega arith
+unswitched_heard (suc (suc (suc (suc (suc (suc (suc (suc (suc (suc (suc (suc (suc (suc (suc zero))))))))))))))) l n =
+    omega arith
 unswitched_heard (suc (suc (suc (suc (suc (suc (suc (suc (suc (suc (suc (suc (suc (suc (suc (suc n)))))))))))))))) l
     e = absurd (omega arith)
 
 switches_grow : {A : Type 0} (place : ℕ) (b : Bool) (s : Target A) (w : Bool) (t : Clocked A) → place < 16
-    → (place ≡ 0 → ⊥) → SwitchesBit place b s w t → After s t
-switches_grow place b s w t l sound h = elim (bool_same b (switch_bit place))
-    as (λ (_ : (b ≡ switch_bit place) ⊎ (b ≢ switch_bit place)). After s t) [
+    → (place ≡ 0 → ⊥) → SwitchCycle place b s w t → After s t
+switches_grow place b s w t l sound h = elim (bool_same b (switch_cycle_bit place))
+    as (λ (_ : (b ≡ switch_cycle_bit place) ⊎ (b ≢ switch_cycle_bit place)). After s t) [
       | inl e ↦ moved _ s w t (sound_switched (place == 15) place) (h.fits e)
-      | inr n ↦ heard_grow (unswitched place) b s w t (unswitched_heard place l sound) (h.differs n)
+      | inr n ↦ heard_grow (unswitched_frame place) b s w t (unswitched_heard place l sound) (h.differs n)
     ]
 
 awaits_grow : {A : Type 0} (r : Register) (bits place : ℕ) (b : Bool) (s : Target A) (w : Bool) (t : Clocked A)
-    → place < 34 → AwaitsBit r bits place b s w t → After s t
+    → place < 34 → AwaitsCycle r bits place b s w t → After s t
 awaits_grow r bits zero b s w t l h = moved _ s w t tt (h.turn refl)
 awaits_grow r bits (suc n) b s w t l h = elim (cases_lt (suc n) 33)
     as (λ (_ : (suc n < 33) ⊎ (33 ≤ suc n)). After s t) [
       | inl m ↦ moved _ s w t tt (h.more (λ e. absurd (omega arith)) m)
       | inr g ↦ (let d = h.whole (omega arith) in record {
         grows = data_grows _ s t.target d.comes;
-        sound = subst IsSound (sym d.frame) tt;
+        sound = subst IsLiveFrameSound (sym d.frame) tt;
       })
     ]
 
 drives_grow : {A : Type 0} (bits left : ℕ) (b answer : Bool) (s : Target A) (w : Bool) (t : Clocked A)
-    → DrivesBit bits left b answer s w t → After s t
+    → DrivesCycle bits left b answer s w t → After s t
 drives_grow bits zero b answer s w t h = moved _ s w t tt (h.turn refl).1
 drives_grow bits (suc n) b answer s w t h = moved _ s w t tt (h.more (λ e. absurd (omega arith)))
 
-if_high : (b : Bool) → IsSound (if b then High else Switches 1)
+if_high : (b : Bool) → IsLiveFrameSound (if b then High else Switches 1)
 if_high true = tt
 if_high false = λ e. absurd (omega arith)
 
 cycle_grows : {A : Type 0} (f : Frame) (b answer : Bool) (s : Target A) (w : Bool) (t : Clocked A)
-    → frame_place f < frame_limit f → IsSound f → Cycles f b answer s w t → After s t
+    → frame_place f < frame_limit f → IsLiveFrameSound f → Cycles f b answer s w t → After s t
 cycle_grows (Asks bits count) b answer s w t l sound h = asks_grow bits count b s w t l h.1
 cycle_grows (Lost ones) b answer s w t l sound h = lost_grow ones b s w t l h.1
 cycle_grows High b answer s w t l sound h = moved _ s w t (if_high b) h.1
@@ -309,18 +318,21 @@ cycle_grows Passes b answer s w t l sound h = moved _ s w t tt h.1
 
 -- A CYCLE UNDER A PLAN
 
-last_or_not : (f : Frame) (b : Bool) → ((q : Request) × IsLast f b q) ⊎ ((q : Request) → IsLast f b q → ⊥)
+last_or_not : (f : Frame) (b : Bool) → ((q : Request) × IsLastRequestCycle f b q)
+    ⊎ ((q : Request) → IsLastRequestCycle f b q → ⊥)
 last_or_not (Asks bits count) b = elim (cases_lt count 7)
-    as (λ (_ : (count < 7) ⊎ (7 ≤ count)). ((q : Request) × IsLast (Asks bits count) b q)
-    ⊎ ((q : Request) → IsLast (Asks bits count) b q → ⊥)) [
+    as (λ (_ : (count < 7) ⊎ (7 ≤ count)). ((q : Request) × IsLastRequestCycle (Asks bits count) b q)
+    ⊎ ((q : Request) → IsLastRequestCycle (Asks bits count) b q → ⊥)) [
       | inl m ↦ inr (λ q l. let e = l.0 in absurd (omega arith))
-      | inr g ↦ elim (cases_lt 7 count) as (λ (_ : (7 < count) ⊎ (count ≤ 7)). ((q : Request) × IsLast (Asks bits count) b q)
-          ⊎ ((q : Request) → IsLast (Asks bits count) b q → ⊥)) [
+      | inr g ↦ elim (cases_lt 7 count) as
+          (λ (_ : (7 < count) ⊎ (count ≤ 7)). ((q : Request) × IsLastRequestCycle (Asks bits count) b q)
+          ⊎ ((q : Request) → IsLastRequestCycle (Asks bits count) b q → ⊥)) [
             | inl m ↦ inr (λ q l. let e = l.0 in absurd (omega arith))
-            | inr k ↦ elim (request_or_none (low_bits 8 (shifted 128 bits b)))
-                as (λ (_ : ((q : Request) × (request q ≡ low_bits 8 (shifted 128 bits b)))
-                ⊎ ((q : Request) → request q ≢ low_bits 8 (shifted 128 bits b))). ((q : Request) × IsLast (Asks bits count) b q)
-                ⊎ ((q : Request) → IsLast (Asks bits count) b q → ⊥)) [
+            | inr k ↦ elim (request_or_none (low_bits 8 (clocked_shifted 128 bits b)))
+                as (λ (_ : ((q : Request) × (bits_of_request q ≡ low_bits 8 (clocked_shifted 128 bits b)))
+                ⊎ ((q : Request) → bits_of_request q ≢ low_bits 8 (clocked_shifted 128 bits b))).
+                ((q : Request) × IsLastRequestCycle (Asks bits count) b q)
+                ⊎ ((q : Request) → IsLastRequestCycle (Asks bits count) b q → ⊥)) [
                   | inl f ↦ inl (f.0, (omega arith, f.1))
                   | inr n ↦ inr (λ q l. n q l.1)
                 ]
@@ -334,29 +346,31 @@ last_or_not (Drives bits left) b = inr (λ q l. l)
 last_or_not (Awaits r bits place) b = inr (λ q l. l)
 last_or_not Passes b = inr (λ q l. l)
 
-reached : {A : Type 0} (m : Mark) (w : Bool) (drive : Option Bool) (answer : Bool) (s t : MarkedClocked A)
-    → IsSound s.clocked.frame → marked.Reaches m w drive answer s t → After s.clocked.target t.clocked
+reached : {A : Type 0} (m : Mark) (w : Bool) (drive : Option Bool) (answer : Bool) (s t : FaultyClocked A)
+    → IsLiveFrameSound s.clocked.frame → marked.CycleReaches m w drive answer s t → After s.clocked.target t.clocked
 reached m w drive answer s t sound h =
     cycle_grows s.clocked.frame _ h.bit s.clocked.target w t.clocked s.clocked.place sound h.cycles
 
-missed : {A : Type 0} (more : ℕ) (drive : Option Bool) (answer : Bool) (s t : MarkedClocked A)
-    → marked.Misses more drive answer s t → After s.clocked.target t.clocked
-missed more drive answer s t h = moved idle s.clocked.target s.clocked.waits t.clocked tt h.moved
+missed : {A : Type 0} (more : ℕ) (drive : Option Bool) (answer : Bool) (s t : FaultyClocked A)
+    → marked.CycleMisses more drive answer s t → After s.clocked.target t.clocked
+missed more drive answer s t h = moved idle_frame s.clocked.target s.clocked.waits t.clocked tt h.moved
 
-met : {A : Type 0} (deaf : Bool) (drive : Option Bool) (answer : Bool) (s t : MarkedClocked A) → is_deaf t.mark ≡ deaf
-    → IsSound s.clocked.frame → marked.Meets drive answer s t → After s.clocked.target t.clocked
+met : {A : Type 0} (deaf : Bool) (drive : Option Bool) (answer : Bool) (s t : FaultyClocked A)
+    → is_port_deaf t.mark ≡ deaf
+    → IsLiveFrameSound s.clocked.frame → marked.CycleMeetsMark drive answer s t → After s.clocked.target t.clocked
 met true drive answer s t e sound h = missed 4 drive answer s t (h.deaf e)
-met false drive answer s t e sound h = reached t.mark (is_wait t.mark) drive answer s t sound (h.hears e)
+met false drive answer s t e sound h = reached t.mark (is_port_wait t.mark) drive answer s t sound (h.hears e)
 
-marked_grows : {A : Type 0} (drive : Option Bool) (answer : Bool) (s t : MarkedClocked A) → IsSound s.clocked.frame
-    → marked.MarkedCycles drive answer s t → After s.clocked.target t.clocked
+marked_grows : {A : Type 0} (drive : Option Bool) (answer : Bool) (s t : FaultyClocked A)
+    → IsLiveFrameSound s.clocked.frame → marked.MarkedCycles drive answer s t → After s.clocked.target t.clocked
 marked_grows drive answer s t sound h = elim (cases_lt 0 s.unseen)
     as (λ (_ : (0 < s.unseen) ⊎ (s.unseen ≤ 0)). After s.clocked.target t.clocked) [
       | inl m ↦ missed _ drive answer s t (h.missed (λ e. absurd (omega arith))).0
       | inr z ↦ elim (last_or_not s.clocked.frame (unwrap_or drive true))
-          as (λ (_ : ((q : Request) × IsLast s.clocked.frame (unwrap_or drive true) q)
-          ⊎ ((q : Request) → IsLast s.clocked.frame (unwrap_or drive true) q → ⊥)). After s.clocked.target t.clocked) [
-            | inl q ↦ met (is_deaf t.mark) drive answer s t refl sound (h.met (omega arith) q.0 q.1)
+          as (λ (_ : ((q : Request) × IsLastRequestCycle s.clocked.frame (unwrap_or drive true) q)
+          ⊎ ((q : Request) → IsLastRequestCycle s.clocked.frame (unwrap_or drive true) q → ⊥)). After s.clocked.target
+          t.clocked) [
+            | inl q ↦ met (is_port_deaf t.mark) drive answer s t refl sound (h.met (omega arith) q.0 q.1)
             | inr n ↦ reached s.mark s.clocked.waits drive answer s t sound (h.other (omega arith) n).0
           ]
     ]
@@ -364,45 +378,47 @@ marked_grows drive answer s t sound h = elim (cases_lt 0 s.unseen)
 -- THE PINS
 
 -- the log and the trace at later pins, and their frame
-pub record Grew {A : Type 0} (s t : Pins A) : Type 0 where
-  pub log : Grows (transfers_at s) (transfers_at t)
-  pub trace : Grows (trace_at s) (trace_at t)
-  pub sound : is_sound t
+pub record LivePinsGrew {A : Type 0} (s t : Pins A) : Type 0 where
+  pub log : LiveLogGrows (live_transfers_at s) (live_transfers_at t)
+  pub trace : LiveLogGrows (live_trace_at s) (live_trace_at t)
+  pub sound : live_pins_sound t
 
-unchanged : {A : Type 0} (s t : Pins A) → is_sound s → t.target ≡ s.target → t.trace ≡ s.trace → Grew s t
+unchanged : {A : Type 0} (s t : Pins A) → live_pins_sound s → t.target ≡ s.target → t.trace ≡ s.trace → LivePinsGrew s t
 unchanged s t sound e f = record {
-  log = grows_same _ _ (ap (λ (x : MarkedClocked _). x.clocked.target.memory.log) e);
-  trace = grows_same _ _ (ap (λ (x : Trace _). traces.kept_text x) f);
-  sound = subst (λ (x : MarkedClocked _). IsSound x.clocked.frame) (sym e) sound;
+  log = grows_same _ _ (ap (λ (x : FaultyClocked _). x.clocked.target.memory.log) e);
+  trace = grows_same _ _ (ap (λ (x : Trace _). traces.pins_kept_trace x) f);
+  sound = subst (λ (x : FaultyClocked _). IsLiveFrameSound x.clocked.frame) (sym e) sound;
 }
 
 trace_on : {A : Type 0} (wanted cut : Bool) (bit : Bool) (s t : Trace A) → s.wanted ≡ wanted → s.cut ≡ cut
-    → traces.Keeps bit s t → Grows (traces.kept_text s) (traces.kept_text t)
-trace_on false cut bit s t e f h = grows_same _ _ (ap (λ (x : Trace _). traces.kept_text x) (h.unwanted e))
-trace_on true true bit s t e f h = grows_same _ _ (ap (λ (x : Trace _). traces.kept_text x) (h.none f))
+    → traces.PinsTraceKeeps bit s t → LiveLogGrows (traces.pins_kept_trace s) (traces.pins_kept_trace t)
+trace_on false cut bit s t e f h = grows_same _ _ (ap (λ (x : Trace _). traces.pins_kept_trace x) (h.unwanted e))
+trace_on true true bit s t e f h = grows_same _ _ (ap (λ (x : Trace _). traces.pins_kept_trace x) (h.none f))
 trace_on true false bit s t e f h = elim (h.more e f) [
-  | inl k ↦ (traces.level_text bit, k.0)
+  | inl k ↦ (traces.pins_level_text bit, k.0)
   | inr k ↦ grows_same _ _ k.0
 ]
 
-shown : {A : Type 0} (seen : Option Bool) (bit : Bool) (s t : Pins A) → is_sound s → ShowsBy seen bit s t → Grew s t
+shown : {A : Type 0} (seen : Option Bool) (bit : Bool) (s t : Pins A) → live_pins_sound s → PinsShowBy seen bit s t
+    → LivePinsGrew s t
 shown (Some b) bit s t sound h =
     unchanged s t sound (ap (λ (x : Pins _). x.target) h.1) (ap (λ (x : Pins _). x.trace) h.1)
 shown None bit s t sound h =
-    let after = marked_grows (driven s) bit s.target t.target sound h.cycle in
+    let after = marked_grows (pins_driven s) bit s.target t.target sound h.cycle in
     record {
       log = after.grows;
       trace = trace_on s.trace.wanted s.trace.cut bit s.trace t.trace refl refl h.trace;
       sound = after.sound;
     }
 
-sees : {A : Type 0} (drives : Bool) (bit : Bool) (s t : Pins A) → is_sound s → SeesBy drives bit s t → Grew s t
+sees : {A : Type 0} (drives : Bool) (bit : Bool) (s t : Pins A) → live_pins_sound s → PinsSeenBy drives bit s t
+    → LivePinsGrew s t
 sees true bit s t sound h =
     unchanged s t sound (ap (λ (x : Pins _). x.target) h.1) (ap (λ (x : Pins _). x.trace) h.1)
 sees false bit s t sound h = shown s.seen bit s t sound h
 
-stepped : {A : Type 0} (found : Option Character) (sign : Sign) (s t : Pins A) → is_sound s → Steps found s sign t
-    → Grew s t
+stepped : {A : Type 0} (found : Option Character) (sign : PinReply) (s t : Pins A) → live_pins_sound s
+    → PinsStep found s sign t → LivePinsGrew s t
 stepped (Some (Moves false level)) sign s t sound h =
     unchanged s t sound (ap (λ (x : Pins _). x.target) h.1) (ap (λ (x : Pins _). x.trace) h.1)
 stepped (Some (Moves true level)) sign s t sound h =
@@ -418,18 +434,19 @@ stepped (Some character) sign s t sound h =
 stepped None sign s t sound h =
     unchanged s t sound (ap (λ (x : Pins _). x.target) h.1) (ap (λ (x : Pins _). x.trace) h.1)
 
-session_grows : {A : Type 0} (text levels : List ℕ) (s t : Pins A) → is_sound s → Session text levels s t → Grew s t
+session_grows : {A : Type 0} (text levels : List ℕ) (s t : Pins A) → live_pins_sound s → PinsSession text levels s t
+    → LivePinsGrew s t
 session_grows [] levels s t sound h =
     unchanged s t sound (ap (λ (x : Pins _). x.target) h.1) (ap (λ (x : Pins _). x.trace) h.1)
 session_grows (byte ∷ text) levels s t sound h =
     let first = stepped _ h.3.sign s h.0 sound h.3.steps in
     let rest = session_grows text h.2 h.0 t first.sound h.4 in
     record {
-      log = grows_on _ (transfers_at h.0) _ first.log rest.log;
-      trace = grows_on _ (trace_at h.0) _ first.trace rest.trace;
+      log = live_log_grows_further _ (live_transfers_at h.0) _ first.log rest.log;
+      trace = live_log_grows_further _ (live_trace_at h.0) _ first.trace rest.trace;
       sound = rest.sound;
     }
 
 -- at pins that were reached, log and trace have what they had before, and maybe more
-pub reached_grow : {A : Type 0} (s t : Pins A) → is_sound s → Reaches s t → Grew s t
-reached_grow s t sound h = session_grows h.0 h.1 s t sound h.2
+pub live_pins_reached_grow : {A : Type 0} (s t : Pins A) → live_pins_sound s → PinsReach s t → LivePinsGrew s t
+live_pins_reached_grow s t sound h = session_grows h.0 h.1 s t sound h.2

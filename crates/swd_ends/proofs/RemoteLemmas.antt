@@ -3,25 +3,25 @@ use Rattle.std.proofs.Common.{◌≡◌, ℕ, List, [], Option, Result}
 use Rattle.swd_port.specs.declared.call.Call.{Call}
 use Rattle.swd_port.specs.Port.{Port}
 use Rattle.swd_port.specs.Stories.{port_at, FitsStory}
-use Rattle.swd_script.specs.Scripts.{Listed}
+use Rattle.swd_script.specs.Scripts.{ScriptListed}
 use Rattle.swd_run.specs.declared.engine.Finished.{Finished}
 use Rattle.swd_run.specs.declared.fault.EngineFault.{EngineFault}
-use Rattle.swd_run.specs.Engine.{AnswersAt}
-use Rattle.swd_run.specs.Records.{Files}
-use Rattle.swd_run.proofs.EngineLemmas.{answers_at_by}
-use Rattle.swd_ends.specs.RemoteRuns.{RanRemoteScript}
+use Rattle.swd_run.specs.Engine.{BatchAnswersAt}
+use Rattle.swd_run.specs.Records.{RunFiles}
+use Rattle.swd_run.proofs.EngineLemmas.{batch_answers_at_by}
+use Rattle.swd_ends.specs.RemoteRuns.{RanRemoteEndScript}
 
 -- what came of a script's batches over a wire to the outside, by the calls that are noted there
-pub ran_remote : {W : Type 0} (calls_in : W → List Call) (story : ℕ → Port) (tries resumes : ℕ) (Over : List Call → Type 0)
-    (batches : List Listed) (s t : W) → calls_in s ≡ [] → Over (calls_in t) → (answer : Result Finished EngineFault)
-    (old new : Option (List ℕ)) (before after : Files)
-    → AnswersAt (λ w. port_at story (calls_in w)) (λ w. []) (λ w. FitsStory story (calls_in w)) tries resumes
+pub remote_end_ran_by_calls : {W : Type 0} (calls_in : W → List Call) (story : ℕ → Port) (tries resumes : ℕ)
+    (Over : List Call → Type 0) (batches : List ScriptListed) (s t : W) → calls_in s ≡ [] → Over (calls_in t)
+    → (answer : Result Finished EngineFault) (old new : Option (List ℕ)) (before after : RunFiles)
+    → BatchAnswersAt (λ w. port_at story (calls_in w)) (λ w. []) (λ w. FitsStory story (calls_in w)) tries resumes
     batches s t answer old new before after
-    → RanRemoteScript story tries resumes Over batches answer old new before after
-ran_remote calls_in story tries resumes Over batches s t begins over answer old new before after answers =
+    → RanRemoteEndScript story tries resumes Over batches answer old new before after
+remote_end_ran_by_calls calls_in story tries resumes Over batches s t begins over answer old new before after answers =
     record {
       calls = calls_in t;
-      answers = answers_at_by calls_in (port_at story) (λ calls. []) (FitsStory story) tries resumes batches s t []
-          begins answer old new before after answers;
+      answers = batch_answers_at_by calls_in (port_at story) (λ calls. []) (FitsStory story) tries resumes batches s t
+          [] begins answer old new before after answers;
       over = over;
     }

@@ -1,55 +1,55 @@
 -- What the result of a script states that was run at a target of which nothing is proved.
 use Rattle.std.specs.Prelude.{◌≡◌, ℕ, List, [], Option, Result, Ok, Err, IfSome}
-use Rattle.swd_io.specs.Pieces.{IsText}
+use Rattle.swd_io.specs.Pieces.{IsReaderText}
 use Rattle.swd_io.specs.declared.pieces.Unread.{Unread}
 use Rattle.swd_io.specs.declared.pieces.Unread.TheVariants.{Reader, Consumer}
 use Rattle.swd_port.specs.declared.call.Call.{Call}
 use Rattle.swd_port.specs.Port.{Port}
 use Rattle.swd_port.specs.Stories.{port_at, FitsStory}
-use Rattle.swd_script.specs.Scripts.{Listed, Meaning, script_of}
+use Rattle.swd_script.specs.Scripts.{ScriptListed, ScriptMeaning, script_of}
 use Rattle.swd_script.specs.Readers.{IsScriptFault}
 use Rattle.swd_script.specs.declared.fault.ScriptFault.{ScriptFault}
 use Rattle.swd_run.specs.declared.engine.Finished.{Finished}
 use Rattle.swd_run.specs.declared.fault.EngineFault.{EngineFault}
-use Rattle.swd_run.specs.Engine.{AnswersAt}
-use Rattle.swd_run.specs.Records.{AreLeft, Files, IsLeft}
+use Rattle.swd_run.specs.Engine.{BatchAnswersAt}
+use Rattle.swd_run.specs.Records.{AreRunFilesLeft, RunFiles, IsRunFileLeft}
 use Rattle.swd_ends.specs.declared.remote.RemoteFault.{RemoteFault}
 use Rattle.swd_ends.specs.declared.remote.RemoteFault.TheVariants.{Script, Read, Engine}
 
 -- The batches of a script were run over a wire to the outside. `calls` are its calls with what came back, the last one
 -- first. The wire is lawful if they are consistent with the story. `Over` holds of the connection and these calls.
-pub record RanRemoteScript (story : ℕ → Port) (tries resumes : ℕ) (Over : List Call → Type 0) (batches : List Listed)
-    (answer : Result Finished EngineFault) (old new : Option (List ℕ)) (before after : Files)
-    : Type 0 where
+pub record RanRemoteEndScript (story : ℕ → Port) (tries resumes : ℕ) (Over : List Call → Type 0)
+    (batches : List ScriptListed) (answer : Result Finished EngineFault) (old new : Option (List ℕ))
+    (before after : RunFiles) : Type 0 where
   pub calls : List Call
-  pub answers : AnswersAt (port_at story) (λ calls. []) (FitsStory story) tries resumes batches [] calls answer old new
-      before after
+  pub answers : BatchAnswersAt (port_at story) (λ calls. []) (FitsStory story) tries resumes batches [] calls answer old
+      new before after
   pub over : Over calls
 
 -- the reader's script was run so
-pub record RanRemote (story : ℕ → Port) (tries resumes : ℕ) (Over : List Call → Type 0)
-    (answer : Result Finished EngineFault) (script old new : Option (List ℕ)) (before after : Files)
+pub record RanRemoteEnd (story : ℕ → Port) (tries resumes : ℕ) (Over : List Call → Type 0)
+    (answer : Result Finished EngineFault) (script old new : Option (List ℕ)) (before after : RunFiles)
     : Type 0 where
   pub text : List ℕ
-  pub is_script : IsText script text
-  pub meaning : Meaning
+  pub is_script : IsReaderText script text
+  pub meaning : ScriptMeaning
   pub means : script_of text ≡ Ok meaning
-  pub ran : RanRemoteScript story tries resumes Over meaning.batches answer old new before after
+  pub ran : RanRemoteEndScript story tries resumes Over meaning.batches answer old new before after
 
 -- What a result states about the script, if its bytes are known, and about the contents of the writers before and
 -- after. `unused` says that the connection wasn't used.
 abbrev pub RunsRemote : (ℕ → Port) → ℕ → ℕ → (List Call → Type 0) → Type 0 → Result Finished RemoteFault
-    → Option (List ℕ) → Option (List ℕ) → Option (List ℕ) → Files → Files → Type 0
+    → Option (List ℕ) → Option (List ℕ) → Option (List ℕ) → RunFiles → RunFiles → Type 0
 RunsRemote story tries resumes Over unused (Ok finished) script old new before after =
-    RanRemote story tries resumes Over (Ok finished) script old new before after
+    RanRemoteEnd story tries resumes Over (Ok finished) script old new before after
 RunsRemote story tries resumes Over unused (Err (Engine fault)) script old new before after =
-    RanRemote story tries resumes Over (Err fault) script old new before after
+    RanRemoteEnd story tries resumes Over (Err fault) script old new before after
 RunsRemote story tries resumes Over unused (Err (Script fault)) script old new before after =
-    IfSome script (IsScriptFault fault) × IsLeft old new × AreLeft before after × unused
+    IfSome script (IsScriptFault fault) × IsRunFileLeft old new × AreRunFilesLeft before after × unused
 RunsRemote story tries resumes Over unused (Err Read) script old new before after =
-    IsLeft old new × AreLeft before after × unused
+    IsRunFileLeft old new × AreRunFilesLeft before after × unused
 
 -- the error of a script that wasn't read
-abbrev pub script_fault : Unread ScriptFault → RemoteFault
-script_fault Reader = Read
-script_fault (Consumer fault) = Script fault
+abbrev pub remote_end_script_fault : Unread ScriptFault → RemoteFault
+remote_end_script_fault Reader = Read
+remote_end_script_fault (Consumer fault) = Script fault

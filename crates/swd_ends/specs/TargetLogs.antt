@@ -4,27 +4,28 @@ use Rattle.std.specs.Prelude.{ℕ, ◌-◌, ◌^◌, min, List, [], ◌∷◌, �
 use Rattle.std.specs.Fmt.{decimal}
 use Rattle.swd_bits.specs.Listing.{hex8}
 use Rattle.swd_port.specs.declared.access.Transfer.{Transfer}
-use Rattle.swd_clocked.specs.declared.marked.MarkedClocked.{MarkedClocked}
-use Rattle.swd_clocked.specs.Marked.{state_of, tally_of, cycles_of}
+use Rattle.swd_clocked.specs.declared.marked.FaultyClocked.{FaultyClocked}
+use Rattle.swd_clocked.specs.Marked.{marked_clocked_state, marked_clocked_tally, marked_clocked_cycles}
 
 -- the line of a transfer, without its line feed
-abbrev pub transfer_line : Transfer → List ℕ
-transfer_line t = (if t.read then codes "r " else codes "w ") ++ hex8 t.addr ++ codes " " ++ hex8 t.word
+abbrev pub live_log_line : Transfer → List ℕ
+live_log_line t = (if t.read then codes "r " else codes "w ") ++ hex8 t.addr ++ codes " " ++ hex8 t.word
 
 -- the last line, without its line feed
-abbrev pub counts_line : ℕ → ℕ → List ℕ
-counts_line cycles requests = codes "cycles " ++ decimal cycles ++ codes " requests " ++ decimal requests
+abbrev pub live_log_counts_line : ℕ → ℕ → List ℕ
+live_log_counts_line cycles requests = codes "cycles " ++ decimal cycles ++ codes " requests " ++ decimal requests
 
 -- the lines of transfers, each with its line feed
-abbrev pub transfer_lines : List Transfer → List ℕ
-transfer_lines [] = []
-transfer_lines (t ∷ transfers) = (transfer_line t ++ 10 ∷ []) ++ transfer_lines transfers
+abbrev pub live_log_lines : List Transfer → List ℕ
+live_log_lines [] = []
+live_log_lines (t ∷ transfers) = (live_log_line t ++ 10 ∷ []) ++ live_log_lines transfers
 
 -- the whole output
-abbrev pub log_text : List Transfer → ℕ → ℕ → List ℕ
-log_text transfers cycles requests = transfer_lines transfers ++ (counts_line cycles requests ++ 10 ∷ [])
+abbrev pub live_log_text : List Transfer → ℕ → ℕ → List ℕ
+live_log_text transfers cycles requests = live_log_lines transfers ++ (live_log_counts_line cycles requests ++ 10 ∷ [])
 
 -- the log of a target, behind so many transfers
-abbrev pub log_from : {A : Type 0} → ℕ → MarkedClocked A → List ℕ
-log_from skipped target =
-    log_text (drop skipped (state_of target).memory.log) (cycles_of target) (min (tally_of target).asked (2 ^ 64 - 1))
+abbrev pub live_log_from : {A : Type 0} → ℕ → FaultyClocked A → List ℕ
+live_log_from skipped target =
+    live_log_text (drop skipped (marked_clocked_state target).memory.log) (marked_clocked_cycles target)
+    (min (marked_clocked_tally target).asked (2 ^ 64 - 1))

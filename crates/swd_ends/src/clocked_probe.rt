@@ -3,7 +3,7 @@ ghost use Rattle.std.specs.Prelude.{◌≡◌, ◌<◌, ◌≤◌, ◌^◌, ◌+
 ghost use Rattle.swd_bits.specs.Bits.{low_bits};
 
 use std::alloc::{Allocator, Global};
-use swd_clocked::MarkedClocked;
+use swd_clocked::FaultyClocked;
 use swd_port::Disconnected;
 use swd_remote::{Probe, Sequence};
 
@@ -14,7 +14,7 @@ const MOST: u8 = 64;
 /// the next exchange. Of more than 64 levels since the last exchange it keeps the first 64.
 #[derive(Drop)]
 pub struct ClockedProbe<A: Allocator = Global> {
-    pub(crate) target: MarkedClocked<A>,
+    pub(crate) target: FaultyClocked<A>,
     // The levels since the last exchange, the first one least significant, and their number.
     pub(crate) levels: u64,
     pub(crate) sampled: u8,
@@ -23,12 +23,13 @@ pub struct ClockedProbe<A: Allocator = Global> {
 }
 
 impl<A: Allocator> ClockedProbe<A> {
-    ghost use Rattle.swd_ends.specs.ClockedProbes.{target_of, waiting, GoBy, PassesBy, Clocked};
+    ghost use Rattle.swd_ends.specs.ClockedProbes.{clocked_probe_target, clocked_probe_waiting, ClockedProbeCycles};
+    ghost use Rattle.swd_ends.specs.ClockedProbes.{ClockedProbePasses, ClockedProbeSequence};
 
     /// Returns a probe over this target, without levels.
-    pub fn new(target: MarkedClocked<A>) -> ClockedProbe<A>
-        ensures target { target_of result ≡ target }
-        ensures waits { waiting result ≡ [] }
+    pub fn new(target: FaultyClocked<A>) -> ClockedProbe<A>
+        ensures target { clocked_probe_target result ≡ target }
+        ensures waits { clocked_probe_waiting result ≡ [] }
     {
         ClockedProbe {
             target,
@@ -38,15 +39,15 @@ impl<A: Allocator> ClockedProbe<A> {
     }
 
     /// Consumes the probe, and returns the target.
-    pub fn into_target(self) -> MarkedClocked<A>
-        ensures { result ≡ target_of self }
+    pub fn into_target(self) -> FaultyClocked<A>
+        ensures { result ≡ clocked_probe_target self }
     {
         let ClockedProbe { target, .. } = self;
         target
     }
 
     fn drive(&mut self, bits: u64, count: u8)
-        ensures { PassesBy (map Some (low_bits count bits)) self.old self.new }
+        ensures { ClockedProbePasses (map Some (low_bits count bits)) self.old self.new }
     {
         let mut rest = bits;
         for place in 0..count {
@@ -56,7 +57,7 @@ impl<A: Allocator> ClockedProbe<A> {
     }
 
     fn hold(&mut self, drive: Option<bool>, count: u32)
-        ensures { PassesBy (replicate count drive) self.old self.new }
+        ensures { ClockedProbePasses (replicate count drive) self.old self.new }
     {
         for place in 0..count {
             let _ = self.target.cycle(drive);
@@ -64,7 +65,7 @@ impl<A: Allocator> ClockedProbe<A> {
     }
 
     fn sample(&mut self, count: u8)
-        ensures { Clocked (Sequence.Sample count) self.old self.new }
+        ensures { ClockedProbeSequence (Sequence.Sample count) self.old self.new }
     {
         for place in 0..count {
             let level = self.target.cycle(None);
@@ -74,8 +75,8 @@ impl<A: Allocator> ClockedProbe<A> {
 
     // Appends a level if there is room for it.
     fn keep(&mut self, level: bool)
-        ensures waits { waiting self.new ≡ take 64 (waiting self.old ++ level ∷ []) }
-        ensures target { target_of self.new ≡ target_of self.old }
+        ensures waits { clocked_probe_waiting self.new ≡ take 64 (clocked_probe_waiting self.old ++ level ∷ []) }
+        ensures target { clocked_probe_target self.new ≡ clocked_probe_target self.old }
     {
         if self.sampled < MOST {
             self.levels += u64::from(level) << self.sampled;
@@ -85,11 +86,11 @@ impl<A: Allocator> ClockedProbe<A> {
 }
 
 impl<A: Allocator> Probe for ClockedProbe<A> {
-    ghost use Rattle.swd_ends.specs.ClockedProbes.{Clocked, HandsOut};
+    ghost use Rattle.swd_ends.specs.ClockedProbes.{ClockedProbeSequence, ClockedProbeHandsOut};
 
-    ghost queues = { λ sequence s t. Clocked sequence s t };
+    ghost queues = { λ sequence s t. ClockedProbeSequence sequence s t };
 
-    ghost exchanges = { λ result s t. HandsOut result s t };
+    ghost exchanges = { λ result s t. ClockedProbeHandsOut result s t };
 
     fn queue(&mut self, sequence: Sequence) {
         match sequence {

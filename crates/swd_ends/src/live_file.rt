@@ -1,7 +1,7 @@
 //! A file that is written while what it is about still grows.
 ghost use Rattle.std.specs.Prelude.{◌≡◌, ◌≤◌, ◌∷◌, ◌++◌, [], drop, false, length, true};
-ghost use Rattle.swd_ends.specs.TargetLogs.{transfer_lines};
-ghost use Rattle.swd_ends.specs.LiveFiles.{Adds, AddsRest, IsFresh};
+ghost use Rattle.swd_ends.specs.TargetLogs.{live_log_lines};
+ghost use Rattle.swd_ends.specs.LiveFiles.{LiveFileAdds, LiveFileAddsRest, IsFreshLiveFile};
 
 use crate::target_log::put_transfers;
 use std::io::Write;
@@ -20,7 +20,7 @@ pub(crate) struct LiveFile<M> {
 impl<M> LiveFile<M> {
     /// Returns a file to which nothing was written yet.
     pub(crate) fn new(writer: M) -> LiveFile<M>
-        ensures { IsFresh writer result }
+        ensures { IsFreshLiveFile writer result }
     {
         LiveFile {
             writer,
@@ -33,7 +33,7 @@ impl<M> LiveFile<M> {
 impl<M: Write> LiveFile<M> {
     /// Writes the lines of the transfers of a log behind those that were written.
     pub(crate) fn add_transfers(&mut self, log: &[Transfer])
-        ensures { AddsRest M.contents (λ n. transfer_lines (drop n log.now)) (length log.now) self.old self.new }
+        ensures { LiveFileAddsRest M.contents (λ n. live_log_lines (drop n log.now)) (length log.now) self.old self.new }
     {
         if self.failed || self.done >= log.len() {
             return;
@@ -47,7 +47,7 @@ impl<M: Write> LiveFile<M> {
 
     /// Writes the characters of a text behind those that were written.
     pub(crate) fn add_text(&mut self, text: &[u8])
-        ensures { AddsRest M.contents (λ n. drop n text.now) (length text.now) self.old self.new }
+        ensures { LiveFileAddsRest M.contents (λ n. drop n text.now) (length text.now) self.old self.new }
     {
         if self.failed || self.done >= text.len() {
             return;
@@ -60,7 +60,7 @@ impl<M: Write> LiveFile<M> {
     /// Writes the last line, and its line feed.
     pub(crate) fn add_last(&mut self, line: &[u8])
         requires { length line.now ≤ LONGEST }
-        ensures adds { Adds M.contents (line.now ++ 10 ∷ []) self.old self.new }
+        ensures adds { LiveFileAdds M.contents (line.now ++ 10 ∷ []) self.old self.new }
         ensures failed { self.old.failed ≡ true → self.new ≡ self.old }
     {
         if self.failed {

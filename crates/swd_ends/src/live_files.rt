@@ -1,10 +1,12 @@
 //! Serves a host at a target, and writes the target's log and trace while the session goes on.
 ghost use Rattle.std.specs.Prelude.{◌≡◌, ◌≤◌, ◌↔◌, ◌∷◌, ◌++◌, [], drop, false, length, true};
-ghost use Rattle.swd_bitbang.specs.Sessions.{Serves};
-ghost use Rattle.swd_ends.specs.TargetLogs.{transfer_lines};
-ghost use Rattle.swd_ends.specs.LiveFiles.{AddsIf, AddsRestIf, FinishesIf, Follows, IsFreshIf, IsGiven, did_fail};
-ghost use Rattle.swd_ends.specs.LiveFiles.{first_characters, first_lines, follows_further, follows_nowhere, is_sound};
-ghost use Rattle.swd_ends.specs.LiveFiles.{log_at, trace_at, transfers_at, whole_log, whole_trace, writer_in};
+ghost use Rattle.swd_bitbang.specs.Sessions.{BitbangServes};
+ghost use Rattle.swd_ends.specs.TargetLogs.{live_log_lines};
+ghost use Rattle.swd_ends.specs.LiveFiles.{LiveFileAddsIf, LiveFileAddsRestIf, LiveFileFinishesIf, LiveFilesFollow};
+ghost use Rattle.swd_ends.specs.LiveFiles.{IsFreshLiveFileIf, IsLiveFileGiven, live_file_did_fail, live_trace_first};
+ghost use Rattle.swd_ends.specs.LiveFiles.{live_log_first, live_files_follow_further, live_files_follow_nowhere};
+ghost use Rattle.swd_ends.specs.LiveFiles.{live_pins_sound, live_log_at, live_trace_at, live_transfers_at};
+ghost use Rattle.swd_ends.specs.LiveFiles.{live_log_whole, live_trace_whole, live_file_writer_in};
 
 use crate::live_file::LiveFile;
 use crate::target_log::counts_line;
@@ -24,7 +26,7 @@ pub struct LiveFiles<M> {
 
 // Returns a file to which nothing was written yet, if there is a writer.
 fn fresh<M>(writer: Option<M>) -> Option<LiveFile<M>>
-    ensures { IsFreshIf writer result }
+    ensures { IsFreshLiveFileIf writer result }
 {
     match writer {
         Some(writer) => Some(LiveFile::new(writer)),
@@ -45,7 +47,7 @@ fn transfers_since(log: &[Transfer], skipped: usize) -> &[Transfer]
 
 // Writes the transfers behind those that were written, if there is a file.
 fn log_on<M: Write>(file: &mut Option<LiveFile<M>>, log: &[Transfer])
-    ensures { AddsRestIf M.contents (λ n. transfer_lines (drop n log.now)) (length log.now) file.old file.new }
+    ensures { LiveFileAddsRestIf M.contents (λ n. live_log_lines (drop n log.now)) (length log.now) file.old file.new }
 {
     if let Some(file) = file {
         file.add_transfers(log);
@@ -54,7 +56,7 @@ fn log_on<M: Write>(file: &mut Option<LiveFile<M>>, log: &[Transfer])
 
 // Writes the characters behind those that were written, if there is a file.
 fn trace_on<M: Write>(file: &mut Option<LiveFile<M>>, text: &[u8])
-    ensures { AddsRestIf M.contents (λ n. drop n text.now) (length text.now) file.old file.new }
+    ensures { LiveFileAddsRestIf M.contents (λ n. drop n text.now) (length text.now) file.old file.new }
 {
     if let Some(file) = file {
         file.add_text(text);
@@ -64,7 +66,7 @@ fn trace_on<M: Write>(file: &mut Option<LiveFile<M>>, text: &[u8])
 // Writes the last line and its line feed, if there is a file.
 fn end<M: Write>(file: &mut Option<LiveFile<M>>, line: &[u8])
     requires { length line.now ≤ 1024 }
-    ensures { AddsIf M.contents (line.now ++ 10 ∷ []) file.old file.new }
+    ensures { LiveFileAddsIf M.contents (line.now ++ 10 ∷ []) file.old file.new }
 {
     if let Some(file) = file {
         file.add_last(line);
@@ -73,7 +75,7 @@ fn end<M: Write>(file: &mut Option<LiveFile<M>>, line: &[u8])
 
 // Returns whether the writer failed, if there is a file.
 fn has_failed<M>(file: &Option<LiveFile<M>>) -> bool
-    ensures { result ≡ did_fail file.now }
+    ensures { result ≡ live_file_did_fail file.now }
 {
     match file {
         Some(file) => file.failed,
@@ -83,7 +85,7 @@ fn has_failed<M>(file: &Option<LiveFile<M>>) -> bool
 
 // Returns the writer, if there is a file.
 fn writer_of<M>(file: Option<LiveFile<M>>) -> Option<M>
-    ensures { result ≡ writer_in file }
+    ensures { result ≡ live_file_writer_in file }
 {
     match file {
         Some(file) => Some(file.writer),
@@ -94,22 +96,23 @@ fn writer_of<M>(file: Option<LiveFile<M>>) -> Option<M>
 impl<M> LiveFiles<M> {
     /// Returns the writers of the log and the trace.
     pub fn into_writers(self) -> (Option<M>, Option<M>)
-        ensures log { result.0 ≡ writer_in self.log }
-        ensures trace { result.1 ≡ writer_in self.trace }
+        ensures log { result.0 ≡ live_file_writer_in self.log }
+        ensures trace { result.1 ≡ live_file_writer_in self.trace }
     {
         (writer_of(self.log), writer_of(self.trace))
     }
 
     /// Returns whether no writer failed: then each file is whole.
     pub fn are_whole(&self) -> bool
-        ensures { (result ≡ true) ↔ ((did_fail self.now.log ≡ false) × (did_fail self.now.trace ≡ false)) }
+        ensures { (result ≡ true) ↔ ((live_file_did_fail self.now.log ≡ false)
+            × (live_file_did_fail self.now.trace ≡ false)) }
     {
         !has_failed(&self.log) && !has_failed(&self.trace)
     }
 }
 
 impl<A: Allocator, M: Write> Watch<A> for LiveFiles<M> {
-    ghost follows = { Follows M.contents };
+    ghost follows = { LiveFilesFollow M.contents };
 
     // Writes what isn't written yet.
     fn see(&mut self, pins: &Pins<A>) {
@@ -120,18 +123,18 @@ impl<A: Allocator, M: Write> Watch<A> for LiveFiles<M> {
         trace_on(&mut self.trace, pins.trace().text());
     }
 
-    ghost stays = { follows_nowhere M.contents };
+    ghost stays = { live_files_follow_nowhere M.contents };
 
-    ghost goes_on = { follows_further M.contents };
+    ghost goes_on = { live_files_follow_further M.contents };
 }
 
 impl<M: Write> LiveFiles<M> {
     // Writes what isn't written yet, and the last lines.
     fn finish<A: Allocator>(&mut self, pins: &Pins<A>)
-        ensures log { FinishesIf M.contents (first_lines self.old.skipped pins.now)
-            (length (log_at self.old.skipped pins.now)) (whole_log self.old.skipped pins.now) self.old.log self.new.log }
-        ensures trace { FinishesIf M.contents (first_characters pins.now) (length (trace_at pins.now))
-            (whole_trace pins.now) self.old.trace self.new.trace }
+        ensures log { LiveFileFinishesIf M.contents (live_log_first self.old.skipped pins.now)
+            (length (live_log_at self.old.skipped pins.now)) (live_log_whole self.old.skipped pins.now) self.old.log self.new.log }
+        ensures trace { LiveFileFinishesIf M.contents (live_trace_first pins.now) (length (live_trace_at pins.now))
+            (live_trace_whole pins.now) self.old.trace self.new.trace }
     {
         let target = pins.target();
         let log = transfers_since(target.memory().log(), self.skipped);
@@ -158,10 +161,11 @@ pub fn serve_logged<R: Read, W: Write, M: Write, A: Allocator>(
     log: Option<M>,
     trace: Option<M>,
 ) -> (Served, Pins<A>, LiveFiles<M>)
-    ensures session { Serves result.0 (R.remaining reader.old) (R.remaining reader.new)
+    ensures session { BitbangServes result.0 (R.remaining reader.old) (R.remaining reader.new)
         (W.contents writer.old) (W.contents writer.new) pins result.1 }
-    ensures log { is_sound pins → IsGiven M.contents (whole_log (length (transfers_at pins)) result.1) log result.2.log }
-    ensures trace { is_sound pins → IsGiven M.contents (whole_trace result.1) trace result.2.trace }
+    ensures log { live_pins_sound pins → IsLiveFileGiven M.contents
+        (live_log_whole (length (live_transfers_at pins)) result.1) log result.2.log }
+    ensures trace { live_pins_sound pins → IsLiveFileGiven M.contents (live_trace_whole result.1) trace result.2.trace }
 {
     let files = LiveFiles {
         skipped: pins.target().memory().log().len(),

@@ -1,17 +1,17 @@
 //! Runs a script at a target behind OpenOCD's remote_bitbang characters.
 ghost use Rattle.std.specs.Prelude.{◌≡◌};
-ghost use Rattle.swd_remote.specs.WholeRuns.{GoesOver, IsUnused};
-ghost use Rattle.swd_script.specs.Laws.{IsRunnable};
-ghost use Rattle.swd_script.specs.Readers.{meaning};
-ghost use Rattle.swd_run.specs.Records.{files_of};
-ghost use Rattle.swd_ends.specs.RemoteRuns.{RanRemoteScript, RunsRemote, script_fault};
+ghost use Rattle.swd_remote.specs.WholeRuns.{GoesOver, IsUnusedRemote};
+ghost use Rattle.swd_script.specs.Laws.{IsScriptRunnable};
+ghost use Rattle.swd_script.specs.Readers.{read_script_meaning};
+ghost use Rattle.swd_run.specs.Records.{run_files_of};
+ghost use Rattle.swd_ends.specs.RemoteRuns.{RanRemoteEndScript, RunsRemote, remote_end_script_fault};
 
 use std::alloc::Allocator;
 use std::io::{Read, Write};
 use std::marker::Brand;
 use swd_io::Unread;
-use swd_port::{Outside, Story, Tied};
-use swd_remote::{Beginning, Kept, Line};
+use swd_port::{Story, Tied, TransportWire};
+use swd_remote::{InitialStreams, RemoteStreams, RemoteTransport};
 use swd_run::{EngineFault, Finished, Records, run_batches};
 use swd_script::{Script, ScriptFault, read_script};
 use thiserror::Error;
@@ -33,7 +33,7 @@ pub enum RemoteFault {
 impl RemoteFault {
     /// Returns the error of a script that wasn't read.
     pub fn unread(unread: Unread<ScriptFault>) -> RemoteFault
-        ensures { result ≡ script_fault unread }
+        ensures { result ≡ remote_end_script_fault unread }
     {
         match unread {
             Unread::Reader => RemoteFault::Read,
@@ -66,18 +66,18 @@ pub fn run_remote<
     resumes: u32,
     report: &mut O,
     records: &mut Records<T>,
-) -> (Result<Finished, RemoteFault>, Line<R, W>)
+) -> (Result<Finished, RemoteFault>, RemoteStreams<R, W>)
     ensures { RunsRemote P.at tries resumes
         (λ calls. ∥ GoesOver R.remaining W.contents (W.contents writer) (R.remaining reader) result.1 calls ∥₁)
-        (IsUnused R.remaining W.contents (W.contents writer) (R.remaining reader) result.1)
+        (IsUnusedRemote R.remaining W.contents (W.contents writer) (R.remaining reader) result.1)
         result.0 (S.remaining script.old) (O.contents report.old) (O.contents report.new)
-        (files_of T.contents records.old) (files_of T.contents records.new) }
+        (run_files_of T.contents records.old) (run_files_of T.contents records.new) }
 {
     let script = match read_script(alloc, script) {
         Ok(script) => script,
         Err(unread) => return (
             Err(RemoteFault::unread(unread)),
-            Line::unused(reader, writer),
+            RemoteStreams::unused(reader, writer),
         ),
     };
     let (answer, line) = run_remote_script::<P, R, W, O, T, A>(
@@ -117,12 +117,12 @@ pub fn run_remote_script<
     resumes: u32,
     report: &mut O,
     records: &mut Records<T>,
-) -> (Result<Finished, EngineFault>, Line<R, W>)
-    requires { IsRunnable (meaning script.now) }
-    ensures { RanRemoteScript P.at tries resumes
+) -> (Result<Finished, EngineFault>, RemoteStreams<R, W>)
+    requires { IsScriptRunnable (read_script_meaning script.now) }
+    ensures { RanRemoteEndScript P.at tries resumes
         (λ calls. ∥ GoesOver R.remaining W.contents (W.contents writer) (R.remaining reader) result.1 calls ∥₁)
-        (meaning script.now).batches result.0 (O.contents report.old) (O.contents report.new)
-        (files_of T.contents records.old) (files_of T.contents records.new) }
+        (read_script_meaning script.now).batches result.0 (O.contents report.old) (O.contents report.new)
+        (run_files_of T.contents records.old) (run_files_of T.contents records.new) }
 {
     run_begun::<P, Brand, R, W, O, T, A>(
         alloc, script, reader, writer, tries, resumes, report, records,
@@ -132,7 +132,7 @@ pub fn run_remote_script<
 // Runs a script's calls over a connection from its beginning on, and then sends `Q`.
 fn run_begun<
     P: Story,
-    B: Beginning,
+    B: InitialStreams,
     R: Read,
     W: Write,
     O: Write,
@@ -147,16 +147,18 @@ fn run_begun<
     resumes: u32,
     report: &mut O,
     records: &mut Records<T>,
-) -> (Result<Finished, EngineFault>, Line<R, W>)
-    requires script { IsRunnable (meaning script.now) }
+) -> (Result<Finished, EngineFault>, RemoteStreams<R, W>)
+    requires script { IsScriptRunnable (read_script_meaning script.now) }
     requires sent { B.sent ≡ W.contents writer }
     requires left { B.left ≡ R.remaining reader }
-    ensures { RanRemoteScript P.at tries resumes
+    ensures { RanRemoteEndScript P.at tries resumes
         (λ calls. ∥ GoesOver R.remaining W.contents B.sent B.left result.1 calls ∥₁)
-        (meaning script.now).batches result.0 (O.contents report.old) (O.contents report.new)
-        (files_of T.contents records.old) (files_of T.contents records.new) }
+        (read_script_meaning script.now).batches result.0 (O.contents report.old) (O.contents report.new)
+        (run_files_of T.contents records.old) (run_files_of T.contents records.new) }
 {
-    let wire: Outside<Kept<R, W, B>, P, Tied> = Outside::begun(Kept::new(reader, writer));
+    let wire: TransportWire<RemoteTransport<R, W, B>, P, Tied> = TransportWire::begun(
+        RemoteTransport::new(reader, writer),
+    );
     let batches = script.batches.as_slice();
     let (answer, wire) = run_batches(alloc, wire, batches, tries, resumes, report, records);
     (answer, wire.into_transport().hang_up())

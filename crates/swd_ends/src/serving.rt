@@ -1,13 +1,14 @@
 //! Makes the simulated target of a memory, or of a script, and a plan for an external host.
 ghost use Rattle.std.specs.Prelude.{◌≡◌, ◌↔◌, true, map, IfOk, IfErr};
-ghost use Rattle.swd_script.specs.Readers.{listed};
-ghost use Rattle.swd_target.specs.Marks.{IsPlan};
-ghost use Rattle.swd_ends.specs.Serving.{IsAtRest, IsBare, IsMade, IsTargetFault, Simulates};
+ghost use Rattle.swd_script.specs.Readers.{script_batch_listed};
+ghost use Rattle.swd_target.specs.Marks.{IsLegalPlan};
+ghost use Rattle.swd_ends.specs.Serving.{AreTargetEndPinsAtRest, IsTargetEndScript, IsTargetEndMade, IsTargetEndFault};
+ghost use Rattle.swd_ends.specs.Serving.{SimulatesTargetEnd};
 
 use std::alloc::Allocator;
 use std::io::Read;
 use swd_bitbang::{Pins, Trace};
-use swd_clocked::MarkedClocked;
+use swd_clocked::FaultyClocked;
 use swd_port::Mark;
 use swd_run::{QUIRKS, Texts, TextsFault, read_texts, zero_memory};
 use swd_script::Batch;
@@ -27,11 +28,11 @@ pub enum TargetFault {
 /// Returns the pins of a simulated target with this memory and a plan of these marks, before the host moved any. The
 /// target's choices are those of `swd run`. The pins record in `trace`.
 pub fn target_pins<A: Allocator>(memory: Memory<A>, plan: Vec<Mark, A>, trace: Trace<A>) -> Pins<A>
-    requires { IsPlan plan.items }
-    ensures made { IsMade memory plan.items result.target }
-    ensures rests { IsAtRest trace result }
+    requires { IsLegalPlan plan.items }
+    ensures made { IsTargetEndMade memory plan.items result.target }
+    ensures rests { AreTargetEndPinsAtRest trace result }
 {
-    Pins::new(MarkedClocked::new(memory, QUIRKS, plan), trace)
+    Pins::new(FaultyClocked::new(memory, QUIRKS, plan), trace)
 }
 
 /// Reads a script and a plan, and returns the pins of the simulated target that they describe, before the host moved
@@ -48,8 +49,8 @@ pub fn read_target<S: Read, P: Read, A: Allocator + Copy>(
     plan: &mut P,
     trace: Trace<A>,
 ) -> Result<Pins<A>, TargetFault>
-    ensures made { IfOk result (λ pins. Simulates (S.remaining script.old) (P.remaining plan.old) trace pins) }
-    ensures fault { IfErr result (λ fault. IsTargetFault fault (S.remaining script.old) (P.remaining plan.old)) }
+    ensures made { IfOk result (λ pins. SimulatesTargetEnd (S.remaining script.old) (P.remaining plan.old) trace pins) }
+    ensures fault { IfErr result (λ fault. IsTargetEndFault fault (S.remaining script.old) (P.remaining plan.old)) }
 {
     let Texts { script, plan } = match read_texts(alloc, script, plan) {
         Ok(texts) => texts,
@@ -66,7 +67,7 @@ pub fn read_target<S: Read, P: Read, A: Allocator + Copy>(
 
 // Returns whether there is exactly one call, without accesses.
 fn is_bare<A: Allocator>(batches: &[Batch<A>]) -> bool
-    ensures { (result ≡ true) ↔ IsBare (map listed batches.now) }
+    ensures { (result ≡ true) ↔ IsTargetEndScript (map script_batch_listed batches.now) }
 {
     match batches {
         [batch] => batch.accesses.is_empty(),

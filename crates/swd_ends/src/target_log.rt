@@ -1,8 +1,8 @@
 //! The lines of a served target's log.
-ghost use Rattle.std.specs.Prelude.{◌≡◌, ◌≤◌, ℕ, List, ◌++◌, Option};
+ghost use Rattle.std.specs.Prelude.{◌≡◌, ◌≤◌};
 ghost use Rattle.arrayvec.specs.ArrayString.{array_string_len};
-ghost use Rattle.swd_io.specs.Blocks.{Sends};
-ghost use Rattle.swd_ends.specs.TargetLogs.{counts_line, transfer_line, transfer_lines};
+ghost use Rattle.swd_io.specs.Blocks.{BlockQueues};
+ghost use Rattle.swd_ends.specs.TargetLogs.{live_log_counts_line, live_log_line, live_log_lines};
 
 use arrayvec::ArrayString;
 use std::io::Write;
@@ -15,7 +15,7 @@ pub(crate) type LogLine = ArrayString<64>;
 
 // Returns the line of a transfer without its line feed, such as `w 20000000 deadbeef`.
 fn transfer_line(transfer: &Transfer) -> LogLine
-    ensures bytes { result.bytes ≡ transfer_line transfer.now }
+    ensures bytes { result.bytes ≡ live_log_line transfer.now }
     ensures len { array_string_len result ≤ 64 }
 {
     let mut text = LogLine::new();
@@ -28,7 +28,7 @@ fn transfer_line(transfer: &Transfer) -> LogLine
 
 /// Returns the last line without its line feed, such as `cycles 552 requests 16`.
 pub(crate) fn counts_line(cycles: u64, requests: u64) -> LogLine
-    ensures bytes { result.bytes ≡ counts_line cycles requests }
+    ensures bytes { result.bytes ≡ live_log_counts_line cycles requests }
     ensures len { array_string_len result ≤ 64 }
 {
     let mut text = LogLine::new();
@@ -42,8 +42,7 @@ pub(crate) fn counts_line(cycles: u64, requests: u64) -> LogLine
 
 /// Also queues the lines of these transfers.
 pub(crate) fn put_transfers<W: Write>(block: &mut Block<'_, W>, transfers: &[Transfer])
-    ensures sends { (start : Option (List ℕ)) (all : List ℕ) → Sends W.contents start block.old all
-        → Sends W.contents start block.new (all ++ transfer_lines transfers.now) }
+    ensures sends { BlockQueues W.contents (live_log_lines transfers.now) block.old block.new }
     ensures writer { block.new.writer.ghost_name ≡ block.old.writer.ghost_name }
 {
     for transfer in transfers {

@@ -1,41 +1,46 @@
 -- Going on after a lost acknowledgement: each data phase, each turnaround and the line reset keep what is known.
-use Rattle.swd_host.proofs.Words.{◌≡◌, ◌+◌, ◌^◌, ◌<◌, ℕ, Bool, refl, sym, ap, subst, arith, ◌∙◌, inl, inr, Some}
-use Rattle.swd_host.proofs.Words.{None, ◌⊎◌, Port, AbortWrite, phase_number, word_in, Takes}
-use Rattle.swd_host.proofs.Words.{Gives, Gave, Spoiled, Clears, Flags, Identify, WriteAbort, CheckCtrlStat, Select, Job}
-use Rattle.swd_host.proofs.Words.{At, Status}
-use Rattle.swd_host.proofs.Words.{Clear, Check, Task, flags_in, clear_word, word_for, Reads, Writes, whole, changed}
-use Rattle.swd_host.proofs.Words.{Glimpsed, Shows, Woken, AbortWritten, clean, hurt, Met, Clearing, Cleared, gone}
-use Rattle.swd_host.proofs.Words.{still}
-use Rattle.swd_host.proofs.Words.{EarlyBefore, EarlyDuring, EarlyTaken}
-use Rattle.swd_port.proofs.MovingLaws.{data_taken, take_moves_nothing, data_given}
-use Rattle.swd_port.proofs.StatusLaws.{flags_cleared}
-use Rattle.swd_host.specs.Early.{EarlySent}
-use Rattle.swd_host.proofs.Frames.{Frame, frame_passed, same_passed, frame_abort, frame_spoiled}
-use Rattle.swd_host.proofs.Takes.{got_whole_of, got_changed_of, live_reset}
-use Rattle.swd_host.proofs.Gives.{phase_is, spells, whole_given, changed_given, clear_small, sticky_gone, write_gone}
-use Rattle.swd_host.proofs.EarlyFrames.{awaited_quiet, woken_stays, early_stays, woken_carried, early_carried}
-use Rattle.swd_host.proofs.EarlyFrames.{cleared_rests}
+use Rattle.swd_host.proofs.Words.{◌≡◌, ◌+◌, ◌^◌, ◌<◌, ℕ, Bool, refl, sym, ap, subst, arith, ◌∙◌, inl, inr, Some, None}
+use Rattle.swd_host.proofs.Words.{◌⊎◌, Port, AbortWrite, data_phase_number, data_phase_word, PortTakes, PortGives}
+use Rattle.swd_host.proofs.Words.{PortWritten, PortWriteSpoiled, PortAbortClears, Flags, Identify, WriteAbort}
+use Rattle.swd_host.proofs.Words.{CheckCtrlStat, Select, Job, At, Status, Clear, Check, Task, host_flags_in}
+use Rattle.swd_host.proofs.Words.{host_abort_word, engine_word_for, EngineReads, EngineWrites, whole, changed}
+use Rattle.swd_host.proofs.Words.{ResumeGlimpsedFlags, ResumeReadFlags, ResumedAwake, ResumedAbortWritten, clean, hurt}
+use Rattle.swd_host.proofs.Words.{ResumedMetBusError, ResumedFlagsOwed, ResumedFlagsCleared, gone, still, ResumedBefore}
+use Rattle.swd_host.proofs.Words.{ResumedDuring, ResumedOpeningTookData}
+use Rattle.swd_port.proofs.MovingLaws.{port_data_taken, port_take_keeps, port_data_given}
+use Rattle.swd_port.proofs.StatusLaws.{port_abort_clears_flags}
+use Rattle.swd_host.specs.Early.{ResumedOpeningSentData}
+use Rattle.swd_host.proofs.Frames.{HostFrame, host_frame_passed, host_flags_passed, host_frame_abort}
+use Rattle.swd_host.proofs.Frames.{host_frame_spoiled}
+use Rattle.swd_host.proofs.Takes.{host_word_whole, host_word_changed, host_live_was_reset}
+use Rattle.swd_host.proofs.Gives.{host_phase_of_word, host_phase_bits, host_write_whole, host_write_changed}
+use Rattle.swd_host.proofs.Gives.{host_clear_word_small, host_stickyerr_cleared, host_wdataerr_cleared}
+use Rattle.swd_host.proofs.EarlyFrames.{opening_flag_awaited, opening_woken_completed, opening_job_completed}
+use Rattle.swd_host.proofs.EarlyFrames.{opening_woken_framed, opening_job_framed, opening_cleared_rests}
 
 -- DATA PHASES THAT ARE READ
-module _ (n : ℕ) (stray : Bool) (start : Port) (bits : ℕ) (s t : Port) (range : bits < 2 ^ 33) (takes : Takes s bits t)
+module _ (n : ℕ) (stray : Bool) (start : Port) (bits : ℕ) (s t : Port) (range : bits < 2 ^ 33)
+    (takes : PortTakes s bits t)
   where
     -- what is known before a request is known after a data phase that is read
-    read_keeps : (job : Job) (c : ℕ) → EarlyBefore job c stray start s → EarlyBefore job c stray start t
+    read_keeps : (job : Job) (c : ℕ) → ResumedBefore job c stray start s → ResumedBefore job c stray start t
     read_keeps job c h =
-        let (y, first, p, idle) = take_moves_nothing bits s t takes in
-        early_carried job c c stray start y t (frame_passed y t p) (same_passed y t p)
-        (omega (arith, ap (λ i. i.disturbed) p.tally)) (early_stays job c stray start s y first h)
+        let (y, first, p, idle) = port_take_keeps bits s t takes in
+        opening_job_framed job c c stray start y t (host_frame_passed y t p) (host_flags_passed y t p)
+        (omega (arith, ap (λ i. i.disturbed) p.tally)) (opening_job_completed job c stray start s y first h)
 
     -- a word that was read is told whole, or has to come again
-    take_early : (job : Job) (word : ℕ) (Q : ℕ → Type 0) → Reads word n Q s
-        → (Q n → EarlyTaken job (Some word) n stray start t) → (Q (n + 1) → EarlyTaken job None n stray start t)
-        → EarlyTaken job (word_in bits) n stray start t
+    take_early : (job : Job) (word : ℕ) (Q : ℕ → Type 0) → EngineReads word n Q s
+        → (Q n → ResumedOpeningTookData job (Some word) n stray start t)
+        → (Q (n + 1) → ResumedOpeningTookData job None n stray start t)
+        → ResumedOpeningTookData job (data_phase_word bits) n stray start t
     take_early job word Q (whole line small h) good bad =
-        subst (λ w. EarlyTaken job w n stray start t)
-        (sym (got_whole_of word bits (data_taken None word bits s t line small range takes))) (good h)
+        subst (λ w. ResumedOpeningTookData job w n stray start t)
+        (sym (host_word_whole word bits (port_data_taken None word bits s t line small range takes))) (good h)
     take_early job word Q (changed place line small h) good bad =
-        subst (λ w. EarlyTaken job w n stray start t)
-        (sym (got_changed_of place word bits (data_taken (Some place) word bits s t line small range takes))) (bad h)
+        subst (λ w. ResumedOpeningTookData job w n stray start t)
+        (sym (host_word_changed place word bits (port_data_taken (Some place) word bits s t line small range takes)))
+        (bad h)
 
     -- WDATAERR stays over a data phase that is read
     write_passed : t.target.write_error ≡ s.target.write_error
@@ -49,17 +54,17 @@ module _ (n : ℕ) (stray : Bool) (start : Port) (bits : ℕ) (s t : Port) (rang
     sticky_passed : s.target.pending ≡ None → t.target.sticky_error ≡ s.target.sticky_error
     sticky_passed e = grind arith
 
-    take_identify : Reads s.target.identification n (λ c. Woken c stray start s) s
-        → EarlyTaken (At Identify) (word_in bits) n stray start t
-    take_identify h = take_early (At Identify) s.target.identification (λ c. Woken c stray start s) h
+    take_identify : EngineReads s.target.identification n (λ c. ResumedAwake c stray start s) s
+        → ResumedOpeningTookData (At Identify) (data_phase_word bits) n stray start t
+    take_identify h = take_early (At Identify) s.target.identification (λ c. ResumedAwake c stray start s) h
         (λ w. (read_keeps (At WriteAbort) n w, w.any.odd))
-        (λ w. (let u : Woken (n + 1) stray start t = read_keeps (At WriteAbort) (n + 1) w in
-        record { any = u.any; reset = live_reset t.target.reset u.live }))
+        (λ w. (let u : ResumedAwake (n + 1) stray start t = read_keeps (At WriteAbort) (n + 1) w in
+        record { any = u.any; reset = host_live_was_reset t.target.reset u.live }))
 
-    take_ctrl_stat : (word : ℕ) → Glimpsed (flags_in word) stray s.target
-        → Reads word n (λ c. AbortWritten c stray start s) s
-        → EarlyTaken (At CheckCtrlStat) (word_in bits) n stray start t
-    take_ctrl_stat word told h = take_early (At CheckCtrlStat) word (λ c. AbortWritten c stray start s) h
+    take_ctrl_stat : (word : ℕ) → ResumeGlimpsedFlags (host_flags_in word) stray s.target
+        → EngineReads word n (λ c. ResumedAbortWritten c stray start s) s
+        → ResumedOpeningTookData (At CheckCtrlStat) (data_phase_word bits) n stray start t
+    take_ctrl_stat word told h = take_early (At CheckCtrlStat) word (λ c. ResumedAbortWritten c stray start s) h
         (λ w. (
           record {
             damaged = told.damaged ∙ sym write_passed;
@@ -70,24 +75,26 @@ module _ (n : ℕ) (stray : Bool) (start : Port) (bits : ℕ) (s t : Port) (rang
         (λ w. read_keeps (At CheckCtrlStat) (n + 1) w)
 
     -- what CTRL/STAT said of the flags is still so
-    shown : (word : ℕ) → s.target.pending ≡ None → Shows (flags_in word) s.target → Shows (flags_in word) t.target
+    shown : (word : ℕ) → s.target.pending ≡ None → ResumeReadFlags (host_flags_in word) s.target
+        → ResumeReadFlags (host_flags_in word) t.target
     shown word none h = record { error = h.error ∙ sym (sticky_passed none); damaged = h.damaged ∙ sym write_passed }
 
-    take_status : (word : ℕ) → Shows (flags_in word) s.target → Reads word n (λ c. Met c stray start s) s
-        → EarlyTaken (Status Select) (word_in bits) n stray start t
-    take_status word told h = take_early (Status Select) word (λ c. Met c stray start s) h
+    take_status : (word : ℕ) → ResumeReadFlags (host_flags_in word) s.target
+        → EngineReads word n (λ c. ResumedMetBusError c stray start s) s
+        → ResumedOpeningTookData (Status Select) (data_phase_word bits) n stray start t
+    take_status word told h = take_early (Status Select) word (λ c. ResumedMetBusError c stray start s) h
         (λ w. (shown word w.pending told, read_keeps (Status Select) n w)) (λ w. read_keeps (Status Select) (n + 1) w)
 
-    take_check : (owed : Flags) (word : ℕ) → Shows (flags_in word) s.target
-        → Reads word n (λ c. Cleared owed c stray start s) s
-        → EarlyTaken (Check Select owed) (word_in bits) n stray start t
-    take_check owed word told h = take_early (Check Select owed) word (λ c. Cleared owed c stray start s) h
-        (λ w. (shown word (cleared_rests owed n stray start s w) told, read_keeps (Check Select owed) n w))
+    take_check : (owed : Flags) (word : ℕ) → ResumeReadFlags (host_flags_in word) s.target
+        → EngineReads word n (λ c. ResumedFlagsCleared owed c stray start s) s
+        → ResumedOpeningTookData (Check Select owed) (data_phase_word bits) n stray start t
+    take_check owed word told h = take_early (Check Select owed) word (λ c. ResumedFlagsCleared owed c stray start s) h
+        (λ w. (shown word (opening_cleared_rests owed n stray start s w) told, read_keeps (Check Select owed) n w))
         (λ w. read_keeps (Check Select owed) (n + 1) w)
 
     -- after a data phase that is read early, what its word shows is known, or that it has to be read again
-    pub read_early : (job : Job) (task : Task) → word_for job task ≡ None → EarlyDuring job n stray start s
-        → EarlyTaken job (word_in bits) n stray start t
+    pub read_early : (job : Job) (task : Task) → engine_word_for job task ≡ None → ResumedDuring job n stray start s
+        → ResumedOpeningTookData job (data_phase_word bits) n stray start t
     read_early (At Identify) task none h = take_identify h
     read_early (At CheckCtrlStat) task none h = take_ctrl_stat h.0 h.1 h.2
     read_early (Status Select) task none h = take_status h.0 h.1 h.2
@@ -95,61 +102,68 @@ module _ (n : ℕ) (stray : Bool) (start : Port) (bits : ℕ) (s t : Port) (rang
     read_early _ task none h = grind arith
 
 -- DATA PHASES THAT ARE WRITTEN
-module _ (n : ℕ) (stray : Bool) (start : Port) (sent : ℕ) (s t : Port) (range : sent < 2 ^ 33) (gives : Gives s sent t)
+module _ (n : ℕ) (stray : Bool) (start : Port) (sent : ℕ) (s t : Port) (range : sent < 2 ^ 33)
+    (gives : PortGives s sent t)
   where
-    give_abort : sent ≡ phase_number 0x1e → Writes AbortWrite n (λ c. Woken c stray start s) s
-        → AbortWritten n stray start t
+    give_abort : sent ≡ data_phase_number 0x1e → EngineWrites AbortWrite n (λ c. ResumedAwake c stray start s) s
+        → ResumedAbortWritten n stray start t
     give_abort is (whole line h) =
-        let (y, z, first, given, last) = data_given AbortWrite None 0x1e sent s t line (omega arith) range
-        (spells 0x1e sent (omega arith) is) gives in
-        let g : Gave AbortWrite 0x1e y z = whole_given AbortWrite 0x1e y z given in
-        let c : Clears 0x1e y.target z.target = flags_cleared 0x1e y z g in
-        let w : Woken n stray start z = woken_carried n n stray start y z (frame_abort 0x1e y z g)
-        (omega (arith, ap (λ i. i.disturbed) g.tally)) (woken_stays n stray start s y first h) in
-        early_stays (At CheckCtrlStat) n stray start z t last
-        (clean w (c.write_cleared refl) (awaited_quiet stray z.target (c.sticky_cleared refl) w.any.awaited))
+        let (y, z, first, given, last) = port_data_given AbortWrite None 0x1e sent s t line (omega arith) range
+        (host_phase_bits 0x1e sent (omega arith) is) gives in
+        let g : PortWritten AbortWrite 0x1e y z = host_write_whole AbortWrite 0x1e y z given in
+        let c : PortAbortClears 0x1e y.target z.target = port_abort_clears_flags 0x1e y z g in
+        let w : ResumedAwake n stray start z = opening_woken_framed n n stray start y z (host_frame_abort 0x1e y z g)
+        (omega (arith, ap (λ i. i.disturbed) g.tally)) (opening_woken_completed n stray start s y first h) in
+        opening_job_completed (At CheckCtrlStat) n stray start z t last
+        (clean w (c.write_cleared refl) (opening_flag_awaited stray z.target (c.sticky_cleared refl) w.any.awaited))
     give_abort is (changed place line h) =
-        let (y, z, first, given, last) = data_given AbortWrite (Some place) 0x1e sent s t line (omega arith) range
-        (spells 0x1e sent (omega arith) is) gives in
-        let g : Spoiled y z = changed_given place AbortWrite 0x1e y z given in
-        early_stays (At CheckCtrlStat) n stray start z t last
-        (hurt (woken_carried (n + 1) (n + 1) stray start y z (frame_spoiled y z g)
-        (omega (arith, ap (λ i. i.disturbed) g.tally)) (woken_stays (n + 1) stray start s y first h))
+        let (y, z, first, given, last) = port_data_given AbortWrite (Some place) 0x1e sent s t line (omega arith) range
+        (host_phase_bits 0x1e sent (omega arith) is) gives in
+        let g : PortWriteSpoiled y z = host_write_changed place AbortWrite 0x1e y z given in
+        opening_job_completed (At CheckCtrlStat) n stray start z t last
+        (hurt (opening_woken_framed (n + 1) (n + 1) stray start y z (host_frame_spoiled y z g)
+        (omega (arith, ap (λ i. i.disturbed) g.tally)) (opening_woken_completed (n + 1) stray start s y first h))
         (ap (λ i. i.write_error) g.target))
 
-    give_clear : (owed : Flags) → sent ≡ phase_number (clear_word owed)
-        → Writes AbortWrite n (λ c. Clearing owed c stray start s) s → Cleared owed n stray start t
+    give_clear : (owed : Flags) → sent ≡ data_phase_number (host_abort_word owed)
+        → EngineWrites AbortWrite n (λ c. ResumedFlagsOwed owed c stray start s) s
+        → ResumedFlagsCleared owed n stray start t
     give_clear owed is (whole line h) =
-        let small : clear_word owed < 2 ^ 32 = clear_small owed.error owed.damaged in
-        let (y, z, first, given, last) = data_given AbortWrite None (clear_word owed) sent s t line small range
-        (spells (clear_word owed) sent small is) gives in
-        let g : Gave AbortWrite (clear_word owed) y z = whole_given AbortWrite (clear_word owed) y z given in
-        let c : Clears (clear_word owed) y.target z.target = flags_cleared (clear_word owed) y z g in
-        let f : Frame y z = frame_abort (clear_word owed) y z g in
-        let k : Clearing owed n stray start y = early_stays (Clear Select owed) n stray start s y first h in
-        early_stays (Check Select owed) n stray start z t last
-        (gone (woken_carried n n stray start y z f (omega (arith, ap (λ i. i.disturbed) g.tally)) k.woken) k.error
-        (f.pending ∙ k.pending) (sticky_gone owed.error owed.damaged y.target z.target c (k.sticky ∙ sym k.error))
-        (write_gone owed.error owed.damaged y.target z.target c k.flag))
+        let small : host_abort_word owed < 2 ^ 32 = host_clear_word_small owed.error owed.damaged in
+        let (y, z, first, given, last) = port_data_given AbortWrite None (host_abort_word owed) sent s t line small
+        range (host_phase_bits (host_abort_word owed) sent small is) gives in
+        let g : PortWritten AbortWrite (host_abort_word owed) y z =
+        host_write_whole AbortWrite (host_abort_word owed) y z given in
+        let c : PortAbortClears (host_abort_word owed) y.target z.target =
+        port_abort_clears_flags (host_abort_word owed) y z g in
+        let f : HostFrame y z = host_frame_abort (host_abort_word owed) y z g in
+        let k : ResumedFlagsOwed owed n stray start y =
+        opening_job_completed (Clear Select owed) n stray start s y first h in
+        opening_job_completed (Check Select owed) n stray start z t last
+        (gone (opening_woken_framed n n stray start y z f (omega (arith, ap (λ i. i.disturbed) g.tally)) k.woken)
+        k.error (f.pending ∙ k.pending) (host_stickyerr_cleared owed.error owed.damaged y.target z.target c
+        (k.sticky ∙ sym k.error)) (host_wdataerr_cleared owed.error owed.damaged y.target z.target c k.flag))
     give_clear owed is (changed place line h) =
-        let small : clear_word owed < 2 ^ 32 = clear_small owed.error owed.damaged in
-        let (y, z, first, given, last) = data_given AbortWrite (Some place) (clear_word owed) sent s t line small range
-        (spells (clear_word owed) sent small is) gives in
-        let g : Spoiled y z = changed_given place AbortWrite (clear_word owed) y z given in
-        let f : Frame y z = frame_spoiled y z g in
-        let k : Clearing owed (n + 1) stray start y = early_stays (Clear Select owed) (n + 1) stray start s y first h in
-        early_stays (Check Select owed) n stray start z t last
-        (still (woken_carried (n + 1) (n + 1) stray start y z f (omega (arith, ap (λ i. i.disturbed) g.tally)) k.woken)
-        k.error (f.pending ∙ k.pending) (ap (λ i. i.sticky_error) g.target ∙ k.sticky)
+        let small : host_abort_word owed < 2 ^ 32 = host_clear_word_small owed.error owed.damaged in
+        let (y, z, first, given, last) = port_data_given AbortWrite (Some place) (host_abort_word owed) sent s t line
+        small range (host_phase_bits (host_abort_word owed) sent small is) gives in
+        let g : PortWriteSpoiled y z = host_write_changed place AbortWrite (host_abort_word owed) y z given in
+        let f : HostFrame y z = host_frame_spoiled y z g in
+        let k : ResumedFlagsOwed owed (n + 1) stray start y =
+        opening_job_completed (Clear Select owed) (n + 1) stray start s y first h in
+        opening_job_completed (Check Select owed) n stray start z t last
+        (still (opening_woken_framed (n + 1) (n + 1) stray start y z f (omega (arith, ap (λ i. i.disturbed) g.tally))
+        k.woken) k.error (f.pending ∙ k.pending) (ap (λ i. i.sticky_error) g.target ∙ k.sticky)
         (ap (λ i. i.write_error) g.target))
 
     -- every write but SELECT's, which ends what is early
 
     -- after a data phase that is written early, what its write leaves is known, unless the write is SELECT's
-    pub given_early : (job : Job) (task : Task) (word : ℕ) → word_for job task ≡ Some word → sent ≡ phase_number word
-        → EarlyDuring job n stray start s → (job ≡ At Select) ⊎ EarlySent job n stray start t
-    given_early (At WriteAbort) task word is e h = inr (give_abort (phase_is sent word 0x1e is e) h)
+    pub given_early : (job : Job) (task : Task) (word : ℕ) → engine_word_for job task ≡ Some word
+        → sent ≡ data_phase_number word
+        → ResumedDuring job n stray start s → (job ≡ At Select) ⊎ ResumedOpeningSentData job n stray start t
+    given_early (At WriteAbort) task word is e h = inr (give_abort (host_phase_of_word sent word 0x1e is e) h)
     given_early (Clear Select owed) task word is e h =
-        inr (give_clear owed (phase_is sent word (clear_word owed) is e) h)
+        inr (give_clear owed (host_phase_of_word sent word (host_abort_word owed) is e) h)
     given_early (At Select) task word is e h = inl refl
     given_early _ task word is e h = grind arith

@@ -1,43 +1,50 @@
 -- The opening: how many requests it sends, and the engine at its end; also where it goes on after a lost
 -- acknowledgement.
 use Rattle.swd_host.proofs.Words.{◌≡◌, ◌+◌, ◌-◌, ◌*◌, ◌^◌, ◌<◌, ◌≤◌, ℕ, Bool, true, false, ap, arith, is_some, Port}
-use Rattle.swd_host.proofs.Words.{End, Lost, Opened, Stopped, Resting, Engine, Bursts, is_resting, finished_at, left_in}
-use Rattle.swd_host.proofs.Words.{stray_left, open_requests, is_state_of, Counted, Resumes, IsNew, Goes, EndsAt}
+use Rattle.swd_host.proofs.Words.{End, Lost, Opened, Stopped, Resting, Engine, Bursts, engine_is_resting}
+use Rattle.swd_host.proofs.Words.{engine_outcome_at, engine_left_in}
+use Rattle.swd_host.proofs.Words.{engine_stray_left, engine_open_requests, engine_state_is_of, EngineBase}
+use Rattle.swd_host.proofs.Words.{EngineResumes, EngineIsNew, EngineGoesWithPort, HostEndsAt}
 
 -- an end, as it is since an earlier moment
-pub ends_since : (end : End) (tries : ℕ) (s t u : Port) → s.tally.disturbed ≤ t.tally.disturbed
-    → s.tally.lost ≤ t.tally.lost → EndsAt end tries t u → EndsAt end tries s u
-ends_since end tries s t u fewer less h = grind arith
+pub engine_ends_since : (end : End) (tries : ℕ) (s t u : Port) → s.tally.disturbed ≤ t.tally.disturbed
+    → s.tally.lost ≤ t.tally.lost → HostEndsAt end tries t u → HostEndsAt end tries s u
+engine_ends_since end tries s t u fewer less h = grind arith
 
-pub stray_few : (again : Bool) → stray_left again ≤ 5
-stray_few again = grind arith
+pub opening_stray_few : (again : Bool) → engine_stray_left again ≤ 5
+opening_stray_few again = grind arith
 
 module _ (kind : Bursts) (again : Bool) (tries : ℕ) (e f : Engine) (s t : Port) (small : tries < 2 ^ 32)
-    (new : IsNew kind again tries e) (goes : Goes e s f t) where
-  new_left : open_requests e ≤ 5 * tries + stray_left again + 10
+    (new : EngineIsNew kind again tries e) (goes : EngineGoesWithPort e s f t) where
+  new_left : engine_open_requests e ≤ 5 * tries + engine_stray_left again + 10
   new_left = grind arith
 
   -- requests sent, requests left without an event, and five for each event still allowed are at most ten, five for
   -- each of the tries, and five more where a run resumes
-  pub opening_spends : f.requests + 5 * (tries - f.events) + left_in f.state ≤ 5 * tries + stray_left again + 10
+  pub opening_spends : f.requests + 5 * (tries - f.events) + engine_left_in f.state ≤ 5 * tries
+      + engine_stray_left again + 10
   opening_spends = omega (arith, goes.works.spends, goes.works.tries, new.tries, new.requests, new_left)
 
   -- the port counts as many further requests as the engine sent in the opening
   pub opening_asked : t.tally.asked ≡ s.tally.asked + f.requests
-  opening_asked = omega (arith, goes.asked (omega (arith, new_left, new.requests, stray_few again)), new.requests)
+  opening_asked = omega (
+    arith,
+    goes.asked (omega (arith, new_left, new.requests, opening_stray_few again)),
+    new.requests,
+  )
 
-  opening_part : is_state_of true e.state ≡ true
-  opening_part = ap (is_state_of true) new.leads
+  opening_part : engine_state_is_of true e.state ≡ true
+  opening_part = ap (engine_state_is_of true) new.leads
 
   -- in the opening no access is in flight
   pub opening_unbegun : f.begun ≡ 0
   opening_unbegun = goes.works.unbegun opening_part new.begun
 
   -- where it is lost, a request less was sent
-  pub opening_lost : (base : Counted) (start : Port) → Resumes base start e s → f.state ≡ Resting (Stopped Lost)
-      → f.requests + 5 * (tries - f.events) ≤ 5 * tries + stray_left again + 9
+  pub opening_lost : (base : EngineBase) (start : Port) → EngineResumes base start e s
+      → f.state ≡ Resting (Stopped Lost) → f.requests + 5 * (tries - f.events) ≤ 5 * tries + engine_stray_left again + 9
   opening_lost base start h lost =
-      let going : is_resting e ≡ false = ap (λ x. is_some (finished_at x e.task)) new.leads in
+      let going : engine_is_resting e ≡ false = ap (λ x. is_some (engine_outcome_at x e.task)) new.leads in
       let early = goes.lost_early going base start h opening_part lost in
       omega (arith, early, new_left, new.requests, goes.works.tries, new.tries)
 

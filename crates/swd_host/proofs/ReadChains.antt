@@ -1,40 +1,39 @@
 -- A chain of calls over a list of reads, as blocks are: no word changes, and where the log has room the answers are the
 -- plain memory's. For the law `resumptions`.
-use Rattle.swd_host.proofs.Words.{◌≡◌, ◌+◌, ◌-◌, ◌<◌, ◌≤◌, ℕ, true, false, refl, sym, ap, subst, arith, ◌∙◌, List}
-use Rattle.swd_host.proofs.Words.{[], ◌∷◌, ◌++◌, length, take, drop, zero, suc, get_or, length-append}
-use Rattle.swd_host.proofs.Words.{Access, PlainMemory, Told, Fits, FitsAt, plain_after, plain_answer}
-use Rattle.swd_host.proofs.Words.{memory_after, answers_of}
+use Rattle.swd_host.proofs.Words.{◌≡◌, ◌+◌, ◌-◌, ◌<◌, ◌≤◌, ℕ, true, false, refl, sym, ap, subst, arith, ◌∙◌, List, []}
+use Rattle.swd_host.proofs.Words.{◌∷◌, ◌++◌, length, take, drop, zero, suc, get_or, length-append, Access, PlainMemory}
+use Rattle.swd_host.proofs.Words.{HostReport, Fits, FitsAt, plain_after, plain_answer, memory_after, answers_of}
 use Rattle.std.proofs.lemmas.List.{length-take}
 use Rattle.std.proofs.Math.Seq.{drop-cons, take-add}
 use Rattle.swd_port.specs.declared.access.Access.TheVariants.{Read, Write}
 use Rattle.swd_port.specs.PlainMemory.{succeeds_at}
-use Rattle.swd_host.specs.Again.{own_told, added_in}
-use Rattle.swd_host.specs.Chains.{Chain, first, again, AreReads, ChainReads}
-use Rattle.swd_host.proofs.Lists.{memory_append, answers_append, memory_next}
-use Rattle.swd_host.proofs.GoingOn.{told_length, drop_length}
-use Rattle.swd_host.proofs.Shadows.{Shadow, HasPlace, Roomy, shadow_answer, shadow_next, place_there}
-use Rattle.swd_port.proofs.CompletionLaws.{plain_fits, plain_fails}
-use Rattle.swd_host.proofs.Shadows.{log_done}
+use Rattle.swd_host.specs.Again.{resume_own_report, resume_added}
+use Rattle.swd_host.specs.Chains.{ResumeChain, first, again, AreBlockReads, ResumeChainReads}
+use Rattle.swd_host.proofs.Lists.{host_list_memory_append, host_list_answers_append, host_list_memory_next}
+use Rattle.swd_host.proofs.GoingOn.{resumed_take_length, resumed_rest_length}
+use Rattle.swd_host.proofs.Shadows.{ResumeShadow, ResumeHasRoom, ResumeRoomy, resume_shadow_answer, resume_shadow_next}
+use Rattle.swd_host.proofs.Shadows.{resume_room_at, resume_log_one_more}
+use Rattle.swd_port.proofs.CompletionLaws.{plain_after_success, plain_after_bus_error}
 
 -- READS
-reads_take : (n : ℕ) (list : List Access) → AreReads list → AreReads (take n list)
+reads_take : (n : ℕ) (list : List Access) → AreBlockReads list → AreBlockReads (take n list)
 reads_take zero list h = tt
 reads_take (suc n) [] h = tt
 reads_take (suc n) (Read at ∷ list) h = reads_take n list h
 reads_take (suc n) (Write at word ∷ list) h = absurd h
 
-reads_drop : (n : ℕ) (list : List Access) → AreReads list → AreReads (drop n list)
+reads_drop : (n : ℕ) (list : List Access) → AreBlockReads list → AreBlockReads (drop n list)
 reads_drop zero list h = h
 reads_drop (suc n) [] h = tt
 reads_drop (suc n) (Read at ∷ list) h = reads_drop n list h
 reads_drop (suc n) (Write at word ∷ list) h = absurd h
 
 -- a read leaves one transfer more at most, and all else as it was
-read_shadow : (at : ℕ) (p : PlainMemory) → Shadow 1 p (plain_after (Read at) p)
-read_shadow at p = elim (succeeds_at at p) as (λ b. succeeds_at at p ≡ b → Shadow 1 p (plain_after (Read at) p)) [
+read_shadow : (at : ℕ) (p : PlainMemory) → ResumeShadow 1 p (plain_after (Read at) p)
+read_shadow at p = elim (succeeds_at at p) as (λ b. succeeds_at at p ≡ b → ResumeShadow 1 p (plain_after (Read at) p)) [
   | true ↦ λ e.
-      (let is = plain_fits (Read at) p e in
-      let l = log_done (Read at) p e in
+      (let is = plain_after_success (Read at) p e in
+      let l = resume_log_one_more (Read at) p e in
       record {
         words = ap (λ x. x.words) is;
         room = ap (λ x. x.room) is;
@@ -42,7 +41,7 @@ read_shadow at p = elim (succeeds_at at p) as (λ b. succeeds_at at p ≡ b → 
         least = omega (arith, l);
       })
   | false ↦ λ e.
-      (let is = plain_fails (Read at) p e in
+      (let is = plain_after_bus_error (Read at) p e in
       let l = ap (λ x. length x.log) is in
       record {
         words = ap (λ x. x.words) is;
@@ -52,7 +51,7 @@ read_shadow at p = elim (succeeds_at at p) as (λ b. succeeds_at at p ≡ b → 
       })
 ] refl
 
-shadow_then : (b c : ℕ) (p q r : PlainMemory) → Shadow b p q → Shadow c q r → Shadow (b + c) p r
+shadow_then : (b c : ℕ) (p q r : PlainMemory) → ResumeShadow b p q → ResumeShadow c q r → ResumeShadow (b + c) p r
 shadow_then b c p q r h g =
     let hm = h.most in let hl = h.least in let gm = g.most in let gl = g.least in
     record {
@@ -62,11 +61,12 @@ shadow_then b c p q r h g =
       least = omega (arith, hl, gl);
     }
 
-shadow_few : (b c : ℕ) (p q : PlainMemory) → b ≤ c → Shadow b p q → Shadow c p q
+shadow_few : (b c : ℕ) (p q : PlainMemory) → b ≤ c → ResumeShadow b p q → ResumeShadow c p q
 shadow_few b c p q l h =
     let m = h.most in record { words = h.words; room = h.room; most = omega (arith, l, m); least = h.least }
 
-reads_shadow : (list : List Access) (p : PlainMemory) → AreReads list → Shadow (length list) p (memory_after list p)
+reads_shadow : (list : List Access) (p : PlainMemory) → AreBlockReads list
+    → ResumeShadow (length list) p (memory_after list p)
 reads_shadow [] p h = record { words = refl; room = refl; most = omega arith; least = omega arith }
 reads_shadow (Read at ∷ list) p h =
     shadow_few (1 + length list) (suc (length list)) p (memory_after list (plain_after (Read at) p)) (omega arith)
@@ -75,13 +75,13 @@ reads_shadow (Read at ∷ list) p h =
 reads_shadow (Write at word ∷ list) p h = absurd h
 
 -- j reads more than k of a list of reads
-reads_more : (k j : ℕ) (list : List Access) (p : PlainMemory) → AreReads list
-    → Shadow j (memory_after (take k list) p) (memory_after (take (k + j) list) p)
+reads_more : (k j : ℕ) (list : List Access) (p : PlainMemory) → AreBlockReads list
+    → ResumeShadow j (memory_after (take k list) p) (memory_after (take (k + j) list) p)
 reads_more k j list p h =
     let more : List Access = take j (drop k list) in
     let is : memory_after (take (k + j) list) p ≡ memory_after more (memory_after (take k list) p) =
-    ap (λ l. memory_after l p) (take-add k j list) ∙ memory_append (take k list) more p in
-    subst (λ x. Shadow j (memory_after (take k list) p) x) (sym is)
+    ap (λ l. memory_after l p) (take-add k j list) ∙ host_list_memory_append (take k list) more p in
+    subst (λ x. ResumeShadow j (memory_after (take k list) p) x) (sym is)
     (shadow_few (length more) j (memory_after (take k list) p) (memory_after more (memory_after (take k list) p))
     (omega (arith, length-take j (drop k list)))
     (reads_shadow more (memory_after (take k list) p) (reads_take j (drop k list) (reads_drop k list h))))
@@ -89,24 +89,24 @@ reads_more k j list p h =
 -- ACCESSES OVER A SHADOW of the plain memory
 record Shown (x k n : ℕ) (list : List Access) (m q : PlainMemory) : Type 0 where
   answers : answers_of (take n (drop k list)) q ≡ answers_of (take n (drop k list)) (memory_after (take k list) m)
-  shadow : Shadow x (memory_after (take (k + n) list) m) (memory_after (take n (drop k list)) q)
+  shadow : ResumeShadow x (memory_after (take (k + n) list) m) (memory_after (take n (drop k list)) q)
 
-shown : (x k n : ℕ) (list : List Access) (m q : PlainMemory) → k + n ≤ length list → Roomy x list m
-    → Shadow x (memory_after (take k list) m) q → Shown x k n list m q
+shown : (x k n : ℕ) (list : List Access) (m q : PlainMemory) → k + n ≤ length list → ResumeRoomy x list m
+    → ResumeShadow x (memory_after (take k list) m) q → Shown x k n list m q
 shown x k zero list m q few room h =
     let e : k + zero ≡ k = omega arith in
-    record { answers = refl; shadow = subst (λ i. Shadow x (memory_after (take i list) m) q) (sym e) h }
+    record { answers = refl; shadow = subst (λ i. ResumeShadow x (memory_after (take i list) m) q) (sym e) h }
 shown x k (suc n) list m q few room h =
     let d : Access = Read 0 in
     let a : Access = get_or list k d in
     let p : PlainMemory = memory_after (take k list) m in
     let low : k < length list = omega (arith, few) in
-    let place : HasPlace x a p = place_there list k x d m low room in
+    let place : ResumeHasRoom x a p = resume_room_at list k x d m low room in
     let s : k + 1 ≡ suc k = omega arith in
     let next : memory_after (take (suc k) list) m ≡ plain_after a p =
-    ap (λ i. memory_after (take i list) m) (sym s) ∙ memory_next list k d m low in
-    let one : Shadow x (memory_after (take (suc k) list) m) (plain_after a q) =
-    subst (λ y. Shadow x y (plain_after a q)) (sym next) (shadow_next x a p q place h) in
+    ap (λ i. memory_after (take i list) m) (sym s) ∙ host_list_memory_next list k d m low in
+    let one : ResumeShadow x (memory_after (take (suc k) list) m) (plain_after a q) =
+    subst (λ y. ResumeShadow x y (plain_after a q)) (sym next) (resume_shadow_next x a p q place h) in
     let w : Shown x (suc k) n list m (plain_after a q) =
     shown x (suc k) n list m (plain_after a q) (omega (arith, few)) room one in
     let is : take (suc n) (drop k list) ≡ a ∷ take n (drop (suc k) list) =
@@ -115,16 +115,17 @@ shown x k (suc n) list m q few room h =
     let rest : List Access = take n (drop (suc k) list) in
     record {
       answers = ap (λ l. answers_of l q) is
-          ∙ (ap (λ y. y ∷ answers_of rest (plain_after a q)) (shadow_answer x a p q place h)
+          ∙ (ap (λ y. y ∷ answers_of rest (plain_after a q)) (resume_shadow_answer x a p q place h)
           ∙ (ap (λ l. plain_answer a p ∷ l) (w.answers ∙ ap (answers_of rest) next)
           ∙ sym (ap (λ l. answers_of l p) is)));
-      shadow = subst (λ l. Shadow x (memory_after (take (k + suc n) list) m) (memory_after l q)) (sym is)
-          (subst (λ i. Shadow x (memory_after (take i list) m) (memory_after rest (plain_after a q))) count w.shadow);
+      shadow = subst (λ l. ResumeShadow x (memory_after (take (k + suc n) list) m) (memory_after l q)) (sym is)
+          (subst (λ i. ResumeShadow x (memory_after (take i list) m) (memory_after rest (plain_after a q))) count
+          w.shadow);
     }
 
 -- A CHAIN OF READS
-words_kept : (limit : ℕ) (list : List Access) (m : PlainMemory) (calls : List Told) (told : Told) (now : PlainMemory)
-    → AreReads list → Chain limit list m calls told now → now.words ≡ m.words
+words_kept : (limit : ℕ) (list : List Access) (m : PlainMemory) (calls : List HostReport) (told : HostReport)
+    (now : PlainMemory) → AreBlockReads list → ResumeChain limit list m calls told now → now.words ≡ m.words
 words_kept limit list m calls told now reads (first {told = a} {now = n} (k, fit)) =
     ap (λ x. x.words) fit.memory.2
     ∙ (reads_shadow (take (k + fit.memory.0) list) m (reads_take (k + fit.memory.0) list reads)).words
@@ -137,19 +138,19 @@ words_kept limit list m calls told now reads
     ∙ words_kept limit list m c e left reads chain)
 
 -- the answers are the plain memory's, and the memory has some transfers more
-record Plainly (limit : ℕ) (list : List Access) (m : PlainMemory) (calls : List Told) (told : Told)
+record Plainly (limit : ℕ) (list : List Access) (m : PlainMemory) (calls : List HostReport) (told : HostReport)
     (now : PlainMemory) : Type 0 where
   extra : ℕ
   few : extra ≤ limit + length calls
   reported : length told.answers ≤ length list
   answers : told.answers ≡ answers_of (take (length told.answers) list) m
-  shadow : Shadow extra (memory_after (take (length told.answers) list) m) now
+  shadow : ResumeShadow extra (memory_after (take (length told.answers) list) m) now
 
-first_plainly : (limit : ℕ) (list : List Access) (m : PlainMemory) (told : Told) (now : PlainMemory) → AreReads list
-    → Fits limit list m told now → Plainly limit list m [] told now
+first_plainly : (limit : ℕ) (list : List Access) (m : PlainMemory) (told : HostReport) (now : PlainMemory)
+    → AreBlockReads list → Fits limit list m told now → Plainly limit list m [] told now
 first_plainly limit list m told now reads (k, fit) =
     let j : ℕ = fit.memory.0 in
-    let many : length told.answers ≡ k = told_length k list m told.answers fit.reported fit.answers in
+    let many : length told.answers ≡ k = resumed_take_length k list m told.answers fit.reported fit.answers in
     let less = fit.memory.1 in
     let most = fit.few in
     let low = fit.reported in
@@ -158,15 +159,15 @@ first_plainly limit list m told now reads (k, fit) =
       few = omega (arith, less, most);
       reported = omega (arith, many, low);
       answers = fit.answers ∙ ap (λ i. answers_of (take i list) m) (sym many);
-      shadow = subst (λ i. Shadow j (memory_after (take i list) m) now) (sym many)
-          (subst (Shadow j (memory_after (take k list) m)) (sym fit.memory.2) (reads_more k j list m reads));
+      shadow = subst (λ i. ResumeShadow j (memory_after (take i list) m) now) (sym many)
+          (subst (ResumeShadow j (memory_after (take k list) m)) (sym fit.memory.2) (reads_more k j list m reads));
     }
 
-again_plainly : (limit : ℕ) (list : List Access) (m : PlainMemory) (calls : List Told) (earlier told : Told)
-    (before now : PlainMemory) (own k : ℕ) → 1 ≤ limit → AreReads list → Plainly limit list m calls earlier before
+again_plainly : (limit : ℕ) (list : List Access) (m : PlainMemory) (calls : List HostReport) (earlier told : HostReport)
+    (before now : PlainMemory) (own k : ℕ) → 1 ≤ limit → AreBlockReads list → Plainly limit list m calls earlier before
     → length (memory_after list m).log + limit + length calls ≤ m.room
-    → told.answers ≡ earlier.answers ++ added_in earlier told
-    → FitsAt 1 k (drop (length earlier.answers) list) before (own_told earlier told own) now
+    → told.answers ≡ earlier.answers ++ resume_added earlier told
+    → FitsAt 1 k (drop (length earlier.answers) list) before (resume_own_report earlier told own) now
     → Plainly limit list m (calls ++ earlier ∷ []) told now
 again_plainly limit list m calls earlier told before now own k some reads was room kept fit =
     let at : ℕ = length earlier.answers in
@@ -177,34 +178,35 @@ again_plainly limit list m calls earlier told before now own k some reads was ro
     let low = fit.reported in
     let x : ℕ = was.extra in
     let x_few = was.few in
-    let long = drop_length at list was.reported in
-    let added : length (added_in earlier told) ≡ k =
-    told_length k rest before (added_in earlier told) fit.reported fit.answers in
+    let long = resumed_rest_length at list was.reported in
+    let added : length (resume_added earlier told) ≡ k =
+    resumed_take_length k rest before (resume_added earlier told) fit.reported fit.answers in
     let many : length told.answers ≡ at + k =
-    ap length kept ∙ length-append earlier.answers (added_in earlier told) ∙ ap (λ n. at + n) added in
+    ap length kept ∙ length-append earlier.answers (resume_added earlier told) ∙ ap (λ n. at + n) added in
     let one = length-append calls (earlier ∷ []) in
-    let roomy : Roomy x list m = record { one = omega (arith, room, some); all = omega (arith, room, x_few) } in
+    let roomy : ResumeRoomy x list m = record { one = omega (arith, room, some); all = omega (arith, room, x_few) } in
     let w : Shown x at k list m before = shown x at k list m before (omega (arith, long, low)) roomy was.shadow in
     let here : PlainMemory = memory_after (take k rest) before in
-    let onward : Shadow j here now =
-    subst (Shadow j here) (sym fit.memory.2) (reads_more k j rest before (reads_drop at list reads)) in
+    let onward : ResumeShadow j here now =
+    subst (ResumeShadow j here) (sym fit.memory.2) (reads_more k j rest before (reads_drop at list reads)) in
     let told_is : told.answers ≡ answers_of (take (at + k) list) m =
     kept ∙ (ap (λ l. earlier.answers ++ l) (fit.answers ∙ w.answers)
     ∙ (ap (λ l. l ++ answers_of (take k rest) (memory_after (take at list) m)) was.answers
-    ∙ (sym (answers_append (take at list) (take k rest) m)
+    ∙ (sym (host_list_answers_append (take at list) (take k rest) m)
     ∙ ap (λ l. answers_of l m) (sym (take-add at k list))))) in
     record {
       extra = x + j;
       few = omega (arith, x_few, less, most, one);
       reported = omega (arith, many, long, low);
       answers = told_is ∙ ap (λ i. answers_of (take i list) m) (sym many);
-      shadow = subst (λ i. Shadow (x + j) (memory_after (take i list) m) now) (sym many)
+      shadow = subst (λ i. ResumeShadow (x + j) (memory_after (take i list) m) now) (sym many)
           (shadow_then x j (memory_after (take (at + k) list) m) here now w.shadow onward);
     }
 
-plainly : (limit : ℕ) (list : List Access) (m : PlainMemory) (calls : List Told) (told : Told) (now : PlainMemory)
-    → 1 ≤ limit → AreReads list → length (memory_after list m).log + limit + (length calls - 1) ≤ m.room
-    → Chain limit list m calls told now → Plainly limit list m calls told now
+plainly : (limit : ℕ) (list : List Access) (m : PlainMemory) (calls : List HostReport) (told : HostReport)
+    (now : PlainMemory)
+    → 1 ≤ limit → AreBlockReads list → length (memory_after list m).log + limit + (length calls - 1) ≤ m.room
+    → ResumeChain limit list m calls told now → Plainly limit list m calls told now
 plainly limit list m calls told now some reads room (first {told = a} {now = n} fits) =
     first_plainly limit list m a n reads fits
 plainly limit list m calls told now some reads room
@@ -214,8 +216,8 @@ plainly limit list m calls told now some reads room
     (plainly limit list m c e left some reads (omega (arith, room, one)) chain) (omega (arith, room, one)) kept fit
 
 -- a chain of calls over a list of reads changes no word, and where the log has room it answers as the plain memory
-pub chain_reads : ChainReads
-chain_reads limit list m calls told now some reads chain = record {
+pub resume_chain_reads : ResumeChainReads
+resume_chain_reads limit list m calls told now some reads chain = record {
   words = words_kept limit list m calls told now reads chain;
   answers = λ room. (plainly limit list m calls told now some reads room chain).answers;
 }

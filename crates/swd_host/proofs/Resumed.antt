@@ -1,74 +1,75 @@
 -- From the opening after a lost acknowledgement, and the list done after it, to the new report.
-use Rattle.swd_host.proofs.Words.{◌≡◌, ◌+◌, ◌-◌, ◌*◌, ◌%◌, ◌^◌, ◌<◌, ◌≤◌, ℕ, true, refl, sym, ap}
-use Rattle.swd_host.proofs.Words.{subst, inl, inr}
-use Rattle.swd_host.proofs.Words.{arith, ◌∙◌, List, [], ◌∷◌, ◌++◌, length, take, length-append, suc, drop}
-use Rattle.swd_host.proofs.Words.{Access, Answer, PlainMemory, Due, Port, End, Lost, Opened, Stopped}
-use Rattle.swd_host.proofs.Words.{Resting, Engine, most_of, AreAccesses, begun_of, DueFits, Resumes}
-use Rattle.swd_host.proofs.Words.{IsNew, Goes, Told, Fits, EndsAt, IsKnown, Closes, Does, DoesOver}
-use Rattle.swd_host.proofs.Words.{told_by, since, MayBecome}
+use Rattle.swd_host.proofs.Words.{◌≡◌, ◌+◌, ◌-◌, ◌*◌, ◌%◌, ◌^◌, ◌<◌, ◌≤◌, ℕ, true, refl, sym, ap, subst, inl, inr}
+use Rattle.swd_host.proofs.Words.{arith, ◌∙◌, List, [], ◌∷◌, ◌++◌, length, take, length-append, suc, drop, Access}
+use Rattle.swd_host.proofs.Words.{Answer, PlainMemory, Due, Port, End, Lost, Opened, Stopped, Resting, Engine}
+use Rattle.swd_host.proofs.Words.{bursts_limit, AreHostAccesses, engine_begun, EngineDueFits, EngineResumes}
+use Rattle.swd_host.proofs.Words.{EngineIsNew, EngineGoesWithPort, HostReport, Fits, HostEndsAt, HostKnowsTarget}
+use Rattle.swd_host.proofs.Words.{Closes, EngineDoes, EngineDoesOver, engine_report, resume_report, MayBecome}
 use Rattle.std.proofs.lemmas.List.{take_all}
 use Rattle.std.proofs.Math.Seq.{drop-append_seam, drop-length}
 use Rattle.swd_host.specs.declared.task.Bursts.TheVariants.{Writes}
-use Rattle.swd_host.specs.Again.{ResumeFits, Continues, added_in, own_told}
-use Rattle.swd_host.proofs.Ends.{begun_there, stops_only}
-use Rattle.swd_host.proofs.Opened.{OpeningEnds, OpenOver, counted_at, new_resumes, opening_ends, opened_over}
-use Rattle.swd_host.proofs.Openings.{ends_since, opening_spends, opening_asked, opening_unbegun, opening_lost}
-use Rattle.swd_host.proofs.GoingOn.{drop_length}
+use Rattle.swd_host.specs.Again.{ResumeFits, ResumeCloses, resume_added, resume_own_report}
+use Rattle.swd_host.proofs.Ends.{engine_stop_begun, stops_only}
+use Rattle.swd_host.proofs.Opened.{OpeningEnds, OpeningSucceeds, opening_counts_at, new_engine_resumes}
+use Rattle.swd_host.proofs.Opened.{opening_stop_memory, opening_success_memory}
+use Rattle.swd_host.proofs.Openings.{engine_ends_since, opening_spends, opening_asked, opening_unbegun, opening_lost}
+use Rattle.swd_host.proofs.GoingOn.{resumed_rest_length}
 
 -- LISTS
-are_drop : (k : ℕ) (list : List Access) → AreAccesses list → AreAccesses (drop k list)
+are_drop : (k : ℕ) (list : List Access) → AreHostAccesses list → AreHostAccesses (drop k list)
 are_drop (suc k) (x ∷ list) h = are_drop k list h.1
 are_drop _ _ h = h
 
-unbegun : (f : Engine) (end : End) → f.state ≡ Resting (Stopped end) → f.begun ≡ 0 → begun_of f ≡ 0
-unbegun f end at none = begun_there f end at ∙ none
+unbegun : (f : Engine) (end : End) → f.state ≡ Resting (Stopped end) → f.begun ≡ 0 → engine_begun f ≡ 0
+unbegun f end at none = engine_stop_begun f end at ∙ none
 
 -- THE REPORT
-module _ (list : List Access) (tries : ℕ) (earlier : Told) (e f : Engine) (before : List Answer) (s t : Port)
-    (small : tries < 2 ^ 32) (new : IsNew Writes true tries e) (ok : AreAccesses list)
-    (reported : length earlier.answers ≤ length list) (known : IsKnown s.target) (goes : Goes e s f t)
-    (due : DueFits f t) (kept : before ≡ earlier.answers) where
+module _ (list : List Access) (tries : ℕ) (earlier : HostReport) (e f : Engine) (before : List Answer) (s t : Port)
+    (small : tries < 2 ^ 32) (new : EngineIsNew Writes true tries e) (ok : AreHostAccesses list)
+    (reported : length earlier.answers ≤ length list) (known : HostKnowsTarget s.target)
+    (goes : EngineGoesWithPort e s f t) (due : EngineDueFits f t) (kept : before ≡ earlier.answers) where
   odd : t.target.identification % 2 ≡ 1
   odd = ap (λ w. w % 2) goes.later.identification ∙ known.odd
 
-  first : Resumes (counted_at s) s e s
-  first = new_resumes Writes true tries e s new known (inl refl)
+  first : EngineResumes (opening_counts_at s) s e s
+  first = new_engine_resumes Writes true tries e s new known (inl refl)
 
-  resumes : Resumes (counted_at s) s f t
-  resumes = goes.resumes (counted_at s) s first
+  resumes : EngineResumes (opening_counts_at s) s f t
+  resumes = goes.resumes (opening_counts_at s) s first
 
   same_tries : f.tries ≡ tries
   same_tries = goes.works.tries ∙ new.tries
 
   -- the opening was stopped
   module _ (end : End) (at : f.state ≡ Resting (Stopped end)) where
-    abbrev pub raw : Told
-    raw = told_by before f end
+    abbrev pub raw : HostReport
+    raw = engine_report before f end
 
     none : raw.begun ≡ 0
     none = unbegun f end at (opening_unbegun Writes true tries e f s t small new goes)
 
-    stop : OpeningEnds end (counted_at s) f.tries (s.tally.disturbed + f.events) s t
-    stop = search (arith, counted_at, opening_ends, opening_unbegun, resumes)
+    stop : OpeningEnds end (opening_counts_at s) f.tries (s.tally.disturbed + f.events) s t
+    stop = search (arith, opening_counts_at, opening_stop_memory, opening_unbegun, resumes)
 
-    stop_ends : EndsAt end tries s t
-    stop_ends = subst (λ n. EndsAt end n s t) same_tries (stop.ends s (omega arith) (omega arith) odd)
+    stop_ends : HostEndsAt end tries s t
+    stop_ends = subst (λ n. HostEndsAt end n s t) same_tries (stop.ends s (omega arith) (omega arith) odd)
 
-    stop_none : added_in earlier (since raw earlier) ≡ []
+    stop_none : resume_added earlier (resume_report raw earlier) ≡ []
     stop_none = ap (drop (length earlier.answers)) kept ∙ drop-length earlier.answers
 
     stop_most : f.requests ≤ 14 + 6 * length list + 5 * (t.tally.disturbed - s.tally.disturbed)
     stop_most = elim stop.paid [
       | inl p ↦
           (let lost : f.state ≡ Resting (Stopped Lost) = at ∙ ap (λ x. Resting (Stopped x)) p.0 in
-          let few = opening_lost Writes true tries e f s t small new goes (counted_at s) s first lost in
+          let few = opening_lost Writes true tries e f s t small new goes (opening_counts_at s) s first lost in
           omega (arith, few, p.1))
       | inr p ↦ omega (arith, p, opening_spends Writes true tries e f s t small new goes, same_tries)
     ]
 
     -- nothing of the list was done
     stop_fits : (now : PlainMemory)
-        → Fits 1 (drop (length earlier.answers) list) now (own_told earlier (since raw earlier) raw.begun) now
+        → Fits 1 (drop (length earlier.answers) list) now
+        (resume_own_report earlier (resume_report raw earlier) raw.begun) now
     stop_fits now = (
       0,
       record {
@@ -82,7 +83,7 @@ module _ (list : List Access) (tries : ℕ) (earlier : Told) (e f : Engine) (bef
     )
 
     -- the theorem of `resume` for a call whose opening stopped, so that it did no access
-    pub resume_stops : ResumeFits list tries earlier (since raw earlier) s t
+    pub resume_stops : ResumeFits list tries earlier (resume_report raw earlier) s t
     resume_stops = record {
       own = raw.begun;
       begun = refl;
@@ -95,49 +96,49 @@ module _ (list : List Access) (tries : ℕ) (earlier : Told) (e f : Engine) (bef
 
   -- the list was done
   module _ (end : End) (last : Engine) (after : List Answer) (u : Port) (at : f.state ≡ Resting Opened)
-      (does : Does (drop (length earlier.answers) list) f last before after end t u) where
+      (does : EngineDoes (drop (length earlier.answers) list) f last before after end t u) where
     abbrev rest : List Access
     rest = drop (length earlier.answers) list
 
-    abbrev pub told : Told
-    told = told_by after last end
+    abbrev pub told : HostReport
+    told = engine_report after last end
 
-    abbrev opened : OpenOver (s.tally.disturbed + f.events) s f t
-    opened = opened_over (counted_at s) s f t at odd resumes
+    abbrev opened : OpeningSucceeds (s.tally.disturbed + f.events) s f t
+    opened = opening_success_memory (opening_counts_at s) s f t at odd resumes
 
-    done : DoesOver rest opened.memory f last does.answers end t u
+    done : EngineDoesOver rest opened.memory f last does.answers end t u
     done = does.over opened.memory opened.is_open (are_drop (length earlier.answers) list ok)
 
     after_is : after ≡ earlier.answers ++ does.answers
     after_is = does.added ∙ ap (λ l. l ++ does.answers) kept
 
     long : length rest + length earlier.answers ≡ length list
-    long = drop_length (length earlier.answers) list reported
+    long = resumed_rest_length (length earlier.answers) list reported
 
-    one : most_of f.bursts ≡ 1
-    one = ap most_of (goes.works.bursts ∙ new.bursts)
+    one : bursts_limit f.bursts ≡ 1
+    one = ap bursts_limit (goes.works.bursts ∙ new.bursts)
 
-    later : Fits 1 rest opened.memory (told_by does.answers last end) done.settled
-    later = subst (λ n. Fits n rest opened.memory (told_by does.answers last end) done.settled) one done.later
+    later : Fits 1 rest opened.memory (engine_report does.answers last end) done.settled
+    later = subst (λ n. Fits n rest opened.memory (engine_report does.answers last end) done.settled) one done.later
 
-    done_ends : EndsAt end tries s u
-    done_ends = grind (arith, done, ends_since, same_tries)
+    done_ends : HostEndsAt end tries s u
+    done_ends = grind (arith, done, engine_ends_since, same_tries)
 
-    done_added : added_in earlier (since told earlier) ≡ does.answers
+    done_added : resume_added earlier (resume_report told earlier) ≡ does.answers
     done_added = ap (drop (length earlier.answers)) after_is ∙ drop-append_seam earlier.answers does.answers
 
     done_fits : (now : PlainMemory) → MayBecome u now
-        → Fits 1 rest opened.memory (own_told earlier (since told earlier) told.begun) now
+        → Fits 1 rest opened.memory (resume_own_report earlier (resume_report told earlier) told.begun) now
     done_fits now (c, i, is) =
-        subst (λ x. Fits 1 rest opened.memory (own_told earlier (since told earlier) told.begun) x)
+        subst (λ x. Fits 1 rest opened.memory (resume_own_report earlier (resume_report told earlier) told.begun) x)
         (sym (is ∙ done.becomes c))
-        (subst (λ xs. Fits 1 rest opened.memory (told_by xs last end) done.settled) (sym done_added) later)
+        (subst (λ xs. Fits 1 rest opened.memory (engine_report xs last end) done.settled) (sym done_added) later)
 
     done_most : last.requests ≤ 14 + 6 * length list + 5 * (u.tally.disturbed - s.tally.disturbed)
     done_most = grind (arith, done, long, opening_spends)
 
     -- the theorem of `resume` for a call whose opening succeeded, with the result of the rest of the list
-    pub resume_performs : ResumeFits list tries earlier (since told earlier) s u
+    pub resume_performs : ResumeFits list tries earlier (resume_report told earlier) s u
     resume_performs = record {
       own = told.begun;
       begun = refl;
@@ -149,24 +150,24 @@ module _ (list : List Access) (tries : ℕ) (earlier : Told) (e f : Engine) (bef
     }
 
 -- the theorem of `resume` holds of an equal report
-pub resumed_as : (list : List Access) (tries : ℕ) (earlier x y : Told) (s t : Port) → y ≡ x
+pub resumed_equal_report : (list : List Access) (tries : ℕ) (earlier x y : HostReport) (s t : Port) → y ≡ x
     → ResumeFits list tries earlier x s t → ResumeFits list tries earlier y s t
-resumed_as list tries earlier x y s t is h = subst (λ told. ResumeFits list tries earlier told s t) (sym is) h
+resumed_equal_report list tries earlier x y s t is h = subst (λ told. ResumeFits list tries earlier told s t) (sym is) h
 
 -- WHATEVER CAME BACK
-pub continues : (list : List Access) (tries : ℕ) (raw earlier report : Told) (part : List Answer) (due : Due)
-    → length earlier.answers ≤ length list → report ≡ since raw earlier → raw.answers ≡ earlier.answers ++ part
+pub resumed_continues : (list : List Access) (tries : ℕ) (raw earlier report : HostReport) (part : List Answer)
+    (due : Due)
+    → length earlier.answers ≤ length list → report ≡ resume_report raw earlier → raw.answers ≡ earlier.answers ++ part
     → Closes 5 1 (drop (length earlier.answers) list) tries (record raw { answers = part }) due
-    → Continues list tries earlier report due
-continues list tries raw earlier report part due reported is added h =
+    → ResumeCloses list tries earlier report due
+resumed_continues list tries raw earlier report part due reported is added h =
     let rest : List Access = drop (length earlier.answers) list in
-    let new : added_in earlier raw ≡ part =
+    let new : resume_added earlier raw ≡ part =
     ap (drop (length earlier.answers)) added ∙ drop-append_seam earlier.answers part in
-    let long = drop_length (length earlier.answers) list reported in
+    let long = resumed_rest_length (length earlier.answers) list reported in
     let many = ap length added ∙ length-append earlier.answers part in
     let number = h.number in
-    subst (λ x. Continues list tries earlier x due) (sym is)
-    (record {
+    subst (λ x. ResumeCloses list tries earlier x due) (sym is) (record {
       own = raw.begun;
       kept = added ∙ ap (λ l. earlier.answers ++ l) (sym new);
       number = omega (arith, long, many, number);
@@ -175,6 +176,6 @@ continues list tries raw earlier report part due reported is added h =
     })
 
 -- the accesses from here on, as a slice
-pub rest_is : (n k : ℕ) (list : List Access) → n ≡ k → k ≤ length list
+pub resumed_rest_slice : (n k : ℕ) (list : List Access) → n ≡ k → k ≤ length list
     → take (length list - n) (drop n list) ≡ drop k list
-rest_is n k list is few = grind (arith, drop_length, long, take_all)
+resumed_rest_slice n k list is few = grind (arith, resumed_rest_length, long, take_all)

@@ -1,32 +1,34 @@
 -- From the opening and the list done after it to the report of a run.
 use Rattle.swd_host.proofs.Words.{◌≡◌, ◌≢◌, ◌+◌, ◌%◌, ◌^◌, ◌<◌, ℕ, false, sym, ap, subst, inl, inr, arith, ◌∙◌, List}
-use Rattle.swd_host.proofs.Words.{[], ◌++◌, Access, Answer, PlainMemory, Port, completed, MayBecome, End, All, Lost}
-use Rattle.swd_host.proofs.Words.{Opened, Stopped, Resting, Engine, AreAccesses, Bursts, most_of, left_in, DueFits}
-use Rattle.swd_host.proofs.Words.{Resumes, IsNew, Goes, Told, Fits, EndsAt, IsAtRest, RunFits, RunsWithin, IsOpen, Does}
-use Rattle.swd_host.proofs.Words.{told_by}
-use Rattle.swd_port.proofs.CompletionLaws.{may_become_of_none}
-use Rattle.swd_host.proofs.Openings.{ends_since, opening_spends, opening_asked, opening_unbegun, opening_lost}
+use Rattle.swd_host.proofs.Words.{[], ◌++◌, Access, Answer, PlainMemory, Port, port_completed, MayBecome, End, All}
+use Rattle.swd_host.proofs.Words.{Lost, Opened, Stopped, Resting, Engine, AreHostAccesses, Bursts, bursts_limit}
+use Rattle.swd_host.proofs.Words.{engine_left_in, EngineDueFits, EngineResumes, EngineIsNew, EngineGoesWithPort}
+use Rattle.swd_host.proofs.Words.{HostReport, Fits, HostEndsAt, IsAtRest, RunFits, RunsWithin, EngineTargetIsOpen}
+use Rattle.swd_host.proofs.Words.{EngineDoes, engine_report}
+use Rattle.swd_port.proofs.CompletionLaws.{port_may_become_of_none}
+use Rattle.swd_host.proofs.Openings.{engine_ends_since, opening_spends, opening_asked, opening_unbegun, opening_lost}
 use Rattle.swd_host.proofs.Openings.{opened_sent}
-use Rattle.swd_host.proofs.Opened.{OpeningEnds, OpenOver, counted_at, new_resumes, opening_ends, opened_over}
+use Rattle.swd_host.proofs.Opened.{OpeningEnds, OpeningSucceeds, opening_counts_at, new_engine_resumes}
+use Rattle.swd_host.proofs.Opened.{opening_stop_memory, opening_success_memory}
 use Rattle.swd_host.proofs.Ends.{stops_only}
 
 -- WHAT A REPORT SAYS
-pub told_as : (limit : ℕ) (list : List Access) (tries : ℕ) (m : PlainMemory) (x y : Told) (s t : Port) → y ≡ x
-    → RunFits limit list tries m x s t → RunFits limit list tries m y s t
-told_as limit list tries m x y s t is h = subst (λ told. RunFits limit list tries m told s t) (sym is) h
+pub host_run_equal_report : (limit : ℕ) (list : List Access) (tries : ℕ) (m : PlainMemory) (x y : HostReport)
+    (s t : Port) → y ≡ x → RunFits limit list tries m x s t → RunFits limit list tries m y s t
+host_run_equal_report limit list tries m x y s t is h = subst (λ told. RunFits limit list tries m told s t) (sym is) h
 
 -- A RUN
 module _ (kind : Bursts) (list : List Access) (tries : ℕ) (e f : Engine) (answers : List Answer) (s t : Port)
-    (small : tries < 2 ^ 32) (new : IsNew kind false tries e) (goes : Goes e s f t) (due : DueFits f t)
-    (none : answers ≡ []) (rest : IsAtRest s) where
+    (small : tries < 2 ^ 32) (new : EngineIsNew kind false tries e) (goes : EngineGoesWithPort e s f t)
+    (due : EngineDueFits f t) (none : answers ≡ []) (rest : IsAtRest s) where
   abbrev pub m : PlainMemory
   m = s.target.memory
 
-  first : Resumes (counted_at s) s e s
-  first = new_resumes kind false tries e s new rest.known (inr rest.settled)
+  first : EngineResumes (opening_counts_at s) s e s
+  first = new_engine_resumes kind false tries e s new rest.known (inr rest.settled)
 
-  resumes : Resumes (counted_at s) s f t
-  resumes = goes.resumes (counted_at s) s first
+  resumes : EngineResumes (opening_counts_at s) s f t
+  resumes = goes.resumes (opening_counts_at s) s first
 
   odd : t.target.identification % 2 ≡ 1
   odd = ap (λ w. w % 2) goes.later.identification ∙ rest.known.odd
@@ -36,23 +38,23 @@ module _ (kind : Bursts) (list : List Access) (tries : ℕ) (e f : Engine) (answ
 
   -- nothing was pending: no other memory may have come of the start
   only : (now : PlainMemory) → MayBecome s now → now ≡ m
-  only now may = may_become_of_none.only now s rest.settled may
+  only now may = port_may_become_of_none.only now s rest.settled may
 
   opening_fits : (now : PlainMemory) (end : End) → end ≢ All → f.state ≡ Resting (Stopped end) → MayBecome s now
-      → Fits (most_of kind) list m (told_by answers f end) now
+      → Fits (bursts_limit kind) list m (engine_report answers f end) now
   opening_fits now end never at may = grind arith
 
   -- the theorem of a run whose opening stopped, so that it did no access
   pub opening_stops : (end : End) → f.state ≡ Resting (Stopped end)
-      → RunFits (most_of kind) list tries m (told_by answers f end) s t
+      → RunFits (bursts_limit kind) list tries m (engine_report answers f end) s t
   opening_stops end at =
-      let stop : OpeningEnds end (counted_at s) f.tries (s.tally.disturbed + f.events) s t =
-      opening_ends (counted_at s) s f end t at unbegun due resumes in
-      let ends : EndsAt end tries s t = subst (λ n. EndsAt end n s t) (goes.works.tries ∙ new.tries)
+      let stop : OpeningEnds end (opening_counts_at s) f.tries (s.tally.disturbed + f.events) s t =
+      opening_stop_memory (opening_counts_at s) s f end t at unbegun due resumes in
+      let ends : HostEndsAt end tries s t = subst (λ n. HostEndsAt end n s t) (goes.works.tries ∙ new.tries)
       (stop.ends s (omega arith) (omega arith) odd) in
       record {
         now = opening_fits t.target.memory end stop.never at (stop.now rest.settled);
-        later = λ c. opening_fits (completed c t).target.memory end stop.never at (stop.later rest.settled c);
+        later = λ c. opening_fits (port_completed c t).target.memory end stop.never at (stop.later rest.settled c);
         ends = ends;
         stops_only = stops_only end tries s t ends;
         counted = opening_asked kind false tries e f s t small new goes;
@@ -60,7 +62,7 @@ module _ (kind : Bursts) (list : List Access) (tries : ℕ) (e f : Engine) (answ
         most = elim stop.paid [
           | inl p ↦
               (let lost : f.state ≡ Resting (Stopped Lost) = at ∙ ap (λ x. Resting (Stopped x)) p.0 in
-              let early = opening_lost kind false tries e f s t small new goes (counted_at s) s first lost in
+              let early = opening_lost kind false tries e f s t small new goes (opening_counts_at s) s first lost in
               omega (arith, p.1))
           | inr p ↦ omega (arith, opening_spends kind false tries e f s t small new goes, goes.works.tries, new.tries)
         ];
@@ -68,23 +70,26 @@ module _ (kind : Bursts) (list : List Access) (tries : ℕ) (e f : Engine) (answ
 
   -- the theorem of a run whose opening succeeded, with the result of its list
   pub list_fits : (last : Engine) (part : List Answer) (end : End) (u : Port) → f.state ≡ Resting Opened
-      → (does : Does list f last answers part end t u) → AreAccesses list
-      → RunFits (most_of kind) list tries m (told_by part last end) s u
+      → (does : EngineDoes list f last answers part end t u) → AreHostAccesses list
+      → RunFits (bursts_limit kind) list tries m (engine_report part last end) s u
   list_fits last part end u at does ok =
-      let opened : OpenOver (s.tally.disturbed + f.events) s f t = opened_over (counted_at s) s f t at odd resumes in
-      let is_open : IsOpen m f t = subst (λ x. IsOpen x f t) (only opened.memory opened.comes) opened.is_open in
+      let opened : OpeningSucceeds (s.tally.disturbed + f.events) s f t =
+      opening_success_memory (opening_counts_at s) s f t at odd resumes in
+      let is_open : EngineTargetIsOpen m f t =
+      subst (λ x. EngineTargetIsOpen x f t) (only opened.memory opened.comes) opened.is_open in
       let over = does.over m is_open ok in
-      let left : left_in f.state ≡ 1 = ap left_in at in
-      let limit : most_of f.bursts ≡ most_of kind = ap most_of (goes.works.bursts ∙ new.bursts) in
+      let left : engine_left_in f.state ≡ 1 = ap engine_left_in at in
+      let limit : bursts_limit f.bursts ≡ bursts_limit kind = ap bursts_limit (goes.works.bursts ∙ new.bursts) in
       let mine : part ≡ does.answers = does.added ∙ ap (λ x. x ++ does.answers) none in
-      let ends : EndsAt end tries s u = ends_since end tries s t u goes.later.disturbed goes.later.lost
-      (subst (λ n. EndsAt end n t u) (goes.works.tries ∙ new.tries) over.ends) in
-      told_as (most_of kind) list tries m (told_by does.answers last end) (told_by part last end) s u
-      (ap (λ x. told_by x last end) mine)
+      let ends : HostEndsAt end tries s u = engine_ends_since end tries s t u goes.later.disturbed goes.later.lost
+      (subst (λ n. HostEndsAt end n t u) (goes.works.tries ∙ new.tries) over.ends) in
+      host_run_equal_report (bursts_limit kind) list tries m (engine_report does.answers last end)
+      (engine_report part last end) s u (ap (λ x. engine_report x last end) mine)
       (record {
-        now = subst (λ n. Fits n list m (told_by does.answers last end) u.target.memory) limit over.now;
-        later = λ c. subst (Fits (most_of kind) list m (told_by does.answers last end)) (sym (over.becomes c))
-            (subst (λ n. Fits n list m (told_by does.answers last end) over.settled) limit over.later);
+        now = subst (λ n. Fits n list m (engine_report does.answers last end) u.target.memory) limit over.now;
+        later = λ c. subst (Fits (bursts_limit kind) list m (engine_report does.answers last end))
+            (sym (over.becomes c)) (subst (λ n. Fits n list m (engine_report does.answers last end) over.settled) limit
+            over.later);
         ends = ends;
         stops_only = stops_only end tries s u ends;
         counted = omega (arith, does.asked, opening_asked kind false tries e f s t small new goes);
@@ -100,7 +105,7 @@ module _ (kind : Bursts) (list : List Access) (tries : ℕ) (e f : Engine) (answ
       })
 
 -- by what the engine was made for
-pub runs_as : (kind : Bursts) (tries : ℕ) (list : List Access) (e : Engine) (told : Told) (s u : Port)
-    → IsNew kind false tries e → RunsWithin (most_of e.bursts) list e.tries told s u
-    → RunsWithin (most_of kind) list tries told s u
-runs_as kind tries list e told s u new h = grind arith
+pub new_engine_runs_within : (kind : Bursts) (tries : ℕ) (list : List Access) (e : Engine) (told : HostReport)
+    (s u : Port) → EngineIsNew kind false tries e → RunsWithin (bursts_limit e.bursts) list e.tries told s u
+    → RunsWithin (bursts_limit kind) list tries told s u
+new_engine_runs_within kind tries list e told s u new h = grind arith

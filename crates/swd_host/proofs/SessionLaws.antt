@@ -1,18 +1,20 @@
 -- Calls one after the other over one target are as one list. For the laws `sessions` and `made_is_at_rest`.
 use Rattle.swd_host.proofs.Words.{◌≡◌, ◌%◌, ℕ, refl, sym, ap, subst, arith, ◌∙◌, List, ◌++◌, length, take, Access}
-use Rattle.swd_host.proofs.Words.{Answer, PlainMemory, Port, All, memory_after, answers_of, Told, FitsAt, EndsAt}
-use Rattle.swd_host.proofs.Words.{IsAtRest, RunFits}
+use Rattle.swd_host.proofs.Words.{Answer, PlainMemory, Port, All, memory_after, answers_of, HostReport, FitsAt}
+use Rattle.swd_host.proofs.Words.{HostEndsAt, IsAtRest, RunFits}
 use Rattle.std.proofs.lemmas.List.{take_all}
-use Rattle.swd_port.specs.Port.{made}
-use Rattle.swd_host.specs.Sessions.{Session, none, then, IsAsOne}
-use Rattle.swd_host.proofs.Lists.{memory_append, answers_append}
+use Rattle.swd_port.specs.Port.{port_made}
+use Rattle.swd_host.specs.Sessions.{HostSession, none, then, HostSessionIsAsOne}
+use Rattle.swd_host.proofs.Lists.{host_list_memory_append, host_list_answers_append}
 
 -- a target that was just made is at rest, if bit 0 of its identification is 1
-pub made_rests : (identification : ℕ) (m : PlainMemory) → identification % 2 ≡ 1 → IsAtRest (made identification m)
-made_rests identification m odd = record { due = refl; known = record { select = refl; odd = odd }; settled = refl }
+pub host_session_made_rests : (identification : ℕ) (m : PlainMemory) → identification % 2 ≡ 1
+    → IsAtRest (port_made identification m)
+host_session_made_rests identification m odd =
+    record { due = refl; known = record { select = refl; odd = odd }; settled = refl }
 
 -- A CALL THAT ENDED WHOLE
-module _ (limit tries : ℕ) (list : List Access) (told : Told) (s t : Port)
+module _ (limit tries : ℕ) (list : List Access) (told : HostReport) (s t : Port)
     (runs : RunFits limit list tries s.target.memory told s t) (all : told.ended ≡ All) where
   whole_fit : FitsAt limit runs.now.0 list s.target.memory told t.target.memory
   whole_fit = runs.now.1
@@ -25,7 +27,7 @@ module _ (limit tries : ℕ) (list : List Access) (told : Told) (s t : Port)
 
   pub whole_rests : IsAtRest t
   whole_rests =
-      let ends : EndsAt All tries s t = subst (λ end. EndsAt end tries s t) all runs.ends in ends.0
+      let ends : HostEndsAt All tries s t = subst (λ end. HostEndsAt end tries s t) all runs.ends in ends.0
 
   -- no access is begun beside
   unbegun : (b : ℕ) → told.begun ≡ b → b ≡ 0
@@ -35,19 +37,19 @@ module _ (limit tries : ℕ) (list : List Access) (told : Told) (s t : Port)
   whole_memory = grind (arith, unbegun, whole_fit, whole_list)
 
 -- a session, as one run over the list of all its accesses
-pub as_one : (s : Port) (list : List Access) (answers : List Answer) (t : Port) → IsAtRest s
-    → Session s list answers t → IsAsOne s list answers t
-as_one s list answers t rest none = record { rests = rest; answers_are = refl; memory = refl }
-as_one s list answers t rest
+pub host_session_as_one : (s : Port) (list : List Access) (answers : List Answer) (t : Port) → IsAtRest s
+    → HostSession s list answers t → HostSessionIsAsOne s list answers t
+host_session_as_one s list answers t rest none = record { rests = rest; answers_are = refl; memory = refl }
+host_session_as_one s list answers t rest
     (then {done = done} {answers = old} {t = u} {u = v} before limit tries more told runs all) =
-    let b : IsAsOne s done old u = as_one s done old u rest before in
+    let b : HostSessionIsAsOne s done old u = host_session_as_one s done old u rest before in
     let r : RunFits limit more tries u.target.memory told u t = runs b.rests in
     let m : PlainMemory = s.target.memory in
     record {
       rests = whole_rests limit tries more told u v r all;
       answers_are = ap (λ l. l ++ told.answers) b.answers_are
           ∙ (ap (λ l. answers_of done m ++ l) (whole_answers limit tries more told u v r all
-          ∙ ap (answers_of more) b.memory) ∙ sym (answers_append done more m));
+          ∙ ap (answers_of more) b.memory) ∙ sym (host_list_answers_append done more m));
       memory = whole_memory limit tries more told u v r all
-          ∙ (ap (memory_after more) b.memory ∙ sym (memory_append done more m));
+          ∙ (ap (memory_after more) b.memory ∙ sym (host_list_memory_append done more m));
     }

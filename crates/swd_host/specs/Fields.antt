@@ -10,12 +10,10 @@ use Rattle.swd_host.specs.declared.task.Bursts.{Bursts}
 use Rattle.swd_host.specs.declared.task.Bursts.TheVariants.{Writes, Reads}
 use Rattle.swd_host.specs.declared.task.Task.{Task}
 use Rattle.swd_host.specs.declared.task.Task.TheVariants.{Read, BurstRead, Write, BurstWrite}
-use Rattle.swd_host.specs.declared.request.Place.{Place}
-use Rattle.swd_host.specs.declared.request.Place.TheVariants.{Identify, WriteAbort, CheckCtrlStat, Select, Power}
-use Rattle.swd_host.specs.declared.request.Place.TheVariants.{Powered}
-use Rattle.swd_host.specs.declared.request.Place.TheVariants.{Configure, ReadCsw, Configured, WriteTar, Transfer}
-use Rattle.swd_host.specs.declared.request.Place.TheVariants.{Confirm}
-use Rattle.swd_host.specs.declared.request.Place.TheVariants.{Behind}
+use Rattle.swd_host.specs.declared.request.HostStep.{HostStep}
+use Rattle.swd_host.specs.declared.request.HostStep.TheVariants.{Identify, WriteAbort, CheckCtrlStat, Select, Power}
+use Rattle.swd_host.specs.declared.request.HostStep.TheVariants.{Powered, Configure, ReadCsw, Configured, WriteTar}
+use Rattle.swd_host.specs.declared.request.HostStep.TheVariants.{Transfer, Confirm, Behind}
 use Rattle.swd_host.specs.declared.request.Job.{Job}
 use Rattle.swd_host.specs.declared.request.Job.TheVariants.{At, Resend, Status, LastStatus, Clear, Check}
 use Rattle.swd_host.specs.declared.engine.Ahead.{Ahead}
@@ -31,78 +29,78 @@ use Rattle.swd_host.specs.declared.fields.OutcomeFields.{OutcomeFields}
 use Rattle.swd_host.specs.declared.fields.StateFields.{StateFields}
 use Rattle.swd_host.specs.declared.fields.TarFields.{TarFields}
 use Rattle.swd_host.specs.declared.fields.TaskFields.{TaskFields}
-use Rattle.swd_host.specs.Flags.{no_flags}
+use Rattle.swd_host.specs.Flags.{no_host_flags}
 
-abbrev pub place_number : Place → ℕ
-place_number Identify = 1
-place_number WriteAbort = 2
-place_number CheckCtrlStat = 3
-place_number Select = 4
-place_number Power = 5
-place_number Powered = 6
-place_number Configure = 7
-place_number ReadCsw = 8
-place_number Configured = 9
-place_number WriteTar = 10
-place_number Transfer = 11
-place_number Confirm = 12
-place_number Behind = 13
+abbrev pub engine_place_number : HostStep → ℕ
+engine_place_number Identify = 1
+engine_place_number WriteAbort = 2
+engine_place_number CheckCtrlStat = 3
+engine_place_number Select = 4
+engine_place_number Power = 5
+engine_place_number Powered = 6
+engine_place_number Configure = 7
+engine_place_number ReadCsw = 8
+engine_place_number Configured = 9
+engine_place_number WriteTar = 10
+engine_place_number Transfer = 11
+engine_place_number Confirm = 12
+engine_place_number Behind = 13
 
-abbrev pub phase_code : Phase → ℕ
-phase_code Ask = 1
-phase_code Data = 2
-phase_code Waited = 3
-phase_code Faulted = 4
+abbrev pub engine_phase_number : Phase → ℕ
+engine_phase_number Ask = 1
+engine_phase_number Data = 2
+engine_phase_number Waited = 3
+engine_phase_number Faulted = 4
 
-abbrev pub ahead_number : Ahead → ℕ
-ahead_number Unsent = 1
-ahead_number Sent = 2
-ahead_number Failed = 3
+abbrev pub engine_ahead_number : Ahead → ℕ
+engine_ahead_number Unsent = 1
+engine_ahead_number Sent = 2
+engine_ahead_number Failed = 3
 
 abbrev pub bursts_number : Bursts → ℕ
 bursts_number Writes = 1
 bursts_number Reads = 2
 
 -- the fields of an outcome with this kind and word
-abbrev pub outcome_with : ℕ → ℕ → OutcomeFields
-outcome_with kind word = record { word = word; kind = kind }
+abbrev pub engine_outcome_of_kind : ℕ → ℕ → OutcomeFields
+engine_outcome_of_kind kind word = record { word = word; kind = kind }
 
-abbrev pub no_outcome : OutcomeFields
-no_outcome = outcome_with 0 0
+abbrev pub no_engine_outcome : OutcomeFields
+no_engine_outcome = engine_outcome_of_kind 0 0
 
-abbrev pub outcome_fields : Outcome → OutcomeFields
-outcome_fields Opened = outcome_with 1 0
-outcome_fields (Answered (Value word)) = outcome_with 2 word
-outcome_fields (Answered Written) = outcome_with 3 0
-outcome_fields (Answered BusFault) = outcome_with 4 0
-outcome_fields (Stopped All) = outcome_with 5 0
-outcome_fields (Stopped Lost) = outcome_with 6 0
-outcome_fields (Stopped TriesOut) = outcome_with 7 0
-outcome_fields (Stopped (WrongId word)) = outcome_with 8 word
-outcome_fields (Stopped Confused) = outcome_with 9 0
+abbrev pub engine_outcome_fields : Outcome → OutcomeFields
+engine_outcome_fields Opened = engine_outcome_of_kind 1 0
+engine_outcome_fields (Answered (Value word)) = engine_outcome_of_kind 2 word
+engine_outcome_fields (Answered Written) = engine_outcome_of_kind 3 0
+engine_outcome_fields (Answered BusFault) = engine_outcome_of_kind 4 0
+engine_outcome_fields (Stopped All) = engine_outcome_of_kind 5 0
+engine_outcome_fields (Stopped Lost) = engine_outcome_of_kind 6 0
+engine_outcome_fields (Stopped TriesOut) = engine_outcome_of_kind 7 0
+engine_outcome_fields (Stopped (WrongId word)) = engine_outcome_of_kind 8 word
+engine_outcome_fields (Stopped Confused) = engine_outcome_of_kind 9 0
 
 -- the fields of a job with this kind, place and flags
-abbrev pub job_with : ℕ → ℕ → Flags → JobFields
-job_with kind place flags =
+abbrev pub engine_job_of_kind : ℕ → ℕ → Flags → JobFields
+engine_job_of_kind kind place flags =
     record { kind = kind; place = place; error = bit flags.error; damaged = bit flags.damaged }
 
-abbrev pub no_job : JobFields
-no_job = job_with 0 0 no_flags
+abbrev pub no_engine_job : JobFields
+no_engine_job = engine_job_of_kind 0 0 no_host_flags
 
-abbrev pub job_fields : Job → JobFields
-job_fields (At p) = job_with 1 (place_number p) no_flags
-job_fields (Resend p) = job_with 2 (place_number p) no_flags
-job_fields (Status p) = job_with 3 (place_number p) no_flags
-job_fields LastStatus = job_with 4 0 no_flags
-job_fields (Clear p owed) = job_with 5 (place_number p) owed
-job_fields (Check p owed) = job_with 6 (place_number p) owed
+abbrev pub engine_job_fields : Job → JobFields
+engine_job_fields (At p) = engine_job_of_kind 1 (engine_place_number p) no_host_flags
+engine_job_fields (Resend p) = engine_job_of_kind 2 (engine_place_number p) no_host_flags
+engine_job_fields (Status p) = engine_job_of_kind 3 (engine_place_number p) no_host_flags
+engine_job_fields LastStatus = engine_job_of_kind 4 0 no_host_flags
+engine_job_fields (Clear p owed) = engine_job_of_kind 5 (engine_place_number p) owed
+engine_job_fields (Check p owed) = engine_job_of_kind 6 (engine_place_number p) owed
 
-abbrev pub state_fields : State → StateFields
-state_fields Leading = record { outcome = no_outcome; job = no_job; kind = 1; phase = 0 }
-state_fields (Doing job phase) =
-    record { outcome = no_outcome; job = job_fields job; kind = 2; phase = phase_code phase }
-state_fields (Resting outcome) =
-    record { outcome = outcome_fields outcome; job = no_job; kind = 3; phase = 0 }
+abbrev pub engine_state_fields : State → StateFields
+engine_state_fields Leading = record { outcome = no_engine_outcome; job = no_engine_job; kind = 1; phase = 0 }
+engine_state_fields (Doing job phase) =
+    record { outcome = no_engine_outcome; job = engine_job_fields job; kind = 2; phase = engine_phase_number phase }
+engine_state_fields (Resting outcome) =
+    record { outcome = engine_outcome_fields outcome; job = no_engine_job; kind = 3; phase = 0 }
 
 abbrev pub task_fields : Task → TaskFields
 task_fields (Read at) = record { addr = at; word = 0; kind = 1 }
@@ -110,22 +108,22 @@ task_fields (BurstRead at) = record { addr = at; word = 0; kind = 2 }
 task_fields (Write at word) = record { addr = at; word = word; kind = 3 }
 task_fields (BurstWrite at word) = record { addr = at; word = word; kind = 4 }
 
-abbrev pub tar_fields : Option ℕ → TarFields
-tar_fields None = record { word = 0; known = 0 }
-tar_fields (Some at) = record { word = at; known = 1 }
+abbrev pub engine_tar_fields : Option ℕ → TarFields
+engine_tar_fields None = record { word = 0; known = 0 }
+engine_tar_fields (Some at) = record { word = at; known = 1 }
 
 -- the fields of an engine
-abbrev pub fields_of : Engine → EngineFields
-fields_of e = record {
+abbrev pub fields_of_engine : Engine → EngineFields
+fields_of_engine e = record {
   requests = e.requests;
-  state = state_fields e.state;
+  state = engine_state_fields e.state;
   task = task_fields e.task;
-  tar = tar_fields e.tar;
+  tar = engine_tar_fields e.tar;
   tries = e.tries;
   events = e.events;
   aims = bit e.aims;
   bursts = bursts_number e.bursts;
-  ahead = ahead_number e.ahead;
+  ahead = engine_ahead_number e.ahead;
   begun = e.begun;
   stray = bit e.stray;
 }

@@ -10,12 +10,10 @@ use Rattle.swd_host.specs.declared.task.Bursts.{Bursts}
 use Rattle.swd_host.specs.declared.task.Bursts.TheVariants.{Writes, Reads}
 use Rattle.swd_host.specs.declared.task.Task.{Task}
 use Rattle.swd_host.specs.declared.task.Task.TheVariants.{Read, BurstRead, Write, BurstWrite}
-use Rattle.swd_host.specs.declared.request.Place.{Place}
-use Rattle.swd_host.specs.declared.request.Place.TheVariants.{Identify, WriteAbort, CheckCtrlStat, Select, Power}
-use Rattle.swd_host.specs.declared.request.Place.TheVariants.{Powered}
-use Rattle.swd_host.specs.declared.request.Place.TheVariants.{Configure, ReadCsw, Configured, WriteTar, Transfer}
-use Rattle.swd_host.specs.declared.request.Place.TheVariants.{Confirm}
-use Rattle.swd_host.specs.declared.request.Place.TheVariants.{Behind}
+use Rattle.swd_host.specs.declared.request.HostStep.{HostStep}
+use Rattle.swd_host.specs.declared.request.HostStep.TheVariants.{Identify, WriteAbort, CheckCtrlStat, Select, Power}
+use Rattle.swd_host.specs.declared.request.HostStep.TheVariants.{Powered, Configure, ReadCsw, Configured, WriteTar}
+use Rattle.swd_host.specs.declared.request.HostStep.TheVariants.{Transfer, Confirm, Behind}
 use Rattle.swd_host.specs.declared.request.Job.{Job}
 use Rattle.swd_host.specs.declared.request.Job.TheVariants.{At, Resend, Status, LastStatus, Clear, Check}
 use Rattle.swd_host.specs.declared.engine.Ahead.{Ahead}
@@ -32,59 +30,60 @@ use Rattle.swd_host.specs.declared.fields.StateFields.{StateFields}
 use Rattle.swd_host.specs.declared.fields.TarFields.{TarFields}
 use Rattle.swd_host.specs.declared.fields.TaskFields.{TaskFields}
 
-abbrev pub place_at : ℕ → Place
-place_at n =
+abbrev pub engine_place_from : ℕ → HostStep
+engine_place_from n =
     if n == 1 then Identify else if n == 2 then WriteAbort else if n == 3 then CheckCtrlStat else if n == 4 then Select
     else if n == 5 then Power else if n == 6 then Powered else if n == 7 then Configure else if n == 8 then ReadCsw
     else if n == 9 then Configured else if n == 10 then WriteTar else if n == 11 then Transfer
     else if n == 12 then Confirm else Behind
 
-abbrev pub phase_at : ℕ → Phase
-phase_at n = if n == 1 then Ask else if n == 2 then Data else if n == 3 then Waited else Faulted
+abbrev pub engine_phase_from : ℕ → Phase
+engine_phase_from n = if n == 1 then Ask else if n == 2 then Data else if n == 3 then Waited else Faulted
 
-abbrev pub ahead_at : ℕ → Ahead
-ahead_at n = if n == 1 then Unsent else if n == 2 then Sent else Failed
+abbrev pub engine_ahead_from : ℕ → Ahead
+engine_ahead_from n = if n == 1 then Unsent else if n == 2 then Sent else Failed
 
 abbrev pub bursts_at : ℕ → Bursts
 bursts_at n = if n == 1 then Writes else Reads
 
-abbrev pub outcome_at : OutcomeFields → Outcome
-outcome_at f =
+abbrev pub engine_outcome_from : OutcomeFields → Outcome
+engine_outcome_from f =
     if f.kind == 1 then Opened else if f.kind == 2 then Answered (Value f.word)
     else if f.kind == 3 then Answered Written else if f.kind == 4 then Answered BusFault
     else if f.kind == 5 then Stopped All else if f.kind == 6 then Stopped Lost else if f.kind == 7 then Stopped TriesOut
     else if f.kind == 8 then Stopped (WrongId f.word) else Stopped Confused
 
-abbrev pub flags_at : JobFields → Flags
-flags_at f = record { error = f.error == 1; damaged = f.damaged == 1 }
+abbrev pub engine_flags_from : JobFields → Flags
+engine_flags_from f = record { error = f.error == 1; damaged = f.damaged == 1 }
 
-abbrev pub job_at : JobFields → Job
-job_at f =
-    if f.kind == 1 then At (place_at f.place) else if f.kind == 2 then Resend (place_at f.place)
-    else if f.kind == 3 then Status (place_at f.place) else if f.kind == 4 then LastStatus
-    else if f.kind == 5 then Clear (place_at f.place) (flags_at f) else Check (place_at f.place) (flags_at f)
+abbrev pub engine_job_from : JobFields → Job
+engine_job_from f =
+    if f.kind == 1 then At (engine_place_from f.place) else if f.kind == 2 then Resend (engine_place_from f.place)
+    else if f.kind == 3 then Status (engine_place_from f.place) else if f.kind == 4 then LastStatus
+    else if f.kind == 5 then Clear (engine_place_from f.place) (engine_flags_from f) else Check
+    (engine_place_from f.place) (engine_flags_from f)
 
-abbrev pub state_at : StateFields → State
-state_at f =
-    if f.kind == 1 then Leading else if f.kind == 2 then Doing (job_at f.job) (phase_at f.phase)
-    else Resting (outcome_at f.outcome)
+abbrev pub engine_state_from : StateFields → State
+engine_state_from f =
+    if f.kind == 1 then Leading else if f.kind == 2 then Doing (engine_job_from f.job) (engine_phase_from f.phase)
+    else Resting (engine_outcome_from f.outcome)
 
-abbrev pub task_at : TaskFields → Task
-task_at f =
+abbrev pub engine_task_from : TaskFields → Task
+engine_task_from f =
     if f.kind == 1 then Read f.addr else if f.kind == 2 then BurstRead f.addr
     else if f.kind == 3 then Write f.addr f.word else BurstWrite f.addr f.word
 
-abbrev pub tar_at : TarFields → Option ℕ
-tar_at f = if f.known == 1 then Some f.word else None
+abbrev pub engine_tar_from : TarFields → Option ℕ
+engine_tar_from f = if f.known == 1 then Some f.word else None
 
 abbrev pub engine_at : EngineFields → Engine
 engine_at f = record {
-  state = state_at f.state;
-  task = task_at f.task;
+  state = engine_state_from f.state;
+  task = engine_task_from f.task;
   aims = f.aims == 1;
-  tar = tar_at f.tar;
+  tar = engine_tar_from f.tar;
   bursts = bursts_at f.bursts;
-  ahead = ahead_at f.ahead;
+  ahead = engine_ahead_from f.ahead;
   tries = f.tries;
   events = f.events;
   begun = f.begun;

@@ -3,7 +3,7 @@ use Rattle.std.specs.Prelude.{◌≡◌, ◌%◌, ◌^◌, ◌<◌, ◌==◌, Bo
 use Rattle.swd_port.specs.declared.access.Access.{Access}
 use Rattle.swd_port.specs.declared.access.Access.TheVariants.{Read, Write}
 use Rattle.swd_port.specs.declared.access.Answer.{Answer}
-use Rattle.swd_port.specs.PlainMemory.{PlainMemory, address, plain_answer, plain_after}
+use Rattle.swd_port.specs.PlainMemory.{PlainMemory, plain_address, plain_answer, plain_after}
 
 -- the memory after a list of accesses, in order
 abbrev pub memory_after : List Access → PlainMemory → PlainMemory
@@ -16,20 +16,20 @@ answers_of [] m = []
 answers_of (a ∷ list) m = plain_answer a m ∷ answers_of list (plain_after a m)
 
 -- the address is a multiple of 4
-abbrev pub is_aligned : Access → Bool
-is_aligned a = address a % 4 == 0
+abbrev pub host_access_is_aligned : Access → Bool
+host_access_is_aligned a = plain_address a % 4 == 0
 
 -- words and addresses are in their ranges, and the address is a multiple of 4
-abbrev pub IsAccess : Access → Type 0
-IsAccess (Read at) = (at < 2 ^ 32) × (at % 4 ≡ 0)
-IsAccess (Write at word) = (at < 2 ^ 32) × (at % 4 ≡ 0) × (word < 2 ^ 32)
+abbrev pub IsHostAccess : Access → Type 0
+IsHostAccess (Read at) = (at < 2 ^ 32) × (at % 4 ≡ 0)
+IsHostAccess (Write at word) = (at < 2 ^ 32) × (at % 4 ≡ 0) × (word < 2 ^ 32)
 
 -- the same for every access of a list
-abbrev pub AreAccesses : List Access → Type 0
-AreAccesses [] = Unit {0}
-AreAccesses (a ∷ list) = IsAccess a × AreAccesses list
+abbrev pub AreHostAccesses : List Access → Type 0
+AreHostAccesses [] = Unit {0}
+AreHostAccesses (a ∷ list) = IsHostAccess a × AreHostAccesses list
 
 -- the numbers of an access have 32 bits, as they always do in code
-abbrev pub HasRanges : Access → Type 0
-HasRanges (Read at) = at < 2 ^ 32
-HasRanges (Write at word) = (at < 2 ^ 32) × (word < 2 ^ 32)
+abbrev pub HostAccessHasRanges : Access → Type 0
+HostAccessHasRanges (Read at) = at < 2 ^ 32
+HostAccessHasRanges (Write at word) = (at < 2 ^ 32) × (word < 2 ^ 32)

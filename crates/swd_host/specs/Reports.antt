@@ -10,25 +10,25 @@ use Rattle.swd_port.specs.declared.state.PowerUp.TheVariants.{Seen}
 use Rattle.swd_port.specs.PlainMemory.{PlainMemory}
 use Rattle.swd_port.specs.Port.{Port, Target}
 use Rattle.swd_port.specs.Choices.{Choice}
-use Rattle.swd_port.specs.Completion.{completed}
+use Rattle.swd_port.specs.Completion.{port_completed}
 use Rattle.swd_host.specs.declared.outcome.Report.{Report}
 use Rattle.swd_host.specs.declared.outcome.Ending.{Ending}
 use Rattle.swd_host.specs.declared.outcome.Refused.{Refused}
 use Rattle.swd_host.specs.declared.outcome.Refused.TheVariants.{TooMany, Unaligned, Memory}
 use Rattle.swd_host.specs.declared.outcome.End.{End}
 use Rattle.swd_host.specs.declared.outcome.End.TheVariants.{All, Lost, TriesOut}
-use Rattle.swd_host.specs.Plain.{memory_after, answers_of, AreAccesses, is_aligned}
-use Rattle.swd_port.specs.Registers.{no_select}
+use Rattle.swd_host.specs.Plain.{memory_after, answers_of, AreHostAccesses, host_access_is_aligned}
+use Rattle.swd_port.specs.Registers.{port_select_zero}
 
 -- a report: the answers, how many more accesses were begun, how many requests were sent, and how the run ended
-pub record Told : Type 0 where
+pub record HostReport : Type 0 where
   pub answers : List Answer
   pub begun : ℕ
   pub requests : ℕ
   pub ended : End
 
-abbrev pub told_of : {A : Type 0} → Report A → Told
-told_of report = record {
+abbrev pub host_report_of : {A : Type 0} → Report A → HostReport
+host_report_of report = record {
   answers = report.answers.items;
   begun = report.begun;
   requests = report.requests;
@@ -36,8 +36,8 @@ told_of report = record {
 }
 
 -- the report with these answers
-abbrev pub told_to : List Answer → Ending → Told
-told_to answers ending = record {
+abbrev pub host_report_to : List Answer → Ending → HostReport
+host_report_to answers ending = record {
   answers = answers;
   begun = ending.begun;
   requests = ending.requests;
@@ -46,66 +46,67 @@ told_to answers ending = record {
 
 -- The answers are exactly those to the first k accesses of the list over the plain memory. The memory `now` is that
 -- after these and a prefix of the begun ones, possibly empty. At most `most` accesses are begun.
-pub record FitsAt (most k : ℕ) (list : List Access) (m : PlainMemory) (told : Told) (now : PlainMemory) : Type 0 where
-  pub reported : k ≤ length list
-  pub answers : told.answers ≡ answers_of (take k list) m
-  pub memory : (j : ℕ) × (j ≤ told.begun) × (now ≡ memory_after (take (k + j) list) m)
-  pub few : told.begun ≤ most
-  -- Begun accesses are in the list, in a run that isn't whole. A request was sent for each, after nine of the opening,
-  -- one for TAR, and one for each access before.
-  pub begun : told.begun ≢ 0 → (k + told.begun ≤ length list) × (told.ended ≢ All) ×
-      (10 + k + told.begun ≤ told.requests)
-  pub all : told.ended ≡ All → k ≡ length list
+pub record FitsAt (most k : ℕ) (list : List Access) (m : PlainMemory) (told : HostReport) (now : PlainMemory) : Type 0
+  where
+    pub reported : k ≤ length list
+    pub answers : told.answers ≡ answers_of (take k list) m
+    pub memory : (j : ℕ) × (j ≤ told.begun) × (now ≡ memory_after (take (k + j) list) m)
+    pub few : told.begun ≤ most
+    -- Begun accesses are in the list, in a run that isn't whole. A request was sent for each, after nine of the opening,
+    -- one for TAR, and one for each access before.
+    pub begun : told.begun ≢ 0 → (k + told.begun ≤ length list) × (told.ended ≢ All) ×
+        (10 + k + told.begun ≤ told.requests)
+    pub all : told.ended ≡ All → k ≡ length list
 
-abbrev pub Fits : ℕ → List Access → PlainMemory → Told → PlainMemory → Type 0
+abbrev pub Fits : ℕ → List Access → PlainMemory → HostReport → PlainMemory → Type 0
 Fits most list m told now = (k : ℕ) × FitsAt most k list m told now
 
 -- why a list is refused, in the order of the checks
-abbrev pub RefusedAs : List Access → Refused → Type 0
-RefusedAs list TooMany = 65536 < length list
-RefusedAs list (Unaligned index) =
-    (length list ≤ 65536) × (index < length list) × AreAccesses (take index list)
-    × (is_aligned (get_or list index (Read 0)) ≡ false)
-RefusedAs list Memory = (length list ≤ 65536) × AreAccesses list
+abbrev pub HostRefusesList : List Access → Refused → Type 0
+HostRefusesList list TooMany = 65536 < length list
+HostRefusesList list (Unaligned index) =
+    (length list ≤ 65536) × (index < length list) × AreHostAccesses (take index list)
+    × (host_access_is_aligned (get_or list index (Read 0)) ≡ false)
+HostRefusesList list Memory = (length list ≤ 65536) × AreHostAccesses list
 
 -- WHATEVER THE TARGET ANSWERS
 
 -- what has to come next on the wire, by how a call ended
-abbrev pub due_at : End → Due
-due_at Lost = DueLost
-due_at end = Nothing
+abbrev pub host_due_at_end : End → Due
+host_due_at_end Lost = DueLost
+host_due_at_end end = Nothing
 
 -- the most requests of an opening and n accesses, where each meets at most `tries` events: the opening takes ten, an
 -- access six, and an event costs five more
-abbrev pub most_requests : ℕ → ℕ → ℕ
-most_requests tries n = 10 + 5 * tries + n * (6 + 5 * tries)
+abbrev pub host_most_requests : ℕ → ℕ → ℕ
+host_most_requests tries n = 10 + 5 * tries + n * (6 + 5 * tries)
 
 -- What holds of a report whatever the other end did. It has no more answers than the list has accesses, and all of them
 -- at `All`. At most `limit` accesses are begun. `next`, what is due on the wire, follows from the end. The number of
 -- requests is at most that of an opening, of each answered access and of one more that the list has, plus `spare`.
-pub record Closes (spare limit : ℕ) (list : List Access) (tries : ℕ) (told : Told) (next : Due) : Type 0 where
+pub record Closes (spare limit : ℕ) (list : List Access) (tries : ℕ) (told : HostReport) (next : Due) : Type 0 where
   pub number : length told.answers ≤ length list
   pub whole : told.ended ≡ All → length told.answers ≡ length list
   pub begun : told.begun ≤ limit
-  pub due : next ≡ due_at told.ended
-  pub spends : told.requests ≤ spare + most_requests tries (min (length list) (length told.answers + 1))
+  pub due : next ≡ host_due_at_end told.ended
+  pub spends : told.requests ≤ spare + host_most_requests tries (min (length list) (length told.answers + 1))
 
 -- WHERE WHAT WAS OBSERVED IS CONSISTENT WITH THE MODEL
 
 -- SELECT is 0 (AP 0, banks 0), and bit 0 of the identification is 1
-pub record IsKnown (s : Target) : Type 0 where
-  pub select : s.select ≡ no_select
+pub record HostKnowsTarget (s : Target) : Type 0 where
+  pub select : s.select ≡ port_select_zero
   pub odd : s.identification % 2 ≡ 1
 
 -- A target at rest, where a call may start: nothing is due, and no transfer is pending. Flags, power, CSW, TAR and all
 -- else are arbitrary.
 pub record IsAtRest (s : Port) : Type 0 where
   pub due : s.link.due ≡ Nothing
-  pub known : IsKnown s.target
+  pub known : HostKnowsTarget s.target
   pub settled : s.target.pending ≡ None
 
 -- no flag is set, and power is requested and was read as acknowledged
-pub record IsPowered (s : Target) : Type 0 where
+pub record HostLeavesPowered (s : Target) : Type 0 where
   pub sticky_error : s.sticky_error ≡ false
   pub write_error : s.write_error ≡ false
   pub debug : s.debug_power ≡ true
@@ -115,34 +116,35 @@ pub record IsPowered (s : Target) : Type 0 where
 -- How a call may end, and the target that it leaves. A whole list leaves a target at rest, powered and without a flag.
 -- A lost acknowledgement, or more than `tries` disturbed requests, leaves a known one, whose last transfer may be
 -- pending. No call ends with a wrong identification or confused.
-abbrev pub EndsAt : End → ℕ → Port → Port → Type 0
-EndsAt All tries s t = IsAtRest t × IsPowered t.target
-EndsAt Lost tries s t = (t.link.due ≡ DueLost) × (s.tally.lost < t.tally.lost) × IsKnown t.target
-EndsAt TriesOut tries s t = (t.link.due ≡ Nothing) × (s.tally.disturbed + tries < t.tally.disturbed) × IsKnown t.target
-EndsAt end tries s t = ⊥
+abbrev pub HostEndsAt : End → ℕ → Port → Port → Type 0
+HostEndsAt All tries s t = IsAtRest t × HostLeavesPowered t.target
+HostEndsAt Lost tries s t = (t.link.due ≡ DueLost) × (s.tally.lost < t.tally.lost) × HostKnowsTarget t.target
+HostEndsAt TriesOut tries s t = (t.link.due ≡ Nothing) × (s.tally.disturbed + tries < t.tally.disturbed)
+    × HostKnowsTarget t.target
+HostEndsAt end tries s t = ⊥
 
 -- The theorem of a run over a target at rest with the memory m. The report fits the memory at the end, and the memory
 -- once a transfer that is still pending has taken effect. The run stops early only at a lost acknowledgement or after
 -- more than `tries` disturbed requests. At most `limit` unanswered accesses are begun.
-pub record RunFits (limit : ℕ) (list : List Access) (tries : ℕ) (m : PlainMemory) (told : Told) (s t : Port)
+pub record RunFits (limit : ℕ) (list : List Access) (tries : ℕ) (m : PlainMemory) (told : HostReport) (s t : Port)
     : Type 0 where
   pub now : Fits limit list m told t.target.memory
-  pub later : (c : Choice) → Fits limit list m told (completed c t).target.memory
-  pub ends : EndsAt told.ended tries s t
+  pub later : (c : Choice) → Fits limit list m told (port_completed c t).target.memory
+  pub ends : HostEndsAt told.ended tries s t
   pub stops_only : t.tally.lost ≡ s.tally.lost → t.tally.disturbed ≤ s.tally.disturbed + tries → told.ended ≡ All
   pub counted : t.tally.asked ≡ s.tally.asked + told.requests
   pub least : told.ended ≡ All → 9 + length list ≤ told.requests
   pub most : told.requests ≤ 9 + 6 * length list + 5 * (t.tally.disturbed - s.tally.disturbed)
 
 -- a is the access after the one at i
-pub record Follower (i : ℕ) (list : List Access) (a : Access) : Type 0 where
+pub record HostNextAccess (i : ℕ) (list : List Access) (a : Access) : Type 0 where
   pub number : i + 1 < length list
   pub same : (d : Access) → get_or list (i + 1) d ≡ a
 
 -- the same for every target at rest, whatever its memory; a simulated target that was just made is at rest
-abbrev pub RunsWithin : ℕ → List Access → ℕ → Told → Port → Port → Type 0
+abbrev pub RunsWithin : ℕ → List Access → ℕ → HostReport → Port → Port → Type 0
 RunsWithin limit list tries told s t = IsAtRest s → RunFits limit list tries s.target.memory told s t
 
 -- the same for a run, in which at most one unanswered access is begun
-abbrev pub RunsOver : List Access → ℕ → Told → Port → Port → Type 0
+abbrev pub RunsOver : List Access → ℕ → HostReport → Port → Port → Type 0
 RunsOver list tries told s t = RunsWithin 1 list tries told s t

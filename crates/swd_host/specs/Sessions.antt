@@ -3,25 +3,25 @@ use Rattle.std.specs.Prelude.{ℕ, ◌≡◌, ◌%◌, List, [], ◌++◌}
 use Rattle.swd_port.specs.declared.access.Access.{Access}
 use Rattle.swd_port.specs.declared.access.Answer.{Answer}
 use Rattle.swd_port.specs.PlainMemory.{PlainMemory}
-use Rattle.swd_port.specs.Port.{Port, made}
+use Rattle.swd_port.specs.Port.{Port, port_made}
 use Rattle.swd_host.specs.declared.outcome.End.TheVariants.{All}
 use Rattle.swd_host.specs.Plain.{memory_after, answers_of}
-use Rattle.swd_host.specs.Reports.{Told, IsAtRest, RunsWithin}
+use Rattle.swd_host.specs.Reports.{HostReport, IsAtRest, RunsWithin}
 
 -- a target that was just made is at rest, with its memory, where bit 0 of its identification is 1
-pub record MadeIsAtRest : Type 0 where
-  pub rests : (identification : ℕ) (m : PlainMemory) → identification % 2 ≡ 1 → IsAtRest (made identification m)
-  pub memory : (identification : ℕ) (m : PlainMemory) → (made identification m).target.memory ≡ m
+pub record HostFindsMadeAtRest : Type 0 where
+  pub rests : (identification : ℕ) (m : PlainMemory) → identification % 2 ≡ 1 → IsAtRest (port_made identification m)
+  pub memory : (identification : ℕ) (m : PlainMemory) → (port_made identification m).target.memory ≡ m
 
 -- Runs and blocks from the port s to the port t, each of which ended `All`, with all their accesses and all answers.
-pub data Session (s : Port) : List Access → List Answer → Port → Type 0 where
-  none : Session s [] [] s
-  then : {done : List Access} {answers : List Answer} {t u : Port} → Session s done answers t
-      → (limit tries : ℕ) (list : List Access) (told : Told) → RunsWithin limit list tries told t u → told.ended ≡ All
-      → Session s (done ++ list) (answers ++ told.answers) u
+pub data HostSession (s : Port) : List Access → List Answer → Port → Type 0 where
+  none : HostSession s [] [] s
+  then : {done : List Access} {answers : List Answer} {t u : Port} → HostSession s done answers t
+      → (limit tries : ℕ) (list : List Access) (told : HostReport) → RunsWithin limit list tries told t u
+      → told.ended ≡ All → HostSession s (done ++ list) (answers ++ told.answers) u
 
 -- they are as one list with all accesses over the plain memory, and the target is at rest again
-pub record IsAsOne (s : Port) (list : List Access) (answers : List Answer) (t : Port) : Type 0 where
+pub record HostSessionIsAsOne (s : Port) (list : List Access) (answers : List Answer) (t : Port) : Type 0 where
   pub rests : IsAtRest t
   pub answers_are : answers ≡ answers_of list s.target.memory
   pub memory : t.target.memory ≡ memory_after list s.target.memory

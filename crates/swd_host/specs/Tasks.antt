@@ -6,19 +6,19 @@ use Rattle.swd_host.specs.declared.task.Task.{Task}
 use Rattle.swd_host.specs.declared.task.Task.TheVariants.{Read, BurstRead, Write, BurstWrite}
 use Rattle.swd_host.specs.declared.task.Bursts.{Bursts}
 use Rattle.swd_host.specs.declared.task.Bursts.TheVariants.{Writes, Reads}
-use Rattle.swd_host.specs.Addresses.{continues}
+use Rattle.swd_host.specs.Addresses.{continues_burst}
 
 -- the access itself
-abbrev pub access_of : Task → Access
-access_of (Read at) = AccessRead at
-access_of (BurstRead at) = AccessRead at
-access_of (Write at word) = AccessWrite at word
-access_of (BurstWrite at word) = AccessWrite at word
+abbrev pub access_of_task : Task → Access
+access_of_task (Read at) = AccessRead at
+access_of_task (BurstRead at) = AccessRead at
+access_of_task (Write at word) = AccessWrite at word
+access_of_task (BurstWrite at word) = AccessWrite at word
 
-abbrev pub is_read : Task → Bool
-is_read (Read at) = true
-is_read (BurstRead at) = true
-is_read task = false
+abbrev pub task_is_read : Task → Bool
+task_is_read (Read at) = true
+task_is_read (BurstRead at) = true
+task_is_read task = false
 
 -- the DRW request of the next access confirms it
 abbrev pub is_burst : Task → Bool
@@ -32,23 +32,23 @@ is_burst_write (BurstWrite at word) = true
 is_burst_write task = false
 
 -- a read of a block: the DRW read of the next access returns its word
-abbrev pub is_block : Task → Bool
-is_block (BurstRead at) = true
-is_block task = false
+abbrev pub task_is_block : Task → Bool
+task_is_block (BurstRead at) = true
+task_is_block task = false
 
 -- the task of an access, by the one that follows it
 abbrev pub task_for : Bursts → Access → Option Access → Task
 task_for Writes (AccessRead at) following = Read at
-task_for Reads (AccessRead at) following = if continues (AccessRead at) following then BurstRead at else Read at
+task_for Reads (AccessRead at) following = if continues_burst (AccessRead at) following then BurstRead at else Read at
 task_for Writes (AccessWrite at word) following =
-    if continues (AccessWrite at word) following then BurstWrite at word else Write at word
+    if continues_burst (AccessWrite at word) following then BurstWrite at word else Write at word
 task_for Reads (AccessWrite at word) following = Write at word
 
 -- how many unanswered accesses may be begun
-abbrev pub most_begun : Task → ℕ
-most_begun (BurstRead at) = 2
-most_begun task = 1
+abbrev pub task_most_begun : Task → ℕ
+task_most_begun (BurstRead at) = 2
+task_most_begun task = 1
 
-abbrev pub most_of : Bursts → ℕ
-most_of Writes = 1
-most_of Reads = 2
+abbrev pub bursts_limit : Bursts → ℕ
+bursts_limit Writes = 1
+bursts_limit Reads = 2

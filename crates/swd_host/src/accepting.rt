@@ -1,9 +1,9 @@
 //! Which access an engine may start.
 ghost use Rattle.std.specs.Prelude.{◌≡◌, Some};
-ghost use Rattle.swd_host.specs.Addresses.{continues};
-ghost use Rattle.swd_host.specs.Engines.{finished_of, may_start};
-ghost use Rattle.swd_host.specs.Tasks.{access_of};
-ghost use Rattle.swd_host.specs.Accepting.{accepts, has_sent_on};
+ghost use Rattle.swd_host.specs.Addresses.{continues_burst};
+ghost use Rattle.swd_host.specs.Engines.{engine_outcome, engine_may_start};
+ghost use Rattle.swd_host.specs.Tasks.{access_of_task};
+ghost use Rattle.swd_host.specs.Accepting.{engine_accepts, engine_has_sent_next};
 
 use crate::engine::{Ahead, Engine};
 use crate::outcome::Outcome;
@@ -15,7 +15,7 @@ impl Engine {
     /// has to be a multiple of 4. Where the DRW request of the burst's next access was sent already, this access has to
     /// continue the burst; the word of a write isn't compared.
     pub fn accepts(&self, access: Access) -> bool
-        ensures { result ≡ accepts self.now access }
+        ensures { result ≡ engine_accepts self.now access }
     {
         self.is_ready()
             && address_of(access) % 4 == 0
@@ -24,7 +24,7 @@ impl Engine {
 
     // Returns whether the engine has reached an outcome that isn't a stop.
     fn is_ready(&self) -> bool
-        ensures { result ≡ may_start (finished_of self.now) }
+        ensures { result ≡ engine_may_start (engine_outcome self.now) }
     {
         matches!(
             self.finished(),
@@ -34,14 +34,14 @@ impl Engine {
 
     // Returns whether the DRW request of the next access was answered OK already.
     fn has_sent_on(&self) -> bool
-        ensures { result ≡ has_sent_on self.now }
+        ensures { result ≡ engine_has_sent_next self.now }
     {
         self.is_ahead() || !matches!(&self.ahead, Ahead::Unsent)
     }
 
     // Returns whether the access continues the burst of the current one.
     fn leads_to(&self, access: Access) -> bool
-        ensures { result ≡ continues (access_of self.now.task) (Some access) }
+        ensures { result ≡ continues_burst (access_of_task self.now.task) (Some access) }
     {
         continues(self.task.access(), Some(access))
     }
@@ -50,7 +50,7 @@ impl Engine {
 impl Task {
     // Returns the access itself.
     fn access(self) -> Access
-        ensures { result ≡ access_of self }
+        ensures { result ≡ access_of_task self }
     {
         match self {
             Task::Read(addr) | Task::BurstRead(addr) => Access::Read(addr),

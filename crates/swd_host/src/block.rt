@@ -1,10 +1,10 @@
 //! Reads a block of words.
 ghost use Rattle.std.specs.Prelude.{◌≡◌, ◌≤◌, ◌+◌, ◌*◌, ◌^◌, IfOk, IfErr, IfNone, IfSome};
 ghost use Rattle.swd_port.specs.declared.wire.Due.TheVariants.{Nothing};
-ghost use Rattle.swd_port.specs.PlainMemory.{reads};
-ghost use Rattle.swd_host.specs.Plain.{AreAccesses};
-ghost use Rattle.swd_host.specs.Sent.{Made, TellsSent};
-ghost use Rattle.swd_host.specs.Reports.{Closes, RefusedAs, RunsWithin, told_of};
+ghost use Rattle.swd_port.specs.PlainMemory.{plain_reads};
+ghost use Rattle.swd_host.specs.Plain.{AreHostAccesses};
+ghost use Rattle.swd_host.specs.Sent.{HostCalls, HostReportsCalls};
+ghost use Rattle.swd_host.specs.Reports.{Closes, HostRefusesList, RunsWithin, host_report_of};
 
 use crate::engine::Engine;
 use crate::outcome::{Refused, Report};
@@ -32,15 +32,15 @@ pub fn run_block<W: Wire, A: Allocator + Copy>(
     requires due { (W.port wire.old).link.due ≡ Nothing }
     requires range { addr + 4 * count ≤ 2 ^ 32 }
     ensures closes { IfOk result (λ report.
-        Closes 0 2 (reads addr count) tries (told_of report) (W.port wire.new).link.due) }
+        Closes 0 2 (plain_reads addr count) tries (host_report_of report) (W.port wire.new).link.due) }
     ensures fits { IfOk result (λ report. W.lawful wire.new → W.lawful wire.old
-        × RunsWithin 2 (reads addr count) tries (told_of report) (W.port wire.old) (W.port wire.new)) }
-    ensures accepted { IfOk result (λ report. (count ≤ 65536) × AreAccesses (reads addr count)) }
-    ensures refused { IfErr result (RefusedAs (reads addr count)) }
+        × RunsWithin 2 (plain_reads addr count) tries (host_report_of report) (W.port wire.old) (W.port wire.new)) }
+    ensures accepted { IfOk result (λ report. (count ≤ 65536) × AreHostAccesses (plain_reads addr count)) }
+    ensures refused { IfErr result (HostRefusesList (plain_reads addr count)) }
     ensures untouched { IfErr result (λ refused. wire.new ≡ wire.old) }
     ensures plan { W.plan wire.new ≡ W.plan wire.old }
     ensures told { IfOk result (λ report.
-        Made W.notes (TellsSent (reads addr count) (told_of report)) wire.old wire.new) }
+        HostCalls W.notes (HostReportsCalls (plain_reads addr count) (host_report_of report)) wire.old wire.new) }
 {
     if let Some(refused) = refusal(addr, count) {
         return Err(refused);
@@ -57,8 +57,8 @@ pub fn run_block<W: Wire, A: Allocator + Copy>(
 // Returns why a block is refused, if it is.
 fn refusal(addr: u32, count: u32) -> Option<Refused>
     requires { addr + 4 * count ≤ 2 ^ 32 }
-    ensures none { IfNone result ((count ≤ 65536) × AreAccesses (reads addr count)) }
-    ensures refused { IfSome result (RefusedAs (reads addr count)) }
+    ensures none { IfNone result ((count ≤ 65536) × AreHostAccesses (plain_reads addr count)) }
+    ensures refused { IfSome result (HostRefusesList (plain_reads addr count)) }
 {
     if count > MOST_ACCESSES {
         return Some(Refused::TooMany);
@@ -76,7 +76,7 @@ fn refusal(addr: u32, count: u32) -> Option<Refused>
 // Returns the reads of a block.
 fn reads_of<A: Allocator>(alloc: A, addr: u32, count: u32) -> Result<Vec<Access, A>, AllocError>
     requires { addr + 4 * count ≤ 2 ^ 32 }
-    ensures { IfOk result (λ accesses. accesses.items ≡ reads addr count) }
+    ensures { IfOk result (λ accesses. accesses.items ≡ plain_reads addr count) }
 {
     let mut accesses = Vec::with_capacity(alloc, count as usize)?;
     push_reads(&mut accesses, addr, count)?;

@@ -1,22 +1,24 @@
 //! The engine: a state machine without I/O, which returns what to send next from what was seen so far.
 ghost use Rattle.std.specs.Prelude.{◌≡◌, ◌+◌, ◌<◌, ◌≤◌, ◌*◌, ◌^◌, true, false, None, IfSome};
 ghost use Rattle.swd_port.specs.declared.wire.Due.TheVariants.{Nothing};
-ghost use Rattle.swd_bits.specs.Phases.{word_in};
+ghost use Rattle.swd_bits.specs.Phases.{data_phase_word};
 ghost use Rattle.swd_port.specs.Port.{Port};
-ghost use Rattle.swd_port.specs.Stories.{IsSeen, is_ask, is_send, is_take};
-ghost use Rattle.swd_host.specs.Events.{Meets, MeetsRead, MeetsSent};
-ghost use Rattle.swd_host.specs.Early.{HearsEarly, ReadsEarly, SendsEarly};
-ghost use Rattle.swd_host.specs.Engines.{lead_cue, cue_of, finished_of, is_ahead, begun_of, job_in, HasCue};
-ghost use Rattle.swd_host.specs.Engines.{IsPhaseCue};
-ghost use Rattle.swd_host.specs.Engines.{may_start, one_more, requests_of, tries_of};
-ghost use Rattle.swd_host.specs.Progress.{is_job_of, open_requests};
-ghost use Rattle.swd_host.specs.Replies.{Replied};
-ghost use Rattle.swd_host.specs.Steps.{GoesTo, RestsWith, ahead_to, read_to, sent_to};
-ghost use Rattle.swd_host.specs.Turns.{IsNew, Starts, Sees, first_state, lands_from};
-ghost use Rattle.swd_host.specs.Tracks.{DueFits, HasRead, HasSent, Hears, Keeps, state_seen};
+ghost use Rattle.swd_port.specs.Stories.{IsPortSeen, is_port_ask, is_port_send, is_port_take};
+ghost use Rattle.swd_host.specs.Events.{EngineMeets, EngineMeetsRead, EngineMeetsSent};
+ghost use Rattle.swd_host.specs.Early.{AckKeepsResumedOpening, DataKeepsResumedOpening, CueKeepsResumedOpening};
+ghost use Rattle.swd_host.specs.Engines.{engine_lead_cue, engine_cue, engine_outcome, engine_is_ahead, engine_begun};
+ghost use Rattle.swd_host.specs.Engines.{engine_job, EngineHasCue, IsEnginePhaseCue, engine_may_start};
+ghost use Rattle.swd_host.specs.Engines.{engine_count_more, engine_requests, engine_tries};
+ghost use Rattle.swd_host.specs.Progress.{engine_job_is_of, engine_open_requests};
+ghost use Rattle.swd_host.specs.Replies.{EngineTookReply};
+ghost use Rattle.swd_host.specs.Steps.{EngineGoesTo, EngineRestsWith, engine_ahead_to, engine_after_read};
+ghost use Rattle.swd_host.specs.Steps.{engine_after_cue};
+ghost use Rattle.swd_host.specs.Turns.{EngineIsNew, EngineStarts, EngineSeesAck, engine_first_state, engine_lands_from};
+ghost use Rattle.swd_host.specs.Tracks.{EngineDueFits, EngineHasReadData, EngineHasSentCue, EngineHearsAck};
+ghost use Rattle.swd_host.specs.Tracks.{EngineCallKeeps, engine_state_after_ack};
 
 use crate::outcome::{End, Outcome};
-use crate::request::{Job, Place};
+use crate::request::{HostStep, Job};
 use crate::task::{Bursts, Task, address_of};
 use swd_bits::{Ack, Request, data_bits, word_of};
 use swd_port::{Access, Answer, Cue};
@@ -101,9 +103,9 @@ pub struct Engine {
 impl Engine {
     /// Creates an engine at the start of the opening. The opening, and each access, may meet up to `tries` events.
     pub fn new(tries: u32) -> Engine
-        ensures new { IsNew Bursts.Writes false tries result }
-        ensures open { open_requests result ≤ 9 + 5 * (tries + 1) }
-        ensures fits { (s : Port) → s.link.due ≡ Nothing → DueFits result s }
+        ensures new { EngineIsNew Bursts.Writes false tries result }
+        ensures open { engine_open_requests result ≤ 9 + 5 * (tries + 1) }
+        ensures fits { (s : Port) → s.link.due ≡ Nothing → EngineDueFits result s }
     {
         Engine {
             state: State::Leading,
@@ -123,9 +125,9 @@ impl Engine {
     /// Creates an engine for blocks of reads: its bursts are of reads instead of writes. In a burst the DRW read of the
     /// next access returns the word of a read.
     pub fn blocks(tries: u32) -> Engine
-        ensures new { IsNew Bursts.Reads false tries result }
-        ensures open { open_requests result ≤ 9 + 5 * (tries + 1) }
-        ensures fits { (s : Port) → s.link.due ≡ Nothing → DueFits result s }
+        ensures new { EngineIsNew Bursts.Reads false tries result }
+        ensures open { engine_open_requests result ≤ 9 + 5 * (tries + 1) }
+        ensures fits { (s : Port) → s.link.due ≡ Nothing → EngineDueFits result s }
     {
         let mut engine = Engine::new(tries);
         engine.bursts = Bursts::Reads;
@@ -134,7 +136,7 @@ impl Engine {
 
     // Creates an engine for bursts of this kind.
     pub(crate) fn opening(bursts: Bursts, tries: u32) -> Engine
-        ensures { IsNew bursts false tries result }
+        ensures { EngineIsNew bursts false tries result }
     {
         match bursts {
             Bursts::Writes => Engine::new(tries),
@@ -150,9 +152,9 @@ impl Engine {
     ///
     /// Start with the first unanswered access. Accesses in flight may take effect a second time.
     pub fn again(tries: u32) -> Engine
-        ensures again { IsNew Bursts.Writes true tries result }
-        ensures open { open_requests result ≤ 9 + 5 * (tries + 2) }
-        ensures fits { (s : Port) → DueFits result s }
+        ensures again { EngineIsNew Bursts.Writes true tries result }
+        ensures open { engine_open_requests result ≤ 9 + 5 * (tries + 2) }
+        ensures fits { (s : Port) → EngineDueFits result s }
     {
         let mut engine = Engine::new(tries);
         engine.stray = true;
@@ -165,9 +167,9 @@ impl Engine {
     /// A write continues a burst of writes at the next address in the same kilobyte. For an engine of
     /// [`blocks`](Engine::blocks) bursts are of reads; there an access may be answered at once.
     pub fn start(&mut self, access: Access, following: Option<Access>)
-        requires rests { may_start (finished_of self.old) ≡ true }
-        ensures starts { Starts access following self.old self.new }
-        ensures open { open_requests self.new ≤ 9 + 5 * (tries_of self.old + 1) }
+        requires rests { engine_may_start (engine_outcome self.old) ≡ true }
+        ensures starts { EngineStarts access following self.old self.new }
+        ensures open { engine_open_requests self.new ≤ 9 + 5 * (engine_tries self.old + 1) }
     {
         let given = self.is_ahead();
         let failed = !given && matches!(&self.ahead, Ahead::Failed);
@@ -185,29 +187,29 @@ impl Engine {
 
     // Returns the state in which the next access starts. `given`: the data of its DRW write is due.
     fn first_state(&self, given: bool) -> State
-        ensures { result ≡ first_state given self.now.ahead self.now.aims }
+        ensures { result ≡ engine_first_state given self.now.ahead self.now.aims }
     {
         if given {
-            return State::Doing(Job::At(Place::Transfer), Phase::Data);
+            return State::Doing(Job::At(HostStep::Transfer), Phase::Data);
         }
         match self.ahead {
             Ahead::Failed => State::Resting(Outcome::Answered(Answer::BusFault)),
-            Ahead::Sent => State::Doing(Job::At(Place::Confirm), Phase::Ask),
-            Ahead::Unsent if self.aims => State::Doing(Job::At(Place::WriteTar), Phase::Ask),
-            Ahead::Unsent => State::Doing(Job::At(Place::Transfer), Phase::Ask),
+            Ahead::Sent => State::Doing(Job::At(HostStep::Confirm), Phase::Ask),
+            Ahead::Unsent if self.aims => State::Doing(Job::At(HostStep::WriteTar), Phase::Ask),
+            Ahead::Unsent => State::Doing(Job::At(HostStep::Transfer), Phase::Ask),
         }
     }
 
     // Returns whether the OK to the next access's DRW write has answered the current access. The data of that write is
     // due then.
     pub(crate) fn is_ahead(&self) -> bool
-        ensures { result ≡ is_ahead self.now }
+        ensures { result ≡ engine_is_ahead self.now }
     {
         match self.task {
             Task::BurstWrite(_, _) => {
                 matches!(
                     self.state,
-                    State::Doing(Job::At(Place::Confirm), Phase::Data)
+                    State::Doing(Job::At(HostStep::Confirm), Phase::Data)
                 )
             }
             _ => false,
@@ -216,8 +218,8 @@ impl Engine {
 
     /// Returns what to send next, or `None` where the engine rests.
     pub fn cue(&self) -> Option<Cue>
-        ensures cue { result ≡ cue_of self.now }
-        ensures range { IfSome result IsPhaseCue }
+        ensures cue { result ≡ engine_cue self.now }
+        ensures range { IfSome result IsEnginePhaseCue }
     {
         match self.state {
             State::Leading => Some(lead(self.stray)),
@@ -230,8 +232,8 @@ impl Engine {
 
     fn data_cue(&self, job: Job) -> Option<Cue>
         requires { self.now.state ≡ State.Doing job Phase.Data }
-        ensures cue { result ≡ cue_of self.now }
-        ensures range { IfSome result IsPhaseCue }
+        ensures cue { result ≡ engine_cue self.now }
+        ensures range { IfSome result IsEnginePhaseCue }
     {
         if self.is_ahead() {
             return None;
@@ -244,7 +246,7 @@ impl Engine {
 
     /// Returns the outcome that the engine has reached, or `None` where it has a cue.
     pub fn finished(&self) -> Option<Outcome>
-        ensures { result ≡ finished_of self.now }
+        ensures { result ≡ engine_outcome self.now }
     {
         if self.is_ahead() {
             return Some(Outcome::Answered(Answer::Written));
@@ -258,14 +260,14 @@ impl Engine {
     /// Returns how many unanswered accesses had their DRW request sent: the current one, and for an engine of
     /// [`blocks`](Engine::blocks) the next one too. Between two writes of a burst it is 0.
     pub fn begun(&self) -> u8
-        ensures { result ≡ begun_of self.now }
+        ensures { result ≡ engine_begun self.now }
     {
         if self.is_ahead() { 0 } else { self.begun }
     }
 
     /// Returns how many requests were sent, saturating at `u64::MAX`.
     pub fn requests(&self) -> u64
-        ensures { result ≡ requests_of self.now }
+        ensures { result ≡ engine_requests self.now }
     {
         self.requests
     }
@@ -274,8 +276,8 @@ impl Engine {
     /// read's data phase, and 0 for other cues. The first bit in time is the least significant. Calls
     /// [`seen`](Engine::seen), [`taken`](Engine::taken) or [`done`](Engine::done).
     pub fn next(&mut self, reply: u64)
-        requires { HasCue (λ cue. IsSeen cue reply) (cue_of self.old) }
-        ensures { IfSome (cue_of self.old) (λ cue. Replied cue reply self.old self.new) }
+        requires { EngineHasCue (λ cue. IsPortSeen cue reply) (engine_cue self.old) }
+        ensures { IfSome (engine_cue self.old) (λ cue. EngineTookReply cue reply self.old self.new) }
     {
         match self.cue() {
             Some(Cue::Ask(_)) => self.seen(reply as u8),
@@ -288,13 +290,13 @@ impl Engine {
     /// Passes the three bits seen after a request to the engine, the first in time least significant.
     pub fn seen(&mut self, seen: u8)
         requires range { seen < 8 }
-        requires cue { HasCue (λ cue. is_ask cue ≡ true) (cue_of self.old) }
-        ensures open { open_requests self.new + 1 ≤ open_requests self.old }
-        ensures requests { requests_of self.new ≡ one_more (requests_of self.old) }
-        ensures sees { Sees seen self.old self.new }
-        ensures tracks { Keeps (Hears seen) self.old self.new }
-        ensures early { HearsEarly seen self.old self.new }
-        ensures meets { Meets false None self.old self.new }
+        requires cue { EngineHasCue (λ cue. is_port_ask cue ≡ true) (engine_cue self.old) }
+        ensures open { engine_open_requests self.new + 1 ≤ engine_open_requests self.old }
+        ensures requests { engine_requests self.new ≡ engine_count_more (engine_requests self.old) }
+        ensures sees { EngineSeesAck seen self.old self.new }
+        ensures tracks { EngineCallKeeps (EngineHearsAck seen) self.old self.new }
+        ensures early { AckKeepsResumedOpening seen self.old self.new }
+        ensures meets { EngineMeets false None self.old self.new }
     {
         let State::Doing(job, _) = self.state else {
             unreachable!()
@@ -307,15 +309,15 @@ impl Engine {
     /// Notes that the cue was sent: a lead, the data phase of a write, or a turnaround.
     #[inline(always)]
     pub fn done(&mut self)
-        requires { HasCue (λ cue. is_send cue ≡ true) (cue_of self.old) }
-        ensures lands { lands_from self.old self.new }
-        ensures tracks { Keeps HasSent self.old self.new }
-        ensures early { SendsEarly self.old self.new }
-        ensures meets { MeetsSent self.old self.new }
-        ensures goes { GoesTo (sent_to self.old.state self.old.task) self.new.state }
+        requires { EngineHasCue (λ cue. is_port_send cue ≡ true) (engine_cue self.old) }
+        ensures lands { engine_lands_from self.old self.new }
+        ensures tracks { EngineCallKeeps EngineHasSentCue self.old self.new }
+        ensures early { CueKeepsResumedOpening self.old self.new }
+        ensures meets { EngineMeetsSent self.old self.new }
+        ensures goes { EngineGoesTo (engine_after_cue self.old.state self.old.task) self.new.state }
     {
         let State::Doing(job, phase) = self.state else {
-            self.state = State::Doing(Job::At(Place::Identify), Phase::Ask);
+            self.state = State::Doing(Job::At(HostStep::Identify), Phase::Ask);
             return;
         };
         match phase {
@@ -327,16 +329,19 @@ impl Engine {
     }
 
     /// Passes the 33 bits of a read's data phase to the engine, the first in time least significant.
+    #[inline(always)]
     pub fn taken(&mut self, bits: u64)
         requires range { bits < 2 ^ 33 }
-        requires cue { HasCue (λ cue. is_take cue ≡ true) (cue_of self.old) }
-        ensures lands { lands_from self.old self.new }
-        ensures tracks { Keeps (HasRead (word_in bits)) self.old self.new }
-        ensures early { ReadsEarly (word_in bits) self.old self.new }
-        ensures meets { MeetsRead (word_in bits) self.old self.new }
-        ensures goes { is_job_of false (job_in self.old.state) ≡ true
-            → GoesTo (read_to (job_in self.old.state) (word_in bits) self.old.task self.old.aims) self.new.state }
-        ensures rests { RestsWith (ahead_to (job_in self.old.state) self.old.task) self.new.state self.new.ahead }
+        requires cue { EngineHasCue (λ cue. is_port_take cue ≡ true) (engine_cue self.old) }
+        ensures lands { engine_lands_from self.old self.new }
+        ensures tracks { EngineCallKeeps (EngineHasReadData (data_phase_word bits)) self.old self.new }
+        ensures early { DataKeepsResumedOpening (data_phase_word bits) self.old self.new }
+        ensures meets { EngineMeetsRead (data_phase_word bits) self.old self.new }
+        ensures goes { engine_job_is_of false (engine_job self.old.state) ≡ true
+            → EngineGoesTo (engine_after_read (engine_job self.old.state) (data_phase_word bits) self.old.task
+            self.old.aims) self.new.state }
+        ensures rests { EngineRestsWith (engine_ahead_to (engine_job self.old.state) self.old.task) self.new.state
+            self.new.ahead }
     {
         let State::Doing(job, _) = self.state else {
             unreachable!()
@@ -351,8 +356,8 @@ impl Engine {
 // Returns the line reset. Where a data phase may be due, the line is released for 34 ones first, in which the data
 // phase can pass.
 fn lead(inside: bool) -> Cue
-    ensures cue { result ≡ lead_cue inside }
-    ensures range { IsPhaseCue result }
+    ensures cue { result ≡ engine_lead_cue inside }
+    ensures range { IsEnginePhaseCue result }
 {
     Cue::Lead {
         ones: if inside { 100 } else { 56 },
@@ -365,7 +370,7 @@ fn lead(inside: bool) -> Cue
 // Returns the state after an acknowledgement was seen.
 fn after_ack(job: Job, seen: u8) -> State
     requires { seen < 8 }
-    ensures { result ≡ state_seen job seen }
+    ensures { result ≡ engine_state_after_ack job seen }
 {
     match Ack::of(seen) {
         Some(Ack::Ok) => State::Doing(job, Phase::Data),

@@ -1,15 +1,17 @@
 //! An engine as a struct of integers, for callers that store it themselves, such as programs in C.
 ghost use Rattle.std.specs.Prelude.{◌≡◌, IfSome};
 ghost use Rattle.swd_host.specs.declared.engine.Engine.{Engine as EngineType};
-ghost use Rattle.swd_host.specs.Fields.{ahead_number, bursts_number, fields_of, job_fields, outcome_fields, phase_code};
-ghost use Rattle.swd_host.specs.Fields.{place_number, state_fields, tar_fields, task_fields};
-ghost use Rattle.swd_host.specs.FieldsRead.{ahead_at, bursts_at, engine_at, job_at, outcome_at, phase_at, place_at};
-ghost use Rattle.swd_host.specs.FieldsRead.{state_at, tar_at, task_at};
+ghost use Rattle.swd_host.specs.Fields.{engine_ahead_number, bursts_number, fields_of_engine, engine_job_fields};
+ghost use Rattle.swd_host.specs.Fields.{engine_outcome_fields, engine_phase_number};
+ghost use Rattle.swd_host.specs.Fields.{engine_place_number, engine_state_fields, engine_tar_fields, task_fields};
+ghost use Rattle.swd_host.specs.FieldsRead.{engine_ahead_from, bursts_at, engine_at, engine_job_from};
+ghost use Rattle.swd_host.specs.FieldsRead.{engine_outcome_from, engine_phase_from, engine_place_from};
+ghost use Rattle.swd_host.specs.FieldsRead.{engine_state_from, engine_tar_from, engine_task_from};
 
 use crate::engine::{Ahead, Engine, Phase, State};
 use crate::flags::Flags;
 use crate::outcome::{End, Outcome};
-use crate::request::{Job, Place};
+use crate::request::{HostStep, Job};
 use crate::task::{Bursts, Task};
 use swd_port::Answer;
 
@@ -81,50 +83,50 @@ pub struct TarFields {
     pub known: u8,
 }
 
-fn number_of_place(place: Place) -> u8
-    ensures { result ≡ place_number place }
+fn number_of_place(place: HostStep) -> u8
+    ensures { result ≡ engine_place_number place }
 {
     match place {
-        Place::Identify => 1,
-        Place::WriteAbort => 2,
-        Place::CheckCtrlStat => 3,
-        Place::Select => 4,
-        Place::Power => 5,
-        Place::Powered => 6,
-        Place::Configure => 7,
-        Place::ReadCsw => 8,
-        Place::Configured => 9,
-        Place::WriteTar => 10,
-        Place::Transfer => 11,
-        Place::Confirm => 12,
-        Place::Behind => 13,
+        HostStep::Identify => 1,
+        HostStep::WriteAbort => 2,
+        HostStep::CheckCtrlStat => 3,
+        HostStep::Select => 4,
+        HostStep::Power => 5,
+        HostStep::Powered => 6,
+        HostStep::Configure => 7,
+        HostStep::ReadCsw => 8,
+        HostStep::Configured => 9,
+        HostStep::WriteTar => 10,
+        HostStep::Transfer => 11,
+        HostStep::Confirm => 12,
+        HostStep::Behind => 13,
     }
 }
 
 // Here and below, invalid numbers may give any result: `EngineFields::engine` rejects an engine whose own fields
 // differ.
-fn place_with(number: u8) -> Place
-    ensures { result ≡ place_at number }
+fn place_with(number: u8) -> HostStep
+    ensures { result ≡ engine_place_from number }
 {
     match number {
-        1 => Place::Identify,
-        2 => Place::WriteAbort,
-        3 => Place::CheckCtrlStat,
-        4 => Place::Select,
-        5 => Place::Power,
-        6 => Place::Powered,
-        7 => Place::Configure,
-        8 => Place::ReadCsw,
-        9 => Place::Configured,
-        10 => Place::WriteTar,
-        11 => Place::Transfer,
-        12 => Place::Confirm,
-        _ => Place::Behind,
+        1 => HostStep::Identify,
+        2 => HostStep::WriteAbort,
+        3 => HostStep::CheckCtrlStat,
+        4 => HostStep::Select,
+        5 => HostStep::Power,
+        6 => HostStep::Powered,
+        7 => HostStep::Configure,
+        8 => HostStep::ReadCsw,
+        9 => HostStep::Configured,
+        10 => HostStep::WriteTar,
+        11 => HostStep::Transfer,
+        12 => HostStep::Confirm,
+        _ => HostStep::Behind,
     }
 }
 
 fn number_of_phase(phase: Phase) -> u8
-    ensures { result ≡ phase_code phase }
+    ensures { result ≡ engine_phase_number phase }
 {
     match phase {
         Phase::Ask => 1,
@@ -135,7 +137,7 @@ fn number_of_phase(phase: Phase) -> u8
 }
 
 fn phase_with(number: u8) -> Phase
-    ensures { result ≡ phase_at number }
+    ensures { result ≡ engine_phase_from number }
 {
     match number {
         1 => Phase::Ask,
@@ -146,7 +148,7 @@ fn phase_with(number: u8) -> Phase
 }
 
 fn number_of_ahead(ahead: Ahead) -> u8
-    ensures { result ≡ ahead_number ahead }
+    ensures { result ≡ engine_ahead_number ahead }
 {
     match ahead {
         Ahead::Unsent => 1,
@@ -156,7 +158,7 @@ fn number_of_ahead(ahead: Ahead) -> u8
 }
 
 fn ahead_with(number: u8) -> Ahead
-    ensures { result ≡ ahead_at number }
+    ensures { result ≡ engine_ahead_from number }
 {
     match number {
         1 => Ahead::Unsent,
@@ -189,7 +191,7 @@ impl OutcomeFields {
 
     /// Returns the fields of an outcome.
     pub fn of(outcome: Outcome) -> OutcomeFields
-        ensures { result ≡ outcome_fields outcome }
+        ensures { result ≡ engine_outcome_fields outcome }
     {
         let (kind, word) = match outcome {
             Outcome::Opened => (1, 0),
@@ -206,7 +208,7 @@ impl OutcomeFields {
     }
 
     fn outcome(self) -> Outcome
-        ensures { result ≡ outcome_at self }
+        ensures { result ≡ engine_outcome_from self }
     {
         match self.kind {
             1 => Outcome::Opened,
@@ -236,7 +238,7 @@ impl JobFields {
     };
 
     fn of(job: Job) -> JobFields
-        ensures { result ≡ job_fields job }
+        ensures { result ≡ engine_job_fields job }
     {
         let (kind, place, flags) = match job {
             Job::At(place) => (1, number_of_place(place), NO_FLAGS),
@@ -255,7 +257,7 @@ impl JobFields {
     }
 
     fn job(self) -> Job
-        ensures { result ≡ job_at self }
+        ensures { result ≡ engine_job_from self }
     {
         let place = place_with(self.place);
         let flags = Flags {
@@ -275,7 +277,7 @@ impl JobFields {
 
 impl StateFields {
     fn of(state: State) -> StateFields
-        ensures { result ≡ state_fields state }
+        ensures { result ≡ engine_state_fields state }
     {
         let (kind, job, phase, outcome) = match state {
             State::Leading => (1, JobFields::NONE, 0, OutcomeFields::NONE),
@@ -294,7 +296,7 @@ impl StateFields {
     }
 
     fn state(self) -> State
-        ensures { result ≡ state_at self }
+        ensures { result ≡ engine_state_from self }
     {
         match self.kind {
             1 => State::Leading,
@@ -318,7 +320,7 @@ impl TaskFields {
     }
 
     fn task(self) -> Task
-        ensures { result ≡ task_at self }
+        ensures { result ≡ engine_task_from self }
     {
         match self.kind {
             1 => Task::Read(self.addr),
@@ -331,7 +333,7 @@ impl TaskFields {
 
 impl TarFields {
     fn of(tar: Option<u32>) -> TarFields
-        ensures { result ≡ tar_fields tar }
+        ensures { result ≡ engine_tar_fields tar }
     {
         match tar {
             Some(word) => TarFields { word, known: 1 },
@@ -340,7 +342,7 @@ impl TarFields {
     }
 
     fn tar(self) -> Option<u32>
-        ensures { result ≡ tar_at self }
+        ensures { result ≡ engine_tar_from self }
     {
         if self.known == 1 {
             Some(self.word)
@@ -353,8 +355,8 @@ impl TarFields {
 impl EngineFields {
     /// Returns the engine with these fields, or `None` if no engine has them.
     pub fn engine(&self) -> Option<Engine>
-        ensures found { (engine : EngineType) → fields_of engine ≡ self.now → result ≡ Some engine }
-        ensures same { IfSome result (λ engine. fields_of engine ≡ self.now) }
+        ensures found { (engine : EngineType) → fields_of_engine engine ≡ self.now → result ≡ Some engine }
+        ensures same { IfSome result (λ engine. fields_of_engine engine ≡ self.now) }
     {
         let engine = self.read();
         if engine.fields() == *self {
@@ -386,7 +388,7 @@ impl EngineFields {
 impl Engine {
     /// Returns the fields of the engine.
     pub fn fields(&self) -> EngineFields
-        ensures { result ≡ fields_of self.now }
+        ensures { result ≡ fields_of_engine self.now }
     {
         EngineFields {
             requests: self.requests,

@@ -1,6 +1,6 @@
 //! The sticky flags of the debug port, which a host reads and clears.
 ghost use Rattle.std.specs.Prelude.{◌≡◌};
-ghost use Rattle.swd_host.specs.Flags.{flags_in, clear_word, is_powered, is_configured};
+ghost use Rattle.swd_host.specs.Flags.{host_flags_in, host_abort_word, host_reads_power, host_csw_is_configured};
 
 use bitflags::Flags as _;
 use swd_port::{Abort, Csw, CtrlStat};
@@ -16,7 +16,7 @@ pub struct Flags {
 
 // Reads the flags from a word of CTRL/STAT.
 pub(crate) fn flags_of(word: u32) -> Flags
-    ensures { result ≡ flags_in word }
+    ensures { result ≡ host_flags_in word }
 {
     let status = CtrlStat::of(word);
     Flags {
@@ -28,7 +28,7 @@ pub(crate) fn flags_of(word: u32) -> Flags
 impl Flags {
     // Returns the word of ABORT that clears these flags.
     pub(crate) fn clearing(self) -> u32
-        ensures { result ≡ clear_word self }
+        ensures { result ≡ host_abort_word self }
     {
         let error = if self.error {
             Abort::STKERRCLR.bits()
@@ -46,7 +46,7 @@ impl Flags {
 
 // Returns whether both power-up acknowledgements are set in a word of CTRL/STAT.
 pub(crate) fn is_powered(word: u32) -> bool
-    ensures { result ≡ is_powered word }
+    ensures { result ≡ host_reads_power word }
 {
     let status = CtrlStat::of(word);
     status.contains(CtrlStat::CDBGPWRUPACK) && status.contains(CtrlStat::CSYSPWRUPACK)
@@ -54,7 +54,7 @@ pub(crate) fn is_powered(word: u32) -> bool
 
 // Returns whether CSW has Size word, AddrInc single and DeviceEn set.
 pub(crate) fn is_configured(word: u32) -> bool
-    ensures { result ≡ is_configured word }
+    ensures { result ≡ host_csw_is_configured word }
 {
     let csw = Csw::of(word);
     csw.size == 2 && csw.addr_inc == 1 && csw.device_en

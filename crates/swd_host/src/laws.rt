@@ -5,36 +5,37 @@ ghost use Rattle.swd_port.specs.declared.access.Answer.{Answer};
 ghost use Rattle.swd_port.specs.Port.{Port};
 ghost use Rattle.swd_host.specs.Reports.{IsAtRest};
 ghost use Rattle.swd_host.specs.declared.engine.Engine.{Engine};
-ghost use Rattle.swd_host.specs.Engines.{finished_of, may_start};
-ghost use Rattle.swd_host.specs.Chains.{AreChained, ChainDoes, ChainReads, ChainRepeats};
-ghost use Rattle.swd_host.specs.Sessions.{MadeIsAtRest, Session, IsAsOne};
-ghost use Rattle.swd_host.specs.Tracks.{DueFits};
-ghost use Rattle.swd_host.specs.Turns.{GoesOn, Starts};
+ghost use Rattle.swd_host.specs.Engines.{engine_outcome, engine_may_start};
+ghost use Rattle.swd_host.specs.Chains.{ResumedCallsAreChained, ResumeChainDoes, ResumeChainReads, ResumeChainRepeats};
+ghost use Rattle.swd_host.specs.Sessions.{HostFindsMadeAtRest, HostSession, HostSessionIsAsOne};
+ghost use Rattle.swd_host.specs.Tracks.{EngineDueFits};
+ghost use Rattle.swd_host.specs.Turns.{EngineContinuesBurst, EngineStarts};
 
 /// States that a simulated target that was just made is at rest, as `run` and `run_block` assume.
 pub fn made_is_at_rest()
-    ensures { MadeIsAtRest }
+    ensures { HostFindsMadeAtRest }
 {}
 
 /// States that successive lists and blocks, each of which ended `All`, are as one list. Their answers are those of a
 /// plain memory to the concatenated list, and the target's memory is that after it. The target is at rest again.
 pub fn sessions()
     ensures { (s : Port) (list : List Access) (answers : List Answer) (t : Port) → IsAtRest s
-        → Session s list answers t → IsAsOne s list answers t }
+        → HostSession s list answers t → HostSessionIsAsOne s list answers t }
 {}
 
 /// States what a call and the calls of `resume` after it do, over a target that was at rest. Each is a run over the
 /// rest of the list, from the memory that the one before left. `chained` and `done` assume nothing of how many accesses
 /// were in flight or of the room of the log.
 pub fn resumptions()
-    ensures chained { AreChained }
-    ensures done { ChainDoes }
-    ensures reads { ChainReads }
-    ensures repeats { ChainRepeats }
+    ensures chained { ResumedCallsAreChained }
+    ensures done { ResumeChainDoes }
+    ensures reads { ResumeChainReads }
+    ensures repeats { ResumeChainRepeats }
 {}
 
 /// States that after `start` what is due on the wire is still what the engine expects, so `Engine::turn` may be called.
 pub fn started()
-    ensures { (a : Access) (following : Option Access) (e f : Engine) (s : Port) → Starts a following e f
-        → may_start (finished_of e) ≡ true → GoesOn e a → DueFits e s → DueFits f s }
+    ensures { (a : Access) (following : Option Access) (e f : Engine) (s : Port) → EngineStarts a following e f
+        → engine_may_start (engine_outcome e) ≡ true → EngineContinuesBurst e a → EngineDueFits e s
+        → EngineDueFits f s }
 {}

@@ -21,7 +21,7 @@ pub use block::run_block;
 pub use engine::Engine;
 pub use fields::{EngineFields, JobFields, OutcomeFields, StateFields, TarFields, TaskFields};
 pub use outcome::{End, Ending, Outcome, Refused, Report};
-pub use outside::run_outside;
+pub use outside::run_over_transport;
 pub use resuming::{resume, resume_to};
 pub use running::{run, run_to};
 pub use sink::AnswerSink;

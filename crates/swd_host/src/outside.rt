@@ -1,14 +1,14 @@
 //! A run over a transport of which nothing is proved.
 ghost use Rattle.std.specs.Prelude.{◌≡◌, ◌≤◌, [], IfErr, IfOk, length};
-ghost use Rattle.swd_port.specs.Stories.{due_by, port_at, FitsStory};
-ghost use Rattle.swd_host.specs.Plain.{AreAccesses};
-ghost use Rattle.swd_host.specs.Reports.{Closes, RefusedAs, RunsOver, told_of};
-ghost use Rattle.swd_host.specs.Sent.{TellsSent};
+ghost use Rattle.swd_port.specs.Stories.{port_due_by, port_at, FitsStory};
+ghost use Rattle.swd_host.specs.Plain.{AreHostAccesses};
+ghost use Rattle.swd_host.specs.Reports.{Closes, HostRefusesList, RunsOver, host_report_of};
+ghost use Rattle.swd_host.specs.Sent.{HostReportsCalls};
 
 use crate::outcome::{Refused, Report};
 use crate::running::run;
 use std::alloc::Allocator;
-use swd_port::{Access, Outside, Story, Transport};
+use swd_port::{Access, Story, Transport, TransportWire};
 
 /// Performs the accesses in order, over a wire of which no call was made yet.
 ///
@@ -20,20 +20,20 @@ use swd_port::{Access, Outside, Story, Transport};
 /// # Errors
 ///
 /// Returns `TooMany`, `Unaligned` and `Memory` as [`run`] does. No call is made in these cases.
-pub fn run_outside<T: Transport, S: Story, A: Allocator>(
+pub fn run_over_transport<T: Transport, S: Story, A: Allocator>(
     alloc: A,
-    wire: &mut Outside<T, S>,
+    wire: &mut TransportWire<T, S>,
     accesses: &[Access],
     tries: u32,
 ) -> Result<Report<A>, Refused>
     requires { wire.old.noted.calls ≡ [] }
     ensures closes { IfOk result (λ report.
-        Closes 0 1 accesses.now tries (told_of report) (due_by wire.new.noted.calls)) }
+        Closes 0 1 accesses.now tries (host_report_of report) (port_due_by wire.new.noted.calls)) }
     ensures fits { IfOk result (λ report. FitsStory S.at wire.new.noted.calls
-        → RunsOver accesses.now tries (told_of report) (port_at S.at []) (port_at S.at wire.new.noted.calls)) }
-    ensures told { IfOk result (λ report. TellsSent accesses.now (told_of report) wire.new.noted.calls) }
-    ensures accepted { IfOk result (λ report. (length accesses.now ≤ 65536) × AreAccesses accesses.now) }
-    ensures refused { IfErr result (RefusedAs accesses.now) }
+        → RunsOver accesses.now tries (host_report_of report) (port_at S.at []) (port_at S.at wire.new.noted.calls)) }
+    ensures told { IfOk result (λ report. HostReportsCalls accesses.now (host_report_of report) wire.new.noted.calls) }
+    ensures accepted { IfOk result (λ report. (length accesses.now ≤ 65536) × AreHostAccesses accesses.now) }
+    ensures refused { IfErr result (HostRefusesList accesses.now) }
     ensures untouched { IfErr result (λ refused. wire.new ≡ wire.old) }
 {
     run(alloc, wire, accesses, tries)

@@ -1,7 +1,8 @@
 //! The requests that a host sends: the opening, an access, and what follows an error.
 ghost use Rattle.std.specs.Prelude.{◌≡◌};
-ghost use Rattle.swd_host.specs.Requests.{register_at, register_for, request_for, word_for, next_place, confirmed_by};
-ghost use Rattle.swd_host.specs.Requests.{again_at, is_exempt, begins};
+ghost use Rattle.swd_host.specs.Requests.{engine_register_at, engine_register_for, engine_request_for, engine_word_for};
+ghost use Rattle.swd_host.specs.Requests.{engine_next_place, engine_confirmed};
+ghost use Rattle.swd_host.specs.Requests.{engine_reread_job, engine_job_is_exempt, engine_job_starts};
 
 use crate::flags::Flags;
 use crate::task::Task;
@@ -10,7 +11,7 @@ use swd_port::Register;
 
 /// A place in one of the two sequences of a host: the opening, and an access.
 #[derive(Clone, Copy, Debug, PartialEq, Eq)]
-pub(crate) enum Place {
+pub(crate) enum HostStep {
     /// DPIDR is read: it wakes the target.
     Identify,
     /// ABORT is written, to clear the flags that an earlier host left.
@@ -43,57 +44,57 @@ pub(crate) enum Place {
 #[derive(Clone, Copy, Debug, PartialEq, Eq)]
 pub(crate) enum Job {
     /// The request at a place.
-    At(Place),
+    At(HostStep),
     /// RESEND is read, since the word at this place had wrong parity.
-    Resend(Place),
+    Resend(HostStep),
     /// CTRL/STAT is read, since the request at this place was answered FAULT.
-    Status(Place),
+    Status(HostStep),
     /// CTRL/STAT is read, since RESEND was answered FAULT.
     LastStatus,
     /// ABORT is written, to clear these flags, for which the request at this place was answered FAULT.
-    Clear(Place, Flags),
+    Clear(HostStep, Flags),
     /// CTRL/STAT is read after that.
-    Check(Place, Flags),
+    Check(HostStep, Flags),
 }
 
-impl Place {
+impl HostStep {
     // Returns the register of the request at this place, for SELECT 0.
     fn register(self, task: Task) -> Register
-        ensures { result ≡ register_at self task }
+        ensures { result ≡ engine_register_at self task }
     {
         match self {
-            Place::Identify => Register::DpidrRead,
-            Place::WriteAbort => Register::AbortWrite,
-            Place::CheckCtrlStat | Place::Powered => Register::CtrlStatRead,
-            Place::Select => Register::SelectWrite,
-            Place::Power => Register::CtrlStatWrite,
-            Place::Configure => Register::CswWrite,
-            Place::ReadCsw => Register::CswRead,
-            Place::Configured => Register::RdbuffRead,
-            Place::WriteTar => Register::TarWrite,
-            Place::Transfer => task.drw(),
-            Place::Confirm => {
+            HostStep::Identify => Register::DpidrRead,
+            HostStep::WriteAbort => Register::AbortWrite,
+            HostStep::CheckCtrlStat | HostStep::Powered => Register::CtrlStatRead,
+            HostStep::Select => Register::SelectWrite,
+            HostStep::Power => Register::CtrlStatWrite,
+            HostStep::Configure => Register::CswWrite,
+            HostStep::ReadCsw => Register::CswRead,
+            HostStep::Configured => Register::RdbuffRead,
+            HostStep::WriteTar => Register::TarWrite,
+            HostStep::Transfer => task.drw(),
+            HostStep::Confirm => {
                 if task.is_burst() {
                     task.drw()
                 } else {
                     Register::RdbuffRead
                 }
             }
-            Place::Behind => Register::ResendRead,
+            HostStep::Behind => Register::ResendRead,
         }
     }
 
     // Returns the word that is written here, if one is.
     fn word(self, task: Task) -> Option<u32>
-        ensures { result ≡ word_for (Job.At self) task }
+        ensures { result ≡ engine_word_for (Job.At self) task }
     {
         match self {
-            Place::WriteAbort => Some(0x0000_001e),
-            Place::Select => Some(0x0000_0000),
-            Place::Power => Some(0x5000_0000),
-            Place::Configure => Some(0x2300_0012),
-            Place::WriteTar => Some(task.address()),
-            Place::Transfer => match task {
+            HostStep::WriteAbort => Some(0x0000_001e),
+            HostStep::Select => Some(0x0000_0000),
+            HostStep::Power => Some(0x5000_0000),
+            HostStep::Configure => Some(0x2300_0012),
+            HostStep::WriteTar => Some(task.address()),
+            HostStep::Transfer => match task {
                 Task::Read(_) | Task::BurstRead(_) => None,
                 Task::Write(_, word) | Task::BurstWrite(_, word) => Some(word),
             },
@@ -102,49 +103,49 @@ impl Place {
     }
 
     // Returns the next place where no error occurs.
-    pub(crate) fn next(self) -> Place
-        ensures { result ≡ next_place self }
+    pub(crate) fn next(self) -> HostStep
+        ensures { result ≡ engine_next_place self }
     {
         match self {
-            Place::Identify => Place::WriteAbort,
-            Place::WriteAbort => Place::CheckCtrlStat,
-            Place::CheckCtrlStat => Place::Select,
-            Place::Select => Place::Power,
-            Place::Power => Place::Powered,
-            Place::Powered => Place::Configure,
-            Place::Configure => Place::ReadCsw,
-            Place::ReadCsw | Place::Configured => Place::Configured,
-            Place::WriteTar => Place::Transfer,
-            Place::Transfer | Place::Confirm => Place::Confirm,
-            Place::Behind => Place::Behind,
+            HostStep::Identify => HostStep::WriteAbort,
+            HostStep::WriteAbort => HostStep::CheckCtrlStat,
+            HostStep::CheckCtrlStat => HostStep::Select,
+            HostStep::Select => HostStep::Power,
+            HostStep::Power => HostStep::Powered,
+            HostStep::Powered => HostStep::Configure,
+            HostStep::Configure => HostStep::ReadCsw,
+            HostStep::ReadCsw | HostStep::Configured => HostStep::Configured,
+            HostStep::WriteTar => HostStep::Transfer,
+            HostStep::Transfer | HostStep::Confirm => HostStep::Confirm,
+            HostStep::Behind => HostStep::Behind,
         }
     }
 
     // Returns the request that reads the word of this place again after wrong parity. It is RESEND for RDBUFF, or for
     // DRW in a block, since reading these again would return another value.
     pub(crate) fn again(self) -> Job
-        ensures { result ≡ again_at self }
+        ensures { result ≡ engine_reread_job self }
     {
         match self {
-            Place::Configured | Place::Confirm => Job::Resend(self),
+            HostStep::Configured | HostStep::Confirm => Job::Resend(self),
             _ => Job::At(self),
         }
     }
 
     // Returns the write that the request here confirms: if that write's data was corrupted, this request is answered
     // FAULT. `aims`: TAR was written for the access.
-    pub(crate) fn confirms(self, task: Task, aims: bool) -> Option<Place>
-        ensures { result ≡ confirmed_by self task aims }
+    pub(crate) fn confirms(self, task: Task, aims: bool) -> Option<HostStep>
+        ensures { result ≡ engine_confirmed self task aims }
     {
         match self {
-            Place::CheckCtrlStat => Some(Place::WriteAbort),
-            Place::Power => Some(Place::Select),
-            Place::Powered => Some(Place::Power),
-            Place::ReadCsw => Some(Place::Configure),
-            Place::Transfer => { if aims { Some(Place::WriteTar) } else { None } }
-            Place::Confirm => match task {
+            HostStep::CheckCtrlStat => Some(HostStep::WriteAbort),
+            HostStep::Power => Some(HostStep::Select),
+            HostStep::Powered => Some(HostStep::Power),
+            HostStep::ReadCsw => Some(HostStep::Configure),
+            HostStep::Transfer => { if aims { Some(HostStep::WriteTar) } else { None } }
+            HostStep::Confirm => match task {
                 Task::Read(_) | Task::BurstRead(_) => None,
-                _ => Some(Place::Transfer),
+                _ => Some(HostStep::Transfer),
             },
             _ => None,
         }
@@ -154,7 +155,7 @@ impl Place {
 impl Job {
     // Returns the register of the request, for the current access.
     fn register(self, task: Task) -> Register
-        ensures { result ≡ register_for self task }
+        ensures { result ≡ engine_register_for self task }
     {
         match self {
             Job::At(place) => place.register(task),
@@ -166,14 +167,14 @@ impl Job {
 
     // Returns the request, for the current access.
     pub(crate) fn request(self, task: Task) -> Request
-        ensures { result ≡ request_for self task }
+        ensures { result ≡ engine_request_for self task }
     {
         self.register(task).request()
     }
 
     // Returns the word that is written, if the request is a write whose word the engine has.
     pub(crate) fn word(self, task: Task) -> Option<u32>
-        ensures { result ≡ word_for self task }
+        ensures { result ≡ engine_word_for self task }
     {
         match self {
             Job::At(place) => place.word(task),
@@ -185,23 +186,26 @@ impl Job {
     // Returns how many unanswered accesses, at least, are in flight once it is sent. DRW starts the current access; in
     // a block the request that confirms it starts the next one.
     pub(crate) fn begins(self, task: Task) -> u8
-        ensures { result ≡ begins self task }
+        ensures { result ≡ engine_job_starts self task }
     {
         match self {
-            Job::At(Place::Transfer) => 1,
-            Job::At(Place::Confirm) if task.is_block() => 2,
+            Job::At(HostStep::Transfer) => 1,
+            Job::At(HostStep::Confirm) if task.is_block() => 2,
             _ => 0,
         }
     }
 
     // Returns whether the request is never answered WAIT or FAULT.
     pub(crate) fn is_exempt(self) -> bool
-        ensures { result ≡ is_exempt self }
+        ensures { result ≡ engine_job_is_exempt self }
     {
         match self {
             Job::At(place) => matches!(
                 place,
-                Place::Identify | Place::WriteAbort | Place::CheckCtrlStat | Place::Powered
+                HostStep::Identify
+                    | HostStep::WriteAbort
+                    | HostStep::CheckCtrlStat
+                    | HostStep::Powered
             ),
             Job::Resend(_) => false,
             _ => true,

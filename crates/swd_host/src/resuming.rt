@@ -2,11 +2,11 @@
 ghost use Rattle.std.specs.Prelude.{◌≡◌, ◌≤◌, ◌-◌, IfOk, IfErr, IfSome, List, length};
 ghost use Rattle.swd_port.specs.declared.access.Answer.{Answer as AnswerType};
 ghost use Rattle.std.specs.Vec.{vec_capacity};
-ghost use Rattle.swd_host.specs.Plain.{AreAccesses};
-ghost use Rattle.swd_host.specs.Sent.{Made};
-ghost use Rattle.swd_host.specs.Reports.{told_of, told_to};
-ghost use Rattle.swd_host.specs.Again.{Continues, ResumesOver, TellsRest};
-ghost use Rattle.swd_host.specs.Resuming.{since};
+ghost use Rattle.swd_host.specs.Plain.{AreHostAccesses};
+ghost use Rattle.swd_host.specs.Sent.{HostCalls};
+ghost use Rattle.swd_host.specs.Reports.{host_report_of, host_report_to};
+ghost use Rattle.swd_host.specs.Again.{ResumeCloses, ResumesOver, ResumeReportsCalls};
+ghost use Rattle.swd_host.specs.Resuming.{resume_report};
 ghost use Rattle.swd_host.specs.declared.outcome.Refused.TheVariants.{Memory};
 
 use crate::engine::Engine;
@@ -38,17 +38,19 @@ pub fn resume<W: Wire, A: Allocator>(
     report: &Report<A>,
     tries: u32,
 ) -> Result<Report<A>, Refused>
-    requires accepted { (length accesses.now ≤ 65536) × AreAccesses accesses.now }
-    requires reported { length (told_of report.now).answers ≤ length accesses.now }
-    ensures continues { IfOk result (λ told. Continues accesses.now tries (told_of report.now) (told_of told)
+    requires accepted { (length accesses.now ≤ 65536) × AreHostAccesses accesses.now }
+    requires reported { length (host_report_of report.now).answers ≤ length accesses.now }
+    ensures continues { IfOk result (λ told. ResumeCloses accesses.now tries (host_report_of report.now)
+        (host_report_of told)
         (W.port wire.new).link.due) }
     ensures fits { IfOk result (λ told. W.lawful wire.new → W.lawful wire.old
-        × ResumesOver accesses.now tries (told_of report.now) (told_of told) (W.port wire.old) (W.port wire.new)) }
+        × ResumesOver accesses.now tries (host_report_of report.now) (host_report_of told) (W.port wire.old)
+        (W.port wire.new)) }
     ensures refused { IfErr result (λ refused. refused ≡ Memory) }
     ensures untouched { IfErr result (λ refused. wire.new ≡ wire.old) }
     ensures plan { W.plan wire.new ≡ W.plan wire.old }
     ensures told { IfOk result (λ told.
-        Made W.notes (TellsRest accesses.now (told_of report.now) (told_of told)) wire.old wire.new) }
+        HostCalls W.notes (ResumeReportsCalls accesses.now (host_report_of report.now) (host_report_of told)) wire.old wire.new) }
 {
     let Some(mut answers) = copy_answers(alloc, &report.answers, accesses.len()) else {
         return Err(Refused::Memory);
@@ -67,19 +69,20 @@ pub fn resume_to<W: Wire, K: AnswerSink>(
     tries: u32,
     sink: &mut K,
 ) -> Ending
-    requires accepted { (length accesses.now ≤ 65536) × AreAccesses accesses.now }
+    requires accepted { (length accesses.now ≤ 65536) × AreHostAccesses accesses.now }
     requires reported { length (K.taken sink.old) ≤ length accesses.now }
     requires room { length accesses.now ≤ K.most sink.old }
-    ensures continues { Continues accesses.now tries (told_to (K.taken sink.old) earlier)
-        (told_to (K.taken sink.new) result) (W.port wire.new).link.due }
+    ensures continues { ResumeCloses accesses.now tries (host_report_to (K.taken sink.old) earlier)
+        (host_report_to (K.taken sink.new) result) (W.port wire.new).link.due }
     ensures fits { W.lawful wire.new → W.lawful wire.old
-        × ResumesOver accesses.now tries (told_to (K.taken sink.old) earlier) (told_to (K.taken sink.new) result)
+        × ResumesOver accesses.now tries (host_report_to (K.taken sink.old) earlier)
+        (host_report_to (K.taken sink.new) result)
         (W.port wire.old) (W.port wire.new) }
     ensures keeps { K.keeps sink.old sink.new }
     ensures most { K.most sink.old ≤ K.most sink.new }
     ensures plan { W.plan wire.new ≡ W.plan wire.old }
-    ensures told { Made W.notes (TellsRest accesses.now (told_to (K.taken sink.old) earlier)
-        (told_to (K.taken sink.new) result)) wire.old wire.new }
+    ensures told { HostCalls W.notes (ResumeReportsCalls accesses.now (host_report_to (K.taken sink.old) earlier)
+        (host_report_to (K.taken sink.new) result)) wire.old wire.new }
 {
     let answered = sink.count();
     let mut engine = Engine::again(tries);
@@ -104,7 +107,7 @@ fn copy_answers<A: Allocator>(alloc: A, answers: &[Answer], most: usize) -> Opti
 // Adds to the report of this call, which has `more` answers, the unanswered accesses that earlier calls started.
 fn since(ending: Ending, earlier: Ending, more: usize) -> Ending
     ensures { (before after : List AnswerType) → more ≡ length after - length before
-        → told_to after result ≡ since (told_to after ending) (told_to before earlier) }
+        → host_report_to after result ≡ resume_report (host_report_to after ending) (host_report_to before earlier) }
 {
     let begun = match ending.ended {
         End::All => 0,

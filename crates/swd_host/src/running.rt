@@ -3,20 +3,23 @@ ghost use Rattle.std.specs.Prelude.{◌≡◌, ◌≢◌, ◌<◌, ◌≤◌, So
 ghost use Rattle.std.specs.Prelude.{◌+◌, ◌∷◌, length, List, []};
 ghost use Rattle.std.specs.Vec.{vec_capacity};
 ghost use Rattle.swd_port.specs.declared.wire.Due.TheVariants.{Nothing};
-ghost use Rattle.swd_port.specs.Leading.{Leads};
-ghost use Rattle.swd_host.specs.Calls.{Turns, TurnsFrom, eight_idle};
-ghost use Rattle.swd_host.specs.Plain.{AreAccesses, HasRanges, is_aligned};
-ghost use Rattle.swd_host.specs.Engines.{finished_of, is_resting, may_start, requests_of};
-ghost use Rattle.swd_host.specs.Progress.{calls_left, open_requests};
-ghost use Rattle.swd_host.specs.Tasks.{most_of};
-ghost use Rattle.swd_host.specs.Tracks.{DueFits};
-ghost use Rattle.swd_host.specs.Turns.{Works, WorksFrom, Goes, GoesFrom, GoesOn, IsNew, answered_as, opened_as};
-ghost use Rattle.swd_host.specs.Reports.{Closes, Follower, RefusedAs, RunsOver, RunsWithin, told_of, told_to};
+ghost use Rattle.swd_port.specs.Leading.{PortLeads};
+ghost use Rattle.swd_host.specs.Calls.{EngineTurns, EngineTurnsFrom, host_idle_call};
+ghost use Rattle.swd_host.specs.Plain.{AreHostAccesses, HostAccessHasRanges, host_access_is_aligned};
+ghost use Rattle.swd_host.specs.Engines.{engine_outcome, engine_is_resting, engine_may_start, engine_requests};
+ghost use Rattle.swd_host.specs.Progress.{engine_calls_left, engine_open_requests};
+ghost use Rattle.swd_host.specs.Tasks.{bursts_limit};
+ghost use Rattle.swd_host.specs.Tracks.{EngineDueFits};
+ghost use Rattle.swd_host.specs.Turns.{EngineWorks, EngineAccessWorks, EngineGoesWithPort, EngineAccessGoes};
+ghost use Rattle.swd_host.specs.Turns.{EngineContinuesBurst, EngineIsNew, engine_answer_outcome};
+ghost use Rattle.swd_host.specs.Turns.{engine_state_opened_as};
+ghost use Rattle.swd_host.specs.Reports.{Closes, HostNextAccess, HostRefusesList, RunsOver, RunsWithin, host_report_of};
+ghost use Rattle.swd_host.specs.Reports.{host_report_to};
 ghost use Rattle.swd_host.specs.declared.outcome.Refused.TheVariants.{Memory};
 ghost use Rattle.swd_port.specs.declared.access.Answer.{Answer as AnswerType};
-ghost use Rattle.swd_host.specs.Sent.{Made, TellsSent};
-ghost use Rattle.swd_host.specs.Stages.{Tells};
-ghost use Rattle.swd_host.specs.Standing.{Does, HasOpened, Performs, told_by};
+ghost use Rattle.swd_host.specs.Sent.{HostCalls, HostReportsCalls};
+ghost use Rattle.swd_host.specs.Stages.{EngineListCalls};
+ghost use Rattle.swd_host.specs.Standing.{EngineDoes, EngineHasOpened, EnginePerforms, engine_report};
 
 use crate::engine::Engine;
 use crate::outcome::{End, Ending, Outcome, Refused, Report};
@@ -43,15 +46,16 @@ impl Engine {
     /// }
     /// ```
     pub fn turn<W: Wire>(&mut self, wire: &mut W)
-        requires { DueFits self.old (W.port wire.old) }
-        ensures due { DueFits self.new (W.port wire.new) }
-        ensures rests { is_resting self.old ≡ true → (self.new ≡ self.old) × (wire.new ≡ wire.old) }
-        ensures falls { is_resting self.old ≡ false → calls_left self.new < calls_left self.old }
-        ensures spends { requests_of self.new + open_requests self.new ≤ requests_of self.old + open_requests self.old }
+        requires { EngineDueFits self.old (W.port wire.old) }
+        ensures due { EngineDueFits self.new (W.port wire.new) }
+        ensures rests { engine_is_resting self.old ≡ true → (self.new ≡ self.old) × (wire.new ≡ wire.old) }
+        ensures falls { engine_is_resting self.old ≡ false → engine_calls_left self.new < engine_calls_left self.old }
+        ensures spends { engine_requests self.new + engine_open_requests self.new ≤ engine_requests self.old
+            + engine_open_requests self.old }
         ensures goes { W.lawful wire.new → W.lawful wire.old
-            × Goes self.old (W.port wire.old) self.new (W.port wire.new) }
+            × EngineGoesWithPort self.old (W.port wire.old) self.new (W.port wire.new) }
         ensures plan { W.plan wire.new ≡ W.plan wire.old }
-        ensures made { Made W.notes (λ calls. Turns self.old calls self.new) wire.old wire.new }
+        ensures made { HostCalls W.notes (λ calls. EngineTurns self.old calls self.new) wire.old wire.new }
     {
         if self.finished().is_none() {
             turn(wire, self);
@@ -62,15 +66,15 @@ impl Engine {
 // Makes the call of the wire that the engine asks for.
 #[inline(always)]
 fn turn<W: Wire>(wire: &mut W, engine: &mut Engine)
-    requires due { DueFits engine.old (W.port wire.old) }
-    requires goes_on { is_resting engine.old ≡ false }
-    ensures due { DueFits engine.new (W.port wire.new) }
-    ensures works { Works engine.old engine.new }
+    requires due { EngineDueFits engine.old (W.port wire.old) }
+    requires goes_on { engine_is_resting engine.old ≡ false }
+    ensures due { EngineDueFits engine.new (W.port wire.new) }
+    ensures works { EngineWorks engine.old engine.new }
     ensures goes { W.lawful wire.new → W.lawful wire.old
-        × Goes engine.old (W.port wire.old) engine.new (W.port wire.new) }
-    ensures falls { calls_left engine.new < calls_left engine.old }
+        × EngineGoesWithPort engine.old (W.port wire.old) engine.new (W.port wire.new) }
+    ensures falls { engine_calls_left engine.new < engine_calls_left engine.old }
     ensures plan { W.plan wire.new ≡ W.plan wire.old }
-    ensures made { Made W.notes (λ calls. Turns engine.old calls engine.new) wire.old wire.new }
+    ensures made { HostCalls W.notes (λ calls. EngineTurns engine.old calls engine.new) wire.old wire.new }
 {
     let Some(cue) = engine.cue() else {
         return;
@@ -102,14 +106,14 @@ fn turn<W: Wire>(wire: &mut W, engine: &mut Engine)
 // Drives the engine to its next outcome.
 #[inline(always)]
 fn drive<W: Wire>(wire: &mut W, engine: &mut Engine) -> Outcome
-    requires { DueFits engine.old (W.port wire.old) }
-    ensures due { DueFits engine.new (W.port wire.new) }
-    ensures works { Works engine.old engine.new }
+    requires { EngineDueFits engine.old (W.port wire.old) }
+    ensures due { EngineDueFits engine.new (W.port wire.new) }
+    ensures works { EngineWorks engine.old engine.new }
     ensures goes { W.lawful wire.new → W.lawful wire.old
-        × Goes engine.old (W.port wire.old) engine.new (W.port wire.new) }
-    ensures finished { finished_of engine.new ≡ Some result }
+        × EngineGoesWithPort engine.old (W.port wire.old) engine.new (W.port wire.new) }
+    ensures finished { engine_outcome engine.new ≡ Some result }
     ensures plan { W.plan wire.new ≡ W.plan wire.old }
-    ensures made { Made W.notes (λ calls. Turns engine.old calls engine.new) wire.old wire.new }
+    ensures made { HostCalls W.notes (λ calls. EngineTurns engine.old calls engine.new) wire.old wire.new }
 {
     loop {
         if let Some(outcome) = engine.finished() {
@@ -121,8 +125,8 @@ fn drive<W: Wire>(wire: &mut W, engine: &mut Engine) -> Outcome
 
 // Returns whether the address is a multiple of 4.
 fn is_aligned(access: Access) -> bool
-    ensures aligned { result ≡ is_aligned access }
-    ensures ranges { HasRanges access }
+    ensures aligned { result ≡ host_access_is_aligned access }
+    ensures ranges { HostAccessHasRanges access }
 {
     let (Access::Read(addr) | Access::Write(addr, _)) = access;
     addr % 4 == 0
@@ -130,8 +134,8 @@ fn is_aligned(access: Access) -> bool
 
 // Returns why a list is refused, if it is.
 fn refusal(accesses: &[Access]) -> Option<Refused>
-    ensures none { IfNone result ((length accesses.now ≤ 65536) × AreAccesses accesses.now) }
-    ensures refused { IfSome result (RefusedAs accesses.now) }
+    ensures none { IfNone result ((length accesses.now ≤ 65536) × AreHostAccesses accesses.now) }
+    ensures refused { IfSome result (HostRefusesList accesses.now) }
     ensures memory { IfSome result (λ refused. refused ≢ Memory) }
 {
     if accesses.len() > MOST_ACCESSES as usize {
@@ -147,15 +151,15 @@ fn refusal(accesses: &[Access]) -> Option<Refused>
 
 // Performs the opening.
 pub(crate) fn open<W: Wire>(wire: &mut W, engine: &mut Engine) -> Result<(), End>
-    requires due { DueFits engine.old (W.port wire.old) }
-    requires new { IsNew engine.old.bursts engine.old.stray engine.old.tries engine.old }
-    ensures due { DueFits engine.new (W.port wire.new) }
-    ensures works { Works engine.old engine.new }
+    requires due { EngineDueFits engine.old (W.port wire.old) }
+    requires new { EngineIsNew engine.old.bursts engine.old.stray engine.old.tries engine.old }
+    ensures due { EngineDueFits engine.new (W.port wire.new) }
+    ensures works { EngineWorks engine.old engine.new }
     ensures goes { W.lawful wire.new → W.lawful wire.old
-        × Goes engine.old (W.port wire.old) engine.new (W.port wire.new) }
-    ensures finished { engine.new.state ≡ opened_as result }
+        × EngineGoesWithPort engine.old (W.port wire.old) engine.new (W.port wire.new) }
+    ensures finished { engine.new.state ≡ engine_state_opened_as result }
     ensures plan { W.plan wire.new ≡ W.plan wire.old }
-    ensures made { Made W.notes (λ calls. Turns engine.old calls engine.new) wire.old wire.new }
+    ensures made { HostCalls W.notes (λ calls. EngineTurns engine.old calls engine.new) wire.old wire.new }
 {
     match drive(wire, engine) {
         Outcome::Stopped(end) => Err(end),
@@ -166,7 +170,7 @@ pub(crate) fn open<W: Wire>(wire: &mut W, engine: &mut Engine) -> Result<(), End
 // Returns the access after the one at this index.
 fn following(accesses: &[Access], index: usize) -> Option<Access>
     requires { index < length accesses.now }
-    ensures { IfSome result (Follower index accesses.now) }
+    ensures { IfSome result (HostNextAccess index accesses.now) }
 {
     accesses.get(index + 1).copied()
 }
@@ -179,16 +183,17 @@ fn access<W: Wire>(
     access: Access,
     following: Option<Access>,
 ) -> Result<Answer, End>
-    requires due { DueFits engine.old (W.port wire.old) }
-    requires rests { may_start (finished_of engine.old) ≡ true }
-    requires chain { GoesOn engine.old access }
-    ensures due { DueFits engine.new (W.port wire.new) }
-    ensures works { WorksFrom access following engine.old engine.new }
+    requires due { EngineDueFits engine.old (W.port wire.old) }
+    requires rests { engine_may_start (engine_outcome engine.old) ≡ true }
+    requires chain { EngineContinuesBurst engine.old access }
+    ensures due { EngineDueFits engine.new (W.port wire.new) }
+    ensures works { EngineAccessWorks access following engine.old engine.new }
     ensures goes { W.lawful wire.new → W.lawful wire.old
-        × GoesFrom access following engine.old (W.port wire.old) engine.new (W.port wire.new) }
-    ensures finished { finished_of engine.new ≡ Some (answered_as result) }
+        × EngineAccessGoes access following engine.old (W.port wire.old) engine.new (W.port wire.new) }
+    ensures finished { engine_outcome engine.new ≡ Some (engine_answer_outcome result) }
     ensures plan { W.plan wire.new ≡ W.plan wire.old }
-    ensures made { Made W.notes (λ calls. TurnsFrom access following engine.old calls engine.new) wire.old wire.new }
+    ensures made { HostCalls W.notes (λ calls. EngineTurnsFrom access following engine.old calls engine.new) wire.old
+        wire.new }
 {
     engine.start(access, following);
     match drive(wire, engine) {
@@ -202,9 +207,9 @@ fn access<W: Wire>(
 fn idle<W: Wire>(wire: &mut W)
     requires { (W.port wire.old).link.due ≡ Nothing }
     ensures due { (W.port wire.new).link.due ≡ Nothing }
-    ensures step { W.lawful wire.new → W.lawful wire.old × Leads (W.port wire.old) 0 (W.port wire.new) }
+    ensures step { W.lawful wire.new → W.lawful wire.old × PortLeads (W.port wire.old) 0 (W.port wire.new) }
     ensures plan { W.plan wire.new ≡ W.plan wire.old }
-    ensures made { Made W.notes (λ calls. calls ≡ eight_idle ∷ []) wire.old wire.new }
+    ensures made { HostCalls W.notes (λ calls. calls ≡ host_idle_call ∷ []) wire.old wire.new }
 {
     let _ = wire.step(Cue::Lead {
         ones: 0,
@@ -222,17 +227,18 @@ pub(crate) fn perform<W: Wire, K: AnswerSink>(
     accesses: &[Access],
     sink: &mut K,
 ) -> End
-    requires opened { HasOpened engine.old }
+    requires opened { EngineHasOpened engine.old }
     requires due { (W.port wire.old).link.due ≡ Nothing }
     requires few { length accesses.now ≤ 65536 }
     requires room { length (K.taken sink.old) + length accesses.now ≤ K.most sink.old }
-    ensures performs { Performs accesses.now engine.old engine.new (K.taken sink.old) (K.taken sink.new) result
+    ensures performs { EnginePerforms accesses.now engine.old engine.new (K.taken sink.old) (K.taken sink.new) result
         (W.port wire.new).link.due }
     ensures does { W.lawful wire.new → W.lawful wire.old
-        × Does accesses.now engine.old engine.new (K.taken sink.old) (K.taken sink.new) result
+        × EngineDoes accesses.now engine.old engine.new (K.taken sink.old) (K.taken sink.new) result
         (W.port wire.old) (W.port wire.new) }
     ensures plan { W.plan wire.new ≡ W.plan wire.old }
-    ensures told { Made W.notes (Tells accesses.now engine.old engine.new (K.taken sink.old) (K.taken sink.new) result)
+    ensures told { HostCalls W.notes (EngineListCalls accesses.now engine.old engine.new (K.taken sink.old)
+        (K.taken sink.new) result)
         wire.old wire.new }
     ensures most { K.most sink.old ≤ K.most sink.new }
     ensures keeps { K.keeps sink.old sink.new }
@@ -273,15 +279,15 @@ pub fn run<W: Wire, A: Allocator>(
 ) -> Result<Report<A>, Refused>
     requires { (W.port wire.old).link.due ≡ Nothing }
     ensures closes { IfOk result (λ report.
-        Closes 0 1 accesses.now tries (told_of report) (W.port wire.new).link.due) }
+        Closes 0 1 accesses.now tries (host_report_of report) (W.port wire.new).link.due) }
     ensures fits { IfOk result (λ report. W.lawful wire.new → W.lawful wire.old
-        × RunsOver accesses.now tries (told_of report) (W.port wire.old) (W.port wire.new)) }
-    ensures accepted { IfOk result (λ report. (length accesses.now ≤ 65536) × AreAccesses accesses.now) }
-    ensures refused { IfErr result (RefusedAs accesses.now) }
+        × RunsOver accesses.now tries (host_report_of report) (W.port wire.old) (W.port wire.new)) }
+    ensures accepted { IfOk result (λ report. (length accesses.now ≤ 65536) × AreHostAccesses accesses.now) }
+    ensures refused { IfErr result (HostRefusesList accesses.now) }
     ensures untouched { IfErr result (λ refused. wire.new ≡ wire.old) }
     ensures plan { W.plan wire.new ≡ W.plan wire.old }
     ensures told { IfOk result (λ report.
-        Made W.notes (TellsSent accesses.now (told_of report)) wire.old wire.new) }
+        HostCalls W.notes (HostReportsCalls accesses.now (host_report_of report)) wire.old wire.new) }
 {
     if let Some(refused) = refusal(accesses) {
         return Err(refused);
@@ -313,20 +319,20 @@ pub fn run_to<W: Wire, K: AnswerSink>(
     requires due { (W.port wire.old).link.due ≡ Nothing }
     requires none { K.taken sink.old ≡ [] }
     requires room { length accesses.now ≤ K.most sink.old }
-    ensures closes { IfOk result (λ ending. Closes 0 (most_of bursts) accesses.now tries
-        (told_to (K.taken sink.new) ending) (W.port wire.new).link.due) }
+    ensures closes { IfOk result (λ ending. Closes 0 (bursts_limit bursts) accesses.now tries
+        (host_report_to (K.taken sink.new) ending) (W.port wire.new).link.due) }
     ensures fits { IfOk result (λ ending. W.lawful wire.new → W.lawful wire.old
-        × RunsWithin (most_of bursts) accesses.now tries (told_to (K.taken sink.new) ending)
+        × RunsWithin (bursts_limit bursts) accesses.now tries (host_report_to (K.taken sink.new) ending)
         (W.port wire.old) (W.port wire.new)) }
-    ensures accepted { IfOk result (λ ending. (length accesses.now ≤ 65536) × AreAccesses accesses.now) }
-    ensures refused { IfErr result (RefusedAs accesses.now) }
+    ensures accepted { IfOk result (λ ending. (length accesses.now ≤ 65536) × AreHostAccesses accesses.now) }
+    ensures refused { IfErr result (HostRefusesList accesses.now) }
     ensures memory { IfErr result (λ refused. refused ≢ Memory) }
     ensures untouched { IfErr result (λ refused. (wire.new ≡ wire.old) × (sink.new ≡ sink.old)) }
     ensures keeps { K.keeps sink.old sink.new }
     ensures most { K.most sink.old ≤ K.most sink.new }
     ensures plan { W.plan wire.new ≡ W.plan wire.old }
     ensures told { IfOk result (λ ending.
-        Made W.notes (TellsSent accesses.now (told_to (K.taken sink.new) ending)) wire.old wire.new) }
+        HostCalls W.notes (HostReportsCalls accesses.now (host_report_to (K.taken sink.new) ending)) wire.old wire.new) }
 {
     match refusal(accesses) {
         Some(refused) => Err(refused),
@@ -342,17 +348,17 @@ pub(crate) fn conduct<W: Wire, A: Allocator>(
     answers: Vec<Answer, A>,
 ) -> Report<A>
     requires due { (W.port wire.old).link.due ≡ Nothing }
-    requires new { IsNew engine.bursts false engine.tries engine }
-    requires accepted { (length accesses.now ≤ 65536) × AreAccesses accesses.now }
+    requires new { EngineIsNew engine.bursts false engine.tries engine }
+    requires accepted { (length accesses.now ≤ 65536) × AreHostAccesses accesses.now }
     requires none { answers.items ≡ [] }
     requires room { length accesses.now ≤ vec_capacity answers }
-    ensures closes { Closes 0 (most_of engine.bursts) accesses.now engine.tries (told_of result)
+    ensures closes { Closes 0 (bursts_limit engine.bursts) accesses.now engine.tries (host_report_of result)
         (W.port wire.new).link.due }
     ensures fits { W.lawful wire.new → W.lawful wire.old
-        × RunsWithin (most_of engine.bursts) accesses.now engine.tries (told_of result)
+        × RunsWithin (bursts_limit engine.bursts) accesses.now engine.tries (host_report_of result)
         (W.port wire.old) (W.port wire.new) }
     ensures plan { W.plan wire.new ≡ W.plan wire.old }
-    ensures told { Made W.notes (TellsSent accesses.now (told_of result)) wire.old wire.new }
+    ensures told { HostCalls W.notes (HostReportsCalls accesses.now (host_report_of result)) wire.old wire.new }
 {
     let mut answers = answers;
     let ending = conduct_to(wire, engine, accesses, &mut answers);
@@ -367,17 +373,19 @@ fn conduct_to<W: Wire, K: AnswerSink>(
     sink: &mut K,
 ) -> Ending
     requires due { (W.port wire.old).link.due ≡ Nothing }
-    requires new { IsNew engine.bursts false engine.tries engine }
-    requires accepted { (length accesses.now ≤ 65536) × AreAccesses accesses.now }
+    requires new { EngineIsNew engine.bursts false engine.tries engine }
+    requires accepted { (length accesses.now ≤ 65536) × AreHostAccesses accesses.now }
     requires none { K.taken sink.old ≡ [] }
     requires room { length accesses.now ≤ K.most sink.old }
-    ensures closes { Closes 0 (most_of engine.bursts) accesses.now engine.tries (told_to (K.taken sink.new) result)
+    ensures closes { Closes 0 (bursts_limit engine.bursts) accesses.now engine.tries
+        (host_report_to (K.taken sink.new) result)
         (W.port wire.new).link.due }
     ensures fits { W.lawful wire.new → W.lawful wire.old
-        × RunsWithin (most_of engine.bursts) accesses.now engine.tries (told_to (K.taken sink.new) result)
+        × RunsWithin (bursts_limit engine.bursts) accesses.now engine.tries (host_report_to (K.taken sink.new) result)
         (W.port wire.old) (W.port wire.new) }
     ensures plan { W.plan wire.new ≡ W.plan wire.old }
-    ensures told { Made W.notes (TellsSent accesses.now (told_to (K.taken sink.new) result)) wire.old wire.new }
+    ensures told { HostCalls W.notes (HostReportsCalls accesses.now (host_report_to (K.taken sink.new) result)) wire.old
+        wire.new }
     ensures most { K.most sink.old ≤ K.most sink.new }
     ensures keeps { K.keeps sink.old sink.new }
 {
@@ -392,7 +400,7 @@ fn conduct_to<W: Wire, K: AnswerSink>(
 impl Engine {
     // Returns the report of a run without its answers.
     pub(crate) fn ending(&self, ended: End) -> Ending
-        ensures { (answers : List AnswerType) → told_to answers result ≡ told_by answers self.now ended }
+        ensures { (answers : List AnswerType) → host_report_to answers result ≡ engine_report answers self.now ended }
     {
         Ending {
             begun: self.begun(),

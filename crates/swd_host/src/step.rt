@@ -1,34 +1,40 @@
 //! The engine's own steps: from the result of a request to the next request or an outcome.
 ghost use Rattle.std.specs.Prelude.{◌≡◌, ◌+◌, ◌-◌, ◌&&◌, ℕ, true, false, not, Option, Some, None};
-ghost use Rattle.swd_host.specs.Events.{Meets, is_damaged_clearing, is_damaged_write, is_event, is_event_at};
-ghost use Rattle.swd_host.specs.Events.{is_flagged, is_left_over, is_unpowered, wrong_id, wrong_id_read};
-ghost use Rattle.swd_host.specs.Early.{ComesEarly, EarlyAgain, EarlyBefore, EarlyFaulted, EarlySent, EarlyTold};
-ghost use Rattle.swd_host.specs.Early.{EarlyWaiting, GlimpsedEarly, ShownEarly};
-ghost use Rattle.swd_host.specs.Flags.{is_configured, no_flags};
-ghost use Rattle.swd_host.specs.Progress.{is_job_of, is_place_of};
-ghost use Rattle.swd_host.specs.Requests.{is_exempt, is_unread, is_write};
-ghost use Rattle.swd_host.specs.Steps.{GoesTo, RestsWith, ahead_sent, ahead_to, checked_to, cleared_to, faulted_to};
-ghost use Rattle.swd_host.specs.Steps.{is_rested, passed_to, read_to, resent_to, status_to, value_to, written_to};
-ghost use Rattle.swd_host.specs.Turns.{LandsAnswered, LandsAt, LandsFrom};
-ghost use Rattle.swd_host.specs.Tracks.{Before, Checks, Cleared, Comes, ComesWith, Earns, FaultedAt, HasAsked};
-ghost use Rattle.swd_host.specs.Tracks.{Refused, Resent, Taken};
-ghost use Rattle.swd_host.specs.Tracks.{TakenFor, TookAt, Waiting, WasSent};
+ghost use Rattle.swd_host.specs.Events.{EngineMeets, engine_clearing_is_damaged, engine_write_is_damaged};
+ghost use Rattle.swd_host.specs.Events.{is_engine_event, is_engine_event_at, opening_finds_flags, engine_flag_is_stray};
+ghost use Rattle.swd_host.specs.Events.{opening_is_unpowered, opening_wrong_id, engine_reads_wrong_id};
+ghost use Rattle.swd_host.specs.Early.{StepKeepsResumedOpening, ResumedOpeningRereads, ResumedBefore};
+ghost use Rattle.swd_host.specs.Early.{ResumedOpeningFaulted, ResumedOpeningSentData, ResumedOpeningReadWord};
+ghost use Rattle.swd_host.specs.Early.{ResumedOpeningWaits, GlimpseKeepsResumedOpening, FlagsKeepResumedOpening};
+ghost use Rattle.swd_host.specs.Flags.{host_csw_is_configured, no_host_flags};
+ghost use Rattle.swd_host.specs.Progress.{engine_job_is_of, engine_place_is_of};
+ghost use Rattle.swd_host.specs.Requests.{engine_job_is_exempt, engine_word_is_ignored, engine_job_is_write};
+ghost use Rattle.swd_host.specs.Steps.{EngineGoesTo, EngineRestsWith, engine_ahead_sent, engine_ahead_to};
+ghost use Rattle.swd_host.specs.Steps.{engine_after_check, engine_after_clearing, engine_after_fault, engine_is_rested};
+ghost use Rattle.swd_host.specs.Steps.{engine_after_ignored_word, engine_after_read, engine_after_resend};
+ghost use Rattle.swd_host.specs.Steps.{engine_after_status, engine_after_value, engine_after_write};
+ghost use Rattle.swd_host.specs.Turns.{EngineLandsAnswered, EngineLandsAtEvent, EngineLandsFromJob};
+ghost use Rattle.swd_host.specs.Tracks.{EngineBefore, EngineChecksFlags, EngineErrorCleared, EngineStepKeeps};
+ghost use Rattle.swd_host.specs.Tracks.{EngineStepKeepsFlags, TaskEarnsAnswer, EngineFaultAtJob, OpeningAskedPower};
+ghost use Rattle.swd_host.specs.Tracks.{EngineMetFlag, EngineResendWord, EngineTookWordAt, EngineTookForJob};
+ghost use Rattle.swd_host.specs.Tracks.{EngineTookAtPlace, EngineWaitAtJob, EngineDataWasSent};
 
 use crate::engine::{Ahead, Engine, Phase, State};
 use crate::flags::{Flags, flags_of, is_configured, is_powered};
 use crate::outcome::{End, Outcome};
-use crate::request::{Job, Place};
+use crate::request::{HostStep, Job};
 use crate::task::next_in_kilobyte;
 use swd_port::Answer;
 
 impl Engine {
     // Counts an event, and sends this request next; stops where the retries ran out.
     pub(crate) fn event(&mut self, job: Job)
-        ensures tracks { Comes (λ n b k t. Before job (n + 1) b k t) self.old self.new }
-        ensures early { ComesEarly (λ n stray start s. EarlyBefore job (n + 1) stray start s) self.old self.new }
-        ensures lands { LandsAt job self.old self.new }
-        ensures meets { Meets true None self.old self.new }
-        ensures goes { GoesTo (State.Doing job Phase.Ask) self.new.state }
+        ensures tracks { EngineStepKeeps (λ n b k t. EngineBefore job (n + 1) b k t) self.old self.new }
+        ensures early { StepKeepsResumedOpening (λ n stray start s. ResumedBefore job (n + 1) stray start s) self.old
+            self.new }
+        ensures lands { EngineLandsAtEvent job self.old self.new }
+        ensures meets { EngineMeets true None self.old self.new }
+        ensures goes { EngineGoesTo (State.Doing job Phase.Ask) self.new.state }
     {
         if self.events >= self.tries {
             self.state = State::Resting(Outcome::Stopped(End::TriesOut));
@@ -48,13 +54,13 @@ impl Engine {
     }
 
     // Checks the flags after ABORT was written.
-    pub(crate) fn check(&mut self, place: Place, owed: Flags, now: Flags)
-        ensures tracks { ComesWith now (Checks place owed) self.old self.new }
-        ensures early { ShownEarly now (EarlyBefore (Job.Check place owed)) self.old self.new }
-        ensures lands { LandsFrom (Job.Check place owed) Phase.Data self.old self.new }
-        ensures meets { Meets (is_damaged_clearing owed now) None self.old self.new }
-        ensures goes { GoesTo (checked_to place owed now self.old.task self.old.aims) self.new.state }
-        ensures rests { RestsWith Ahead.Unsent self.new.state self.new.ahead }
+    pub(crate) fn check(&mut self, place: HostStep, owed: Flags, now: Flags)
+        ensures tracks { EngineStepKeepsFlags now (EngineChecksFlags place owed) self.old self.new }
+        ensures early { FlagsKeepResumedOpening now (ResumedBefore (Job.Check place owed)) self.old self.new }
+        ensures lands { EngineLandsFromJob (Job.Check place owed) Phase.Data self.old self.new }
+        ensures meets { EngineMeets (engine_clearing_is_damaged owed now) None self.old self.new }
+        ensures goes { EngineGoesTo (engine_after_check place owed now self.old.task self.old.aims) self.new.state }
+        ensures rests { EngineRestsWith Ahead.Unsent self.new.state self.new.ahead }
     {
         if !now.error && !now.damaged {
             if owed.error {
@@ -72,27 +78,27 @@ impl Engine {
 
     // Continues once the flag of a bus error is cleared. The error answers the current access. If it was the next
     // one's, RESEND is read. If an earlier run left the transfer pending, the refused request is sent again.
-    fn finish_clear(&mut self, place: Place, owed: Flags)
+    fn finish_clear(&mut self, place: HostStep, owed: Flags)
         requires { owed.error ≡ true }
-        ensures tracks { Comes (Cleared place) self.old self.new }
-        ensures early { ShownEarly no_flags (EarlyBefore (Job.Check place owed)) self.old self.new }
-        ensures lands { LandsFrom (Job.Check place owed) Phase.Data self.old self.new }
-        ensures meets { Meets false None self.old self.new }
-        ensures goes { self.new.state ≡ cleared_to place }
-        ensures rests { RestsWith Ahead.Unsent self.new.state self.new.ahead }
+        ensures tracks { EngineStepKeeps (EngineErrorCleared place) self.old self.new }
+        ensures early { FlagsKeepResumedOpening no_host_flags (ResumedBefore (Job.Check place owed)) self.old self.new }
+        ensures lands { EngineLandsFromJob (Job.Check place owed) Phase.Data self.old self.new }
+        ensures meets { EngineMeets false None self.old self.new }
+        ensures goes { self.new.state ≡ engine_after_clearing place }
+        ensures rests { EngineRestsWith Ahead.Unsent self.new.state self.new.ahead }
     {
         match place {
-            Place::Confirm => self.answer(Answer::BusFault, Ahead::Unsent),
-            Place::Behind => self.state = State::Doing(Job::Resend(place), Phase::Ask),
+            HostStep::Confirm => self.answer(Answer::BusFault, Ahead::Unsent),
+            HostStep::Behind => self.state = State::Doing(Job::Resend(place), Phase::Ask),
             _ => self.state = State::Doing(Job::At(place), Phase::Ask),
         }
     }
 
     // Answers the access. A successful transfer leaves TAR at the next address, except at the end of a kilobyte.
     pub(crate) fn answer(&mut self, answer: Answer, ahead: Ahead)
-        ensures tracks { Comes (Earns answer ahead) self.old self.new }
-        ensures lands { LandsAnswered self.old self.new }
-        ensures meets { Meets false None self.old self.new }
+        ensures tracks { EngineStepKeeps (TaskEarnsAnswer answer ahead) self.old self.new }
+        ensures lands { EngineLandsAnswered self.old self.new }
+        ensures meets { EngineMeets false None self.old self.new }
         ensures goes { self.new.state ≡ State.Resting (Outcome.Answered answer) }
         ensures ahead { self.new.ahead ≡ ahead }
     {
@@ -108,12 +114,12 @@ impl Engine {
 
     // Continues after the data phase of a write was sent.
     pub(crate) fn follow_write(&mut self, job: Job)
-        requires { is_write job self.old.task ≡ true }
-        ensures tracks { Comes (WasSent job) self.old self.new }
-        ensures early { ComesEarly (EarlySent job) self.old self.new }
-        ensures lands { LandsFrom job Phase.Data self.old self.new }
-        ensures meets { Meets false None self.old self.new }
-        ensures goes { self.new.state ≡ written_to job }
+        requires { engine_job_is_write job self.old.task ≡ true }
+        ensures tracks { EngineStepKeeps (EngineDataWasSent job) self.old self.new }
+        ensures early { StepKeepsResumedOpening (ResumedOpeningSentData job) self.old self.new }
+        ensures lands { EngineLandsFromJob job Phase.Data self.old self.new }
+        ensures meets { EngineMeets false None self.old self.new }
+        ensures goes { self.new.state ≡ engine_after_write job }
     {
         let next = match job {
             Job::At(place) => Job::At(place.next()),
@@ -125,11 +131,11 @@ impl Engine {
 
     // Continues after WAIT and its turnaround.
     pub(crate) fn take_wait(&mut self, job: Job)
-        ensures tracks { Comes (Waiting job) self.old self.new }
-        ensures early { ComesEarly (EarlyWaiting job) self.old self.new }
-        ensures lands { LandsFrom job Phase.Waited self.old self.new }
-        ensures meets { Meets (not (is_exempt job)) None self.old self.new }
-        ensures goes { GoesTo (State.Doing job Phase.Ask) self.new.state }
+        ensures tracks { EngineStepKeeps (EngineWaitAtJob job) self.old self.new }
+        ensures early { StepKeepsResumedOpening (ResumedOpeningWaits job) self.old self.new }
+        ensures lands { EngineLandsFromJob job Phase.Waited self.old self.new }
+        ensures meets { EngineMeets (not (engine_job_is_exempt job)) None self.old self.new }
+        ensures goes { EngineGoesTo (State.Doing job Phase.Ask) self.new.state }
     {
         if job.is_exempt() {
             self.state = State::Resting(Outcome::Stopped(End::Confused));
@@ -140,11 +146,11 @@ impl Engine {
 
     // Continues after FAULT and its turnaround.
     pub(crate) fn take_fault(&mut self, job: Job)
-        ensures tracks { Comes (FaultedAt job) self.old self.new }
-        ensures early { ComesEarly (EarlyFaulted job) self.old self.new }
-        ensures lands { LandsFrom job Phase.Faulted self.old self.new }
-        ensures meets { Meets false None self.old self.new }
-        ensures goes { GoesTo (faulted_to job self.old.task) self.new.state }
+        ensures tracks { EngineStepKeeps (EngineFaultAtJob job) self.old self.new }
+        ensures early { StepKeepsResumedOpening (ResumedOpeningFaulted job) self.old self.new }
+        ensures lands { EngineLandsFromJob job Phase.Faulted self.old self.new }
+        ensures meets { EngineMeets false None self.old self.new }
+        ensures goes { EngineGoesTo (engine_after_fault job self.old.task) self.new.state }
     {
         self.state = if job.is_exempt() {
             State::Resting(Outcome::Stopped(End::Confused))
@@ -152,8 +158,8 @@ impl Engine {
             match job {
                 Job::At(place) => State::Doing(Job::Status(place), Phase::Ask),
                 // The next access of the block was a bus error.
-                Job::Resend(Place::Confirm) if self.task.is_block() => {
-                    State::Doing(Job::Status(Place::Behind), Phase::Ask)
+                Job::Resend(HostStep::Confirm) if self.task.is_block() => {
+                    State::Doing(Job::Status(HostStep::Behind), Phase::Ask)
                 }
                 _ => State::Doing(Job::LastStatus, Phase::Ask),
             }
@@ -162,13 +168,14 @@ impl Engine {
 
     // Continues after a data phase was read with wrong parity.
     pub(crate) fn take_damage(&mut self, job: Job)
-        requires { is_write job self.old.task ≡ false }
-        ensures tracks { Comes (TakenFor job None) self.old self.new }
-        ensures early { ComesEarly (EarlyAgain job) self.old self.new }
-        ensures lands { LandsFrom job Phase.Data self.old self.new }
-        ensures meets { Meets (is_event job None self.old.task self.old.aims self.old.stray) None self.old self.new }
-        ensures goes { GoesTo (read_to job None self.old.task self.old.aims) self.new.state }
-        ensures rests { RestsWith (ahead_to job self.old.task) self.new.state self.new.ahead }
+        requires { engine_job_is_write job self.old.task ≡ false }
+        ensures tracks { EngineStepKeeps (EngineTookForJob job None) self.old self.new }
+        ensures early { StepKeepsResumedOpening (ResumedOpeningRereads job) self.old self.new }
+        ensures lands { EngineLandsFromJob job Phase.Data self.old self.new }
+        ensures meets { EngineMeets (is_engine_event job None self.old.task self.old.aims self.old.stray) None self.old
+            self.new }
+        ensures goes { EngineGoesTo (engine_after_read job None self.old.task self.old.aims) self.new.state }
+        ensures rests { EngineRestsWith (engine_ahead_to job self.old.task) self.new.state self.new.ahead }
     {
         match job {
             Job::At(place) if self.is_unread(place) => self.pass_over(place),
@@ -179,15 +186,15 @@ impl Engine {
 
     // Continues after this word was read with right parity.
     pub(crate) fn take_word(&mut self, job: Job, word: u32)
-        requires { is_write job self.old.task ≡ false }
-        ensures tracks { Comes (TakenFor job (Some word)) self.old self.new }
-        ensures early { ComesEarly (EarlyTold job word) self.old self.new }
-        ensures lands { LandsFrom job Phase.Data self.old self.new }
-        ensures meets { Meets (is_event job (Some word) self.old.task self.old.aims self.old.stray)
-            (wrong_id_read job (Some word)) self.old self.new }
-        ensures goes { is_job_of false job ≡ true
-            → GoesTo (read_to job (Some word) self.old.task self.old.aims) self.new.state }
-        ensures rests { RestsWith (ahead_to job self.old.task) self.new.state self.new.ahead }
+        requires { engine_job_is_write job self.old.task ≡ false }
+        ensures tracks { EngineStepKeeps (EngineTookForJob job (Some word)) self.old self.new }
+        ensures early { StepKeepsResumedOpening (ResumedOpeningReadWord job word) self.old self.new }
+        ensures lands { EngineLandsFromJob job Phase.Data self.old self.new }
+        ensures meets { EngineMeets (is_engine_event job (Some word) self.old.task self.old.aims self.old.stray)
+            (engine_reads_wrong_id job (Some word)) self.old self.new }
+        ensures goes { engine_job_is_of false job ≡ true
+            → EngineGoesTo (engine_after_read job (Some word) self.old.task self.old.aims) self.new.state }
+        ensures rests { EngineRestsWith (engine_ahead_to job self.old.task) self.new.state self.new.ahead }
     {
         match job {
             Job::At(place) if self.is_unread(place) => self.pass_over(place),
@@ -202,73 +209,76 @@ impl Engine {
     }
 
     // Returns whether the word that is read here is ignored: that of a posted read, and RDBUFF's after a write.
-    fn is_unread(&self, place: Place) -> bool
-        ensures { result ≡ is_unread place self.now.task }
+    fn is_unread(&self, place: HostStep) -> bool
+        ensures { result ≡ engine_word_is_ignored place self.now.task }
     {
         match place {
-            Place::ReadCsw | Place::Transfer => true,
-            Place::Confirm => !self.task.is_read(),
+            HostStep::ReadCsw | HostStep::Transfer => true,
+            HostStep::Confirm => !self.task.is_read(),
             _ => false,
         }
     }
 
     // Continues after a word that is ignored.
-    fn pass_over(&mut self, place: Place)
-        requires { is_unread place self.old.task ≡ true }
-        ensures tracks { (word : Option ℕ) → Comes (TookAt place word) self.old self.new }
-        ensures lands { LandsFrom (Job.At place) Phase.Data self.old self.new }
-        ensures meets { Meets false None self.old self.new }
-        ensures goes { self.new.state ≡ passed_to place }
-        ensures rests { RestsWith Ahead.Unsent self.new.state self.new.ahead }
+    fn pass_over(&mut self, place: HostStep)
+        requires { engine_word_is_ignored place self.old.task ≡ true }
+        ensures tracks { (word : Option ℕ) → EngineStepKeeps (EngineTookAtPlace place word) self.old self.new }
+        ensures lands { EngineLandsFromJob (Job.At place) Phase.Data self.old self.new }
+        ensures meets { EngineMeets false None self.old self.new }
+        ensures goes { self.new.state ≡ engine_after_ignored_word place }
+        ensures rests { EngineRestsWith Ahead.Unsent self.new.state self.new.ahead }
     {
         match place {
-            Place::Confirm => self.answer(Answer::Written, Ahead::Unsent),
+            HostStep::Confirm => self.answer(Answer::Written, Ahead::Unsent),
             _ => self.state = State::Doing(Job::At(place.next()), Phase::Ask),
         }
     }
 
     // Continues after this word was read at a place of the sequence.
-    fn value(&mut self, place: Place, word: u32)
-        ensures tracks { Comes (Taken place word) self.old self.new }
-        ensures early { ComesEarly (EarlyTold (Job.At place) word) self.old self.new }
-        ensures lands { LandsFrom (Job.At place) Phase.Data self.old self.new }
-        ensures meets { Meets (is_event_at place word self.old.stray) (wrong_id place word) self.old self.new }
-        ensures goes { is_place_of false place ≡ true → GoesTo (value_to place word) self.new.state }
-        ensures rests { RestsWith (ahead_to (Job.At place) self.old.task) self.new.state self.new.ahead }
+    fn value(&mut self, place: HostStep, word: u32)
+        ensures tracks { EngineStepKeeps (EngineTookWordAt place word) self.old self.new }
+        ensures early { StepKeepsResumedOpening (ResumedOpeningReadWord (Job.At place) word) self.old self.new }
+        ensures lands { EngineLandsFromJob (Job.At place) Phase.Data self.old self.new }
+        ensures meets { EngineMeets (is_engine_event_at place word self.old.stray) (opening_wrong_id place word)
+            self.old self.new }
+        ensures goes { engine_place_is_of false place ≡ true
+            → EngineGoesTo (engine_after_value place word) self.new.state }
+        ensures rests { EngineRestsWith (engine_ahead_to (Job.At place) self.old.task) self.new.state self.new.ahead }
     {
         match place {
-            Place::Identify => self.identify(word),
-            Place::CheckCtrlStat => self.check_ctrl_stat(flags_of(word)),
-            Place::Powered => self.check_power(flags_of(word), is_powered(word)),
-            Place::Configured => self.check_csw(is_configured(word)),
-            Place::Confirm => self.give_word(word),
+            HostStep::Identify => self.identify(word),
+            HostStep::CheckCtrlStat => self.check_ctrl_stat(flags_of(word)),
+            HostStep::Powered => self.check_power(flags_of(word), is_powered(word)),
+            HostStep::Configured => self.check_csw(is_configured(word)),
+            HostStep::Confirm => self.give_word(word),
             _ => self.state = State::Resting(Outcome::Stopped(End::Confused)),
         }
     }
 
     // Continues after RESEND returned this word.
-    fn take_resent(&mut self, place: Place, word: u32)
-        ensures tracks { Comes (Resent place word) self.old self.new }
-        ensures lands { LandsFrom (Job.Resend place) Phase.Data self.old self.new }
-        ensures meets { Meets false None self.old self.new }
-        ensures goes { is_place_of false place ≡ true → GoesTo (resent_to place word) self.new.state }
-        ensures rests { RestsWith (ahead_to (Job.Resend place) self.old.task) self.new.state self.new.ahead }
+    fn take_resent(&mut self, place: HostStep, word: u32)
+        ensures tracks { EngineStepKeeps (EngineResendWord place word) self.old self.new }
+        ensures lands { EngineLandsFromJob (Job.Resend place) Phase.Data self.old self.new }
+        ensures meets { EngineMeets false None self.old self.new }
+        ensures goes { engine_place_is_of false place ≡ true
+            → EngineGoesTo (engine_after_resend place word) self.new.state }
+        ensures rests { EngineRestsWith (engine_ahead_to (Job.Resend place) self.old.task) self.new.state self.new.ahead }
     {
         match place {
-            Place::Configured => self.check_csw(is_configured(word)),
-            Place::Confirm => self.give_word(word),
-            Place::Behind => self.answer(Answer::Value(word), Ahead::Failed),
+            HostStep::Configured => self.check_csw(is_configured(word)),
+            HostStep::Confirm => self.give_word(word),
+            HostStep::Behind => self.answer(Answer::Value(word), Ahead::Failed),
             _ => self.state = State::Resting(Outcome::Stopped(End::Confused)),
         }
     }
 
     // Answers a read with its word, which RDBUFF returned, or in a block the DRW read of the next access.
     fn give_word(&mut self, word: u32)
-        ensures tracks { Comes (Taken Place.Confirm word) self.old self.new }
-        ensures lands { LandsAnswered self.old self.new }
-        ensures meets { Meets false None self.old self.new }
+        ensures tracks { EngineStepKeeps (EngineTookWordAt HostStep.Confirm word) self.old self.new }
+        ensures lands { EngineLandsAnswered self.old self.new }
+        ensures meets { EngineMeets false None self.old self.new }
         ensures goes { self.new.state ≡ State.Resting (Outcome.Answered (Answer.Value word)) }
-        ensures ahead { self.new.ahead ≡ ahead_sent self.old.task }
+        ensures ahead { self.new.ahead ≡ engine_ahead_sent self.old.task }
     {
         let ahead = if self.task.is_block() {
             Ahead::Sent
@@ -280,14 +290,15 @@ impl Engine {
 
     // Checks the identification that DPIDR returned.
     fn identify(&mut self, word: u32)
-        ensures tracks { Comes (Taken Place.Identify word) self.old self.new }
-        ensures early { ComesEarly (EarlyTold (Job.At Place.Identify) word) self.old self.new }
-        ensures lands { LandsFrom (Job.At Place.Identify) Phase.Data self.old self.new }
-        ensures meets { Meets false (wrong_id Place.Identify word) self.old self.new }
-        ensures rests { is_rested self.new.state ≡ false }
+        ensures tracks { EngineStepKeeps (EngineTookWordAt HostStep.Identify word) self.old self.new }
+        ensures early { StepKeepsResumedOpening (ResumedOpeningReadWord (Job.At HostStep.Identify) word) self.old
+            self.new }
+        ensures lands { EngineLandsFromJob (Job.At HostStep.Identify) Phase.Data self.old self.new }
+        ensures meets { EngineMeets false (opening_wrong_id HostStep.Identify word) self.old self.new }
+        ensures rests { engine_is_rested self.new.state ≡ false }
     {
         self.state = if word % 2 == 1 {
-            State::Doing(Job::At(Place::WriteAbort), Phase::Ask)
+            State::Doing(Job::At(HostStep::WriteAbort), Phase::Ask)
         } else {
             State::Resting(Outcome::Stopped(End::WrongId(word)))
         };
@@ -295,45 +306,47 @@ impl Engine {
 
     // Checks CTRL/STAT after the opening cleared the flags.
     fn check_ctrl_stat(&mut self, flags: Flags)
-        ensures tracks { ComesWith flags (Before (Job.At Place.CheckCtrlStat)) self.old self.new }
-        ensures early { GlimpsedEarly flags (EarlyBefore (Job.At Place.CheckCtrlStat)) self.old self.new }
-        ensures lands { LandsFrom (Job.At Place.CheckCtrlStat) Phase.Data self.old self.new }
-        ensures meets { Meets (is_flagged flags && not (is_left_over self.old.stray flags)) None self.old self.new }
-        ensures rests { is_rested self.new.state ≡ false }
+        ensures tracks { EngineStepKeepsFlags flags (EngineBefore (Job.At HostStep.CheckCtrlStat)) self.old self.new }
+        ensures early { GlimpseKeepsResumedOpening flags (ResumedBefore (Job.At HostStep.CheckCtrlStat)) self.old
+            self.new }
+        ensures lands { EngineLandsFromJob (Job.At HostStep.CheckCtrlStat) Phase.Data self.old self.new }
+        ensures meets { EngineMeets (opening_finds_flags flags && not (engine_flag_is_stray self.old.stray flags)) None
+            self.old self.new }
+        ensures rests { engine_is_rested self.new.state ≡ false }
     {
         if self.stray && flags.error && !flags.damaged {
-            self.forgive(Job::At(Place::WriteAbort));
+            self.forgive(Job::At(HostStep::WriteAbort));
         } else if flags.error || flags.damaged {
-            self.event(Job::At(Place::WriteAbort));
+            self.event(Job::At(HostStep::WriteAbort));
         } else {
-            self.state = State::Doing(Job::At(Place::Select), Phase::Ask);
+            self.state = State::Doing(Job::At(HostStep::Select), Phase::Ask);
         }
     }
 
     // Checks CTRL/STAT after power was requested.
     fn check_power(&mut self, flags: Flags, powered: bool)
-        ensures tracks { ComesWith flags (HasAsked powered) self.old self.new }
-        ensures lands { LandsFrom (Job.At Place.Powered) Phase.Data self.old self.new }
-        ensures meets { Meets (is_unpowered flags powered) None self.old self.new }
-        ensures rests { is_rested self.new.state ≡ false }
+        ensures tracks { EngineStepKeepsFlags flags (OpeningAskedPower powered) self.old self.new }
+        ensures lands { EngineLandsFromJob (Job.At HostStep.Powered) Phase.Data self.old self.new }
+        ensures meets { EngineMeets (opening_is_unpowered flags powered) None self.old self.new }
+        ensures rests { engine_is_rested self.new.state ≡ false }
     {
         if flags.error {
             self.state = State::Resting(Outcome::Stopped(End::Confused));
         } else if flags.damaged {
-            self.event(Job::Clear(Place::Powered, flags));
+            self.event(Job::Clear(HostStep::Powered, flags));
         } else if powered {
-            self.state = State::Doing(Job::At(Place::Configure), Phase::Ask);
+            self.state = State::Doing(Job::At(HostStep::Configure), Phase::Ask);
         } else {
-            self.event(Job::At(Place::Powered));
+            self.event(Job::At(HostStep::Powered));
         }
     }
 
     // Checks CSW as it was read back. TAR is unknown, and no access was sent.
     fn check_csw(&mut self, right: bool)
-        ensures tracks { (word : ℕ) → right ≡ is_configured word
-            → Comes (Taken Place.Configured word) self.old self.new }
-        ensures lands { LandsFrom (Job.At Place.Configured) Phase.Data self.old self.new }
-        ensures meets { Meets false None self.old self.new }
+        ensures tracks { (word : ℕ) → right ≡ host_csw_is_configured word
+            → EngineStepKeeps (EngineTookWordAt HostStep.Configured word) self.old self.new }
+        ensures lands { EngineLandsFromJob (Job.At HostStep.Configured) Phase.Data self.old self.new }
+        ensures meets { EngineMeets false None self.old self.new }
         ensures ahead { self.new.ahead ≡ Ahead.Unsent }
     {
         self.tar = None;
@@ -346,21 +359,22 @@ impl Engine {
     }
 
     // Checks the flags after the request at a place was answered FAULT.
-    fn status(&mut self, place: Place, flags: Flags)
-        ensures tracks { ComesWith flags (Refused place) self.old self.new }
-        ensures early { ShownEarly flags (EarlyBefore (Job.Status place)) self.old self.new }
-        ensures lands { LandsFrom (Job.Status place) Phase.Data self.old self.new }
-        ensures meets { Meets (is_damaged_write place self.old.task self.old.aims flags) None self.old self.new }
-        ensures goes { GoesTo (status_to place flags self.old.task) self.new.state }
-        ensures rests { is_rested self.new.state ≡ false }
+    fn status(&mut self, place: HostStep, flags: Flags)
+        ensures tracks { EngineStepKeepsFlags flags (EngineMetFlag place) self.old self.new }
+        ensures early { FlagsKeepResumedOpening flags (ResumedBefore (Job.Status place)) self.old self.new }
+        ensures lands { EngineLandsFromJob (Job.Status place) Phase.Data self.old self.new }
+        ensures meets { EngineMeets (engine_write_is_damaged place self.old.task self.old.aims flags) None self.old
+            self.new }
+        ensures goes { EngineGoesTo (engine_after_status place flags self.old.task) self.new.state }
+        ensures rests { engine_is_rested self.new.state ≡ false }
     {
         let write = place.confirms(self.task, self.aims);
         match (flags.error, flags.damaged) {
             (false, true) if write.is_some() => self.event(Job::Clear(place, flags)),
-            (true, false) if matches!(place, Place::Confirm | Place::Behind) => {
+            (true, false) if matches!(place, HostStep::Confirm | HostStep::Behind) => {
                 self.state = State::Doing(Job::Clear(place, flags), Phase::Ask);
             }
-            (true, false) if self.stray && matches!(place, Place::Select) => {
+            (true, false) if self.stray && matches!(place, HostStep::Select) => {
                 self.forgive(Job::Clear(place, flags));
             }
             _ => self.state = State::Resting(Outcome::Stopped(End::Confused)),

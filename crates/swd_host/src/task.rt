@@ -1,8 +1,8 @@
 //! The current access, and how it is confirmed.
 ghost use Rattle.std.specs.Prelude.{◌≡◌};
-ghost use Rattle.swd_port.specs.PlainMemory.{address};
-ghost use Rattle.swd_host.specs.Addresses.{next_address, continues};
-ghost use Rattle.swd_host.specs.Requests.{drw_register};
+ghost use Rattle.swd_port.specs.PlainMemory.{plain_address};
+ghost use Rattle.swd_host.specs.Addresses.{burst_next_address, continues_burst};
+ghost use Rattle.swd_host.specs.Requests.{task_drw_register};
 
 use swd_port::{Access, Register};
 
@@ -31,7 +31,7 @@ pub(crate) enum Task {
 }
 
 impl Task {
-    ghost use Rattle.swd_host.specs.Tasks.{task_for, access_of, is_read, is_burst, is_block};
+    ghost use Rattle.swd_host.specs.Tasks.{task_for, access_of_task, task_is_read, is_burst, task_is_block};
 
     // Returns the task of an access, from the access that follows it.
     pub(crate) fn new(bursts: Bursts, access: Access, following: Option<Access>) -> Task
@@ -48,7 +48,7 @@ impl Task {
     }
 
     pub(crate) fn address(self) -> u32
-        ensures { result ≡ address (access_of self) }
+        ensures { result ≡ plain_address (access_of_task self) }
     {
         match self {
             Task::Read(addr)
@@ -59,14 +59,14 @@ impl Task {
     }
 
     pub(crate) fn is_read(self) -> bool
-        ensures { result ≡ is_read self }
+        ensures { result ≡ task_is_read self }
     {
         matches!(&self, Task::Read(_) | Task::BurstRead(_))
     }
 
     // Returns DRW, in the direction of the access.
     pub(crate) fn drw(self) -> Register
-        ensures { result ≡ drw_register self }
+        ensures { result ≡ task_drw_register self }
     {
         if self.is_read() {
             Register::DrwRead
@@ -84,7 +84,7 @@ impl Task {
 
     // Returns whether it is a read whose word the DRW read of the next access returns.
     pub(crate) fn is_block(self) -> bool
-        ensures { result ≡ is_block self }
+        ensures { result ≡ task_is_block self }
     {
         matches!(&self, Task::BurstRead(_))
     }
@@ -92,7 +92,7 @@ impl Task {
 
 // Returns the address of an access.
 pub(crate) fn address_of(access: Access) -> u32
-    ensures { result ≡ address access }
+    ensures { result ≡ plain_address access }
 {
     match access {
         Access::Read(addr) | Access::Write(addr, _) => addr,
@@ -102,7 +102,7 @@ pub(crate) fn address_of(access: Access) -> u32
 // Returns whether the following access continues this one: the same direction, at the next address in the same
 // kilobyte.
 pub(crate) fn continues(access: Access, following: Option<Access>) -> bool
-    ensures { result ≡ continues access following }
+    ensures { result ≡ continues_burst access following }
 {
     match (access, following) {
         (Access::Read(addr), Some(Access::Read(next)))
@@ -115,7 +115,7 @@ pub(crate) fn continues(access: Access, following: Option<Access>) -> bool
 
 // Returns the address after this one, or `None` where it starts another kilobyte: there TAR may wrap, or carry.
 pub(crate) fn next_in_kilobyte(addr: u32) -> Option<u32>
-    ensures { result ≡ next_address addr }
+    ensures { result ≡ burst_next_address addr }
 {
     if addr % 1024 >= 1020 {
         None

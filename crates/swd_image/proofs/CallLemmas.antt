@@ -1,6 +1,6 @@
 -- Calls one after the other: what they are together, and what they leave.
-use Rattle.std.proofs.Common.{◌≡◌, ◌+◌, ◌<◌, ◌≤◌, ℕ, true, false, refl, sym, ap, subst, arith, ◌∙◌, List, []}
-use Rattle.std.proofs.Common.{add-one, get_or, ◌∷◌, ◌++◌, length, drop, append_assoc, Some, None, inl}
+use Rattle.std.proofs.Common.{◌≡◌, ◌+◌, ◌<◌, ◌≤◌, ℕ, true, false, refl, sym, ap, subst, arith, ◌∙◌, List, [], add-one}
+use Rattle.std.proofs.Common.{get_or, ◌∷◌, ◌++◌, length, drop, append_assoc, Some, None, inl}
 use Rattle.std.specs.Prelude.{if◌then◌else◌, Option, Bool}
 use Rattle.std.proofs.Math.Seq.{drop-cons}
 use Rattle.std.proofs.lemmas.List.{append-nil, drop_all, length-append, length-drop}
@@ -9,19 +9,18 @@ use Rattle.std.specs.FinMap.{FinMap}
 use Rattle.swd_port.specs.declared.access.Access.{Access}
 use Rattle.swd_port.specs.declared.access.Answer.{Answer}
 use Rattle.swd_port.specs.declared.mark.Mark.{Mark}
-use Rattle.swd_port.specs.PlainMemory.{address}
+use Rattle.swd_port.specs.PlainMemory.{plain_address}
 use Rattle.swd_port.specs.Port.{Port}
 use Rattle.swd_host.specs.declared.outcome.End.TheVariants.{All}
-use Rattle.swd_host.specs.Again.{added_in}
-use Rattle.swd_host.specs.Reports.{Told, IsAtRest}
-use Rattle.swd_script.specs.Scripts.{Listed}
-use Rattle.swd_run.specs.GoingOn.{Went, ran, resumed}
-use Rattle.swd_run.specs.Sessions.{Done, most_begun}
+use Rattle.swd_host.specs.Again.{resume_added}
+use Rattle.swd_host.specs.Reports.{HostReport, IsAtRest}
+use Rattle.swd_script.specs.Scripts.{ScriptListed}
+use Rattle.swd_run.specs.GoingOn.{ScriptCalls, ran, resumed}
+use Rattle.swd_run.specs.Sessions.{ScriptRun, batch_limit}
 use Rattle.swd_run.specs.declared.going_on.Stop.{Stop}
 use Rattle.swd_run.proofs.WentLemmas.{law_before, rests, tell_of}
-use Rattle.swd_image.specs.Sessions.{AreDone, Call, Calls, Fails, FailsAs, MadeAll, ReadsAs, first_failed, is_done}
-use Rattle.swd_image.specs.Sessions.{none, more}
-use Rattle.swd_image.specs.Sessions.{words_told}
+use Rattle.swd_image.specs.Sessions.{AreImageDone, Call, Calls, Fails, FailsAs, MadeAll, ReadsAs, image_first_failed}
+use Rattle.swd_image.specs.Sessions.{is_image_done, none, more, image_words_read}
 use Rattle.swd_image.specs.declared.fault.ImageFault.{ImageFault}
 use Rattle.swd_image.specs.declared.fault.ImageFault.TheVariants.{Range, Memory, Stopped, Report, BusFault as FaultAt}
 use Rattle.swd_image.proofs.ChainLemmas.{AllIn, AllTell, Held, Kept, chain_keeps, all_later}
@@ -29,62 +28,63 @@ use Rattle.swd_image.proofs.ChainLemmas.{AllIn, AllTell, Held, Kept, chain_keeps
 -- ---- answers
 
 -- where none failed, and there is an answer for each, all are done
-pub all_done : (list : List Access) (answers : List Answer) → length answers ≡ length list
-    → first_failed list answers ≡ None → AreDone list answers
-all_done [] [] l f = tt
-all_done [] (x ∷ answers) l f = absurd (omega arith)
-all_done (a ∷ list) [] l f = absurd (omega arith)
-all_done (a ∷ list) (x ∷ answers) l f =
-    let test : Bool → Option ℕ = λ b. if b then first_failed list answers else Some (address a) in
-    elim (is_done a x) as (λ b. is_done a x ≡ b → (is_done a x ≡ true) × AreDone list answers) [
-      | true ↦ λ e. (e, all_done list answers (omega arith) (sym (ap test e) ∙ f))
-      | false ↦ λ e. absurd (let g : Some (address a) ≡ None = sym (ap test e) ∙ f in cc)
+pub image_accesses_all_done : (list : List Access) (answers : List Answer) → length answers ≡ length list
+    → image_first_failed list answers ≡ None → AreImageDone list answers
+image_accesses_all_done [] [] l f = tt
+image_accesses_all_done [] (x ∷ answers) l f = absurd (omega arith)
+image_accesses_all_done (a ∷ list) [] l f = absurd (omega arith)
+image_accesses_all_done (a ∷ list) (x ∷ answers) l f =
+    let test : Bool → Option ℕ = λ b. if b then image_first_failed list answers else Some (plain_address a) in
+    elim (is_image_done a x) as (λ b. is_image_done a x ≡ b → (is_image_done a x ≡ true) × AreImageDone list answers) [
+      | true ↦ λ e. (e, image_accesses_all_done list answers (omega arith) (sym (ap test e) ∙ f))
+      | false ↦ λ e. absurd (let g : Some (plain_address a) ≡ None = sym (ap test e) ∙ f in cc)
     ] refl
 
 -- the first access that failed is the first one of those from here on, or among those after it
 failed_left : (list : List Access) (answers : List Answer) (i : ℕ) (d : Access) (e : Answer) → i < length list
     → i < length answers
-    → first_failed (drop i list) (drop i answers) ≡ (if is_done (get_or list i d) (get_or answers i e)
-    then first_failed (drop (i + 1) list) (drop (i + 1) answers) else Some (address (get_or list i d)))
+    → image_first_failed (drop i list) (drop i answers) ≡ (if is_image_done (get_or list i d) (get_or answers i e)
+    then image_first_failed (drop (i + 1) list) (drop (i + 1) answers) else Some (plain_address (get_or list i d)))
 failed_left list answers i d e low few =
-    ap (λ l. first_failed l (drop i answers))
+    ap (λ l. image_first_failed l (drop i answers))
     (drop-cons list i d low ∙ ap (λ n. get_or list i d ∷ drop n list) (sym (add-one i)))
-    ∙ ap (λ l. first_failed (get_or list i d ∷ drop (i + 1) list) l)
+    ∙ ap (λ l. image_first_failed (get_or list i d ∷ drop (i + 1) list) l)
     (drop-cons answers i e few ∙ ap (λ n. get_or answers i e ∷ drop n answers) (sym (add-one i)))
 
 -- of the accesses from an index on, that at the index is the first that failed, if it wasn't done
-pub failed_here : (list : List Access) (answers : List Answer) (i : ℕ) (d : Access) (e : Answer) → i < length list
-    → i < length answers → is_done (get_or list i d) (get_or answers i e) ≡ false
-    → first_failed (drop i list) (drop i answers) ≡ Some (address (get_or list i d))
-failed_here list answers i d e low few is =
+pub image_first_failed_here : (list : List Access) (answers : List Answer) (i : ℕ) (d : Access) (e : Answer)
+    → i < length list → i < length answers → is_image_done (get_or list i d) (get_or answers i e) ≡ false
+    → image_first_failed (drop i list) (drop i answers) ≡ Some (plain_address (get_or list i d))
+image_first_failed_here list answers i d e low few is =
     failed_left list answers i d e low few
-    ∙ ap (λ b. if b then first_failed (drop (i + 1) list) (drop (i + 1) answers)
-    else Some (address (get_or list i d))) is
+    ∙ ap (λ b. if b then image_first_failed (drop (i + 1) list) (drop (i + 1) answers)
+    else Some (plain_address (get_or list i d))) is
 
 -- if it was done, the first that failed is the first of those after it
-pub failed_later : (list : List Access) (answers : List Answer) (i : ℕ) (d : Access) (e : Answer) → i < length list
-    → i < length answers → is_done (get_or list i d) (get_or answers i e) ≡ true
-    → first_failed (drop i list) (drop i answers) ≡ first_failed (drop (i + 1) list) (drop (i + 1) answers)
-failed_later list answers i d e low few is =
+pub image_first_failed_later : (list : List Access) (answers : List Answer) (i : ℕ) (d : Access) (e : Answer)
+    → i < length list → i < length answers → is_image_done (get_or list i d) (get_or answers i e) ≡ true
+    → image_first_failed (drop i list) (drop i answers) ≡ image_first_failed (drop (i + 1) list) (drop (i + 1) answers)
+image_first_failed_later list answers i d e low few is =
     failed_left list answers i d e low few
-    ∙ ap (λ b. if b then first_failed (drop (i + 1) list) (drop (i + 1) answers)
-    else Some (address (get_or list i d))) is
+    ∙ ap (λ b. if b then image_first_failed (drop (i + 1) list) (drop (i + 1) answers)
+    else Some (plain_address (get_or list i d))) is
 
 -- of no accesses, none failed
-pub none_left : (list : List Access) (answers : List Answer) (i : ℕ) → length list ≤ i
-    → first_failed (drop i list) (drop i answers) ≡ None
-none_left list answers i high = ap (λ l. first_failed l (drop i answers)) (drop_all i list high)
+pub image_none_failed_left : (list : List Access) (answers : List Answer) (i : ℕ) → length list ≤ i
+    → image_first_failed (drop i list) (drop i answers) ≡ None
+image_none_failed_left list answers i high = ap (λ l. image_first_failed l (drop i answers)) (drop_all i list high)
 
-done_append : (xs ys : List Access) (vs ws : List Answer) → AreDone xs vs → AreDone ys ws
-    → AreDone (xs ++ ys) (vs ++ ws)
+done_append : (xs ys : List Access) (vs ws : List Answer) → AreImageDone xs vs → AreImageDone ys ws
+    → AreImageDone (xs ++ ys) (vs ++ ws)
 done_append [] ys [] ws h g = g
 done_append [] ys (v ∷ vs) ws h g = absurd h
 done_append (x ∷ xs) ys [] ws h g = absurd h
 done_append (x ∷ xs) ys (v ∷ vs) ws h g = (h.0, done_append xs ys vs ws h.1 g)
 
-pub words_append : (xs ys : List Answer) → words_told (xs ++ ys) ≡ words_told xs ++ words_told ys
-words_append [] ys = refl
-words_append (x ∷ xs) ys = grind (arith, words_append xs ys)
+pub image_words_append : (xs ys : List Answer)
+    → image_words_read (xs ++ ys) ≡ image_words_read xs ++ image_words_read ys
+image_words_append [] ys = refl
+image_words_append (x ∷ xs) ys = grind (arith, image_words_append xs ys)
 
 -- ---- lists that are as they have to be
 
@@ -97,7 +97,7 @@ module _ (want : ℕ → ℕ) (P : ℕ → Type 0) (words : FinMap nat_cmp ℕ) 
   all_back [] ys h = h
   all_back (x ∷ xs) ys h = all_back xs ys h.1
 
-  tells_both : (now : FinMap nat_cmp ℕ) (xs ys : List Access) (vs ws : List Answer) → AreDone xs vs
+  tells_both : (now : FinMap nat_cmp ℕ) (xs ys : List Access) (vs ws : List Answer) → AreImageDone xs vs
       → AllTell want P words now xs vs → AllTell want P words now ys ws
       → AllTell want P words now (xs ++ ys) (vs ++ ws)
   tells_both now [] ys [] ws d h g = g
@@ -110,12 +110,13 @@ module _ (want : ℕ → ℕ) (P : ℕ → Type 0) (words : FinMap nat_cmp ℕ) 
 module _ {W : Type 0} (port : W → Port) (plan : W → List Mark) (lawful : W → Type 0) (limit : ℕ) (list : List Access)
     (tries : ℕ) (s : W) where
   -- a run that ended all answered each access
-  pub answered_all : (stops : List Stop) (told : Told) (t : W) → Went port plan lawful limit list tries s stops told t
+  pub answered_all : (stops : List Stop) (told : HostReport) (t : W)
+      → ScriptCalls port plan lawful limit list tries s stops told t
       → told.ended ≡ All → length told.answers ≡ length list
   answered_all stops told t (ran same closes over) all = closes.whole all
   answered_all stops told t (resumed {earlier = e} {told = a} went lost same goes over) all =
       let h = goes.closes.whole all in
-      let kept = ap length goes.kept ∙ length-append e.answers (added_in e a) in
+      let kept = ap length goes.kept ∙ length-append e.answers (resume_added e a) in
       let rest = length-drop (length e.answers) list in
       let number = goes.number in
       omega (arith, h, kept, rest, number)
@@ -123,8 +124,8 @@ module _ {W : Type 0} (port : W → Port) (plan : W → List Mark) (lawful : W �
 -- ---- calls one after the other
 
 module _ {W : Type 0} (port : W → Port) (plan : W → List Mark) (lawful : W → Type 0) (tries resumes : ℕ) where
-  pub one_call : (s t : W) (batch : Listed) (run : Done) → Call port plan lawful tries resumes batch s run t
-      → run.told.ended ≡ All → AreDone batch.accesses run.told.answers
+  pub one_call : (s t : W) (batch : ScriptListed) (run : ScriptRun) → Call port plan lawful tries resumes batch s run t
+      → run.told.ended ≡ All → AreImageDone batch.accesses run.told.answers
       → Calls port plan lawful tries resumes s batch.accesses run.told.answers t
   one_call s t batch run call all done = more none call all done
 
@@ -142,7 +143,7 @@ module _ {W : Type 0} (port : W → Port) (plan : W → List Mark) (lawful : W �
       (append_assoc vs answers run.told.answers)
       (more (calls_append s t r xs list vs answers h before) call all done))
 
-  after : (s t u : W) (xs ys : List Access) (vs : List Answer) (P : Listed → Done → Type 0)
+  after : (s t u : W) (xs ys : List Access) (vs : List Answer) (P : ScriptListed → ScriptRun → Type 0)
       → Calls port plan lawful tries resumes s xs vs t → Fails port plan lawful tries resumes ys t u P
       → Fails port plan lawful tries resumes (xs ++ ys) s u P
   after s t u xs ys vs P h f = record {
@@ -158,7 +159,7 @@ module _ {W : Type 0} (port : W → Port) (plan : W → List Mark) (lawful : W �
     ended = f.ended;
   }
 
-  sooner : (s u : W) (xs ys : List Access) (P : Listed → Done → Type 0)
+  sooner : (s u : W) (xs ys : List Access) (P : ScriptListed → ScriptRun → Type 0)
       → Fails port plan lawful tries resumes xs s u P → Fails port plan lawful tries resumes (xs ++ ys) s u P
   sooner s u xs ys P f = record {
     before = f.before;
@@ -175,7 +176,7 @@ module _ {W : Type 0} (port : W → Port) (plan : W → List Mark) (lawful : W �
   }
 
   -- a call that failed
-  pub call_fails : (s u : W) (batch : Listed) (run : Done) (P : Listed → Done → Type 0)
+  pub call_fails : (s u : W) (batch : ScriptListed) (run : ScriptRun) (P : ScriptListed → ScriptRun → Type 0)
       → Call port plan lawful tries resumes batch s run u → P batch run
       → Fails port plan lawful tries resumes batch.accesses s u P
   call_fails s u batch run P call ended = record {
@@ -212,22 +213,24 @@ module _ {W : Type 0} (port : W → Port) (plan : W → List Mark) (lawful : W �
   fails_before s u xs ys Report f = sooner s u xs ys _ f
 
   -- a call more, of a list and its words
-  pub reads_more : (s t u : W) (list : List Access) (words now : List ℕ) (batch : Listed) (run : Done)
+  pub reads_more : (s t u : W) (list : List Access) (words now : List ℕ) (batch : ScriptListed) (run : ScriptRun)
       (next : List Access)
       → ReadsAs port plan lawful tries resumes list words s t → Call port plan lawful tries resumes batch t run u
-      → run.told.ended ≡ All → AreDone batch.accesses run.told.answers → now ≡ words ++ words_told run.told.answers
+      → run.told.ended ≡ All → AreImageDone batch.accesses run.told.answers
+      → now ≡ words ++ image_words_read run.told.answers
       → next ≡ list ++ batch.accesses → ReadsAs port plan lawful tries resumes next now s u
   reads_more s t u list words now batch run next h call all done pushed longer = record {
     answers = h.answers ++ run.told.answers;
     calls = subst (λ l. Calls port plan lawful tries resumes s l (h.answers ++ run.told.answers) u) (sym longer)
         (more h.calls call all done);
-    told = pushed ∙ ap (λ l. l ++ words_told run.told.answers) h.told ∙ sym (words_append h.answers run.told.answers);
+    told = pushed ∙ ap (λ l. l ++ image_words_read run.told.answers) h.told ∙ sym
+        (image_words_append h.answers run.told.answers);
   }
 
   -- one call more in which each access was done, after consecutive calls in which each was
-  pub made_more : (s t u : W) (list : List Access) (batch : Listed) (run : Done) (next : List Access)
+  pub made_more : (s t u : W) (list : List Access) (batch : ScriptListed) (run : ScriptRun) (next : List Access)
       → MadeAll port plan lawful tries resumes list s t → Call port plan lawful tries resumes batch t run u
-      → run.told.ended ≡ All → AreDone batch.accesses run.told.answers → next ≡ list ++ batch.accesses
+      → run.told.ended ≡ All → AreImageDone batch.accesses run.told.answers → next ≡ list ++ batch.accesses
       → MadeAll port plan lawful tries resumes next s u
   made_more s t u list batch run next h call all done longer = record {
     answers = h.answers ++ run.told.answers;
@@ -242,13 +245,13 @@ module _ {W : Type 0} (port : W → Port) (plan : W → List Mark) (lawful : W �
   reads_append s t u xs ys vs ws h g = record {
     answers = h.answers ++ g.answers;
     calls = calls_append s t u xs ys h.answers g.answers h.calls g.calls;
-    told = ap (λ l. l ++ ws) h.told ∙ ap (λ l. words_told h.answers ++ l) g.told
-        ∙ sym (words_append h.answers g.answers);
+    told = ap (λ l. l ++ ws) h.told ∙ ap (λ l. image_words_read h.answers ++ l) g.told
+        ∙ sym (image_words_append h.answers g.answers);
   }
 
   -- each access was done
   pub calls_done : (s t : W) (list : List Access) (answers : List Answer)
-      → Calls port plan lawful tries resumes s list answers t → AreDone list answers
+      → Calls port plan lawful tries resumes s list answers t → AreImageDone list answers
   calls_done s t list answers none = tt
   calls_done s t list answers
       (more {list = xs} {answers = vs} {t = r} {batch = batch} {run = run} before call all done) =
@@ -261,7 +264,7 @@ module _ {W : Type 0} (port : W → Port) (plan : W → List Mark) (lawful : W �
   calls_law s t list answers
       (more {list = xs} {answers = vs} {t = r} {u = v} {batch = batch} {run = run} before call all done) law =
       calls_law s r xs vs before
-      (law_before port plan lawful (most_begun batch) batch.accesses tries r run.stops run.told v call.goes.went law)
+      (law_before port plan lawful (batch_limit batch) batch.accesses tries r run.stops run.told v call.goes.went law)
 
   -- a call that failed in a list, after those before it
   pub fails_in : (s t u : W) (xs ys zs list : List Access) (vs : List Answer) (fault : ImageFault)
@@ -290,7 +293,7 @@ module _ {W : Type 0} (port : W → Port) (plan : W → List Mark) (lawful : W �
     leaves t list answers
         (more {list = xs} {answers = vs} {t = r} {u = v} {batch = batch} {run = run} before call all done) i law =
         let words = (port s).target.memory.words in
-        let n : ℕ = most_begun batch in
+        let n : ℕ = batch_limit batch in
         let went = call.goes.went in
         let back : lawful r = law_before port plan lawful n batch.accesses tries r run.stops run.told v went law in
         let h = leaves r xs vs before (all_front want P words xs batch.accesses i) back in

@@ -10,24 +10,26 @@ use Rattle.swd_port.specs.declared.access.Access.{Access}
 use Rattle.swd_port.specs.declared.access.Access.TheVariants.{Read, Write}
 use Rattle.swd_port.specs.declared.access.Answer.{Answer}
 use Rattle.swd_port.specs.declared.access.Answer.TheVariants.{Value, Written, BusFault}
-use Rattle.swd_port.specs.PlainMemory.{PlainMemory, address, answer_of, done, plain_after, plain_answer, succeeds_at}
-use Rattle.swd_port.proofs.MapLemmas.{get_other, get_same}
-use Rattle.swd_host.specs.Again.{added_in}
-use Rattle.swd_host.specs.Chains.{Chain, first, again}
+use Rattle.swd_port.specs.PlainMemory.{PlainMemory, plain_address, plain_done_answer, plain_done, plain_after}
+use Rattle.swd_port.specs.PlainMemory.{plain_answer, succeeds_at}
+use Rattle.swd_port.proofs.MapLemmas.{port_map_get_other, port_map_get_same}
+use Rattle.swd_host.specs.Again.{resume_added}
+use Rattle.swd_host.specs.Chains.{ResumeChain, first, again}
 use Rattle.swd_host.specs.Plain.{memory_after, answers_of}
-use Rattle.swd_host.specs.Reports.{Told}
-use Rattle.swd_image.specs.Bytes.{word_in}
+use Rattle.swd_host.specs.Reports.{HostReport}
+use Rattle.swd_image.specs.Bytes.{image_word_in}
 
-after_true : (a : Access) (p : PlainMemory) → succeeds_at (address a) p ≡ true → plain_after a p ≡ done a p
+after_true : (a : Access) (p : PlainMemory) → succeeds_at (plain_address a) p ≡ true → plain_after a p ≡ plain_done a p
 after_true a p e = rw e refl
 
-after_false : (a : Access) (p : PlainMemory) → succeeds_at (address a) p ≡ false → plain_after a p ≡ p
+after_false : (a : Access) (p : PlainMemory) → succeeds_at (plain_address a) p ≡ false → plain_after a p ≡ p
 after_false a p e = rw e refl
 
-answer_true : (a : Access) (p : PlainMemory) → succeeds_at (address a) p ≡ true → plain_answer a p ≡ answer_of a p
+answer_true : (a : Access) (p : PlainMemory) → succeeds_at (plain_address a) p ≡ true
+    → plain_answer a p ≡ plain_done_answer a p
 answer_true a p e = rw e refl
 
-answer_false : (a : Access) (p : PlainMemory) → succeeds_at (address a) p ≡ false → plain_answer a p ≡ BusFault
+answer_false : (a : Access) (p : PlainMemory) → succeeds_at (plain_address a) p ≡ false → plain_answer a p ≡ BusFault
 answer_false a p e = rw e refl
 
 -- Each write is of the word for its address, and only some addresses are written; these are the words before.
@@ -50,7 +52,7 @@ module _ (want : ℕ → ℕ) (P : ℕ → Type 0) (words : FinMap nat_cmp ℕ) 
 
   -- what an answer means for an access
   abbrev pub Tells : FinMap nat_cmp ℕ → Access → Answer → Type 0
-  Tells now (Read at) (Value word) = (word ≡ word_in words at) ⊎ P at
+  Tells now (Read at) (Value word) = (word ≡ image_word_in words at) ⊎ P at
   Tells now (Read at) Written = Unit {0}
   Tells now (Read at) BusFault = Unit {0}
   Tells now (Write at word) Written = get now at ≡ Some (want at)
@@ -88,7 +90,7 @@ module _ (want : ℕ → ℕ) (P : ℕ → Type 0) (words : FinMap nat_cmp ℕ) 
     later : Later p.words (plain_after a p).words
     tells : Tells (plain_after a p).words a (plain_answer a p)
 
-  refused : (a : Access) (p : PlainMemory) → Held p.words → succeeds_at (address a) p ≡ false → Stepped a p
+  refused : (a : Access) (p : PlainMemory) → Held p.words → succeeds_at (plain_address a) p ≡ false → Stepped a p
   refused a p h e =
       let same : (plain_after a p).words ≡ p.words = ap (λ x. x.words) (after_false a p e) in
       record {
@@ -101,11 +103,11 @@ module _ (want : ℕ → ℕ) (P : ℕ → Type 0) (words : FinMap nat_cmp ℕ) 
       none (Read at) = tt
       none (Write at word) = tt
 
-  read_told : (at : ℕ) (p : PlainMemory) → Held p.words → (word_in p.words at ≡ word_in words at) ⊎ P at
+  read_told : (at : ℕ) (p : PlainMemory) → Held p.words → (image_word_in p.words at ≡ image_word_in words at) ⊎ P at
   read_told at p h =
       elim (h at) [ inl same ↦ inl (ap (λ o. unwrap_or o 0) same) | inr both ↦ inr both.0 ]
 
-  made : (a : Access) (p : PlainMemory) → IsIn a → Held p.words → succeeds_at (address a) p ≡ true → Stepped a p
+  made : (a : Access) (p : PlainMemory) → IsIn a → Held p.words → succeeds_at (plain_address a) p ≡ true → Stepped a p
   made (Read at) p i h e =
       let same : (plain_after (Read at) p).words ≡ p.words = ap (λ x. x.words) (after_true (Read at) p e) in
       record {
@@ -115,7 +117,7 @@ module _ (want : ℕ → ℕ) (P : ℕ → Type 0) (words : FinMap nat_cmp ℕ) 
             (read_told at p h);
       }
   made (Write at word) p i h e =
-      let now : FinMap nat_cmp ℕ = (done (Write at word) p).words in
+      let now : FinMap nat_cmp ℕ = (plain_done (Write at word) p).words in
       let same : (plain_after (Write at word) p).words ≡ now = ap (λ x. x.words) (after_true (Write at word) p e) in
       record {
         held = subst Held (sym same) (λ q. held_at q (cases_eq q at));
@@ -124,23 +126,24 @@ module _ (want : ℕ → ℕ) (P : ℕ → Type 0) (words : FinMap nat_cmp ℕ) 
             (sym (answer_true (Write at word) p e)) (ap (λ w. get w at) same ∙ written at refl);
       }
     where
-      written : (q : ℕ) → q ≡ at → get (done (Write at word) p).words q ≡ Some (want q)
-      written q e = get_same p.words at word q e ∙ ap (λ w. Some w) (i.0 ∙ ap want (sym e))
+      written : (q : ℕ) → q ≡ at → get (plain_done (Write at word) p).words q ≡ Some (want q)
+      written q e = port_map_get_same p.words at word q e ∙ ap (λ w. Some w) (i.0 ∙ ap want (sym e))
 
-      held_at : (q : ℕ) → (q ≡ at) ⊎ (q ≡ at → ⊥) → (get (done (Write at word) p).words q ≡ get words q)
-          ⊎ (P q × (get (done (Write at word) p).words q ≡ Some (want q)))
+      held_at : (q : ℕ) → (q ≡ at) ⊎ (q ≡ at → ⊥) → (get (plain_done (Write at word) p).words q ≡ get words q)
+          ⊎ (P q × (get (plain_done (Write at word) p).words q ≡ Some (want q)))
       held_at q (inl e) = inr (subst P (sym e) i.1, written q e)
       held_at q (inr none) =
-          let same : get (done (Write at word) p).words q ≡ get p.words q = get_other p.words at word q none in
+          let same : get (plain_done (Write at word) p).words q ≡ get p.words q =
+          port_map_get_other p.words at word q none in
           elim (h q) [ inl old ↦ inl (same ∙ old) | inr both ↦ inr (both.0, same ∙ both.1) ]
 
       later_at : (q : ℕ) → get p.words q ≡ Some (want q) → (q ≡ at) ⊎ (q ≡ at → ⊥)
-          → get (done (Write at word) p).words q ≡ Some (want q)
+          → get (plain_done (Write at word) p).words q ≡ Some (want q)
       later_at q is (inl e) = written q e
-      later_at q is (inr none) = get_other p.words at word q none ∙ is
+      later_at q is (inr none) = port_map_get_other p.words at word q none ∙ is
 
   stepped : (a : Access) (p : PlainMemory) → IsIn a → Held p.words → Stepped a p
-  stepped a p i h = elim (succeeds_at (address a) p) as (λ b. succeeds_at (address a) p ≡ b → Stepped a p)
+  stepped a p i h = elim (succeeds_at (plain_address a) p) as (λ b. succeeds_at (plain_address a) p ≡ b → Stepped a p)
       [ true ↦ λ e. made a p i h e | false ↦ λ e. refused a p h e ] refl
 
   -- SOME ACCESSES OF A LIST
@@ -183,9 +186,9 @@ module _ (want : ℕ → ℕ) (P : ℕ → Type 0) (words : FinMap nat_cmp ℕ) 
 
   -- a call, however often it was resumed, leaves each word as before or as it is to be written there; a read word is
   -- the one before, unless its address is written; a written word is there, and stays
-  pub chain_keeps : (limit : ℕ) (list : List Access) (m : PlainMemory) (calls : List Told) (told : Told)
+  pub chain_keeps : (limit : ℕ) (list : List Access) (m : PlainMemory) (calls : List HostReport) (told : HostReport)
       (now : PlainMemory)
-      → AllIn list → Held m.words → Chain limit list m calls told now → Kept list m.words now.words told.answers
+      → AllIn list → Held m.words → ResumeChain limit list m calls told now → Kept list m.words now.words told.answers
   chain_keeps limit list m calls told now i h (first fits) =
       let k = fits.0 in
       let fit = fits.1 in
@@ -210,7 +213,7 @@ module _ (want : ℕ → ℕ) (P : ℕ → Type 0) (words : FinMap nat_cmp ℕ) 
       let is : now ≡ memory_after (take (k + j) rest) left = fit.memory.2 in
       let r = ran (k + j) rest left inside c.held in
       let later : Later left.words now.words = subst (λ x. Later left.words x.words) (sym is) r.later in
-      let added : AllTell now.words rest (added_in earlier told) =
+      let added : AllTell now.words rest (resume_added earlier told) =
       subst (AllTell now.words rest) (sym fit.answers)
       (subst (λ x. AllTell x.words rest (answers_of (take k rest) left)) (sym is)
       (ran_tells k (k + j) rest left (omega arith) inside c.held)) in
@@ -218,6 +221,6 @@ module _ (want : ℕ → ℕ) (P : ℕ → Type 0) (words : FinMap nat_cmp ℕ) 
         held = subst (λ x. Held x.words) (sym is) r.held;
         later = λ q is. later q (c.later q is);
         tells = subst (AllTell now.words list) (sym kept)
-            (tells_append now.words list earlier.answers (added_in earlier told)
+            (tells_append now.words list earlier.answers (resume_added earlier told)
             (all_later left.words now.words list earlier.answers later c.tells) added);
       }

@@ -8,86 +8,88 @@ use Rattle.swd_port.specs.declared.mark.Mark.{Mark}
 use Rattle.swd_port.specs.PlainMemory.{PlainMemory}
 use Rattle.swd_port.specs.Port.{Port}
 use Rattle.swd_host.specs.Reports.{IsAtRest}
-use Rattle.swd_image.specs.Bytes.{byte_in, bytes_at, bytes_of, word_in, word_of, words_at}
+use Rattle.swd_image.specs.Bytes.{image_byte_in, image_bytes_at, image_bytes_of, image_word_in, image_word_of}
+use Rattle.swd_image.specs.Bytes.{image_words_at}
 use Rattle.swd_image.specs.Dumps.{Dumps}
-use Rattle.swd_image.specs.Lists.{dump_list, word_count}
+use Rattle.swd_image.specs.Lists.{image_dump_list, image_word_count}
 use Rattle.swd_image.specs.Sessions.{ReadsAs}
-use Rattle.swd_image.proofs.ImageLemmas.{counted}
-use Rattle.swd_image.proofs.LoadLemmas.{are_reads, has_read, reads_words}
+use Rattle.swd_image.proofs.ImageLemmas.{image_word_count_cases}
+use Rattle.swd_image.proofs.LoadLemmas.{image_reads_are_reads, has_read, image_reads_from_memory}
 
 -- the last of `count + 1` bytes of consecutive words is the byte at its place in the word that contains it
-pub bytes_next : (words : List ℕ) (place count : ℕ)
-    → bytes_of words place (count + 1)
-    ≡ bytes_of words place count ++ byte_in (get_or words ((place + count) / 4) 0) (place + count) ∷ []
-bytes_next words place count = ap (bytes_of words place) (add-one count) ∙ by place count
+pub dump_bytes_next : (words : List ℕ) (place count : ℕ)
+    → image_bytes_of words place (count + 1)
+    ≡ image_bytes_of words place count ++ image_byte_in (get_or words ((place + count) / 4) 0) (place + count) ∷ []
+dump_bytes_next words place count = ap (image_bytes_of words place) (add-one count) ∙ by place count
   where
-    by : (place count : ℕ) → bytes_of words place (suc count)
-        ≡ bytes_of words place count ++ byte_in (get_or words ((place + count) / 4) 0) (place + count) ∷ []
+    by : (place count : ℕ) → image_bytes_of words place (suc count)
+        ≡ image_bytes_of words place count ++ image_byte_in (get_or words ((place + count) / 4) 0) (place + count) ∷ []
     by place zero = let e : place ≡ place + zero = omega arith in
-        ap (λ p. byte_in (get_or words (p / 4) 0) p ∷ []) e
+        ap (λ p. image_byte_in (get_or words (p / 4) 0) p ∷ []) e
     by place (suc count) = let e : place + 1 + count ≡ place + suc count = omega arith in
-        ap (λ l. byte_in (get_or words (place / 4) 0) place ∷ l) (by (place + 1) count
-        ∙ ap (λ p. bytes_of words (place + 1) count ++ byte_in (get_or words (p / 4) 0) p ∷ []) e)
+        ap (λ l. image_byte_in (get_or words (place / 4) 0) place ∷ l) (by (place + 1) count
+        ∙ ap (λ p. image_bytes_of words (place + 1) count ++ image_byte_in (get_or words (p / 4) 0) p ∷ []) e)
 
 -- `count` bytes of consecutive words are as many
-pub length_bytes : (words : List ℕ) (place count : ℕ) → length (bytes_of words place count) ≡ count
-length_bytes words place zero = refl
-length_bytes words place (suc count) = ap suc (length_bytes words (place + 1) count)
+pub dump_bytes_length : (words : List ℕ) (place count : ℕ) → length (image_bytes_of words place count) ≡ count
+dump_bytes_length words place zero = refl
+dump_bytes_length words place (suc count) = ap suc (dump_bytes_length words (place + 1) count)
 
 -- there is a word for each byte of a range
-pub enough : (addr count : ℕ) → 0 < count → addr % 4 + count ≤ 4 * word_count addr count
-enough addr count some = elim (counted addr count) [
+pub dump_words_enough : (addr count : ℕ) → 0 < count → addr % 4 + count ≤ 4 * image_word_count addr count
+dump_words_enough addr count some = elim (image_word_count_cases addr count) [
   | inl none ↦ (let z = none.0 in absurd (omega (arith, z)))
   | inr many ↦ (let z = many.1 in omega (arith, z))
 ]
 
 word_there : (words : FinMap nat_cmp ℕ) (at count k : ℕ) → k < count
-    → get_or (words_at words at count) k 0 ≡ word_in words (at + 4 * k)
+    → get_or (image_words_at words at count) k 0 ≡ image_word_in words (at + 4 * k)
 word_there words at zero k low = absurd (omega arith)
-word_there words at (suc count) zero low = let e : at ≡ at + 4 * zero = omega arith in ap (word_in words) e
+word_there words at (suc count) zero low = let e : at ≡ at + 4 * zero = omega arith in ap (image_word_in words) e
 word_there words at (suc count) (suc k) low =
     let e : at + 4 + 4 * k ≡ at + 4 * suc k = omega arith in
-    word_there words (at + 4) count k (omega arith) ∙ ap (word_in words) e
+    word_there words (at + 4) count k (omega arith) ∙ ap (image_word_in words) e
 
 -- the bytes of the words are the memory's
 memory_bytes : (m : PlainMemory) (first many place addr count : ℕ) → first % 4 ≡ 0 → addr ≡ first + place
     → (0 < count → place + count ≤ 4 * many)
-    → bytes_of (words_at m.words first many) place count ≡ bytes_at m addr count
+    → image_bytes_of (image_words_at m.words first many) place count ≡ image_bytes_at m addr count
 memory_bytes m first many place addr zero aligned is few = refl
 memory_bytes m first many place addr (suc count) aligned is few =
     let enough : place + suc count ≤ 4 * many = few (omega arith) in
-    let word : get_or (words_at m.words first many) (place / 4) 0 ≡ word_in m.words (word_of addr) =
+    let word : get_or (image_words_at m.words first many) (place / 4) 0 ≡ image_word_in m.words (image_word_of addr) =
     word_there m.words first many (place / 4) (omega (arith, enough))
-    ∙ (let e : first + 4 * (place / 4) ≡ word_of addr = omega (arith, aligned, is) in ap (word_in m.words) e) in
+    ∙ (let e : first + 4 * (place / 4) ≡ image_word_of addr = omega (arith, aligned, is) in ap (image_word_in m.words) e) in
     let same : place % 4 ≡ addr % 4 = omega (arith, aligned, is) in
-    ap (λ w. byte_in w place ∷ bytes_of (words_at m.words first many) (place + 1) count) word
-    ∙ ap (λ i. get_or (to_le_bytes w32 (word_in m.words (word_of addr))) i 0
-    ∷ bytes_of (words_at m.words first many) (place + 1) count) same
-    ∙ ap (λ l. byte_in (word_in m.words (word_of addr)) addr ∷ l)
+    ap (λ w. image_byte_in w place ∷ image_bytes_of (image_words_at m.words first many) (place + 1) count) word
+    ∙ ap (λ i. get_or (to_le_bytes w32 (image_word_in m.words (image_word_of addr))) i 0
+    ∷ image_bytes_of (image_words_at m.words first many) (place + 1) count) same
+    ∙ ap (λ l. image_byte_in (image_word_in m.words (image_word_of addr)) addr ∷ l)
     (memory_bytes m first many (place + 1) (addr + 1) count aligned (omega (arith, is)) (λ some. omega (arith, enough)))
 
 module _ {W : Type 0} (port : W → Port) (plan : W → List Mark) (lawful : W → Type 0) (tries resumes addr count : ℕ)
     (s t : W) where
   -- what was read is a dump
   pub dumped : (bytes words : List ℕ) → addr + count ≤ 2 ^ 32
-      → ReadsAs port plan lawful tries resumes (dump_list addr count) words s t
-      → bytes ≡ bytes_of words (addr % 4) count
+      → ReadsAs port plan lawful tries resumes (image_dump_list addr count) words s t
+      → bytes ≡ image_bytes_of words (addr % 4) count
       → Dumps port plan lawful tries resumes addr count bytes s t
   dumped bytes words fits reads are =
-      let first : ℕ = word_of addr in
-      let many : ℕ = word_count addr count in
+      let first : ℕ = image_word_of addr in
+      let many : ℕ = image_word_count addr count in
       let read = λ (law : lawful t) (rest : IsAtRest (port s)).
-      has_read port plan lawful tries resumes s t (dump_list addr count) words (are_reads first many) reads law rest in
+      has_read port plan lawful tries resumes s t (image_dump_list addr count) words (image_reads_are_reads first many)
+      reads law rest in
       record {
         fits = fits;
         words = words;
         reads = reads;
         are = are;
         memory = λ law rest. are
-            ∙ ap (λ l. bytes_of l (addr % 4) count)
-            ((read law rest).words_are ∙ reads_words (port s).target.memory.words first many)
+            ∙ ap (λ l. image_bytes_of l (addr % 4) count)
+            ((read law rest).words_are ∙ image_reads_from_memory (port s).target.memory.words first many)
             ∙ memory_bytes (port s).target.memory first many (addr % 4) addr count (omega arith) (omega arith)
-            (enough addr count);
+            (dump_words_enough addr count);
         same = λ law rest. (read law rest).same;
         rests = λ law rest. (read law rest).at_rest;
       }

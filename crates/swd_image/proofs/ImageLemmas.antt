@@ -8,9 +8,10 @@ use Rattle.std.proofs.lemmas.Nat.{le_bytes_4}
 use Rattle.std.specs.Int.{w32, to_le_bytes, from_le_bytes}
 use Rattle.std.specs.Ordering.{nat_cmp}
 use Rattle.std.specs.FinMap.{FinMap, get}
-use Rattle.swd_image.specs.Bytes.{byte_in, word_in, word_of}
+use Rattle.swd_image.specs.Bytes.{image_byte_in, image_word_in, image_word_of}
 use Rattle.swd_image.specs.Images.{image_byte}
-use Rattle.swd_image.specs.Lists.{edge_word, last_word, loaded_word, needs_head, needs_tail, word_count}
+use Rattle.swd_image.specs.Lists.{image_edge_word, image_last_word, image_loaded_word, image_needs_head}
+use Rattle.swd_image.specs.Lists.{image_needs_tail, image_word_count}
 
 -- ---- bytes of words
 
@@ -39,10 +40,10 @@ four_small f a small (suc (suc (suc (suc i)))) = omega arith
 
 -- a byte of the word of four bytes
 byte_of_four : (f : ℕ → ℕ) (at : ℕ) → ((i : ℕ) → f i < 256)
-    → (let a = word_of at in
-    byte_in (from_le_bytes w32 (f a ∷ f (a + 1) ∷ f (a + 2) ∷ f (a + 3) ∷ [])) at ≡ f at)
+    → (let a = image_word_of at in
+    image_byte_in (from_le_bytes w32 (f a ∷ f (a + 1) ∷ f (a + 2) ∷ f (a + 3) ∷ [])) at ≡ f at)
 byte_of_four f at small =
-    let a : ℕ = word_of at in
+    let a : ℕ = image_word_of at in
     let four : List ℕ = f a ∷ f (a + 1) ∷ f (a + 2) ∷ f (a + 3) ∷ [] in
     let back : to_le_bytes w32 (from_le_bytes w32 four) ≡ four = le_bytes_4 four _ refl (four_small f a small) refl in
     let here : a + at % 4 ≡ at = omega arith in
@@ -56,7 +57,7 @@ module _ (addr : ℕ) (bytes : List ℕ) where
   byte_inside word at low high = grind (arith, nat_tests)
 
   byte_outside : (word at : ℕ) → (at < addr) ⊎ (addr + length bytes ≤ at)
-      → image_byte addr bytes word at ≡ byte_in word at
+      → image_byte addr bytes word at ≡ image_byte_in word at
   byte_outside word at (inl low) = grind (arith, nat_tests)
   byte_outside word at (inr high) = grind (arith, nat_tests)
 
@@ -70,135 +71,139 @@ module _ (addr : ℕ) (bytes : List ℕ) where
   ]
 
 -- how many words there are
-pub counted : (addr len : ℕ) → ((len ≡ 0) × (word_count addr len ≡ 0))
-    ⊎ ((0 < len) × (word_count addr len ≡ (addr % 4 + len + 3) / 4))
-counted addr zero = inl (refl, refl)
-counted addr (suc len) = inr (omega arith, grind (arith, nat_tests))
+pub image_word_count_cases : (addr len : ℕ) → ((len ≡ 0) × (image_word_count addr len ≡ 0))
+    ⊎ ((0 < len) × (image_word_count addr len ≡ (addr % 4 + len + 3) / 4))
+image_word_count_cases addr zero = inl (refl, refl)
+image_word_count_cases addr (suc len) = inr (omega arith, grind (arith, nat_tests))
 
 -- ---- a load of an image
 
 -- among the words of a range
-pub record InWords (addr len q : ℕ) : Type 0 where
-  pub low : word_of addr ≤ q
-  pub high : q < word_of addr + 4 * word_count addr len
+pub record InImageWords (addr len q : ℕ) : Type 0 where
+  pub low : image_word_of addr ≤ q
+  pub high : q < image_word_of addr + 4 * image_word_count addr len
   pub aligned : q % 4 ≡ 0
 
 -- a byte of the range is of one of them
-among : (addr len at : ℕ) → addr ≤ at → at < addr + len → InWords addr len (word_of at)
+among : (addr len at : ℕ) → addr ≤ at → at < addr + len → InImageWords addr len (image_word_of at)
 among addr len at low high =
-    let high_is : word_of at < word_of addr + 4 * word_count addr len = elim (counted addr len) [
+    let high_is : image_word_of at < image_word_of addr + 4 * image_word_count addr len =
+    elim (image_word_count_cases addr len) [
       | inl none ↦ (let n = none.0 in absurd (omega (arith, n)))
       | inr some ↦ (let z = some.1 in omega (arith, z))
     ] in
     record { low = omega arith; high = high_is; aligned = omega arith }
 
 -- and a word that has none of it isn't
-apart : (addr len at : ℕ) → (at + 4 ≤ addr) ⊎ (addr + len ≤ at) → InWords addr len at → ⊥
+apart : (addr len at : ℕ) → (at + 4 ≤ addr) ⊎ (addr + len ≤ at) → InImageWords addr len at → ⊥
 apart addr len at out i =
     let l = i.low in
     let h = i.high in
     let g = i.aligned in
-    elim (counted addr len) [
+    elim (image_word_count_cases addr len) [
       | inl none ↦ (let z = none.1 in omega (arith, l, h, z))
       | inr some ↦ (let z = some.1 in elim out [ inl low ↦ omega (arith, l) | inr high ↦ omega (arith, h, g, z) ])
     ]
 
 -- which partial word it is
-later_edge : (addr head tail at : ℕ) → addr < at → edge_word addr head tail at ≡ tail
+later_edge : (addr head tail at : ℕ) → addr < at → image_edge_word addr head tail at ≡ tail
 later_edge addr head tail at l = grind (arith, nat_tests)
 
-first_edge : (addr head tail at : ℕ) → at ≤ addr → edge_word addr head tail at ≡ head
+first_edge : (addr head tail at : ℕ) → at ≤ addr → image_edge_word addr head tail at ≡ head
 first_edge addr head tail at l = grind (arith, nat_tests)
 
-head_there : (addr len : ℕ) → 0 < len → (word_of addr < addr) ⊎ (addr + len < word_of addr + 4)
-    → needs_head addr len ≡ true
+head_there : (addr len : ℕ) → 0 < len → (image_word_of addr < addr) ⊎ (addr + len < image_word_of addr + 4)
+    → image_needs_head addr len ≡ true
 head_there addr len some (inl low) = grind (arith, nat_tests)
 head_there addr len some (inr high) = grind (arith, nat_tests)
 
-tail_there : (addr len : ℕ) → word_of addr < last_word addr len → addr + len < last_word addr len + 4
-    → needs_tail addr len ≡ true
+tail_there : (addr len : ℕ) → image_word_of addr < image_last_word addr len → addr + len < image_last_word addr len + 4
+    → image_needs_tail addr len ≡ true
 tail_there addr len low high = grind (arith, nat_tests)
 
 module _ (addr : ℕ) (bytes : List ℕ) (head tail : ℕ) (before after : FinMap nat_cmp ℕ)
     (small : (k : ℕ) → get_or bytes k 0 < 256)
-    (is_head : needs_head addr (length bytes) ≡ true → head ≡ word_in before (word_of addr))
-    (is_tail : needs_tail addr (length bytes) ≡ true → tail ≡ word_in before (last_word addr (length bytes)))
-    (written : (k : ℕ) → k < word_count addr (length bytes) → get after (word_of addr + 4 * k)
-    ≡ Some (loaded_word addr bytes head tail (word_of addr + 4 * k)))
-    (held : (q : ℕ) → (get after q ≡ get before q) ⊎ InWords addr (length bytes) q)
+    (is_head : image_needs_head addr (length bytes) ≡ true → head ≡ image_word_in before (image_word_of addr))
+    (is_tail : image_needs_tail addr (length bytes) ≡ true
+    → tail ≡ image_word_in before (image_last_word addr (length bytes)))
+    (written : (k : ℕ) → k < image_word_count addr (length bytes) → get after (image_word_of addr + 4 * k)
+    ≡ Some (image_loaded_word addr bytes head tail (image_word_of addr + 4 * k)))
+    (held : (q : ℕ) → (get after q ≡ get before q) ⊎ InImageWords addr (length bytes) q)
   where
     -- a byte outside the image, of a word that is written, is that of the word before
-    kept : (at : ℕ) → InWords addr (length bytes) (word_of at) → (at < addr) ⊎ (addr + length bytes ≤ at)
-        → edge_word addr head tail (word_of at) ≡ word_in before (word_of at)
-    kept at i out = elim (cases_lt addr (word_of at)) [
+    kept : (at : ℕ) → InImageWords addr (length bytes) (image_word_of at) → (at < addr) ⊎ (addr + length bytes ≤ at)
+        → image_edge_word addr head tail (image_word_of at) ≡ image_word_in before (image_word_of at)
+    kept at i out = elim (cases_lt addr (image_word_of at)) [
       | inl later ↦
-          (let edge : edge_word addr head tail (word_of at) ≡ tail = later_edge addr head tail (word_of at) later in
+          (let edge : image_edge_word addr head tail (image_word_of at) ≡ tail = later_edge addr head tail (image_word_of at) later in
           let past : addr + length bytes ≤ at = elim out [ inl low ↦ absurd (omega arith) | inr high ↦ high ] in
           let h = i.high in
           let g = i.aligned in
-          let last : last_word addr (length bytes) ≡ word_of at = elim (counted addr (length bytes)) [
+          let last : image_last_word addr (length bytes) ≡ image_word_of at =
+          elim (image_word_count_cases addr (length bytes)) [
             | inl none ↦ (let z = none.1 in let n = none.0 in absurd (omega (arith, h, z)))
             | inr some ↦ (let z = some.1 in let n = some.0 in omega (arith, h, g, z, n, past, later))
           ] in
           edge ∙ is_tail (tail_there addr (length bytes) (omega (arith, last)) (omega (arith, last)))
-          ∙ ap (word_in before) last)
+          ∙ ap (image_word_in before) last)
       | inr first ↦
-          (let edge : edge_word addr head tail (word_of at) ≡ head = first_edge addr head tail (word_of at) first in
+          (let edge : image_edge_word addr head tail (image_word_of at) ≡ head = first_edge addr head tail (image_word_of at) first in
           let l = i.low in
           let g = i.aligned in
-          let same : word_of addr ≡ word_of at = omega (arith, l, g, first) in
-          let partial : (word_of addr < addr) ⊎ (addr + length bytes < word_of addr + 4) = elim out [
+          let same : image_word_of addr ≡ image_word_of at = omega (arith, l, g, first) in
+          let partial : (image_word_of addr < addr) ⊎ (addr + length bytes < image_word_of addr + 4) = elim out [
             | inl low ↦ inl (omega (arith, same))
             | inr high ↦ inr (omega (arith, same))
           ] in
           let h = i.high in
-          let some : 0 < length bytes = elim (counted addr (length bytes)) [
+          let some : 0 < length bytes = elim (image_word_count_cases addr (length bytes)) [
             | inl none ↦ (let z = none.1 in absurd (omega (arith, h, l, z)))
             | inr some ↦ some.0
           ] in
-          edge ∙ is_head (head_there addr (length bytes) some partial) ∙ ap (word_in before) same)
+          edge ∙ is_head (head_there addr (length bytes) some partial) ∙ ap (image_word_in before) same)
     ]
 
     -- so the image's byte over the word that was read is the one over the word before
-    over : (at : ℕ) → InWords addr (length bytes) (word_of at)
-        → image_byte addr bytes (edge_word addr head tail (word_of at)) at
-        ≡ image_byte addr bytes (word_in before (word_of at)) at
+    over : (at : ℕ) → InImageWords addr (length bytes) (image_word_of at)
+        → image_byte addr bytes (image_edge_word addr head tail (image_word_of at)) at
+        ≡ image_byte addr bytes (image_word_in before (image_word_of at)) at
     over at i = elim (cases_lt at addr) [
       | inl low ↦ ap (λ w. image_byte addr bytes w at) (kept at i (inl low))
       | inr low ↦ elim (cases_lt at (addr + length bytes)) [
-        | inl high ↦ byte_inside addr bytes (edge_word addr head tail (word_of at)) at low high
-            ∙ sym (byte_inside addr bytes (word_in before (word_of at)) at low high)
+        | inl high ↦ byte_inside addr bytes (image_edge_word addr head tail (image_word_of at)) at low high
+            ∙ sym (byte_inside addr bytes (image_word_in before (image_word_of at)) at low high)
         | inr high ↦ ap (λ w. image_byte addr bytes w at) (kept at i (inr high))
       ]
     ]
 
-    inside : (at : ℕ) → InWords addr (length bytes) (word_of at)
-        → byte_in (word_in after (word_of at)) at ≡ image_byte addr bytes (word_in before (word_of at)) at
+    inside : (at : ℕ) → InImageWords addr (length bytes) (image_word_of at)
+        → image_byte_in (image_word_in after (image_word_of at)) at
+        ≡ image_byte addr bytes (image_word_in before (image_word_of at)) at
     inside at i =
-        let a : ℕ = word_of at in
-        let k : ℕ = (a - word_of addr) / 4 in
+        let a : ℕ = image_word_of at in
+        let k : ℕ = (a - image_word_of addr) / 4 in
         let l = i.low in
         let h = i.high in
         let g = i.aligned in
-        let place : word_of addr + 4 * k ≡ a = omega (arith, l, g) in
-        let there : get after a ≡ Some (loaded_word addr bytes head tail a) =
+        let place : image_word_of addr + 4 * k ≡ a = omega (arith, l, g) in
+        let there : get after a ≡ Some (image_loaded_word addr bytes head tail a) =
         ap (get after) (sym place) ∙ written k (omega (arith, h, place))
-        ∙ ap (λ q. Some (loaded_word addr bytes head tail q)) place in
-        let word : word_in after a ≡ loaded_word addr bytes head tail a = ap (λ o. unwrap_or o 0) there in
-        ap (λ w. byte_in w at) word
-        ∙ byte_of_four (image_byte addr bytes (edge_word addr head tail a)) at
-        (image_small addr bytes small (edge_word addr head tail a)) ∙ over at i
+        ∙ ap (λ q. Some (image_loaded_word addr bytes head tail q)) place in
+        let word : image_word_in after a ≡ image_loaded_word addr bytes head tail a = ap (λ o. unwrap_or o 0) there in
+        ap (λ w. image_byte_in w at) word ∙ byte_of_four (image_byte addr bytes (image_edge_word addr head tail a)) at
+        (image_small addr bytes small (image_edge_word addr head tail a)) ∙ over at i
 
     unchanged : (at : ℕ) → (at < addr) ⊎ (addr + length bytes ≤ at)
-        → get after (word_of at) ≡ get before (word_of at)
-        → byte_in (word_in after (word_of at)) at ≡ image_byte addr bytes (word_in before (word_of at)) at
-    unchanged at out same = ap (λ o. byte_in (unwrap_or o 0) at) same
-        ∙ sym (byte_outside addr bytes (word_in before (word_of at)) at out)
+        → get after (image_word_of at) ≡ get before (image_word_of at)
+        → image_byte_in (image_word_in after (image_word_of at)) at
+        ≡ image_byte addr bytes (image_word_in before (image_word_of at)) at
+    unchanged at out same = ap (λ o. image_byte_in (unwrap_or o 0) at) same
+        ∙ sym (byte_outside addr bytes (image_word_in before (image_word_of at)) at out)
 
     -- each byte is that of the image, or, outside it, the byte before
-    pub bytes_are : (at : ℕ) → byte_in (word_in after (word_of at)) at
-        ≡ image_byte addr bytes (word_in before (word_of at)) at
-    bytes_are at = elim (held (word_of at)) [
+    pub bytes_are : (at : ℕ) → image_byte_in (image_word_in after (image_word_of at)) at
+        ≡ image_byte addr bytes (image_word_in before (image_word_of at)) at
+    bytes_are at = elim (held (image_word_of at)) [
       | inr i ↦ inside at i
       | inl same ↦ elim (cases_lt at addr) [
         | inl low ↦ unchanged at (inl low) same

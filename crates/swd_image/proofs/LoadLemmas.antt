@@ -1,7 +1,6 @@
 -- What the calls of a load and of a dump leave, and what they read.
-use Rattle.std.proofs.Common.{◌≡◌, ◌+◌, ◌*◌, ◌<◌, ◌≤◌, ◌^◌, ℕ, zero, suc, Bool, true, false, refl, ap, subst}
-use Rattle.std.proofs.Common.{arith, ◌∙◌}
-use Rattle.std.proofs.Common.{List, [], ◌∷◌, ◌++◌, length, map, get_or, Some, inl, inr, ◌⊎◌}
+use Rattle.std.proofs.Common.{◌≡◌, ◌+◌, ◌*◌, ◌<◌, ◌≤◌, ◌^◌, ℕ, zero, suc, Bool, true, false, refl, ap, subst, arith}
+use Rattle.std.proofs.Common.{◌∙◌, List, [], ◌∷◌, ◌++◌, length, map, get_or, Some, inl, inr, ◌⊎◌}
 use Rattle.std.specs.Ordering.{nat_cmp}
 use Rattle.std.specs.FinMap.{FinMap, get}
 use Rattle.swd_port.specs.declared.access.Access.{Access}
@@ -9,21 +8,22 @@ use Rattle.swd_port.specs.declared.access.Access.TheVariants.{Read, Write}
 use Rattle.swd_port.specs.declared.access.Answer.{Answer}
 use Rattle.swd_port.specs.declared.access.Answer.TheVariants.{Value, Written, BusFault}
 use Rattle.swd_port.specs.declared.mark.Mark.{Mark}
-use Rattle.swd_port.specs.PlainMemory.{address, reads}
+use Rattle.swd_port.specs.PlainMemory.{plain_address, plain_reads}
 use Rattle.swd_port.specs.Port.{Port}
-use Rattle.swd_host.specs.Chains.{AreReads}
+use Rattle.swd_host.specs.Chains.{AreBlockReads}
 use Rattle.swd_host.specs.Reports.{IsAtRest}
 use Rattle.swd_image.specs.declared.fault.ImageFault.{ImageFault}
 use Rattle.swd_image.specs.declared.fault.ImageFault.TheVariants.{Range, Memory, Stopped, Report, BusFault as FaultAt}
-use Rattle.swd_image.specs.Bytes.{word_in, word_of, words_at}
-use Rattle.swd_image.specs.Images.{IsLoaded}
-use Rattle.swd_image.specs.Lists.{edge_list, edge_words, last_word, load_list, loaded_word, needs_head, needs_tail}
-use Rattle.swd_image.specs.Lists.{read_if, word_count, word_if, writes}
+use Rattle.swd_image.specs.Bytes.{image_word_in, image_word_of, image_words_at}
+use Rattle.swd_image.specs.Images.{IsImageLoaded}
+use Rattle.swd_image.specs.Lists.{image_edge_list, image_edge_words, image_last_word, image_load_list}
+use Rattle.swd_image.specs.Lists.{image_loaded_word, image_needs_head, image_needs_tail, image_read_if}
+use Rattle.swd_image.specs.Lists.{image_word_count, image_word_if, image_writes}
 use Rattle.swd_image.specs.Loads.{LoadFails}
-use Rattle.swd_image.specs.Sessions.{AreDone, FailsAs, MadeAll, ReadsAs, words_told}
+use Rattle.swd_image.specs.Sessions.{AreImageDone, FailsAs, MadeAll, ReadsAs, image_words_read}
 use Rattle.swd_image.proofs.ChainLemmas.{AllIn, AllTell}
 use Rattle.swd_image.proofs.CallLemmas.{calls_done, calls_law, leaves}
-use Rattle.swd_image.proofs.ImageLemmas.{InWords, bytes_are, others}
+use Rattle.swd_image.proofs.ImageLemmas.{InImageWords, bytes_are, others}
 
 -- ---- lists of reads
 
@@ -33,15 +33,15 @@ Never q = ⊥
 abbrev no_word : ℕ → ℕ
 no_word q = 0
 
-all_reads : (words : FinMap nat_cmp ℕ) (list : List Access) → AreReads list → AllIn no_word Never words list
+all_reads : (words : FinMap nat_cmp ℕ) (list : List Access) → AreBlockReads list → AllIn no_word Never words list
 all_reads words [] h = tt
 all_reads words (Read at ∷ list) h = (tt, all_reads words list h)
 all_reads words (Write at word ∷ list) h = absurd h
 
 -- they are answered by the words that were there
-told_words : (words now : FinMap nat_cmp ℕ) (list : List Access) (answers : List Answer) → AreReads list
-    → AreDone list answers → AllTell no_word Never words now list answers
-    → words_told answers ≡ map (λ a. word_in words (address a)) list
+told_words : (words now : FinMap nat_cmp ℕ) (list : List Access) (answers : List Answer) → AreBlockReads list
+    → AreImageDone list answers → AllTell no_word Never words now list answers
+    → image_words_read answers ≡ map (λ a. image_word_in words (plain_address a)) list
 told_words words now [] [] r d h = refl
 told_words words now [] (x ∷ answers) r d h = absurd d
 told_words words now (a ∷ list) [] r d h = absurd d
@@ -51,22 +51,23 @@ told_words words now (Read at ∷ list) (BusFault ∷ answers) r d h = absurd (l
 told_words words now (Read at ∷ list) (Value word ∷ answers) r d h =
     let rest = told_words words now list answers r d.1 h.1 in
     elim h.0 [
-      | inl is ↦ ap (λ w. w ∷ words_told answers) is ∙ ap (λ l. word_in words at ∷ l) rest
+      | inl is ↦ ap (λ w. w ∷ image_words_read answers) is ∙ ap (λ l. image_word_in words at ∷ l) rest
       | inr never ↦ absurd never
     ]
 
 -- the reads of consecutive words are reads
-pub are_reads : (at count : ℕ) → AreReads (reads at count)
-are_reads at zero = tt
-are_reads at (suc count) = are_reads (at + 4) count
+pub image_reads_are_reads : (at count : ℕ) → AreBlockReads (plain_reads at count)
+image_reads_are_reads at zero = tt
+image_reads_are_reads at (suc count) = image_reads_are_reads (at + 4) count
 
 -- the memory's words at the addresses of consecutive reads are its consecutive words
-pub reads_words : (words : FinMap nat_cmp ℕ) (at count : ℕ)
-    → map (λ a. word_in words (address a)) (reads at count) ≡ words_at words at count
-reads_words words at zero = refl
-reads_words words at (suc count) = ap (λ l. word_in words at ∷ l) (reads_words words (at + 4) count)
+pub image_reads_from_memory : (words : FinMap nat_cmp ℕ) (at count : ℕ)
+    → map (λ a. image_word_in words (plain_address a)) (plain_reads at count) ≡ image_words_at words at count
+image_reads_from_memory words at zero = refl
+image_reads_from_memory words at (suc count) =
+    ap (λ l. image_word_in words at ∷ l) (image_reads_from_memory words (at + 4) count)
 
-edge_reads : (h t : Bool) (x y : ℕ) → AreReads (read_if h x ++ read_if t y)
+edge_reads : (h t : Bool) (x y : ℕ) → AreBlockReads (image_read_if h x ++ image_read_if t y)
 edge_reads true true x y = tt
 edge_reads true false x y = tt
 edge_reads false true x y = tt
@@ -78,7 +79,8 @@ record Edged (f : Access → ℕ) (h t : Bool) (x y head tail : ℕ) : Type 0 wh
   is_tail : t ≡ true → tail ≡ f (Read y)
 
 edged : (f : Access → ℕ) (h t : Bool) (x y head tail : ℕ)
-    → word_if h head ++ word_if t tail ≡ map f (read_if h x ++ read_if t y) → Edged f h t x y head tail
+    → image_word_if h head ++ image_word_if t tail ≡ map f (image_read_if h x ++ image_read_if t y)
+    → Edged f h t x y head tail
 edged f true true x y head tail e = record { is_head = λ h. cc; is_tail = λ t. cc }
 edged f true false x y head tail e = record { is_head = λ h. cc; is_tail = λ t. absurd cc }
 edged f false true x y head tail e = record { is_head = λ h. absurd cc; is_tail = λ t. cc }
@@ -87,7 +89,7 @@ edged f false false x y head tail e = record { is_head = λ h. absurd cc; is_tai
 -- ---- lists of writes
 
 all_writes : (word : ℕ → ℕ) (P : ℕ → Type 0) (words : FinMap nat_cmp ℕ) (at count : ℕ)
-    → ((k : ℕ) → k < count → P (at + 4 * k)) → AllIn word P words (writes word at count)
+    → ((k : ℕ) → k < count → P (at + 4 * k)) → AllIn word P words (image_writes word at count)
 all_writes word P words at zero h = tt
 all_writes word P words at (suc count) h =
     let here : at + 4 * 0 ≡ at = omega arith in (
@@ -98,8 +100,8 @@ all_writes word P words at (suc count) h =
 
 -- each of their words is there
 written_at : (word : ℕ → ℕ) (P : ℕ → Type 0) (words now : FinMap nat_cmp ℕ) (at count k : ℕ) (answers : List Answer)
-    → AreDone (writes word at count) answers → AllTell word P words now (writes word at count) answers → k < count
-    → get now (at + 4 * k) ≡ Some (word (at + 4 * k))
+    → AreImageDone (image_writes word at count) answers → AllTell word P words now (image_writes word at count) answers
+    → k < count → get now (at + 4 * k) ≡ Some (word (at + 4 * k))
 written_at word P words now at zero k answers d h low = absurd (omega arith)
 written_at word P words now at (suc count) k [] d h low = absurd d
 written_at word P words now at (suc count) k (Value other ∷ answers) d h low = absurd (let e = d.0 in cc)
@@ -118,11 +120,11 @@ module _ {W : Type 0} (port : W → Port) (plan : W → List Mark) (lawful : W �
   pub record HasRead (list : List Access) (words : List ℕ) (s t : W) : Type 0 where
     pub at_rest : IsAtRest (port t)
     pub same : (q : ℕ) → get (port t).target.memory.words q ≡ get (port s).target.memory.words q
-    pub words_are : words ≡ map (λ a. word_in (port s).target.memory.words (address a)) list
+    pub words_are : words ≡ map (λ a. image_word_in (port s).target.memory.words (plain_address a)) list
 
   -- over a lawful wire, from a target at rest, calls that only read return the memory's words, change none and leave
   -- the target at rest
-  pub has_read : (s t : W) (list : List Access) (words : List ℕ) → AreReads list
+  pub has_read : (s t : W) (list : List Access) (words : List ℕ) → AreBlockReads list
       → ReadsAs port plan lawful tries resumes list words s t → lawful t → IsAtRest (port s)
       → HasRead list words s t
   has_read s t list words r h law rest =
@@ -142,7 +144,7 @@ module _ {W : Type 0} (port : W → Port) (plan : W → List Mark) (lawful : W �
   reads_many s t list words h =
       ap length h.told ∙ many list h.answers (calls_done port plan lawful tries resumes s t list h.answers h.calls)
     where
-      many : (xs : List Access) (vs : List Answer) → AreDone xs vs → length (words_told vs) ≡ length xs
+      many : (xs : List Access) (vs : List Answer) → AreImageDone xs vs → length (image_words_read vs) ≡ length xs
       many [] [] d = refl
       many [] (v ∷ vs) d = absurd d
       many (x ∷ xs) [] d = absurd d
@@ -152,32 +154,33 @@ module _ {W : Type 0} (port : W → Port) (plan : W → List Mark) (lawful : W �
     -- over a lawful wire, from a target at rest, the calls of a load leave the image in the memory, all else
     -- unchanged, and the target at rest
     pub loaded : ((k : ℕ) → get_or bytes k 0 < 256) → (head tail : ℕ) (reached : W)
-        → ReadsAs port plan lawful tries resumes (edge_list addr (length bytes))
-        (edge_words addr (length bytes) head tail) s reached
-        → MadeAll port plan lawful tries resumes (load_list addr bytes head tail) reached t
+        → ReadsAs port plan lawful tries resumes (image_edge_list addr (length bytes))
+        (image_edge_words addr (length bytes) head tail) s reached
+        → MadeAll port plan lawful tries resumes (image_load_list addr bytes head tail) reached t
         → lawful t → IsAtRest (port s)
-        → IsLoaded addr bytes (port s).target.memory (port t).target.memory × IsAtRest (port t)
+        → IsImageLoaded addr bytes (port s).target.memory (port t).target.memory × IsAtRest (port t)
     loaded small head tail reached edges made law rest =
         let len : ℕ = length bytes in
-        let word : ℕ → ℕ = loaded_word addr bytes head tail in
-        let list : List Access = load_list addr bytes head tail in
+        let word : ℕ → ℕ = image_loaded_word addr bytes head tail in
+        let list : List Access = image_load_list addr bytes head tail in
         let old : FinMap nat_cmp ℕ = (port s).target.memory.words in
         let middle : FinMap nat_cmp ℕ = (port reached).target.memory.words in
         let now : FinMap nat_cmp ℕ = (port t).target.memory.words in
         let back : lawful reached = calls_law port plan lawful tries resumes reached t list made.answers made.calls law
         in
-        let r = has_read s reached (edge_list addr len) (edge_words addr len head tail)
-        (edge_reads (needs_head addr len) (needs_tail addr len) (word_of addr) (last_word addr len)) edges back rest in
-        let e = edged (λ a. word_in old (address a)) (needs_head addr len) (needs_tail addr len) (word_of addr)
-        (last_word addr len) head tail r.words_are in
-        let l = leaves port plan lawful tries resumes word (InWords addr len) reached r.at_rest t list made.answers
-        made.calls (all_writes word (InWords addr len) middle (word_of addr) (word_count addr len)
+        let r = has_read s reached (image_edge_list addr len) (image_edge_words addr len head tail)
+        (edge_reads (image_needs_head addr len) (image_needs_tail addr len) (image_word_of addr)
+        (image_last_word addr len)) edges back rest in
+        let e = edged (λ a. image_word_in old (plain_address a)) (image_needs_head addr len) (image_needs_tail addr len)
+        (image_word_of addr) (image_last_word addr len) head tail r.words_are in
+        let l = leaves port plan lawful tries resumes word (InImageWords addr len) reached r.at_rest t list made.answers
+        made.calls (all_writes word (InImageWords addr len) middle (image_word_of addr) (image_word_count addr len)
         (λ k low. record { low = omega arith; high = omega arith; aligned = omega arith })) law in
-        let written : (k : ℕ) → k < word_count addr len
-        → get now (word_of addr + 4 * k) ≡ Some (word (word_of addr + 4 * k))
-        = λ k low. written_at word (InWords addr len) middle now (word_of addr) (word_count addr len) k made.answers
-        (calls_done port plan lawful tries resumes reached t list made.answers made.calls) l.tells low in
-        let held : (q : ℕ) → (get now q ≡ get old q) ⊎ InWords addr len q =
+        let written : (k : ℕ) → k < image_word_count addr len
+        → get now (image_word_of addr + 4 * k) ≡ Some (word (image_word_of addr + 4 * k))
+        = λ k low. written_at word (InImageWords addr len) middle now (image_word_of addr) (image_word_count addr len) k
+        made.answers (calls_done port plan lawful tries resumes reached t list made.answers made.calls) l.tells low in
+        let held : (q : ℕ) → (get now q ≡ get old q) ⊎ InImageWords addr len q =
         λ q. elim (l.held q) [ inl same ↦ inl (same ∙ r.same q) | inr both ↦ inr both.0 ] in (
           record {
             bytes_are = bytes_are addr bytes head tail old now small e.is_head e.is_tail written held;
@@ -188,7 +191,7 @@ module _ {W : Type 0} (port : W → Port) (plan : W → List Mark) (lawful : W �
 
     -- why a load failed, among its reads, or among its writes
     pub fails_early : (fault : ImageFault) → addr + length bytes ≤ 2 ^ 32
-        → FailsAs port plan lawful tries resumes (edge_list addr (length bytes)) s t fault
+        → FailsAs port plan lawful tries resumes (image_edge_list addr (length bytes)) s t fault
         → LoadFails port plan lawful tries resumes addr bytes s t fault
     fails_early Range fits f = absurd f
     fails_early Memory fits f = fits
@@ -197,9 +200,9 @@ module _ {W : Type 0} (port : W → Port) (plan : W → List Mark) (lawful : W �
     fails_early Report fits f = (fits, inl f)
 
     pub fails_late : (fault : ImageFault) → addr + length bytes ≤ 2 ^ 32 → (head tail : ℕ) (reached : W)
-        → ReadsAs port plan lawful tries resumes (edge_list addr (length bytes))
-        (edge_words addr (length bytes) head tail) s reached
-        → FailsAs port plan lawful tries resumes (load_list addr bytes head tail) reached t fault
+        → ReadsAs port plan lawful tries resumes (image_edge_list addr (length bytes))
+        (image_edge_words addr (length bytes) head tail) s reached
+        → FailsAs port plan lawful tries resumes (image_load_list addr bytes head tail) reached t fault
         → LoadFails port plan lawful tries resumes addr bytes s t fault
     fails_late Range fits head tail reached edges f = absurd f
     fails_late Memory fits head tail reached edges f = fits

@@ -1,21 +1,20 @@
 -- The reports of calls, one after the other.
-use Rattle.std.proofs.Common.{◌≡◌, ℕ, refl, sym, ap, subst, ◌∙◌, List, [], ◌++◌, append_assoc}
-use Rattle.std.proofs.Common.{Option, Some, None, Err}
+use Rattle.std.proofs.Common.{◌≡◌, ℕ, refl, sym, ap, subst, ◌∙◌, List, [], ◌++◌, append_assoc, Option, Some, None, Err}
 use Rattle.std.specs.Prelude.{◌≢◌}
 use Rattle.std.specs.Io.KnownBytes.{Appends}
 use Rattle.std.proofs.KnownBytes.{Appends-nil, Appends-trans}
 use Rattle.std.proofs.lemmas.List.{append-nil}
-use Rattle.swd_io.specs.Blocks.{Stopped}
+use Rattle.swd_io.specs.Blocks.{OutputStopped}
 use Rattle.swd_port.specs.declared.access.Access.{Access}
 use Rattle.swd_port.specs.declared.mark.Mark.{Mark}
 use Rattle.swd_port.specs.Port.{Port}
 use Rattle.swd_host.specs.declared.outcome.End.{End}
 use Rattle.swd_host.specs.declared.outcome.End.TheVariants.{All}
-use Rattle.swd_host.specs.Reports.{Told}
-use Rattle.swd_script.specs.Laws.{IsBatch}
-use Rattle.swd_script.specs.Scripts.{Listed}
-use Rattle.swd_run.specs.Reports.{ReportsRun, run_report}
-use Rattle.swd_run.specs.Sessions.{Done}
+use Rattle.swd_host.specs.Reports.{HostReport}
+use Rattle.swd_script.specs.Laws.{IsScriptBatch}
+use Rattle.swd_script.specs.Scripts.{ScriptListed}
+use Rattle.swd_run.specs.Reports.{ReportsBatchRun, script_run_report}
+use Rattle.swd_run.specs.Sessions.{ScriptRun}
 use Rattle.swd_image.specs.declared.fault.ImageFault.{ImageFault}
 use Rattle.swd_image.specs.declared.fault.ImageFault.TheVariants.{Memory, Report, Stopped as StoppedAt}
 use Rattle.swd_image.specs.Reports.{MakesOne, Reported, Reports, ReportsTo, none, more}
@@ -25,8 +24,8 @@ use Rattle.swd_image.specs.Sessions.{Call}
 no_fault : (fault : ImageFault) → None ≢ Some fault
 no_fault fault e = cc
 
-pub memory_other : Some Memory ≢ Some Report
-memory_other e = cc
+pub image_memory_not_report : Some Memory ≢ Some Report
+image_memory_not_report e = cc
 
 module _ {W : Type 0} (port : W → Port) (plan : W → List Mark) (lawful : W → Type 0) (tries resumes : ℕ) where
   reported_append : (s t u : W) (ended : End) (xs ys : List Access) (vs ws : List ℕ)
@@ -37,10 +36,10 @@ module _ {W : Type 0} (port : W → Port) (plan : W → List Mark) (lawful : W �
       (subst (λ l. Reported port plan lawful tries resumes s All xs l t) (sym (append-nil vs)) h)
   reported_append s t u ended xs ys vs ws h
       (more {list = list} {text = text} {t = r} {u = v} {batch = batch} {run = run} before call plain) =
-      subst (λ l. Reported port plan lawful tries resumes s run.told.ended l (vs ++ (text ++ run_report batch 1 run)) v)
-      (append_assoc xs list batch.accesses)
+      subst (λ l. Reported port plan lawful tries resumes s run.told.ended l
+      (vs ++ (text ++ script_run_report batch 1 run)) v) (append_assoc xs list batch.accesses)
       (subst (λ l. Reported port plan lawful tries resumes s run.told.ended ((xs ++ list) ++ batch.accesses) l v)
-      (append_assoc vs text (run_report batch 1 run))
+      (append_assoc vs text (script_run_report batch 1 run))
       (more (reported_append s t r All xs list vs text h before) call plain))
 
   -- ---- of a writer
@@ -73,7 +72,8 @@ module _ {W : Type 0} (port : W → Port) (plan : W → List Mark) (lawful : W �
           batch = stop.batch;
           run = stop.run;
           last = stop.last;
-          is = ap (λ l. h.text ++ l) stop.is ∙ sym (append_assoc h.text stop.before (run_report stop.batch 1 stop.run));
+          is = ap (λ l. h.text ++ l) stop.is ∙ sym
+              (append_assoc h.text stop.before (script_run_report stop.batch 1 stop.run));
           middle = stop.middle;
           gone = Appends-trans a b stop.middle h.text stop.before first stop.gone;
           told = stop.told;
@@ -99,17 +99,17 @@ module _ {W : Type 0} (port : W → Port) (plan : W → List Mark) (lawful : W �
   }
 
   -- one call
-  reports_one : (s t : W) (batch : Listed) (run : Done) (fault : Option ImageFault) (a b : Option (List ℕ))
+  reports_one : (s t : W) (batch : ScriptListed) (run : ScriptRun) (fault : Option ImageFault) (a b : Option (List ℕ))
       → Call port plan lawful tries resumes batch s run t → batch.until ≡ None
       → (fault ≡ None → run.told.ended ≡ All) → ((end : End) → fault ≡ Some (StoppedAt end) → run.told.ended ≡ end)
-      → (fault ≢ Some Report → Appends a b (run_report batch 1 run))
-      → (fault ≡ Some Report → (told : ℕ) × Stopped told a b (run_report batch 1 run))
+      → (fault ≢ Some Report → Appends a b (script_run_report batch 1 run))
+      → (fault ≡ Some Report → (told : ℕ) × OutputStopped told a b (script_run_report batch 1 run))
       → Reports port plan lawful tries resumes batch.accesses fault s t a b
   reports_one s t batch run fault a b call plain all stopped writes fails = record {
     ended = run.told.ended;
     made = batch.accesses;
     rest = [];
-    text = run_report batch 1 run;
+    text = script_run_report batch 1 run;
     calls = more none call plain;
     split = sym (append-nil batch.accesses);
     whole = λ e. (refl, all e);
@@ -134,8 +134,8 @@ module _ {W : Type 0} (port : W → Port) (plan : W → List Mark) (lawful : W �
   -- ---- of an optional writer
 
   -- calls for a list, after those for another one; `zs` was in no call
-  pub to_after : (s t u : W) (xs ys zs list : List Access) (fault : Option ImageFault) (a b c : Option (Option (List ℕ)))
-      → ReportsTo port plan lawful tries resumes xs None s t a b
+  pub to_after : (s t u : W) (xs ys zs list : List Access) (fault : Option ImageFault)
+      (a b c : Option (Option (List ℕ))) → ReportsTo port plan lawful tries resumes xs None s t a b
       → ReportsTo port plan lawful tries resumes ys fault t u b c
       → list ≡ xs ++ (ys ++ zs) → (fault ≡ None → zs ≡ [])
       → ReportsTo port plan lawful tries resumes list fault s u a c
@@ -162,7 +162,7 @@ module _ {W : Type 0} (port : W → Port) (plan : W → List Mark) (lawful : W �
   pub to_unmade : (s : W) (list : List Access) (a : Option (Option (List ℕ)))
       → ReportsTo port plan lawful tries resumes list (Some Memory) s s a a
   to_unmade s list a =
-      to_none s list (Some Memory) a (λ e. absurd (no_fault Memory (sym e))) (λ end e. cc) memory_other
+      to_none s list (Some Memory) a (λ e. absurd (no_fault Memory (sym e))) (λ end e. cc) image_memory_not_report
 
   -- memory ran out after calls for the first part of a list
   pub to_memory : (s t : W) (xs ys list : List Access) (a b : Option (Option (List ℕ)))
@@ -181,14 +181,14 @@ module _ {W : Type 0} (port : W → Port) (plan : W → List Mark) (lawful : W �
       (λ e. absurd (no_fault fault (sym e)))
 
   -- one call with this report, of which the writer got all
-  pub to_one : (s t : W) (batch : Listed) (told : Told) (fault : Option ImageFault) (a b : Option (Option (List ℕ)))
-      → MakesOne port plan lawful tries resumes batch s t told a b → batch.until ≡ None
+  pub to_one : (s t : W) (batch : ScriptListed) (told : HostReport) (fault : Option ImageFault)
+      (a b : Option (Option (List ℕ))) → MakesOne port plan lawful tries resumes batch s t told a b → batch.until ≡ None
       → (fault ≡ None → told.ended ≡ All) → ((end : End) → fault ≡ Some (StoppedAt end) → told.ended ≡ end)
       → fault ≢ Some Report
       → ReportsTo port plan lawful tries resumes batch.accesses fault s t a b
   to_one s t batch told fault None b h plain all stopped other = (h.writes, other)
   to_one s t batch told fault (Some start) b h plain all stopped other =
-      let ended = ap (λ (x : Told). x.ended) h.last in (
+      let ended = ap (λ (x : HostReport). x.ended) h.last in (
         h.writes.0,
         h.writes.1,
         reports_one s t batch h.run fault start h.writes.0 h.call plain (λ e. ended ∙ all e)
@@ -196,9 +196,9 @@ module _ {W : Type 0} (port : W → Port) (plan : W → List Mark) (lawful : W �
       )
 
   -- one call of which the writer got the first bytes alone
-  pub to_failed : (s t : W) (batch : Listed) (told : Told) (sent : ℕ) (start now : Option (List ℕ))
-      → ReportsRun port plan lawful tries resumes batch s t start now told (Err sent) → batch.until ≡ None
-      → IsBatch batch
+  pub to_failed : (s t : W) (batch : ScriptListed) (told : HostReport) (sent : ℕ) (start now : Option (List ℕ))
+      → ReportsBatchRun port plan lawful tries resumes batch s t start now told (Err sent) → batch.until ≡ None
+      → IsScriptBatch batch
       → ReportsTo port plan lawful tries resumes batch.accesses (Some Report) s t (Some start) (Some now)
   to_failed s t batch told sent start now h plain fits = (
     now,

@@ -7,9 +7,9 @@ use Rattle.swd_host.specs.Reports.{IsAtRest}
 use Rattle.swd_image.specs.declared.fault.ImageFault.{ImageFault}
 use Rattle.swd_image.specs.declared.fault.ImageFault.TheVariants.{Range, Memory, Stopped, Report, BusFault as FaultAt}
 use Rattle.swd_image.specs.declared.verifying.ByteDifference.{ByteDifference}
-use Rattle.swd_image.specs.Bytes.{bytes_at, bytes_of}
-use Rattle.swd_image.specs.Images.{DiffersAt}
-use Rattle.swd_image.specs.Lists.{dump_list}
+use Rattle.swd_image.specs.Bytes.{image_bytes_at, image_bytes_of}
+use Rattle.swd_image.specs.Images.{ImageDiffersAt}
+use Rattle.swd_image.specs.Lists.{image_dump_list}
 use Rattle.swd_image.specs.Sessions.{FailsAs, ReadsAs}
 
 module _ {W : Type 0} (port : W → Port) (plan : W → List Mark) (lawful : W → Type 0) (tries resumes : ℕ) where
@@ -19,9 +19,9 @@ module _ {W : Type 0} (port : W → Port) (plan : W → List Mark) (lawful : W �
   pub record Dumps (addr count : ℕ) (bytes : List ℕ) (s t : W) : Type 0 where
     pub fits : addr + count ≤ 2 ^ 32
     pub words : List ℕ
-    pub reads : ReadsAs port plan lawful tries resumes (dump_list addr count) words s t
-    pub are : bytes ≡ bytes_of words (addr % 4) count
-    pub memory : lawful t → IsAtRest (port s) → bytes ≡ bytes_at (port s).target.memory addr count
+    pub reads : ReadsAs port plan lawful tries resumes (image_dump_list addr count) words s t
+    pub are : bytes ≡ image_bytes_of words (addr % 4) count
+    pub memory : lawful t → IsAtRest (port s) → bytes ≡ image_bytes_at (port s).target.memory addr count
     pub same : lawful t → IsAtRest (port s)
         → (q : ℕ) → get (port t).target.memory.words q ≡ get (port s).target.memory.words q
     pub rests : lawful t → IsAtRest (port s) → IsAtRest (port t)
@@ -31,24 +31,24 @@ module _ {W : Type 0} (port : W → Port) (plan : W → List Mark) (lawful : W �
   DumpFails addr count s t Range = (2 ^ 32 < addr + count) × (t ≡ s)
   DumpFails addr count s t Memory = addr + count ≤ 2 ^ 32
   DumpFails addr count s t (Stopped end) =
-      (addr + count ≤ 2 ^ 32) × FailsAs port plan lawful tries resumes (dump_list addr count) s t (Stopped end)
+      (addr + count ≤ 2 ^ 32) × FailsAs port plan lawful tries resumes (image_dump_list addr count) s t (Stopped end)
   DumpFails addr count s t (FaultAt at) =
-      (addr + count ≤ 2 ^ 32) × FailsAs port plan lawful tries resumes (dump_list addr count) s t (FaultAt at)
+      (addr + count ≤ 2 ^ 32) × FailsAs port plan lawful tries resumes (image_dump_list addr count) s t (FaultAt at)
   DumpFails addr count s t Report =
-      (addr + count ≤ 2 ^ 32) × FailsAs port plan lawful tries resumes (dump_list addr count) s t Report
+      (addr + count ≤ 2 ^ 32) × FailsAs port plan lawful tries resumes (image_dump_list addr count) s t Report
 
 -- the bytes are the image's, or this is the first one that differs
-abbrev pub Compares : ℕ → List ℕ → List ℕ → Option ByteDifference → Type 0
-Compares addr bytes found None = found ≡ bytes
-Compares addr bytes found (Some difference) =
-    DiffersAt addr bytes found difference.addr difference.found difference.expected
+abbrev pub ComparesImage : ℕ → List ℕ → List ℕ → Option ByteDifference → Type 0
+ComparesImage addr bytes found None = found ≡ bytes
+ComparesImage addr bytes found (Some difference) =
+    ImageDiffersAt addr bytes found difference.addr difference.found difference.expected
 
 -- The bytes of an image's range were read and compared. If the wire was lawful and the target at rest, the result
 -- holds for the memory's bytes.
-pub record Verifies {W : Type 0} (port : W → Port) (plan : W → List Mark) (lawful : W → Type 0) (tries resumes addr : ℕ)
-    (bytes : List ℕ) (difference : Option ByteDifference) (s t : W) : Type 0 where
+pub record VerifiesImage {W : Type 0} (port : W → Port) (plan : W → List Mark) (lawful : W → Type 0)
+    (tries resumes addr : ℕ) (bytes : List ℕ) (difference : Option ByteDifference) (s t : W) : Type 0 where
   pub found : List ℕ
   pub dumps : Dumps port plan lawful tries resumes addr (length bytes) found s t
-  pub tells : Compares addr bytes found difference
+  pub tells : ComparesImage addr bytes found difference
   pub memory : lawful t → IsAtRest (port s)
-      → Compares addr bytes (bytes_at (port s).target.memory addr (length bytes)) difference
+      → ComparesImage addr bytes (image_bytes_at (port s).target.memory addr (length bytes)) difference

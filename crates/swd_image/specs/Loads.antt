@@ -5,8 +5,8 @@ use Rattle.swd_port.specs.Port.{Port}
 use Rattle.swd_host.specs.Reports.{IsAtRest}
 use Rattle.swd_image.specs.declared.fault.ImageFault.{ImageFault}
 use Rattle.swd_image.specs.declared.fault.ImageFault.TheVariants.{Range, Memory, Stopped, Report, BusFault as FaultAt}
-use Rattle.swd_image.specs.Images.{IsLoaded}
-use Rattle.swd_image.specs.Lists.{edge_list, edge_words, load_list}
+use Rattle.swd_image.specs.Images.{IsImageLoaded}
+use Rattle.swd_image.specs.Lists.{image_edge_list, image_edge_words, image_load_list}
 use Rattle.swd_image.specs.Sessions.{FailsAs, MadeAll, ReadsAs}
 
 module _ {W : Type 0} (port : W → Port) (plan : W → List Mark) (lawful : W → Type 0) (tries resumes addr : ℕ)
@@ -19,20 +19,20 @@ module _ {W : Type 0} (port : W → Port) (plan : W → List Mark) (lawful : W �
     pub head : ℕ
     pub tail : ℕ
     pub reached : W
-    pub edges : ReadsAs port plan lawful tries resumes (edge_list addr (length bytes))
-        (edge_words addr (length bytes) head tail) s reached
-    pub writes : MadeAll port plan lawful tries resumes (load_list addr bytes head tail) reached t
+    pub edges : ReadsAs port plan lawful tries resumes (image_edge_list addr (length bytes))
+        (image_edge_words addr (length bytes) head tail) s reached
+    pub writes : MadeAll port plan lawful tries resumes (image_load_list addr bytes head tail) reached t
     pub memory : lawful t → IsAtRest (port s)
-        → IsLoaded addr bytes (port s).target.memory (port t).target.memory × IsAtRest (port t)
+        → IsImageLoaded addr bytes (port s).target.memory (port t).target.memory × IsAtRest (port t)
 
   -- the load failed in its writes
   pub record FailsLate (fault : ImageFault) : Type 0 where
     pub head : ℕ
     pub tail : ℕ
     pub reached : W
-    pub edges : ReadsAs port plan lawful tries resumes (edge_list addr (length bytes))
-        (edge_words addr (length bytes) head tail) s reached
-    pub writes : FailsAs port plan lawful tries resumes (load_list addr bytes head tail) reached t fault
+    pub edges : ReadsAs port plan lawful tries resumes (image_edge_list addr (length bytes))
+        (image_edge_words addr (length bytes) head tail) s reached
+    pub writes : FailsAs port plan lawful tries resumes (image_load_list addr bytes head tail) reached t fault
 
   -- The error of a load: for an image that extends past the addresses no call was made. Otherwise a call of the reads
   -- failed, or one of the writes.
@@ -40,10 +40,10 @@ module _ {W : Type 0} (port : W → Port) (plan : W → List Mark) (lawful : W �
   LoadFails Range = (2 ^ 32 < addr + length bytes) × (t ≡ s)
   LoadFails Memory = addr + length bytes ≤ 2 ^ 32
   LoadFails (Stopped end) = (addr + length bytes ≤ 2 ^ 32)
-      × (FailsAs port plan lawful tries resumes (edge_list addr (length bytes)) s t (Stopped end)
+      × (FailsAs port plan lawful tries resumes (image_edge_list addr (length bytes)) s t (Stopped end)
       ⊎ FailsLate (Stopped end))
   LoadFails (FaultAt at) = (addr + length bytes ≤ 2 ^ 32)
-      × (FailsAs port plan lawful tries resumes (edge_list addr (length bytes)) s t (FaultAt at)
+      × (FailsAs port plan lawful tries resumes (image_edge_list addr (length bytes)) s t (FaultAt at)
       ⊎ FailsLate (FaultAt at))
   LoadFails Report = (addr + length bytes ≤ 2 ^ 32)
-      × (FailsAs port plan lawful tries resumes (edge_list addr (length bytes)) s t Report ⊎ FailsLate Report)
+      × (FailsAs port plan lawful tries resumes (image_edge_list addr (length bytes)) s t Report ⊎ FailsLate Report)

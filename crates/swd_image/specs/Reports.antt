@@ -1,43 +1,44 @@
 -- The reports of the calls of a load, a verification or a dump, which are written while the calls go on.
 use Rattle.std.specs.Prelude.{ℕ, ◌≡◌, ◌≢◌, List, [], ◌++◌, length, Option, Some, None, Result, Ok, Err}
 use Rattle.std.specs.Io.KnownBytes.{Appends}
-use Rattle.swd_io.specs.Blocks.{Stopped}
+use Rattle.swd_io.specs.Blocks.{OutputStopped}
 use Rattle.swd_port.specs.declared.access.Access.{Access}
 use Rattle.swd_port.specs.declared.mark.Mark.{Mark}
 use Rattle.swd_port.specs.Port.{Port}
 use Rattle.swd_host.specs.declared.outcome.End.{End}
 use Rattle.swd_host.specs.declared.outcome.End.TheVariants.{All}
-use Rattle.swd_host.specs.Reports.{Told}
-use Rattle.swd_script.specs.Scripts.{Listed}
-use Rattle.swd_run.specs.Records.{ForFile}
-use Rattle.swd_run.specs.Reports.{run_report}
-use Rattle.swd_run.specs.Sessions.{Done}
+use Rattle.swd_host.specs.Reports.{HostReport}
+use Rattle.swd_script.specs.Scripts.{ScriptListed}
+use Rattle.swd_run.specs.Records.{ForRunFile}
+use Rattle.swd_run.specs.Reports.{script_run_report}
+use Rattle.swd_run.specs.Sessions.{ScriptRun}
 use Rattle.swd_image.specs.declared.fault.ImageFault.{ImageFault}
 use Rattle.swd_image.specs.declared.fault.ImageFault.TheVariants.{Report, Stopped as StoppedAt}
-use Rattle.swd_image.specs.Lists.{dump_list, edge_list, load_list}
+use Rattle.swd_image.specs.Lists.{image_dump_list, image_edge_list, image_load_list}
 use Rattle.swd_image.specs.Sessions.{Call}
 
 -- the error of a result, if it is one
-abbrev pub fault_of : {V : Type 0} → Result V ImageFault → Option ImageFault
-fault_of (Ok value) = None
-fault_of (Err fault) = Some fault
+abbrev pub image_fault_of : {V : Type 0} → Result V ImageFault → Option ImageFault
+image_fault_of (Ok value) = None
+image_fault_of (Err fault) = Some fault
 
 module _ {W : Type 0} (port : W → Port) (plan : W → List Mark) (lawful : W → Type 0) (tries resumes : ℕ) where
   -- Consecutive calls from the wire s to another, each after one that ended `All`: how the last one ended (`All`
   -- without a call), the accesses of all of them, and their reports, one after the other.
   pub data Reported (s : W) : End → List Access → List ℕ → W → Type 0 where
     none : Reported s All [] [] s
-    more : {list : List Access} {text : List ℕ} {t u : W} {batch : Listed} {run : Done}
+    more : {list : List Access} {text : List ℕ} {t u : W} {batch : ScriptListed} {run : ScriptRun}
         → Reported s All list text t → Call port plan lawful tries resumes batch t run u → batch.until ≡ None
-        → Reported s run.told.ended (list ++ batch.accesses) (text ++ run_report batch 1 run) u
+        → Reported s run.told.ended (list ++ batch.accesses) (text ++ script_run_report batch 1 run) u
 
   -- One call, between two states of the wire, whose last part has this report. A writer got the call's report, if there
   -- is one.
-  pub record MakesOne (batch : Listed) (s t : W) (told : Told) (before after : Option (Option (List ℕ))) : Type 0 where
-    pub run : Done
+  pub record MakesOne (batch : ScriptListed) (s t : W) (told : HostReport) (before after : Option (Option (List ℕ))) :
+      Type 0 where
+    pub run : ScriptRun
     pub last : run.told ≡ told
     pub call : Call port plan lawful tries resumes batch s run t
-    pub writes : ForFile (λ old new. Appends old new (run_report batch 1 run)) before after
+    pub writes : ForRunFile (λ old new. Appends old new (script_run_report batch 1 run)) before after
 
   -- A writer failed at the report of the last one of the calls from the wire s to the wire t, whose reports are this
   -- text. The reports of the calls before it were written, and of its own exactly the first bytes, not all.
@@ -46,14 +47,14 @@ module _ {W : Type 0} (port : W → Port) (plan : W → List Mark) (lawful : W �
     pub before : List ℕ
     pub reached : W
     pub calls : Reported s All list before reached
-    pub batch : Listed
-    pub run : Done
+    pub batch : ScriptListed
+    pub run : ScriptRun
     pub last : Call port plan lawful tries resumes batch reached run t
-    pub is : text ≡ before ++ run_report batch 1 run
+    pub is : text ≡ before ++ script_run_report batch 1 run
     pub middle : Option (List ℕ)
     pub gone : Appends start middle before
     pub told : ℕ
-    pub stops : Stopped told middle now (run_report batch 1 run)
+    pub stops : OutputStopped told middle now (script_run_report batch 1 run)
 
   -- What a writer got of the calls for a list of accesses, without a fault or with one. It had the contents `start`,
   -- and has `now`. The calls are all between the wires s and t. They have all accesses of the list, or at a fault its
@@ -84,9 +85,9 @@ module _ {W : Type 0} (port : W → Port) (plan : W → List Mark) (lawful : W �
       → Option (Option (List ℕ)) → Type 0
   LoadReports addr bytes fault s t before after =
       (head : ℕ) × (tail : ℕ)
-      × ReportsTo (edge_list addr (length bytes) ++ load_list addr bytes head tail) fault s t before after
+      × ReportsTo (image_edge_list addr (length bytes) ++ image_load_list addr bytes head tail) fault s t before after
 
   -- what a writer got of a dump of a range
   abbrev pub DumpReports : ℕ → ℕ → Option ImageFault → W → W → Option (Option (List ℕ)) → Option (Option (List ℕ))
       → Type 0
-  DumpReports addr count fault s t before after = ReportsTo (dump_list addr count) fault s t before after
+  DumpReports addr count fault s t before after = ReportsTo (image_dump_list addr count) fault s t before after

@@ -6,68 +6,69 @@ use Rattle.swd_port.specs.declared.access.Access.TheVariants.{Read, Write}
 use Rattle.swd_port.specs.declared.access.Answer.{Answer}
 use Rattle.swd_port.specs.declared.access.Answer.TheVariants.{Value, Written, BusFault}
 use Rattle.swd_port.specs.declared.mark.Mark.{Mark}
-use Rattle.swd_port.specs.PlainMemory.{address}
+use Rattle.swd_port.specs.PlainMemory.{plain_address}
 use Rattle.swd_port.specs.Port.{Port}
 use Rattle.swd_host.specs.declared.outcome.End.TheVariants.{All}
-use Rattle.swd_script.specs.Scripts.{Listed}
-use Rattle.swd_script.specs.Laws.{IsBatch}
-use Rattle.swd_run.specs.Sessions.{Done, GoesOn, most_begun}
+use Rattle.swd_script.specs.Scripts.{ScriptListed}
+use Rattle.swd_script.specs.Laws.{IsScriptBatch}
+use Rattle.swd_run.specs.Sessions.{ScriptRun, RunsBatch, batch_limit}
 use Rattle.swd_image.specs.declared.fault.ImageFault.{ImageFault}
 use Rattle.swd_image.specs.declared.fault.ImageFault.TheVariants.{Range, Memory, Stopped, Report, BusFault as FaultAt}
 
 -- ANSWERS
 -- the access succeeded: the answer to a read is a word, that to a write is written
-abbrev pub is_done : Access → Answer → Bool
-is_done (Read at) (Value word) = true
-is_done (Read at) Written = false
-is_done (Read at) BusFault = false
-is_done (Write at word) Written = true
-is_done (Write at word) (Value other) = false
-is_done (Write at word) BusFault = false
+abbrev pub is_image_done : Access → Answer → Bool
+is_image_done (Read at) (Value word) = true
+is_image_done (Read at) Written = false
+is_image_done (Read at) BusFault = false
+is_image_done (Write at word) Written = true
+is_image_done (Write at word) (Value other) = false
+is_image_done (Write at word) BusFault = false
 
 -- all of them succeeded
-abbrev pub AreDone : List Access → List Answer → Type 0
-AreDone [] [] = Unit {0}
-AreDone [] (x ∷ answers) = ⊥
-AreDone (a ∷ list) [] = ⊥
-AreDone (a ∷ list) (x ∷ answers) = (is_done a x ≡ true) × AreDone list answers
+abbrev pub AreImageDone : List Access → List Answer → Type 0
+AreImageDone [] [] = Unit {0}
+AreImageDone [] (x ∷ answers) = ⊥
+AreImageDone (a ∷ list) [] = ⊥
+AreImageDone (a ∷ list) (x ∷ answers) = (is_image_done a x ≡ true) × AreImageDone list answers
 
 -- the address of the first one that failed
-abbrev pub first_failed : List Access → List Answer → Option ℕ
-first_failed [] answers = None
-first_failed (a ∷ list) [] = None
-first_failed (a ∷ list) (x ∷ answers) = if is_done a x then first_failed list answers else Some (address a)
+abbrev pub image_first_failed : List Access → List Answer → Option ℕ
+image_first_failed [] answers = None
+image_first_failed (a ∷ list) [] = None
+image_first_failed (a ∷ list) (x ∷ answers) =
+    if is_image_done a x then image_first_failed list answers else Some (plain_address a)
 
 -- the words that were read
-abbrev pub word_told : Answer → ℕ
-word_told (Value word) = word
-word_told Written = 0
-word_told BusFault = 0
+abbrev pub image_word_read : Answer → ℕ
+image_word_read (Value word) = word
+image_word_read Written = 0
+image_word_read BusFault = 0
 
-abbrev pub words_told : List Answer → List ℕ
-words_told answers = map word_told answers
+abbrev pub image_words_read : List Answer → List ℕ
+image_words_read answers = map image_word_read answers
 
 -- THE CALLS
 module _ {W : Type 0} (port : W → Port) (plan : W → List Mark) (lawful : W → Type 0) (tries resumes : ℕ) where
   -- one call over a wire, from one state of the wire to another, with its report: a batch of at most 65,536
   -- accesses, which may have been resumed
-  pub record Call (batch : Listed) (s : W) (run : Done) (t : W) : Type 0 where
-    pub fits : IsBatch batch
-    pub goes : GoesOn port plan lawful (most_begun batch) tries resumes batch s run t
+  pub record Call (batch : ScriptListed) (s : W) (run : ScriptRun) (t : W) : Type 0 where
+    pub fits : IsScriptBatch batch
+    pub goes : RunsBatch port plan lawful (batch_limit batch) tries resumes batch s run t
 
   -- consecutive calls, each of which ended `All` with each access done: their accesses, and their answers
   pub data Calls (s : W) : List Access → List Answer → W → Type 0 where
     none : Calls s [] [] s
-    more : {list : List Access} {answers : List Answer} {t u : W} {batch : Listed} {run : Done}
+    more : {list : List Access} {answers : List Answer} {t u : W} {batch : ScriptListed} {run : ScriptRun}
         → Calls s list answers t → Call batch t run u → run.told.ended ≡ All
-        → AreDone batch.accesses run.told.answers
+        → AreImageDone batch.accesses run.told.answers
         → Calls s (list ++ batch.accesses) (answers ++ run.told.answers) u
 
   -- such calls, which read these words
   pub record ReadsAs (list : List Access) (words : List ℕ) (s t : W) : Type 0 where
     pub answers : List Answer
     pub calls : Calls s list answers t
-    pub told : words ≡ words_told answers
+    pub told : words ≡ image_words_read answers
 
   -- such calls, with any answers
   pub record MadeAll (list : List Access) (s t : W) : Type 0 where
@@ -76,13 +77,13 @@ module _ {W : Type 0} (port : W → Port) (plan : W → List Mark) (lawful : W �
 
   -- Calls of which the last one ended otherwise, as `P` says: the accesses of the calls are the first ones of the
   -- list, and the list's `rest` was in no call.
-  pub record Fails (list : List Access) (s u : W) (P : Listed → Done → Type 0) : Type 0 where
+  pub record Fails (list : List Access) (s u : W) (P : ScriptListed → ScriptRun → Type 0) : Type 0 where
     pub before : List Access
     pub answers : List Answer
     pub reached : W
     pub calls : Calls s before answers reached
-    pub batch : Listed
-    pub run : Done
+    pub batch : ScriptListed
+    pub run : ScriptRun
     pub last : Call batch reached run u
     pub rest : List Access
     pub split : list ≡ before ++ (batch.accesses ++ rest)
@@ -94,5 +95,6 @@ module _ {W : Type 0} (port : W → Port) (plan : W → List Mark) (lawful : W �
   FailsAs list s u Memory = Unit {0}
   FailsAs list s u (Stopped end) = Fails list s u (λ batch run. (run.told.ended ≡ end) × (end ≢ All))
   FailsAs list s u (FaultAt at) =
-      Fails list s u (λ batch run. (run.told.ended ≡ All) × (first_failed batch.accesses run.told.answers ≡ Some at))
+      Fails list s u (λ batch run. (run.told.ended ≡ All)
+      × (image_first_failed batch.accesses run.told.answers ≡ Some at))
   FailsAs list s u Report = Fails list s u (λ batch run. Unit {0})

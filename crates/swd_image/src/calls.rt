@@ -1,15 +1,15 @@
 //! Makes one call, and requires each of its accesses to succeed.
 ghost use Rattle.std.specs.Prelude.{◌≡◌, IfErr, IfOk, None, Some, length};
-ghost use Rattle.swd_host.specs.Reports.{told_of};
-ghost use Rattle.swd_port.specs.PlainMemory.{address};
+ghost use Rattle.swd_host.specs.Reports.{host_report_of};
+ghost use Rattle.swd_port.specs.PlainMemory.{plain_address};
 ghost use Rattle.swd_port.specs.declared.wire.Due.TheVariants.{Nothing};
 ghost use Rattle.swd_host.specs.declared.outcome.End.TheVariants.{All};
-ghost use Rattle.swd_script.specs.Readers.{listed};
-ghost use Rattle.swd_script.specs.Laws.{IsBatch};
-ghost use Rattle.swd_run.specs.Records.{held};
-ghost use Rattle.swd_run.specs.Sessions.{Done};
-ghost use Rattle.swd_image.specs.Reports.{MakesOne, ReportsTo, fault_of};
-ghost use Rattle.swd_image.specs.Sessions.{AreDone, Call, FailsAs, first_failed, is_done};
+ghost use Rattle.swd_script.specs.Readers.{script_batch_listed};
+ghost use Rattle.swd_script.specs.Laws.{IsScriptBatch};
+ghost use Rattle.swd_run.specs.Records.{run_file_held};
+ghost use Rattle.swd_run.specs.Sessions.{ScriptRun};
+ghost use Rattle.swd_image.specs.Reports.{MakesOne, ReportsTo, image_fault_of};
+ghost use Rattle.swd_image.specs.Sessions.{AreImageDone, Call, FailsAs, image_first_failed, is_image_done};
 
 use crate::fault::ImageFault;
 use std::alloc::Allocator;
@@ -21,7 +21,7 @@ use swd_script::Batch;
 
 // Returns whether an access succeeded: a read has a word, a write is written.
 fn is_done(access: Access, answer: Answer) -> bool
-    ensures { result ≡ is_done access answer }
+    ensures { result ≡ is_image_done access answer }
 {
     match access {
         Access::Read(_) => matches!(answer, Answer::Value(_)),
@@ -30,7 +30,7 @@ fn is_done(access: Access, answer: Answer) -> bool
 }
 
 fn address(access: Access) -> u32
-    ensures { result ≡ address access }
+    ensures { result ≡ plain_address access }
 {
     match access {
         Access::Read(addr) | Access::Write(addr, _) => addr,
@@ -40,7 +40,7 @@ fn address(access: Access) -> u32
 // Returns the address of the first access that failed.
 fn first_failed(accesses: &[Access], answers: &[Answer]) -> Option<u32>
     requires { length answers.now ≡ length accesses.now }
-    ensures { result ≡ first_failed accesses.now answers.now }
+    ensures { result ≡ image_first_failed accesses.now answers.now }
 {
     for (index, access) in accesses.iter().enumerate() {
         if !is_done(*access, answers[index]) {
@@ -59,16 +59,18 @@ fn make_call<W: Wire, O: Write, A: Allocator + Copy>(
     resumes: u32,
     report: &mut Option<O>,
 ) -> Result<Report<A>, ImageFault>
-    requires batch { IsBatch (listed batch.now) }
+    requires batch { IsScriptBatch (script_batch_listed batch.now) }
     requires plain { batch.now.until ≡ None }
     requires due { (W.port wire.old).link.due ≡ Nothing }
-    ensures call { IfOk result (λ made. MakesOne W.port W.plan W.lawful tries resumes (listed batch.now) wire.old
-        wire.new (told_of made) (held O.contents report.old) (held O.contents report.new)) }
-    ensures fault { IfErr result (FailsAs W.port W.plan W.lawful tries resumes (listed batch.now).accesses wire.old
+    ensures call { IfOk result (λ made. MakesOne W.port W.plan W.lawful tries resumes (script_batch_listed batch.now)
+        wire.old
+        wire.new (host_report_of made) (run_file_held O.contents report.old) (run_file_held O.contents report.new)) }
+    ensures fault { IfErr result (FailsAs W.port W.plan W.lawful tries resumes (script_batch_listed batch.now).accesses
+        wire.old
         wire.new) }
     ensures report { IfErr result (λ fault. ReportsTo W.port W.plan W.lawful tries resumes
-        (listed batch.now).accesses (Some fault) wire.old wire.new (held O.contents report.old)
-        (held O.contents report.new)) }
+        (script_batch_listed batch.now).accesses (Some fault) wire.old wire.new (run_file_held O.contents report.old)
+        (run_file_held O.contents report.new)) }
     ensures plan { W.plan wire.new ≡ W.plan wire.old }
 {
     let Some(writer) = report else {
@@ -97,17 +99,19 @@ pub(crate) fn run_call<W: Wire, O: Write, A: Allocator + Copy>(
     resumes: u32,
     report: &mut Option<O>,
 ) -> Result<Vec<Answer, A>, ImageFault>
-    requires batch { IsBatch (listed batch.now) }
+    requires batch { IsScriptBatch (script_batch_listed batch.now) }
     requires plain { batch.now.until ≡ None }
     requires due { (W.port wire.old).link.due ≡ Nothing }
-    ensures call { IfOk result (λ answers. (run : Done) × (run.told.answers ≡ answers.items)
-        × Call W.port W.plan W.lawful tries resumes (listed batch.now) wire.old run wire.new
-        × (run.told.ended ≡ All) × AreDone (listed batch.now).accesses run.told.answers) }
+    ensures call { IfOk result (λ answers. (run : ScriptRun) × (run.told.answers ≡ answers.items)
+        × Call W.port W.plan W.lawful tries resumes (script_batch_listed batch.now) wire.old run wire.new
+        × (run.told.ended ≡ All) × AreImageDone (script_batch_listed batch.now).accesses run.told.answers) }
     ensures due { IfOk result (λ answers. (W.port wire.new).link.due ≡ Nothing) }
-    ensures fault { IfErr result (FailsAs W.port W.plan W.lawful tries resumes (listed batch.now).accesses wire.old
+    ensures fault { IfErr result (FailsAs W.port W.plan W.lawful tries resumes (script_batch_listed batch.now).accesses
+        wire.old
         wire.new) }
-    ensures report { ReportsTo W.port W.plan W.lawful tries resumes (listed batch.now).accesses (fault_of result)
-        wire.old wire.new (held O.contents report.old) (held O.contents report.new) }
+    ensures report { ReportsTo W.port W.plan W.lawful tries resumes (script_batch_listed batch.now).accesses
+        (image_fault_of result)
+        wire.old wire.new (run_file_held O.contents report.old) (run_file_held O.contents report.new) }
     ensures plan { W.plan wire.new ≡ W.plan wire.old }
 {
     let made = make_call(alloc, wire, batch, tries, resumes, report)?;

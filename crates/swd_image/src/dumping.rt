@@ -2,10 +2,10 @@
 ghost use Rattle.std.specs.Prelude.{◌≡◌, ◌≢◌, ◌+◌, ◌*◌, ◌<◌, ◌≤◌, IfErr, IfOk, Some, length};
 ghost use Rattle.swd_port.specs.declared.wire.Due.TheVariants.{Nothing};
 ghost use Rattle.swd_image.specs.declared.fault.ImageFault.TheVariants.{Memory, Report};
-ghost use Rattle.swd_image.specs.Bytes.{byte_in, bytes_of};
-ghost use Rattle.swd_run.specs.Records.{held};
+ghost use Rattle.swd_image.specs.Bytes.{image_byte_in, image_bytes_of};
+ghost use Rattle.swd_run.specs.Records.{run_file_held};
 ghost use Rattle.swd_image.specs.Dumps.{DumpFails, Dumps};
-ghost use Rattle.swd_image.specs.Reports.{DumpReports, fault_of};
+ghost use Rattle.swd_image.specs.Reports.{DumpReports, image_fault_of};
 
 use crate::fault::ImageFault;
 use crate::range::{word_count, word_of};
@@ -16,7 +16,7 @@ use swd_port::Wire;
 
 // Returns byte `place % 4` of a word, the least significant byte first.
 fn byte_in(word: u32, place: u64) -> u8
-    ensures { result ≡ byte_in word place }
+    ensures { result ≡ image_byte_in word place }
 {
     word.to_le_bytes()[(place % 4) as usize]
 }
@@ -29,7 +29,7 @@ fn bytes_of<A: Allocator>(
     count: u64,
 ) -> Result<Vec<u8, A>, ImageFault>
     requires { 0 < count → place + count ≤ 4 * length words.now }
-    ensures bytes { IfOk result (λ bytes. bytes.items ≡ bytes_of words.now place count) }
+    ensures bytes { IfOk result (λ bytes. bytes.items ≡ image_bytes_of words.now place count) }
     ensures fault { IfErr result (λ fault. fault ≡ Memory) }
 {
     let Ok(mut bytes) = Vec::with_capacity(alloc, count as usize) else {
@@ -70,7 +70,7 @@ pub fn dump<W: Wire, A: Allocator + Copy>(
         wire.new) }
     ensures due { IfOk result (λ bytes. (W.port wire.new).link.due ≡ Nothing) }
     ensures fault { IfErr result (DumpFails W.port W.plan W.lawful tries resumes addr count wire.old wire.new) }
-    ensures unreported { fault_of result ≢ Some Report }
+    ensures unreported { image_fault_of result ≢ Some Report }
     ensures plan { W.plan wire.new ≡ W.plan wire.old }
 {
     let mut none: Option<Vec<u8>> = None;
@@ -99,8 +99,9 @@ pub fn dump_reporting<W: Wire, O: Write, A: Allocator + Copy>(
         wire.new) }
     ensures due { IfOk result (λ bytes. (W.port wire.new).link.due ≡ Nothing) }
     ensures fault { IfErr result (DumpFails W.port W.plan W.lawful tries resumes addr count wire.old wire.new) }
-    ensures report { DumpReports W.port W.plan W.lawful tries resumes addr count (fault_of result) wire.old wire.new
-        (held O.contents report.old) (held O.contents report.new) }
+    ensures report { DumpReports W.port W.plan W.lawful tries resumes addr count (image_fault_of result) wire.old
+        wire.new
+        (run_file_held O.contents report.old) (run_file_held O.contents report.new) }
     ensures plan { W.plan wire.new ≡ W.plan wire.old }
 {
     if (1 << 32) - (addr as u64) < count {

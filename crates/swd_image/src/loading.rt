@@ -1,11 +1,11 @@
 //! Loads images.
 ghost use Rattle.std.specs.Prelude.{◌≡◌, ◌≢◌, ◌+◌, ◌%◌, ◌≤◌, ◌<◌, ◌^◌, IfErr, IfOk, OnOk, Some};
 ghost use Rattle.swd_port.specs.declared.wire.Due.TheVariants.{Nothing};
-ghost use Rattle.swd_run.specs.Records.{held};
+ghost use Rattle.swd_run.specs.Records.{run_file_held};
 ghost use Rattle.swd_image.specs.declared.fault.ImageFault.TheVariants.{Report};
-ghost use Rattle.swd_image.specs.Lists.{edge_list, edge_words, read_if, word_if};
+ghost use Rattle.swd_image.specs.Lists.{image_edge_list, image_edge_words, image_read_if, image_word_if};
 ghost use Rattle.swd_image.specs.Loads.{LoadFails, Loads};
-ghost use Rattle.swd_image.specs.Reports.{LoadReports, ReportsTo, fault_of};
+ghost use Rattle.swd_image.specs.Reports.{LoadReports, ReportsTo, image_fault_of};
 ghost use Rattle.swd_image.specs.Sessions.{FailsAs, ReadsAs};
 
 use crate::fault::ImageFault;
@@ -29,12 +29,14 @@ fn read_word<W: Wire, O: Write, A: Allocator + Copy>(
 ) -> Result<u32, ImageFault>
     requires aligned { at % 4 ≡ 0 }
     requires due { (W.port wire.old).link.due ≡ Nothing }
-    ensures read { IfOk result (λ word. ReadsAs W.port W.plan W.lawful tries resumes (read_if needed at)
-        (word_if needed word) wire.old wire.new) }
+    ensures read { IfOk result (λ word. ReadsAs W.port W.plan W.lawful tries resumes (image_read_if needed at)
+        (image_word_if needed word) wire.old wire.new) }
     ensures due { OnOk result ((W.port wire.new).link.due ≡ Nothing) }
-    ensures fault { IfErr result (FailsAs W.port W.plan W.lawful tries resumes (read_if needed at) wire.old wire.new) }
-    ensures report { ReportsTo W.port W.plan W.lawful tries resumes (read_if needed at) (fault_of result) wire.old
-        wire.new (held O.contents report.old) (held O.contents report.new) }
+    ensures fault { IfErr result (FailsAs W.port W.plan W.lawful tries resumes (image_read_if needed at) wire.old
+        wire.new) }
+    ensures report { ReportsTo W.port W.plan W.lawful tries resumes (image_read_if needed at) (image_fault_of result)
+        wire.old
+        wire.new (run_file_held O.contents report.old) (run_file_held O.contents report.new) }
     ensures plan { W.plan wire.new ≡ W.plan wire.old }
 {
     if !needed {
@@ -57,12 +59,14 @@ fn read_edges<W: Wire, O: Write, A: Allocator + Copy>(
 ) -> Result<Edges, ImageFault>
     requires range { addr + len ≤ 2 ^ 32 }
     requires due { (W.port wire.old).link.due ≡ Nothing }
-    ensures read { IfOk result (λ edges. ReadsAs W.port W.plan W.lawful tries resumes (edge_list addr len)
-        (edge_words addr len edges.head edges.tail) wire.old wire.new) }
+    ensures read { IfOk result (λ edges. ReadsAs W.port W.plan W.lawful tries resumes (image_edge_list addr len)
+        (image_edge_words addr len edges.head edges.tail) wire.old wire.new) }
     ensures due { OnOk result ((W.port wire.new).link.due ≡ Nothing) }
-    ensures fault { IfErr result (FailsAs W.port W.plan W.lawful tries resumes (edge_list addr len) wire.old wire.new) }
-    ensures report { ReportsTo W.port W.plan W.lawful tries resumes (edge_list addr len) (fault_of result) wire.old
-        wire.new (held O.contents report.old) (held O.contents report.new) }
+    ensures fault { IfErr result (FailsAs W.port W.plan W.lawful tries resumes (image_edge_list addr len) wire.old
+        wire.new) }
+    ensures report { ReportsTo W.port W.plan W.lawful tries resumes (image_edge_list addr len) (image_fault_of result)
+        wire.old
+        wire.new (run_file_held O.contents report.old) (run_file_held O.contents report.new) }
     ensures plan { W.plan wire.new ≡ W.plan wire.old }
 {
     let first = needs_head(addr, len);
@@ -108,7 +112,7 @@ pub fn load<W: Wire, A: Allocator + Copy>(
     ensures loads { OnOk result (Loads W.port W.plan W.lawful tries resumes addr bytes.now wire.old wire.new) }
     ensures due { OnOk result ((W.port wire.new).link.due ≡ Nothing) }
     ensures fault { IfErr result (LoadFails W.port W.plan W.lawful tries resumes addr bytes.now wire.old wire.new) }
-    ensures unreported { fault_of result ≢ Some Report }
+    ensures unreported { image_fault_of result ≢ Some Report }
     ensures plan { W.plan wire.new ≡ W.plan wire.old }
 {
     let mut none: Option<Vec<u8>> = None;
@@ -136,8 +140,8 @@ pub fn load_reporting<W: Wire, O: Write, A: Allocator + Copy>(
     ensures loads { OnOk result (Loads W.port W.plan W.lawful tries resumes addr bytes.now wire.old wire.new) }
     ensures due { OnOk result ((W.port wire.new).link.due ≡ Nothing) }
     ensures fault { IfErr result (LoadFails W.port W.plan W.lawful tries resumes addr bytes.now wire.old wire.new) }
-    ensures report { LoadReports W.port W.plan W.lawful tries resumes addr bytes.now (fault_of result) wire.old
-        wire.new (held O.contents report.old) (held O.contents report.new) }
+    ensures report { LoadReports W.port W.plan W.lawful tries resumes addr bytes.now (image_fault_of result) wire.old
+        wire.new (run_file_held O.contents report.old) (run_file_held O.contents report.new) }
     ensures plan { W.plan wire.new ≡ W.plan wire.old }
 {
     let len = bytes.len() as u64;

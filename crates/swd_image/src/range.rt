@@ -1,11 +1,12 @@
 //! Computes the words of a range of bytes.
 ghost use Rattle.std.specs.Prelude.{◌≡◌, ◌+◌, ◌≤◌, ◌^◌};
-ghost use Rattle.swd_image.specs.Bytes.{word_of};
-ghost use Rattle.swd_image.specs.Lists.{is_partial, last_word, needs_head, needs_tail, word_count};
+ghost use Rattle.swd_image.specs.Bytes.{image_word_of};
+ghost use Rattle.swd_image.specs.Lists.{is_partial_image_word, image_last_word, image_needs_head, image_needs_tail};
+ghost use Rattle.swd_image.specs.Lists.{image_word_count};
 
 /// Returns the address of the word that contains the byte at `at`.
 pub(crate) fn word_of(at: u32) -> u32
-    ensures { result ≡ word_of at }
+    ensures { result ≡ image_word_of at }
 {
     at - at % 4
 }
@@ -13,7 +14,7 @@ pub(crate) fn word_of(at: u32) -> u32
 /// Returns how many words contain a byte of the range.
 pub(crate) fn word_count(addr: u32, len: u64) -> u32
     requires { addr + len ≤ 2 ^ 32 }
-    ensures { result ≡ word_count addr len }
+    ensures { result ≡ image_word_count addr len }
 {
     if len == 0 {
         0
@@ -25,7 +26,7 @@ pub(crate) fn word_count(addr: u32, len: u64) -> u32
 /// Returns the address of the last word that contains a byte of the range.
 pub(crate) fn last_word(addr: u32, len: u64) -> u32
     requires { addr + len ≤ 2 ^ 32 }
-    ensures { result ≡ last_word addr len }
+    ensures { result ≡ image_last_word addr len }
 {
     word_of((addr as u64 + len).saturating_sub(1) as u32)
 }
@@ -33,7 +34,7 @@ pub(crate) fn last_word(addr: u32, len: u64) -> u32
 // Returns whether the word at `at` has a byte outside the range.
 fn is_partial(addr: u32, len: u64, at: u32) -> bool
     requires { addr + len ≤ 2 ^ 32 }
-    ensures { result ≡ is_partial addr len at }
+    ensures { result ≡ is_partial_image_word addr len at }
 {
     at < addr || addr as u64 + len < at as u64 + 4
 }
@@ -41,7 +42,7 @@ fn is_partial(addr: u32, len: u64, at: u32) -> bool
 /// Returns whether a load reads the first word before it writes.
 pub(crate) fn needs_head(addr: u32, len: u64) -> bool
     requires { addr + len ≤ 2 ^ 32 }
-    ensures { result ≡ needs_head addr len }
+    ensures { result ≡ image_needs_head addr len }
 {
     0 < len && is_partial(addr, len, word_of(addr))
 }
@@ -49,7 +50,7 @@ pub(crate) fn needs_head(addr: u32, len: u64) -> bool
 /// Returns whether a load reads the last word before it writes.
 pub(crate) fn needs_tail(addr: u32, len: u64) -> bool
     requires { addr + len ≤ 2 ^ 32 }
-    ensures { result ≡ needs_tail addr len }
+    ensures { result ≡ image_needs_tail addr len }
 {
     let last = last_word(addr, len);
     word_of(addr) < last && is_partial(addr, len, last)

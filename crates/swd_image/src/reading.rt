@@ -1,12 +1,12 @@
 //! Reads a range of words.
 ghost use Rattle.std.specs.Prelude.{◌≡◌, ◌+◌, ◌*◌, ◌%◌, ◌≤◌, ◌^◌, ◌++◌, [], IfErr, IfOk, OnOk, Some};
-ghost use Rattle.swd_port.specs.PlainMemory.{reads};
+ghost use Rattle.swd_port.specs.PlainMemory.{plain_reads};
 ghost use Rattle.swd_port.specs.declared.wire.Due.TheVariants.{Nothing};
-ghost use Rattle.swd_script.specs.Readers.{listed};
+ghost use Rattle.swd_script.specs.Readers.{script_batch_listed};
 ghost use Rattle.swd_image.specs.declared.fault.ImageFault.TheVariants.{Memory};
-ghost use Rattle.swd_run.specs.Records.{held};
-ghost use Rattle.swd_image.specs.Reports.{ReportsTo, fault_of};
-ghost use Rattle.swd_image.specs.Sessions.{FailsAs, ReadsAs, word_told, words_told};
+ghost use Rattle.swd_run.specs.Records.{run_file_held};
+ghost use Rattle.swd_image.specs.Reports.{ReportsTo, image_fault_of};
+ghost use Rattle.swd_image.specs.Sessions.{FailsAs, ReadsAs, image_word_read, image_words_read};
 
 use crate::calls::run_call;
 use crate::fault::ImageFault;
@@ -18,8 +18,8 @@ use swd_script::Batch;
 // Returns the call that reads `count` words from `at` on as a block.
 fn block_at<A: Allocator + Copy>(alloc: A, at: u32, count: u32) -> Result<Batch<A>, ImageFault>
     requires { at + 4 * count ≤ 2 ^ 32 }
-    ensures batch { IfOk result (λ batch. listed batch ≡ record {
-      accesses = reads at count;
+    ensures batch { IfOk result (λ batch. script_batch_listed batch ≡ record {
+      accesses = plain_reads at count;
       block = Some at;
       expected = [];
       until = None;
@@ -42,7 +42,7 @@ fn block_at<A: Allocator + Copy>(alloc: A, at: u32, count: u32) -> Result<Batch<
 
 // Returns the word of an answer, 0 if it has no word.
 fn word_told(answer: Answer) -> u32
-    ensures { result ≡ word_told answer }
+    ensures { result ≡ image_word_read answer }
 {
     match answer {
         Answer::Value(word) => word,
@@ -52,7 +52,7 @@ fn word_told(answer: Answer) -> u32
 
 // Appends the words of the answers.
 fn push_words<A: Allocator>(words: &mut Vec<u32, A>, answers: &[Answer]) -> Result<(), ImageFault>
-    ensures pushed { OnOk result (words.new.items ≡ words.old.items ++ words_told answers.now) }
+    ensures pushed { OnOk result (words.new.items ≡ words.old.items ++ image_words_read answers.now) }
     ensures fault { IfErr result (λ fault. fault ≡ Memory) }
 {
     for answer in answers {
@@ -77,12 +77,15 @@ pub(crate) fn read_words<W: Wire, O: Write, A: Allocator + Copy>(
     requires aligned { first % 4 ≡ 0 }
     requires range { first + 4 * count ≤ 2 ^ 32 }
     requires due { (W.port wire.old).link.due ≡ Nothing }
-    ensures read { IfOk result (λ words. ReadsAs W.port W.plan W.lawful tries resumes (reads first count) words.items
+    ensures read { IfOk result (λ words. ReadsAs W.port W.plan W.lawful tries resumes (plain_reads first count)
+        words.items
         wire.old wire.new) }
     ensures due { IfOk result (λ words. (W.port wire.new).link.due ≡ Nothing) }
-    ensures fault { IfErr result (FailsAs W.port W.plan W.lawful tries resumes (reads first count) wire.old wire.new) }
-    ensures report { ReportsTo W.port W.plan W.lawful tries resumes (reads first count) (fault_of result) wire.old
-        wire.new (held O.contents report.old) (held O.contents report.new) }
+    ensures fault { IfErr result (FailsAs W.port W.plan W.lawful tries resumes (plain_reads first count) wire.old
+        wire.new) }
+    ensures report { ReportsTo W.port W.plan W.lawful tries resumes (plain_reads first count) (image_fault_of result)
+        wire.old
+        wire.new (run_file_held O.contents report.old) (run_file_held O.contents report.new) }
     ensures plan { W.plan wire.new ≡ W.plan wire.old }
 {
     let mut words = Vec::new(alloc);

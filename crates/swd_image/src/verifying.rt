@@ -1,10 +1,10 @@
 //! Verifies an image: compares a target's memory with it.
 ghost use Rattle.std.specs.Prelude.{◌≡◌, ◌≢◌, ◌+◌, ◌≤◌, ◌^◌, IfErr, IfOk, Some, length};
 ghost use Rattle.swd_port.specs.declared.wire.Due.TheVariants.{Nothing};
-ghost use Rattle.swd_run.specs.Records.{held};
+ghost use Rattle.swd_run.specs.Records.{run_file_held};
 ghost use Rattle.swd_image.specs.declared.fault.ImageFault.TheVariants.{Report};
-ghost use Rattle.swd_image.specs.Dumps.{Compares, DumpFails, Verifies};
-ghost use Rattle.swd_image.specs.Reports.{DumpReports, fault_of};
+ghost use Rattle.swd_image.specs.Dumps.{ComparesImage, DumpFails, VerifiesImage};
+ghost use Rattle.swd_image.specs.Reports.{DumpReports, image_fault_of};
 
 use crate::dumping::dump_reporting;
 use crate::fault::ImageFault;
@@ -27,7 +27,7 @@ pub struct ByteDifference {
 fn first_difference(addr: u32, bytes: &[u8], found: &[u8]) -> Option<ByteDifference>
     requires same { length found.now ≡ length bytes.now }
     requires range { addr + length bytes.now ≤ 2 ^ 32 }
-    ensures { Compares addr bytes.now found.now result }
+    ensures { ComparesImage addr bytes.now found.now result }
 {
     for (index, expected) in bytes.iter().enumerate() {
         if found[index] != *expected {
@@ -58,12 +58,12 @@ pub fn verify<W: Wire, A: Allocator + Copy>(
     resumes: u32,
 ) -> Result<Option<ByteDifference>, ImageFault>
     requires { (W.port wire.old).link.due ≡ Nothing }
-    ensures verifies { IfOk result (λ difference. Verifies W.port W.plan W.lawful tries resumes addr bytes.now
+    ensures verifies { IfOk result (λ difference. VerifiesImage W.port W.plan W.lawful tries resumes addr bytes.now
         difference wire.old wire.new) }
     ensures due { IfOk result (λ difference. (W.port wire.new).link.due ≡ Nothing) }
     ensures fault { IfErr result (DumpFails W.port W.plan W.lawful tries resumes addr (length bytes.now) wire.old
         wire.new) }
-    ensures unreported { fault_of result ≢ Some Report }
+    ensures unreported { image_fault_of result ≢ Some Report }
     ensures plan { W.plan wire.new ≡ W.plan wire.old }
 {
     let mut none: Option<Vec<u8>> = None;
@@ -86,13 +86,13 @@ pub fn verify_reporting<W: Wire, O: Write, A: Allocator + Copy>(
     report: &mut Option<O>,
 ) -> Result<Option<ByteDifference>, ImageFault>
     requires { (W.port wire.old).link.due ≡ Nothing }
-    ensures verifies { IfOk result (λ difference. Verifies W.port W.plan W.lawful tries resumes addr bytes.now
+    ensures verifies { IfOk result (λ difference. VerifiesImage W.port W.plan W.lawful tries resumes addr bytes.now
         difference wire.old wire.new) }
     ensures due { IfOk result (λ difference. (W.port wire.new).link.due ≡ Nothing) }
     ensures fault { IfErr result (DumpFails W.port W.plan W.lawful tries resumes addr (length bytes.now) wire.old
         wire.new) }
-    ensures report { DumpReports W.port W.plan W.lawful tries resumes addr (length bytes.now) (fault_of result)
-        wire.old wire.new (held O.contents report.old) (held O.contents report.new) }
+    ensures report { DumpReports W.port W.plan W.lawful tries resumes addr (length bytes.now) (image_fault_of result)
+        wire.old wire.new (run_file_held O.contents report.old) (run_file_held O.contents report.new) }
     ensures plan { W.plan wire.new ≡ W.plan wire.old }
 {
     let found = dump_reporting(

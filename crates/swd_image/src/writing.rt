@@ -1,12 +1,12 @@
 //! Writes the words of an image.
 ghost use Rattle.std.specs.Prelude.{◌≡◌, ◌+◌, ◌*◌, ◌%◌, ◌≤◌, ◌^◌, [], IfErr, IfOk, None, OnOk};
 ghost use Rattle.swd_port.specs.declared.wire.Due.TheVariants.{Nothing};
-ghost use Rattle.swd_script.specs.Readers.{listed};
+ghost use Rattle.swd_script.specs.Readers.{script_batch_listed};
 ghost use Rattle.swd_image.specs.declared.fault.ImageFault.TheVariants.{Memory};
 ghost use Rattle.swd_image.specs.Images.{image_byte};
-ghost use Rattle.swd_image.specs.Lists.{edge_word, loaded_word, writes};
-ghost use Rattle.swd_run.specs.Records.{held};
-ghost use Rattle.swd_image.specs.Reports.{ReportsTo, fault_of};
+ghost use Rattle.swd_image.specs.Lists.{image_edge_word, image_loaded_word, image_writes};
+ghost use Rattle.swd_run.specs.Records.{run_file_held};
+ghost use Rattle.swd_image.specs.Reports.{ReportsTo, image_fault_of};
 ghost use Rattle.swd_image.specs.Sessions.{FailsAs, MadeAll};
 
 use crate::calls::run_call;
@@ -37,7 +37,7 @@ fn image_byte(addr: u32, bytes: &[u8], word: u32, at: u32) -> u8
 impl Edges {
     // Returns the one at a word's address.
     fn word(self, addr: u32, at: u32) -> u32
-        ensures { result ≡ edge_word addr self.head self.tail at }
+        ensures { result ≡ image_edge_word addr self.head self.tail at }
     {
         if addr < at { self.tail } else { self.head }
     }
@@ -46,7 +46,7 @@ impl Edges {
 // Returns the word at `at` after a load over these partial words.
 fn loaded_word(addr: u32, bytes: &[u8], edges: Edges, at: u32) -> u32
     requires { at % 4 ≡ 0 }
-    ensures { result ≡ loaded_word addr bytes.now edges.head edges.tail at }
+    ensures { result ≡ image_loaded_word addr bytes.now edges.head edges.tail at }
 {
     let word = edges.word(addr, at);
     u32::from_le_bytes([
@@ -68,8 +68,8 @@ fn writes_at<A: Allocator + Copy>(
 ) -> Result<Batch<A>, ImageFault>
     requires aligned { at % 4 ≡ 0 }
     requires range { at + 4 * count ≤ 2 ^ 32 }
-    ensures batch { IfOk result (λ batch. listed batch ≡ record {
-      accesses = writes (loaded_word addr bytes.now edges.head edges.tail) at count;
+    ensures batch { IfOk result (λ batch. script_batch_listed batch ≡ record {
+      accesses = image_writes (image_loaded_word addr bytes.now edges.head edges.tail) at count;
       block = None;
       expected = [];
       until = None;
@@ -112,13 +112,13 @@ pub(crate) fn write_words<W: Wire, O: Write, A: Allocator + Copy>(
     requires range { first + 4 * count ≤ 2 ^ 32 }
     requires due { (W.port wire.old).link.due ≡ Nothing }
     ensures made { OnOk result (MadeAll W.port W.plan W.lawful tries resumes
-        (writes (loaded_word addr bytes.now edges.head edges.tail) first count) wire.old wire.new) }
+        (image_writes (image_loaded_word addr bytes.now edges.head edges.tail) first count) wire.old wire.new) }
     ensures due { OnOk result ((W.port wire.new).link.due ≡ Nothing) }
     ensures fault { IfErr result (FailsAs W.port W.plan W.lawful tries resumes
-        (writes (loaded_word addr bytes.now edges.head edges.tail) first count) wire.old wire.new) }
+        (image_writes (image_loaded_word addr bytes.now edges.head edges.tail) first count) wire.old wire.new) }
     ensures report { ReportsTo W.port W.plan W.lawful tries resumes
-        (writes (loaded_word addr bytes.now edges.head edges.tail) first count) (fault_of result) wire.old wire.new
-        (held O.contents report.old) (held O.contents report.new) }
+        (image_writes (image_loaded_word addr bytes.now edges.head edges.tail) first count) (image_fault_of result) wire.old wire.new
+        (run_file_held O.contents report.old) (run_file_held O.contents report.new) }
     ensures plan { W.plan wire.new ≡ W.plan wire.old }
 {
     let mut done = 0;

@@ -8,20 +8,21 @@ use Rattle.swd_port.specs.declared.access.Access.{Access}
 use Rattle.swd_port.specs.declared.access.Access.TheVariants.{Read, Write}
 use Rattle.swd_port.specs.declared.access.Answer.{Answer}
 use Rattle.swd_port.specs.declared.mark.Mark.{Mark}
-use Rattle.swd_port.specs.PlainMemory.{PlainMemory, address, done, plain_after, succeeds_at}
+use Rattle.swd_port.specs.PlainMemory.{PlainMemory, plain_address, plain_done, plain_after, succeeds_at}
 use Rattle.swd_port.specs.Port.{Port}
-use Rattle.swd_port.proofs.MapLemmas.{get_other, get_same}
-use Rattle.swd_host.specs.Chains.{Chain, first, again}
+use Rattle.swd_port.proofs.MapLemmas.{port_map_get_other, port_map_get_same}
+use Rattle.swd_host.specs.Chains.{ResumeChain, first, again}
 use Rattle.swd_host.specs.Plain.{memory_after}
-use Rattle.swd_host.specs.Reports.{IsAtRest, Told}
-use Rattle.swd_run.specs.Sessions.{most_begun}
+use Rattle.swd_host.specs.Reports.{IsAtRest, HostReport}
+use Rattle.swd_run.specs.Sessions.{batch_limit}
 use Rattle.swd_run.proofs.WentLemmas.{rests, tell_of}
 use Rattle.swd_image.specs.declared.verifying.ByteDifference.{ByteDifference}
-use Rattle.swd_image.specs.Lists.{edge_list, load_list}
+use Rattle.swd_image.specs.Lists.{image_edge_list, image_load_list}
 use Rattle.swd_image.specs.Loads.{Loads}
 use Rattle.swd_image.specs.Sessions.{Calls, none, more}
-use Rattle.swd_image_files.specs.Images.{Bytes}
-use Rattle.swd_image_ends.specs.Memories.{AnyWire, HaveSameAddresses, HaveSameWords, LoadsMemory, VerifiesMemory}
+use Rattle.swd_image_files.specs.Images.{ImageFileBytes}
+use Rattle.swd_image_ends.specs.Memories.{AnyImageWire, ImageEndSameAddresses, ImageEndSameWords, LoadsSimulatedMemory}
+use Rattle.swd_image_ends.specs.Memories.{VerifiesSimulatedMemory}
 use Rattle.swd_image_ends.specs.Pieces.{LoadsAll, LoadsEach, VerifiesAll, VerifiesEach}
 
 -- ---- one access
@@ -30,36 +31,37 @@ and_left : (a b : Bool) → (a && b) ≡ true → a ≡ true
 and_left true b e = refl
 and_left false b e = absurd cc
 
-changed : (a : Access) (p : PlainMemory) → succeeds_at (address a) p ≡ true → plain_after a p ≡ done a p
+changed : (a : Access) (p : PlainMemory) → succeeds_at (plain_address a) p ≡ true → plain_after a p ≡ plain_done a p
 changed a p e = rw e refl
 
-unchanged : (a : Access) (p : PlainMemory) → succeeds_at (address a) p ≡ false → plain_after a p ≡ p
+unchanged : (a : Access) (p : PlainMemory) → succeeds_at (plain_address a) p ≡ false → plain_after a p ≡ p
 unchanged a p e = rw e refl
 
-same_done : (a : Access) (p : PlainMemory) → succeeds_at (address a) p ≡ true → HaveSameAddresses p (done a p)
+same_done : (a : Access) (p : PlainMemory) → succeeds_at (plain_address a) p ≡ true
+    → ImageEndSameAddresses p (plain_done a p)
 same_done (Read at) p e q = refl
 same_done (Write at word) p e q = elim (cases_eq q at) [
-  | inl here ↦ ap (λ o. is_some o) (get_same p.words at word q here)
+  | inl here ↦ ap (λ o. is_some o) (port_map_get_same p.words at word q here)
       ∙ sym (ap (λ k. is_some (get p.words k)) here ∙ and_left (is_some (get p.words at)) _ e)
-  | inr beside ↦ ap (λ o. is_some o) (get_other p.words at word q beside)
+  | inr beside ↦ ap (λ o. is_some o) (port_map_get_other p.words at word q beside)
 ]
 
-same_after : (a : Access) (p : PlainMemory) → HaveSameAddresses p (plain_after a p)
+same_after : (a : Access) (p : PlainMemory) → ImageEndSameAddresses p (plain_after a p)
 same_after a p q =
-    elim (succeeds_at (address a) p) as (λ b. succeeds_at (address a) p ≡ b
+    elim (succeeds_at (plain_address a) p) as (λ b. succeeds_at (plain_address a) p ≡ b
     → is_some (get (plain_after a p).words q) ≡ is_some (get p.words q)) [
       | true ↦ λ e. ap (λ m. is_some (get m.words q)) (changed a p e) ∙ same_done a p e q
       | false ↦ λ e. ap (λ m. is_some (get m.words q)) (unchanged a p e)
     ] refl
 
-same_list : (list : List Access) (p : PlainMemory) → HaveSameAddresses p (memory_after list p)
+same_list : (list : List Access) (p : PlainMemory) → ImageEndSameAddresses p (memory_after list p)
 same_list [] p q = refl
 same_list (a ∷ list) p q = same_list list (plain_after a p) q ∙ same_after a p q
 
 -- ---- a call, resumed
 
-same_chain : (limit : ℕ) (list : List Access) (m : PlainMemory) (calls : List Told) (told : Told) (now : PlainMemory)
-    → Chain limit list m calls told now → HaveSameAddresses m now
+same_chain : (limit : ℕ) (list : List Access) (m : PlainMemory) (calls : List HostReport) (told : HostReport)
+    (now : PlainMemory) → ResumeChain limit list m calls told now → ImageEndSameAddresses m now
 same_chain limit list m calls told now (first fits) q =
     let k = fits.0 in
     let j = fits.1.memory.0 in
@@ -77,55 +79,55 @@ same_chain limit list m calls told now
 module _ {W : Type 0} (port : W → Port) (plan : W → List Mark) (tries resumes : ℕ) where
   record Keeps (s t : W) : Type 0 where
     at_rest : IsAtRest (port t)
-    addresses : HaveSameAddresses (port s).target.memory (port t).target.memory
+    addresses : ImageEndSameAddresses (port s).target.memory (port t).target.memory
 
   same_calls : (s t : W) (list : List Access) (answers : List Answer) → IsAtRest (port s)
-      → Calls port plan AnyWire tries resumes s list answers t → Keeps s t
+      → Calls port plan AnyImageWire tries resumes s list answers t → Keeps s t
   same_calls s t list answers rest none = record { at_rest = rest; addresses = λ q. refl }
   same_calls s t list answers rest
-      (more {list = xs} {answers = vs} {t = r} {u = v} {batch = batch} {run = run} before call all done) =
+      (more {list = xs} {answers = vs} {t = r} {u = v} {batch = batch} {run = run} before call all plain_done) =
       let h = same_calls s r xs vs rest before in
-      let n : ℕ = most_begun batch in
+      let n : ℕ = batch_limit batch in
       let went = call.goes.went in
       let turns =
-      (tell_of port plan AnyWire n batch.accesses tries r h.at_rest run.stops run.told v went tt).turns in
+      (tell_of port plan AnyImageWire n batch.accesses tries r h.at_rest run.stops run.told v went tt).turns in
       let same = same_chain n batch.accesses (port r).target.memory turns.calls run.told turns.memory turns.chain in
       record {
-        at_rest = rests port plan AnyWire n batch.accesses tries r h.at_rest run.stops run.told v went tt all;
+        at_rest = rests port plan AnyImageWire n batch.accesses tries r h.at_rest run.stops run.told v went tt all;
         addresses = λ q. ap (λ x. is_some (get x.words q)) (sym (turns.left all)) ∙ same q ∙ h.addresses q;
       }
 
   same_load : (addr : ℕ) (bytes : List ℕ) (s t : W) → IsAtRest (port s)
-      → Loads port plan AnyWire tries resumes addr bytes s t → Keeps s t
+      → Loads port plan AnyImageWire tries resumes addr bytes s t → Keeps s t
   same_load addr bytes s t rest h =
-      let edges = same_calls s h.reached (edge_list addr (length bytes)) h.edges.answers rest h.edges.calls in
-      let writes = same_calls h.reached t (load_list addr bytes h.head h.tail) h.writes.answers edges.at_rest
+      let edges = same_calls s h.reached (image_edge_list addr (length bytes)) h.edges.answers rest h.edges.calls in
+      let writes = same_calls h.reached t (image_load_list addr bytes h.head h.tail) h.writes.answers edges.at_rest
       h.writes.calls in
       record {
         at_rest = writes.at_rest;
         addresses = λ q. writes.addresses q ∙ edges.addresses q;
       }
 
-  same_each : (pieces : List Bytes) (s u : W) → IsAtRest (port s)
-      → LoadsEach port plan AnyWire tries resumes pieces s u
-      → HaveSameAddresses (port s).target.memory (port u).target.memory
+  same_each : (pieces : List ImageFileBytes) (s u : W) → IsAtRest (port s)
+      → LoadsEach port plan AnyImageWire tries resumes pieces s u
+      → ImageEndSameAddresses (port s).target.memory (port u).target.memory
   same_each [] s u rest h q = ap (λ w. is_some (get (port w).target.memory.words q)) h
   same_each (piece ∷ rest) s u at_rest h q =
       let one = same_load piece.addr piece.bytes s h.0 at_rest h.1 in
       same_each rest h.0 u one.at_rest h.2 q ∙ one.addresses q
 
   -- what a load of pieces over such a wire leaves of the memory
-  pub loaded_there : (pieces : List Bytes) (s u : W) → IsAtRest (port s)
-      → LoadsAll port plan AnyWire tries resumes pieces s u
-      → LoadsMemory pieces (port s).target.memory (port u).target.memory
+  pub loaded_there : (pieces : List ImageFileBytes) (s u : W) → IsAtRest (port s)
+      → LoadsAll port plan AnyImageWire tries resumes pieces s u
+      → LoadsSimulatedMemory pieces (port s).target.memory (port u).target.memory
   loaded_there pieces s u rest h = record {
     loaded = (h.memory tt rest).0;
     addresses = same_each pieces s u rest h.each;
   }
 
-  same_words : (pieces : List Bytes) (difference : Option ByteDifference) (s u : W) → IsAtRest (port s)
-      → VerifiesEach port plan AnyWire tries resumes pieces difference s u
-      → HaveSameWords (port s).target.memory (port u).target.memory
+  same_words : (pieces : List ImageFileBytes) (difference : Option ByteDifference) (s u : W) → IsAtRest (port s)
+      → VerifiesEach port plan AnyImageWire tries resumes pieces difference s u
+      → ImageEndSameWords (port s).target.memory (port u).target.memory
   same_words [] difference s u rest h q = ap (λ w. get (port w).target.memory.words q) h.1
   same_words (piece ∷ rest) difference s u at_rest (inl here) q = here.2.dumps.same tt at_rest q
   same_words (piece ∷ rest) difference s u at_rest (inr later) q =
@@ -133,15 +135,15 @@ module _ {W : Type 0} (port : W → Port) (plan : W → List Mark) (tries resume
       same_words rest difference later.0 u (h.rests tt at_rest) later.2 q ∙ h.same tt at_rest q
 
   -- and a verification
-  pub verified_there : (pieces : List Bytes) (difference : Option ByteDifference) (s u : W) → IsAtRest (port s)
-      → VerifiesAll port plan AnyWire tries resumes pieces difference s u
-      → VerifiesMemory pieces difference (port s).target.memory (port u).target.memory
+  pub verified_there : (pieces : List ImageFileBytes) (difference : Option ByteDifference) (s u : W) → IsAtRest (port s)
+      → VerifiesAll port plan AnyImageWire tries resumes pieces difference s u
+      → VerifiesSimulatedMemory pieces difference (port s).target.memory (port u).target.memory
   verified_there pieces difference s u rest h = record {
     compared = h.memory tt rest;
     words = same_words pieces difference s u rest h.each;
   }
 
 -- what follows from a result that is known of it
-pub on_ok : {V E : Type 0} (result : Result V E) (P Q : Type 0) → (P → Q) → OnOk result P → OnOk result Q
-on_ok (Ok value) P Q so h = so h
-on_ok (Err error) P Q so h = tt
+pub image_end_on_ok : {V E : Type 0} (result : Result V E) (P Q : Type 0) → (P → Q) → OnOk result P → OnOk result Q
+image_end_on_ok (Ok value) P Q so h = so h
+image_end_on_ok (Err error) P Q so h = tt

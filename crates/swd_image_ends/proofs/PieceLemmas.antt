@@ -10,34 +10,35 @@ use Rattle.swd_port.specs.Port.{Port}
 use Rattle.swd_host.specs.Reports.{IsAtRest}
 use Rattle.swd_image.specs.declared.fault.ImageFault.{ImageFault}
 use Rattle.swd_image.specs.declared.verifying.ByteDifference.{ByteDifference}
-use Rattle.swd_image.specs.Bytes.{byte_at, byte_in, bytes_at, word_of}
-use Rattle.swd_image.specs.Dumps.{Compares, DumpFails, Verifies}
-use Rattle.swd_image.specs.Lists.{dump_list, edge_list, load_list}
+use Rattle.swd_image.specs.Bytes.{image_byte_at, image_byte_in, image_bytes_at, image_word_of}
+use Rattle.swd_image.specs.Dumps.{ComparesImage, DumpFails, VerifiesImage}
+use Rattle.swd_image.specs.Lists.{image_dump_list, image_edge_list, image_load_list}
 use Rattle.swd_image.specs.Loads.{LoadFails, Loads}
 use Rattle.swd_image.proofs.CallLemmas.{calls_law}
-use Rattle.swd_image_files.specs.Images.{Bytes}
-use Rattle.swd_image_ends.specs.Pieces.{AreLoaded, ComparesEach, IsBeside, LoadFailsAt, LoadsAll, LoadsEach}
-use Rattle.swd_image_ends.specs.Pieces.{VerifiesAll, VerifiesEach, VerifyFailsAt, pieces_byte}
+use Rattle.swd_image_files.specs.Images.{ImageFileBytes}
+use Rattle.swd_image_ends.specs.Pieces.{ArePiecesLoaded, ComparesEachPiece, IsBesideLoadedPiece, LoadFailsAt, LoadsAll}
+use Rattle.swd_image_ends.specs.Pieces.{LoadsEach, VerifiesAll, VerifiesEach, VerifyFailsAt, loaded_pieces_byte}
 
 -- memories of the same words have the same bytes
 bytes_same : (m n : PlainMemory) → ((q : ℕ) → get n.words q ≡ get m.words q) → (at count : ℕ)
-    → bytes_at n at count ≡ bytes_at m at count
+    → image_bytes_at n at count ≡ image_bytes_at m at count
 bytes_same m n same at zero = refl
 bytes_same m n same at (suc count) =
-    ap₂ (λ b l. b ∷ l) (ap (λ o. byte_in (unwrap_or o 0) at) (same (word_of at))) (bytes_same m n same (at + 1) count)
+    ap₂ (λ b l. b ∷ l) (ap (λ o. image_byte_in (unwrap_or o 0) at) (same (image_word_of at)))
+    (bytes_same m n same (at + 1) count)
 
 -- and so the same comparisons
-compares_same : (m n : PlainMemory) → ((q : ℕ) → get n.words q ≡ get m.words q) → (pieces : List Bytes)
-    (difference : Option ByteDifference) → ComparesEach n pieces difference → ComparesEach m pieces difference
+compares_same : (m n : PlainMemory) → ((q : ℕ) → get n.words q ≡ get m.words q) → (pieces : List ImageFileBytes)
+    (difference : Option ByteDifference) → ComparesEachPiece n pieces difference → ComparesEachPiece m pieces difference
 compares_same m n same [] difference h = h
 compares_same m n same (piece ∷ rest) difference (inl first) = inl (
   first.0,
   first.1,
-  subst (λ l. Compares piece.addr piece.bytes l (Some first.0))
+  subst (λ l. ComparesImage piece.addr piece.bytes l (Some first.0))
       (bytes_same m n same piece.addr (length piece.bytes)) first.2,
 )
 compares_same m n same (piece ∷ rest) difference (inr both) = inr (
-  subst (λ l. Compares piece.addr piece.bytes l None) (bytes_same m n same piece.addr (length piece.bytes)) both.0,
+  subst (λ l. ComparesImage piece.addr piece.bytes l None) (bytes_same m n same piece.addr (length piece.bytes)) both.0,
   compares_same m n same rest difference both.1,
 )
 
@@ -46,22 +47,23 @@ module _ {W : Type 0} (port : W → Port) (plan : W → List Mark) (lawful : W �
   loads_law : (addr : ℕ) (bytes : List ℕ) (s t : W) → Loads port plan lawful tries resumes addr bytes s t
       → lawful t → lawful s
   loads_law addr bytes s t h law =
-      calls_law port plan lawful tries resumes s h.reached (edge_list addr (length bytes)) h.edges.answers h.edges.calls
-      (calls_law port plan lawful tries resumes h.reached t (load_list addr bytes h.head h.tail) h.writes.answers
-      h.writes.calls law)
+      calls_law port plan lawful tries resumes s h.reached (image_edge_list addr (length bytes)) h.edges.answers
+      h.edges.calls (calls_law port plan lawful tries resumes h.reached t (image_load_list addr bytes h.head h.tail)
+      h.writes.answers h.writes.calls law)
 
-  each_law : (pieces : List Bytes) (s u : W) → LoadsEach port plan lawful tries resumes pieces s u → lawful u → lawful s
+  each_law : (pieces : List ImageFileBytes) (s u : W) → LoadsEach port plan lawful tries resumes pieces s u → lawful u
+      → lawful s
   each_law [] s u h law = subst lawful h law
   each_law (piece ∷ rest) s u h law =
       loads_law piece.addr piece.bytes s h.0 h.1 (each_law rest h.0 u h.2 law)
 
   -- the memory after such loads
-  pub each_memory : (pieces : List Bytes) (s u : W) → LoadsEach port plan lawful tries resumes pieces s u → lawful u
-      → IsAtRest (port s)
-      → AreLoaded pieces (port s).target.memory (port u).target.memory × IsAtRest (port u)
+  pub each_memory : (pieces : List ImageFileBytes) (s u : W) → LoadsEach port plan lawful tries resumes pieces s u
+      → lawful u → IsAtRest (port s)
+      → ArePiecesLoaded pieces (port s).target.memory (port u).target.memory × IsAtRest (port u)
   each_memory [] s u h law at_rest = (
     record {
-      bytes_are = λ at. ap (λ w. byte_at (port w).target.memory at) h;
+      bytes_are = λ at. ap (λ w. image_byte_at (port w).target.memory at) h;
       others = λ at all. ap (λ w. get (port w).target.memory.words at) h;
     },
     subst (λ w. IsAtRest (port w)) (sym h) at_rest,
@@ -71,21 +73,21 @@ module _ {W : Type 0} (port : W → Port) (plan : W → List Mark) (lawful : W �
       let first = h.1.memory (each_law rest t u h.2 law) at_rest in
       let later = each_memory rest t u h.2 law first.1 in (
         record {
-          bytes_are = λ at. later.0.bytes_are at ∙ ap (λ b. pieces_byte rest b at) (first.0.bytes_are at);
-          others = λ at all. later.0.others at (All-tail (IsBeside at) piece rest all)
-              ∙ first.0.others at (All-head (IsBeside at) piece rest all);
+          bytes_are = λ at. later.0.bytes_are at ∙ ap (λ b. loaded_pieces_byte rest b at) (first.0.bytes_are at);
+          others = λ at all. later.0.others at (All-tail (IsBesideLoadedPiece at) piece rest all)
+              ∙ first.0.others at (All-head (IsBesideLoadedPiece at) piece rest all);
         },
         later.1,
       )
 
   -- a wire that is lawful after a verification was so before it
   verifies_law : (addr : ℕ) (bytes : List ℕ) (difference : Option ByteDifference) (s t : W)
-      → Verifies port plan lawful tries resumes addr bytes difference s t → lawful t → lawful s
+      → VerifiesImage port plan lawful tries resumes addr bytes difference s t → lawful t → lawful s
   verifies_law addr bytes difference s t h law =
-      calls_law port plan lawful tries resumes s t (dump_list addr (length bytes)) h.dumps.reads.answers
+      calls_law port plan lawful tries resumes s t (image_dump_list addr (length bytes)) h.dumps.reads.answers
       h.dumps.reads.calls law
 
-  each_verified_law : (pieces : List Bytes) (difference : Option ByteDifference) (s u : W)
+  each_verified_law : (pieces : List ImageFileBytes) (difference : Option ByteDifference) (s u : W)
       → VerifiesEach port plan lawful tries resumes pieces difference s u → lawful u → lawful s
   each_verified_law [] difference s u h law = subst lawful h.1 law
   each_verified_law (piece ∷ rest) difference s u (inl first) law =
@@ -95,9 +97,9 @@ module _ {W : Type 0} (port : W → Port) (plan : W → List Mark) (lawful : W �
       (each_verified_law rest difference later.0 u later.2 law)
 
   -- the result of such verifications holds for the memory
-  pub each_compared : (pieces : List Bytes) (difference : Option ByteDifference) (s u : W)
+  pub each_compared : (pieces : List ImageFileBytes) (difference : Option ByteDifference) (s u : W)
       → VerifiesEach port plan lawful tries resumes pieces difference s u → lawful u → IsAtRest (port s)
-      → ComparesEach (port s).target.memory pieces difference
+      → ComparesEachPiece (port s).target.memory pieces difference
   each_compared [] difference s u h law at_rest = h.0
   each_compared (piece ∷ rest) difference s u (inl first) law at_rest =
       inl (first.0, first.1, first.2.memory law at_rest)
@@ -111,21 +113,21 @@ module _ {W : Type 0} (port : W → Port) (plan : W → List Mark) (lawful : W �
       )
 
   -- What is left of a load, from the state that is reached, makes the whole one, from its start.
-  pub record LoadsOn (left all : List Bytes) (s now : W) : Type 0 where
+  pub record LoadsOn (left all : List ImageFileBytes) (s now : W) : Type 0 where
     pub loads : (u : W) → LoadsEach port plan lawful tries resumes left now u
         → LoadsEach port plan lawful tries resumes all s u
     pub fails : (u : W) (fault : ImageFault) → LoadFailsAt port plan lawful tries resumes left now u fault
         → LoadFailsAt port plan lawful tries resumes all s u fault
 
   -- at its start
-  pub load_begins : (all left : List Bytes) (s : W) → left ≡ all → LoadsOn left all s s
+  pub load_begins : (all left : List ImageFileBytes) (s : W) → left ≡ all → LoadsOn left all s s
   load_begins all left s is = record {
     loads = λ u h. subst (λ l. LoadsEach port plan lawful tries resumes l s u) is h;
     fails = λ u fault h. subst (λ l. LoadFailsAt port plan lawful tries resumes l s u fault) is h;
   }
 
   -- after a further piece
-  pub load_next : (left all next : List Bytes) (piece : Bytes) (s now t : W) → left ≡ piece ∷ next
+  pub load_next : (left all next : List ImageFileBytes) (piece : ImageFileBytes) (s now t : W) → left ≡ piece ∷ next
       → LoadsOn left all s now → Loads port plan lawful tries resumes piece.addr piece.bytes now t
       → LoadsOn next all s t
   load_next left all next piece s now t is on loads = record {
@@ -136,7 +138,7 @@ module _ {W : Type 0} (port : W → Port) (plan : W → List Mark) (lawful : W �
   }
 
   -- at a piece that fails
-  pub load_failed : (left all next : List Bytes) (piece : Bytes) (s now t : W) (fault : ImageFault)
+  pub load_failed : (left all next : List ImageFileBytes) (piece : ImageFileBytes) (s now t : W) (fault : ImageFault)
       → left ≡ piece ∷ next → LoadsOn left all s now
       → LoadFails port plan lawful tries resumes piece.addr piece.bytes now t fault
       → LoadFailsAt port plan lawful tries resumes all s t fault
@@ -144,14 +146,14 @@ module _ {W : Type 0} (port : W → Port) (plan : W → List Mark) (lawful : W �
       on.fails t fault (subst (λ l. LoadFailsAt port plan lawful tries resumes l now t fault) (sym is) (inl fails))
 
   -- at its end
-  pub load_ended : (left all : List Bytes) (s now : W) → left ≡ [] → LoadsOn left all s now
+  pub load_ended : (left all : List ImageFileBytes) (s now : W) → left ≡ [] → LoadsOn left all s now
       → LoadsAll port plan lawful tries resumes all s now
   load_ended left all s now is on =
       let each = on.loads now (subst (λ l. LoadsEach port plan lawful tries resumes l now now) (sym is) refl) in
       record { each = each; memory = each_memory all s now each }
 
   -- What is left of a verification, from the state that is reached, makes the whole one, from its start.
-  pub record VerifiesOn (left all : List Bytes) (s now : W) : Type 0 where
+  pub record VerifiesOn (left all : List ImageFileBytes) (s now : W) : Type 0 where
     pub verifies : (difference : Option ByteDifference) (u : W)
         → VerifiesEach port plan lawful tries resumes left difference now u
         → VerifiesEach port plan lawful tries resumes all difference s u
@@ -159,15 +161,15 @@ module _ {W : Type 0} (port : W → Port) (plan : W → List Mark) (lawful : W �
         → VerifyFailsAt port plan lawful tries resumes all s u fault
 
   -- at its start
-  pub verify_begins : (all left : List Bytes) (s : W) → left ≡ all → VerifiesOn left all s s
+  pub verify_begins : (all left : List ImageFileBytes) (s : W) → left ≡ all → VerifiesOn left all s s
   verify_begins all left s is = record {
     verifies = λ difference u h. subst (λ l. VerifiesEach port plan lawful tries resumes l difference s u) is h;
     fails = λ u fault h. subst (λ l. VerifyFailsAt port plan lawful tries resumes l s u fault) is h;
   }
 
   -- after a further piece without a difference
-  pub verify_next : (left all next : List Bytes) (piece : Bytes) (s now t : W) → left ≡ piece ∷ next
-      → VerifiesOn left all s now → Verifies port plan lawful tries resumes piece.addr piece.bytes None now t
+  pub verify_next : (left all next : List ImageFileBytes) (piece : ImageFileBytes) (s now t : W) → left ≡ piece ∷ next
+      → VerifiesOn left all s now → VerifiesImage port plan lawful tries resumes piece.addr piece.bytes None now t
       → VerifiesOn next all s t
   verify_next left all next piece s now t is on verifies = record {
     verifies = λ difference u h. on.verifies difference u
@@ -177,9 +179,9 @@ module _ {W : Type 0} (port : W → Port) (plan : W → List Mark) (lawful : W �
   }
 
   -- at a piece that differs
-  pub verify_differs : (left all next : List Bytes) (piece : Bytes) (s now t : W) (found : ByteDifference)
-      → left ≡ piece ∷ next → VerifiesOn left all s now
-      → Verifies port plan lawful tries resumes piece.addr piece.bytes (Some found) now t
+  pub verify_differs : (left all next : List ImageFileBytes) (piece : ImageFileBytes) (s now t : W)
+      (found : ByteDifference) → left ≡ piece ∷ next → VerifiesOn left all s now
+      → VerifiesImage port plan lawful tries resumes piece.addr piece.bytes (Some found) now t
       → VerifiesAll port plan lawful tries resumes all (Some found) s t
   verify_differs left all next piece s now t found is on verifies =
       let each = on.verifies (Some found) t
@@ -188,7 +190,7 @@ module _ {W : Type 0} (port : W → Port) (plan : W → List Mark) (lawful : W �
       record { each = each; memory = each_compared all (Some found) s t each }
 
   -- at a piece that fails
-  pub verify_failed : (left all next : List Bytes) (piece : Bytes) (s now t : W) (fault : ImageFault)
+  pub verify_failed : (left all next : List ImageFileBytes) (piece : ImageFileBytes) (s now t : W) (fault : ImageFault)
       → left ≡ piece ∷ next → VerifiesOn left all s now
       → DumpFails port plan lawful tries resumes piece.addr (length piece.bytes) now t fault
       → VerifyFailsAt port plan lawful tries resumes all s t fault
@@ -196,7 +198,7 @@ module _ {W : Type 0} (port : W → Port) (plan : W → List Mark) (lawful : W �
       on.fails t fault (subst (λ l. VerifyFailsAt port plan lawful tries resumes l now t fault) (sym is) (inl fails))
 
   -- at its end
-  pub verify_ended : (left all : List Bytes) (s now : W) → left ≡ [] → VerifiesOn left all s now
+  pub verify_ended : (left all : List ImageFileBytes) (s now : W) → left ≡ [] → VerifiesOn left all s now
       → VerifiesAll port plan lawful tries resumes all None s now
   verify_ended left all s now is on =
       let each = on.verifies None now

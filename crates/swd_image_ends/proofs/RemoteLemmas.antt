@@ -7,8 +7,8 @@ use Rattle.swd_port.specs.Port.{Port}
 use Rattle.swd_port.specs.Stories.{port_at, FitsStory}
 use Rattle.swd_image.specs.declared.fault.ImageFault.{ImageFault}
 use Rattle.swd_image.specs.declared.verifying.ByteDifference.{ByteDifference}
-use Rattle.swd_image.specs.Dumps.{DumpFails, Dumps, Verifies}
-use Rattle.swd_image.specs.Lists.{dump_list, edge_list, load_list}
+use Rattle.swd_image.specs.Dumps.{DumpFails, Dumps, VerifiesImage}
+use Rattle.swd_image.specs.Lists.{image_dump_list, image_edge_list, image_load_list}
 use Rattle.swd_image.specs.Loads.{LoadFails, Loads}
 use Rattle.swd_image.specs.Reports.{DumpReports, LoadReports, ReportsTo}
 use Rattle.swd_image_ends.specs.RemoteImages.{DumpsRemote, LoadsRemote, VerifiesRemote}
@@ -31,9 +31,10 @@ module _ {W : Type 0} (calls_in : W → List Call) (story : ℕ → Port) (tries
   )
   load_came bytes (Err fault) loads fails = (
     calls_in t,
-    subst (λ calls. LoadFails (port_at story) (λ calls. []) (FitsStory story) tries resumes addr bytes calls (calls_in t)
-        fault) begins
-        (load_fails_by calls_in (port_at story) (λ calls. []) (FitsStory story) tries resumes addr bytes s t fault fails),
+    subst (λ calls. LoadFails (port_at story) (λ calls. []) (FitsStory story) tries resumes addr bytes calls
+        (calls_in t) fault) begins
+        (load_fails_by calls_in (port_at story) (λ calls. []) (FitsStory story) tries resumes addr bytes s t fault
+        fails),
     over,
   )
 
@@ -57,22 +58,23 @@ module _ {W : Type 0} (calls_in : W → List Call) (story : ℕ → Port) (tries
     calls_in t,
     subst (λ calls. Dumps (port_at story) (λ calls. []) (FitsStory story) tries resumes addr count (list bytes) calls
         (calls_in t)) begins
-        (dumps_by calls_in (port_at story) (λ calls. []) (FitsStory story) tries resumes addr count (list bytes) s t dumps),
+        (dumps_by calls_in (port_at story) (λ calls. []) (FitsStory story) tries resumes addr count (list bytes) s t
+        dumps),
     over,
   )
   dump_came count (Err fault) list dumps fails = (calls_in t, dump_failed count fault fails, over)
 
   -- what a verification states over a wire, it states of the calls that are noted there
   pub verify_came : (bytes : List ℕ) (result : Result (Option ByteDifference) ImageFault)
-      → IfOk result (λ difference. Verifies (λ w. port_at story (calls_in w)) (λ w. [])
+      → IfOk result (λ difference. VerifiesImage (λ w. port_at story (calls_in w)) (λ w. [])
       (λ w. FitsStory story (calls_in w)) tries resumes addr bytes difference s t)
       → IfErr result (DumpFails (λ w. port_at story (calls_in w)) (λ w. []) (λ w. FitsStory story (calls_in w)) tries
       resumes addr (length bytes) s t)
       → VerifiesRemote story tries resumes addr Over bytes result
   verify_came bytes (Ok difference) verifies fails = (
     calls_in t,
-    subst (λ calls. Verifies (port_at story) (λ calls. []) (FitsStory story) tries resumes addr bytes difference calls
-        (calls_in t)) begins
+    subst (λ calls. VerifiesImage (port_at story) (λ calls. []) (FitsStory story) tries resumes addr bytes difference
+        calls (calls_in t)) begins
         (verifies_by calls_in (port_at story) (λ calls. []) (FitsStory story) tries resumes addr bytes difference s t
         verifies),
     over,
@@ -82,8 +84,8 @@ module _ {W : Type 0} (calls_in : W → List Call) (story : ℕ → Port) (tries
 module _ {W : Type 0} (calls_in : W → List Call) (story : ℕ → Port) (tries resumes addr : ℕ) (s t : W)
     (begins : calls_in s ≡ []) (fault : Option ImageFault) (a b : Option (Option (List ℕ))) where
   came_to : (list : List Access)
-      → ReportsTo (λ w. port_at story (calls_in w)) (λ w. []) (λ w. FitsStory story (calls_in w)) tries resumes list fault
-      s t a b
+      → ReportsTo (λ w. port_at story (calls_in w)) (λ w. []) (λ w. FitsStory story (calls_in w)) tries resumes list
+      fault s t a b
       → ReportsTo (port_at story) (λ calls. []) (FitsStory story) tries resumes list fault [] (calls_in t) a b
   came_to list h =
       subst (λ calls. ReportsTo (port_at story) (λ calls. []) (FitsStory story) tries resumes list fault calls
@@ -96,11 +98,11 @@ module _ {W : Type 0} (calls_in : W → List Call) (story : ℕ → Port) (tries
       bytes fault s t a b
       → LoadReports (port_at story) (λ calls. []) (FitsStory story) tries resumes addr bytes fault [] (calls_in t) a b
   load_reported bytes h =
-      (h.0, h.1, came_to (edge_list addr (length bytes) ++ load_list addr bytes h.0 h.1) h.2)
+      (h.0, h.1, came_to (image_edge_list addr (length bytes) ++ image_load_list addr bytes h.0 h.1) h.2)
 
   -- and what it gets of a dump
   pub dump_reported : (count : ℕ)
       → DumpReports (λ w. port_at story (calls_in w)) (λ w. []) (λ w. FitsStory story (calls_in w)) tries resumes addr
       count fault s t a b
       → DumpReports (port_at story) (λ calls. []) (FitsStory story) tries resumes addr count fault [] (calls_in t) a b
-  dump_reported count h = came_to (dump_list addr count) h
+  dump_reported count h = came_to (image_dump_list addr count) h

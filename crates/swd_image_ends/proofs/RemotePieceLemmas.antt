@@ -7,7 +7,7 @@ use Rattle.swd_port.specs.Port.{Port}
 use Rattle.swd_port.specs.Stories.{port_at, FitsStory}
 use Rattle.swd_image.specs.declared.fault.ImageFault.{ImageFault}
 use Rattle.swd_image.specs.declared.verifying.ByteDifference.{ByteDifference}
-use Rattle.swd_image_files.specs.Images.{Bytes}
+use Rattle.swd_image_files.specs.Images.{ImageFileBytes}
 use Rattle.swd_image_ends.specs.Pieces.{LoadFailsAt, LoadsAll, LoadsEach, VerifiesAll, VerifiesEach, VerifyFailsAt}
 use Rattle.swd_image_ends.specs.PieceReports.{LoadsReported, VerifiesReported}
 use Rattle.swd_image_ends.specs.RemotePieces.{LoadsPiecesRemote, VerifiesPiecesRemote}
@@ -16,7 +16,7 @@ use Rattle.swd_image_ends.proofs.WireLemmas.{dump_fails_by, load_fails_by, loads
 
 module _ {W V : Type 0} (by : W → V) (port : V → Port) (plan : V → List Mark) (lawful : V → Type 0) (tries resumes : ℕ)
   where
-    each_by : (pieces : List Bytes) (s u : W)
+    each_by : (pieces : List ImageFileBytes) (s u : W)
         → LoadsEach (λ w. port (by w)) (λ w. plan (by w)) (λ w. lawful (by w)) tries resumes pieces s u
         → LoadsEach port plan lawful tries resumes pieces (by s) (by u)
     each_by [] s u h = ap by h
@@ -26,12 +26,12 @@ module _ {W V : Type 0} (by : W → V) (port : V → Port) (plan : V → List Ma
       each_by rest h.0 u h.2,
     )
 
-    all_by : (pieces : List Bytes) (s u : W)
+    all_by : (pieces : List ImageFileBytes) (s u : W)
         → LoadsAll (λ w. port (by w)) (λ w. plan (by w)) (λ w. lawful (by w)) tries resumes pieces s u
         → LoadsAll port plan lawful tries resumes pieces (by s) (by u)
     all_by pieces s u h = record { each = each_by pieces s u h.each; memory = h.memory }
 
-    fails_at_by : (pieces : List Bytes) (s u : W) (fault : ImageFault)
+    fails_at_by : (pieces : List ImageFileBytes) (s u : W) (fault : ImageFault)
         → LoadFailsAt (λ w. port (by w)) (λ w. plan (by w)) (λ w. lawful (by w)) tries resumes pieces s u fault
         → LoadFailsAt port plan lawful tries resumes pieces (by s) (by u) fault
     fails_at_by [] s u fault h = h
@@ -43,7 +43,7 @@ module _ {W V : Type 0} (by : W → V) (port : V → Port) (plan : V → List Ma
       fails_at_by rest later.0 u fault later.2,
     )
 
-    each_verified_by : (pieces : List Bytes) (difference : Option ByteDifference) (s u : W)
+    each_verified_by : (pieces : List ImageFileBytes) (difference : Option ByteDifference) (s u : W)
         → VerifiesEach (λ w. port (by w)) (λ w. plan (by w)) (λ w. lawful (by w)) tries resumes pieces difference s u
         → VerifiesEach port plan lawful tries resumes pieces difference (by s) (by u)
     each_verified_by [] difference s u h = (h.0, ap by h.1)
@@ -58,7 +58,7 @@ module _ {W V : Type 0} (by : W → V) (port : V → Port) (plan : V → List Ma
       each_verified_by rest difference later.0 u later.2,
     )
 
-    all_verified_by : (pieces : List Bytes) (difference : Option ByteDifference) (s u : W)
+    all_verified_by : (pieces : List ImageFileBytes) (difference : Option ByteDifference) (s u : W)
         → VerifiesAll (λ w. port (by w)) (λ w. plan (by w)) (λ w. lawful (by w)) tries resumes pieces difference s u
         → VerifiesAll port plan lawful tries resumes pieces difference (by s) (by u)
     all_verified_by pieces difference s u h = record {
@@ -66,7 +66,7 @@ module _ {W V : Type 0} (by : W → V) (port : V → Port) (plan : V → List Ma
       memory = h.memory;
     }
 
-    verify_fails_at_by : (pieces : List Bytes) (s u : W) (fault : ImageFault)
+    verify_fails_at_by : (pieces : List ImageFileBytes) (s u : W) (fault : ImageFault)
         → VerifyFailsAt (λ w. port (by w)) (λ w. plan (by w)) (λ w. lawful (by w)) tries resumes pieces s u fault
         → VerifyFailsAt port plan lawful tries resumes pieces (by s) (by u) fault
     verify_fails_at_by [] s u fault h = h
@@ -81,7 +81,7 @@ module _ {W V : Type 0} (by : W → V) (port : V → Port) (plan : V → List Ma
 module _ {W : Type 0} (calls_in : W → List Call) (story : ℕ → Port) (tries resumes : ℕ) (Over : List Call → Type 0)
     (s t : W) (begins : calls_in s ≡ []) (over : Over (calls_in t)) where
   -- what a load of pieces states over a wire, it states of the calls that are noted there
-  pub load_pieces_came : (pieces : List Bytes) (result : Result (Unit {0}) ImageFault)
+  pub load_pieces_came : (pieces : List ImageFileBytes) (result : Result (Unit {0}) ImageFault)
       → OnOk result (LoadsAll (λ w. port_at story (calls_in w)) (λ w. []) (λ w. FitsStory story (calls_in w)) tries
       resumes pieces s t)
       → IfErr result (LoadFailsAt (λ w. port_at story (calls_in w)) (λ w. []) (λ w. FitsStory story (calls_in w)) tries
@@ -102,7 +102,7 @@ module _ {W : Type 0} (calls_in : W → List Call) (story : ℕ → Port) (tries
   )
 
   -- what a verification of pieces states over a wire, it states of the calls that are noted there
-  pub verify_pieces_came : (pieces : List Bytes) (result : Result (Option ByteDifference) ImageFault)
+  pub verify_pieces_came : (pieces : List ImageFileBytes) (result : Result (Option ByteDifference) ImageFault)
       → IfOk result (λ difference. VerifiesAll (λ w. port_at story (calls_in w)) (λ w. [])
       (λ w. FitsStory story (calls_in w)) tries resumes pieces difference s t)
       → IfErr result (VerifyFailsAt (λ w. port_at story (calls_in w)) (λ w. []) (λ w. FitsStory story (calls_in w))
@@ -126,7 +126,7 @@ module _ {W : Type 0} (calls_in : W → List Call) (story : ℕ → Port) (tries
   )
 
 module _ {W : Type 0} (calls_in : W → List Call) (story : ℕ → Port) (tries resumes : ℕ) (s t : W)
-    (begins : calls_in s ≡ []) (a b : Option (Option (List ℕ))) (pieces : List Bytes) where
+    (begins : calls_in s ≡ []) (a b : Option (Option (List ℕ))) (pieces : List ImageFileBytes) where
   -- what a writer gets of a load of pieces over a wire, it gets of the calls that are noted there
   pub load_pieces_reported : (fault : Option ImageFault)
       → LoadsReported (λ w. port_at story (calls_in w)) (λ w. []) (λ w. FitsStory story (calls_in w)) tries resumes

@@ -7,21 +7,21 @@ use Rattle.swd_port.specs.declared.mark.Mark.{Mark}
 use Rattle.swd_port.specs.Port.{Port}
 use Rattle.swd_host.specs.declared.outcome.End.{End}
 use Rattle.swd_host.specs.declared.outcome.End.TheVariants.{All}
-use Rattle.swd_script.specs.Scripts.{Listed}
-use Rattle.swd_run.specs.Sessions.{Done}
+use Rattle.swd_script.specs.Scripts.{ScriptListed}
+use Rattle.swd_run.specs.Sessions.{ScriptRun}
 use Rattle.swd_run.proofs.EngineLemmas.{goes_by}
 use Rattle.swd_image.specs.declared.fault.ImageFault.{ImageFault}
 use Rattle.swd_image.specs.declared.fault.ImageFault.TheVariants.{Range, Memory, Stopped, Report, BusFault as FaultAt}
 use Rattle.swd_image.specs.declared.verifying.ByteDifference.{ByteDifference}
-use Rattle.swd_image.specs.Dumps.{DumpFails, Dumps, Verifies}
-use Rattle.swd_image.specs.Lists.{dump_list, edge_list}
+use Rattle.swd_image.specs.Dumps.{DumpFails, Dumps, VerifiesImage}
+use Rattle.swd_image.specs.Lists.{image_dump_list, image_edge_list}
 use Rattle.swd_image.specs.Loads.{FailsLate, LoadFails, Loads}
 use Rattle.swd_image.specs.Reports.{Reported, ReportsTo, none as no_call, more as call_more}
-use Rattle.swd_image.specs.Sessions.{Call, Calls, Fails, FailsAs, MadeAll, ReadsAs, first_failed, none, more}
+use Rattle.swd_image.specs.Sessions.{Call, Calls, Fails, FailsAs, MadeAll, ReadsAs, image_first_failed, none, more}
 
 module _ {W V : Type 0} (by : W → V) (port : V → Port) (plan : V → List Mark) (lawful : V → Type 0) (tries resumes : ℕ)
   where
-    abbrev call_by : (batch : Listed) (s : W) (run : Done) (t : W)
+    abbrev call_by : (batch : ScriptListed) (s : W) (run : ScriptRun) (t : W)
         → Call (λ w. port (by w)) (λ w. plan (by w)) (λ w. lawful (by w)) tries resumes batch s run t
         → Call port plan lawful tries resumes batch (by s) run (by t)
     call_by batch s run t call = record {
@@ -54,7 +54,7 @@ module _ {W V : Type 0} (by : W → V) (port : V → Port) (plan : V → List Ma
       calls = calls_by s list made.answers t made.calls;
     }
 
-    abbrev fails_by : (list : List Access) (s t : W) (P : Listed → Done → Type 0)
+    abbrev fails_by : (list : List Access) (s t : W) (P : ScriptListed → ScriptRun → Type 0)
         → Fails (λ w. port (by w)) (λ w. plan (by w)) (λ w. lawful (by w)) tries resumes list s t P
         → Fails port plan lawful tries resumes list (by s) (by t) P
     fails_by list s t P fails = record {
@@ -78,7 +78,8 @@ module _ {W V : Type 0} (by : W → V) (port : V → Port) (plan : V → List Ma
     fails_as_by list s t (Stopped end) fails =
         fails_by list s t (λ batch run. (run.told.ended ≡ end) × (end ≢ All)) fails
     fails_as_by list s t (FaultAt at) fails =
-        fails_by list s t (λ batch run. (run.told.ended ≡ All) × (first_failed batch.accesses run.told.answers ≡ Some at))
+        fails_by list s t (λ batch run. (run.told.ended ≡ All)
+        × (image_first_failed batch.accesses run.told.answers ≡ Some at))
         fails
     fails_as_by list s t Report fails = fails_by list s t (λ batch run. Unit {0}) fails
 
@@ -114,13 +115,14 @@ module _ {W V : Type 0} (by : W → V) (port : V → Port) (plan : V → List Ma
     load_fails_by addr bytes s t Range fails = (fails.0, ap by fails.1)
     load_fails_by addr bytes s t Memory fails = fails
     load_fails_by addr bytes s t (Stopped end) (fits, inl early) =
-        (fits, inl (fails_as_by (edge_list addr (length bytes)) s t (Stopped end) early))
-    load_fails_by addr bytes s t (Stopped end) (fits, inr late) = (fits, inr (late_by addr bytes s t (Stopped end) late))
+        (fits, inl (fails_as_by (image_edge_list addr (length bytes)) s t (Stopped end) early))
+    load_fails_by addr bytes s t (Stopped end) (fits, inr late) =
+        (fits, inr (late_by addr bytes s t (Stopped end) late))
     load_fails_by addr bytes s t (FaultAt at) (fits, inl early) =
-        (fits, inl (fails_as_by (edge_list addr (length bytes)) s t (FaultAt at) early))
+        (fits, inl (fails_as_by (image_edge_list addr (length bytes)) s t (FaultAt at) early))
     load_fails_by addr bytes s t (FaultAt at) (fits, inr late) = (fits, inr (late_by addr bytes s t (FaultAt at) late))
     load_fails_by addr bytes s t Report (fits, inl early) =
-        (fits, inl (fails_as_by (edge_list addr (length bytes)) s t Report early))
+        (fits, inl (fails_as_by (image_edge_list addr (length bytes)) s t Report early))
     load_fails_by addr bytes s t Report (fits, inr late) = (fits, inr (late_by addr bytes s t Report late))
 
     -- a dump is
@@ -144,16 +146,16 @@ module _ {W V : Type 0} (by : W → V) (port : V → Port) (plan : V → List Ma
     dump_fails_by addr count s t Range fails = (fails.0, ap by fails.1)
     dump_fails_by addr count s t Memory fails = fails
     dump_fails_by addr count s t (Stopped end) fails =
-        (fails.0, fails_as_by (dump_list addr count) s t (Stopped end) fails.1)
+        (fails.0, fails_as_by (image_dump_list addr count) s t (Stopped end) fails.1)
     dump_fails_by addr count s t (FaultAt at) fails =
-        (fails.0, fails_as_by (dump_list addr count) s t (FaultAt at) fails.1)
+        (fails.0, fails_as_by (image_dump_list addr count) s t (FaultAt at) fails.1)
     dump_fails_by addr count s t Report fails =
-        (fails.0, fails_as_by (dump_list addr count) s t Report fails.1)
+        (fails.0, fails_as_by (image_dump_list addr count) s t Report fails.1)
 
     -- a verification is
     pub verifies_by : (addr : ℕ) (bytes : List ℕ) (difference : Option ByteDifference) (s t : W)
-        → Verifies (λ w. port (by w)) (λ w. plan (by w)) (λ w. lawful (by w)) tries resumes addr bytes difference s t
-        → Verifies port plan lawful tries resumes addr bytes difference (by s) (by t)
+        → VerifiesImage (λ w. port (by w)) (λ w. plan (by w)) (λ w. lawful (by w)) tries resumes addr bytes difference s
+        t → VerifiesImage port plan lawful tries resumes addr bytes difference (by s) (by t)
     verifies_by addr bytes difference s t verifies = record {
       found = verifies.found;
       dumps = dumps_by addr (length bytes) verifies.found s t verifies.dumps;

@@ -4,6 +4,6 @@ use Rattle.swd_image_ends.specs.declared.file.FileFault.{FileFault}
 use Rattle.swd_image_ends.specs.declared.file.FileFault.TheVariants.{TooLong, Memory}
 
 -- what the fault says of a file that may have `most` bytes
-abbrev pub Refuses : ℕ → FileFault → List ℕ → Type 0
-Refuses most TooLong text = most < length text
-Refuses most Memory text = Unit {0}
+abbrev pub ImageEndRefusesFile : ℕ → FileFault → List ℕ → Type 0
+ImageEndRefusesFile most TooLong text = most < length text
+ImageEndRefusesFile most Memory text = Unit {0}

@@ -5,37 +5,39 @@ use Rattle.swd_port.specs.declared.mark.Mark.{Mark}
 use Rattle.swd_port.specs.Port.{Port}
 use Rattle.swd_image.specs.declared.fault.ImageFault.{ImageFault}
 use Rattle.swd_image.specs.declared.verifying.ByteDifference.{ByteDifference}
-use Rattle.swd_image.specs.Lists.{dump_list, edge_list, load_list}
-use Rattle.swd_image.specs.Reports.{ReportsTo, fault_of}
-use Rattle.swd_image_files.specs.Images.{Bytes}
+use Rattle.swd_image.specs.Lists.{image_dump_list, image_edge_list, image_load_list}
+use Rattle.swd_image.specs.Reports.{ReportsTo, image_fault_of}
+use Rattle.swd_image_files.specs.Images.{ImageFileBytes}
 
 -- the accesses of a load of these pieces: of each the reads of its partial words, and then its writes
-abbrev pub IsLoadList : List Bytes → List Access → Type 0
-IsLoadList [] list = list ≡ []
-IsLoadList (piece ∷ rest) list =
+abbrev pub IsPiecesLoadList : List ImageFileBytes → List Access → Type 0
+IsPiecesLoadList [] list = list ≡ []
+IsPiecesLoadList (piece ∷ rest) list =
     (head : ℕ) × (tail : ℕ) × (left : List Access)
-    × (list ≡ (edge_list piece.addr (length piece.bytes) ++ load_list piece.addr piece.bytes head tail) ++ left)
-    × IsLoadList rest left
+    × (list ≡ (image_edge_list piece.addr (length piece.bytes) ++ image_load_list piece.addr piece.bytes head tail)
+    ++ left)
+    × IsPiecesLoadList rest left
 
 -- the accesses of a verification of these pieces
-abbrev pub verify_list : List Bytes → List Access
-verify_list [] = []
-verify_list (piece ∷ rest) = dump_list piece.addr (length piece.bytes) ++ verify_list rest
+abbrev pub pieces_verify_list : List ImageFileBytes → List Access
+pieces_verify_list [] = []
+pieces_verify_list (piece ∷ rest) = image_dump_list piece.addr (length piece.bytes) ++ pieces_verify_list rest
 
 module _ {W : Type 0} (port : W → Port) (plan : W → List Mark) (lawful : W → Type 0) (tries resumes : ℕ) where
   -- what a writer got of a load of pieces
-  pub record LoadsReported (pieces : List Bytes) (fault : Option ImageFault) (s t : W)
+  pub record LoadsReported (pieces : List ImageFileBytes) (fault : Option ImageFault) (s t : W)
       (before after : Option (Option (List ℕ))) : Type 0 where
     pub list : List Access
-    pub is : IsLoadList pieces list
+    pub is : IsPiecesLoadList pieces list
     pub reports : ReportsTo port plan lawful tries resumes list fault s t before after
 
   -- What a writer got of a verification of pieces: the calls are for the first pieces, and for all of them if none
   -- differs.
-  pub record VerifiesReported (pieces : List Bytes) (result : Result (Option ByteDifference) ImageFault) (s t : W)
-      (before after : Option (Option (List ℕ))) : Type 0 where
-    pub front : List Bytes
-    pub later : List Bytes
+  pub record VerifiesReported (pieces : List ImageFileBytes) (result : Result (Option ByteDifference) ImageFault)
+      (s t : W) (before after : Option (Option (List ℕ))) : Type 0 where
+    pub front : List ImageFileBytes
+    pub later : List ImageFileBytes
     pub split : pieces ≡ front ++ later
     pub all : result ≡ Ok None → later ≡ []
-    pub reports : ReportsTo port plan lawful tries resumes (verify_list front) (fault_of result) s t before after
+    pub reports : ReportsTo port plan lawful tries resumes (pieces_verify_list front) (image_fault_of result) s t before
+        after

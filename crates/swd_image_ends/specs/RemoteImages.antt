@@ -7,7 +7,7 @@ use Rattle.swd_port.specs.Port.{Port}
 use Rattle.swd_port.specs.Stories.{port_at, FitsStory}
 use Rattle.swd_image.specs.declared.fault.ImageFault.{ImageFault}
 use Rattle.swd_image.specs.declared.verifying.ByteDifference.{ByteDifference}
-use Rattle.swd_image.specs.Dumps.{DumpFails, Dumps, Verifies}
+use Rattle.swd_image.specs.Dumps.{DumpFails, Dumps, VerifiesImage}
 use Rattle.swd_image.specs.Loads.{LoadFails, Loads}
 
 module _ (story : ℕ → Port) (tries resumes addr : ℕ) (Over : List Call → Type 0) where
@@ -34,7 +34,7 @@ module _ (story : ℕ → Port) (tries resumes addr : ℕ) (Over : List Call →
   abbrev pub VerifiesRemote : List ℕ → Result (Option ByteDifference) ImageFault → Type 0
   VerifiesRemote bytes (Ok difference) =
       (calls : List Call)
-      × Verifies (port_at story) (λ calls. []) (FitsStory story) tries resumes addr bytes difference [] calls
+      × VerifiesImage (port_at story) (λ calls. []) (FitsStory story) tries resumes addr bytes difference [] calls
       × Over calls
   VerifiesRemote bytes (Err fault) =
       (calls : List Call)

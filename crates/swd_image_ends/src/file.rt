@@ -1,7 +1,7 @@
 //! Reads a whole file into memory.
 ghost use Rattle.std.specs.Prelude.{◌≤◌, IfErr, IfOk, IfSome, length};
-ghost use Rattle.swd_io.specs.Pieces.{IsText, IsUnread};
-ghost use Rattle.swd_image_ends.specs.Files.{Refuses};
+ghost use Rattle.swd_io.specs.Pieces.{IsReaderText, IsUnreadByConsumer};
+ghost use Rattle.swd_image_ends.specs.Files.{ImageEndRefusesFile};
 
 use std::alloc::Allocator;
 use std::io::Read;
@@ -28,17 +28,17 @@ pub struct Bytes<A: Allocator> {
 }
 
 impl<A: Allocator> Consumer<()> for Bytes<A> {
-    ghost use Rattle.swd_io.specs.Pieces.{LeadsOn, LeadsToEnd};
-    ghost use Rattle.swd_io.proofs.PieceLemmas.{leads_nowhere, leads_further, leads_to_later_end};
-    ghost use Rattle.swd_image_ends.specs.Gathered.{EndsWith, HasRead};
+    ghost use Rattle.swd_io.specs.Pieces.{LeadsConsumerOn, LeadsConsumerToEnd};
+    ghost use Rattle.swd_io.proofs.PieceLemmas.{consumer_reads_no_byte, consumer_pieces_join, consumer_pieces_fault};
+    ghost use Rattle.swd_image_ends.specs.Gathered.{ImageEndReadEndsWith, ImageEndHasRead};
 
     type Fault = FileFault;
 
     ghost can_take = { λ _. Unit {0} };
 
-    ghost takes = { LeadsOn HasRead };
+    ghost takes = { LeadsConsumerOn ImageEndHasRead };
 
-    ghost stops = { LeadsToEnd HasRead EndsWith };
+    ghost stops = { LeadsConsumerToEnd ImageEndHasRead ImageEndReadEndsWith };
 
     fn take(&mut self, _writer: &mut (), piece: &[u8]) -> Result<(), FileFault> {
         if self.most.saturating_sub(self.bytes.len() as u64) < piece.len() as u64 {
@@ -50,11 +50,11 @@ impl<A: Allocator> Consumer<()> for Bytes<A> {
         }
     }
 
-    ghost takes_nothing = { leads_nowhere HasRead };
+    ghost takes_nothing = { consumer_reads_no_byte ImageEndHasRead };
 
-    ghost takes_on = { leads_further HasRead };
+    ghost takes_on = { consumer_pieces_join ImageEndHasRead };
 
-    ghost stops_later = { leads_to_later_end HasRead EndsWith };
+    ghost stops_later = { consumer_pieces_fault ImageEndHasRead ImageEndReadEndsWith };
 }
 
 /// Reads a file to its end, and returns its bytes, at most `most`. Nothing is retried.
@@ -69,9 +69,10 @@ pub fn read_file<R: Read, A: Allocator>(
     reader: &mut R,
     most: u64,
 ) -> Result<Vec<u8, A>, Unread<FileFault>>
-    ensures bytes { IfOk result (λ bytes. IsText (R.remaining reader.old) bytes.items) }
+    ensures bytes { IfOk result (λ bytes. IsReaderText (R.remaining reader.old) bytes.items) }
     ensures few { IfOk result (λ bytes. length bytes.items ≤ most) }
-    ensures fault { IfErr result (λ unread. IfSome (R.remaining reader.old) (IsUnread (Refuses most) unread)) }
+    ensures fault { IfErr result (λ unread. IfSome (R.remaining reader.old)
+        (IsUnreadByConsumer (ImageEndRefusesFile most) unread)) }
 {
     let mut file = Bytes {
         bytes: Vec::new(alloc),

@@ -2,11 +2,11 @@
 ghost use Rattle.std.specs.Prelude.{◌≡◌, ◌+◌, ◌/◌, ◌%◌, ◌<◌, ◌≤◌, ◌^◌, IfSome, Some, length};
 ghost use Rattle.std.specs.FinMap.{get, insert};
 ghost use Rattle.swd_host.specs.Reports.{IsAtRest};
-ghost use Rattle.swd_image.specs.Bytes.{byte_at, bytes_at};
-ghost use Rattle.swd_target.specs.Benches.{plan_of, port_of};
-ghost use Rattle.swd_target.specs.Marks.{IsPlan};
-ghost use Rattle.swd_target.specs.MemoryWords.{words_from};
-ghost use Rattle.swd_image_ends.specs.Memories.{HasRoom, words_in};
+ghost use Rattle.swd_image.specs.Bytes.{image_byte_at, image_bytes_at};
+ghost use Rattle.swd_target.specs.Benches.{bench_plan, bench_port};
+ghost use Rattle.swd_target.specs.Marks.{IsLegalPlan};
+ghost use Rattle.swd_target.specs.MemoryWords.{target_words_from};
+ghost use Rattle.swd_image_ends.specs.Memories.{ImageEndHasRoom, image_end_words_in};
 
 use std::alloc::Allocator;
 use swd_port::{Access, Mark};
@@ -38,8 +38,8 @@ pub fn memory_with<A: Allocator + Copy>(
     requires aligned { base % 4 ≡ 0 }
     requires whole { length bytes.now % 4 ≡ 0 }
     requires fits { base + length bytes.now ≤ 2 ^ 32 }
-    ensures words { IfSome result (λ memory. memory.words ≡ words_from base (words_in bytes.now)) }
-    ensures room { IfSome result (λ memory. HasRoom (length bytes.now / 4) spare memory) }
+    ensures words { IfSome result (λ memory. memory.words ≡ target_words_from base (image_end_words_in bytes.now)) }
+    ensures room { IfSome result (λ memory. ImageEndHasRoom (length bytes.now / 4) spare memory) }
 {
     let count = (bytes.len() / 4) as u32;
     if count == 0 {
@@ -71,10 +71,11 @@ pub fn simulated_target<A: Allocator + Copy>(
     requires aligned { base % 4 ≡ 0 }
     requires whole { length bytes.now % 4 ≡ 0 }
     requires fits { base + length bytes.now ≤ 2 ^ 32 }
-    requires plan { IsPlan plan.items }
-    ensures words { IfSome result (λ bench. (port_of bench).target.memory.words ≡ words_from base (words_in bytes.now)) }
-    ensures rests { IfSome result (λ bench. IsAtRest (port_of bench)) }
-    ensures plan { IfSome result (λ bench. plan_of bench ≡ plan.items) }
+    requires plan { IsLegalPlan plan.items }
+    ensures words { IfSome result (λ bench. (bench_port bench).target.memory.words
+        ≡ target_words_from base (image_end_words_in bytes.now)) }
+    ensures rests { IfSome result (λ bench. IsAtRest (bench_port bench)) }
+    ensures plan { IfSome result (λ bench. bench_plan bench ≡ plan.items) }
 {
     let memory = memory_with(alloc, base, bytes, spare)?;
     Some(Bench::new(memory, QUIRKS, plan))
@@ -82,7 +83,7 @@ pub fn simulated_target<A: Allocator + Copy>(
 
 // Returns the byte at an address, and 0 if the memory doesn't have its word.
 fn byte_at<A: Allocator>(memory: &Memory<A>, at: u32) -> u8
-    ensures { result ≡ byte_at memory.now at }
+    ensures { result ≡ image_byte_at memory.now at }
 {
     let word = memory.word(at - at % 4).unwrap_or(0);
     word.to_le_bytes()[(at % 4) as usize]
@@ -97,7 +98,7 @@ pub fn memory_bytes<A: Allocator + Copy>(
     count: u64,
 ) -> Option<Vec<u8, A>>
     requires { base + count ≤ 2 ^ 32 }
-    ensures { IfSome result (λ bytes. bytes.items ≡ bytes_at memory.now base count) }
+    ensures { IfSome result (λ bytes. bytes.items ≡ image_bytes_at memory.now base count) }
 {
     let Ok(mut bytes) = Vec::with_capacity(alloc, count as usize) else {
         return None;

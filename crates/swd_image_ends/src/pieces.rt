@@ -1,10 +1,10 @@
 //! Loads and verifies images of several pieces over any wire.
 ghost use Rattle.std.specs.Prelude.{◌≡◌, IfErr, IfOk, OnOk};
 ghost use Rattle.swd_port.specs.declared.wire.Due.TheVariants.{Nothing};
-ghost use Rattle.swd_run.specs.Records.{held};
-ghost use Rattle.swd_image.specs.Reports.{fault_of};
+ghost use Rattle.swd_run.specs.Records.{run_file_held};
+ghost use Rattle.swd_image.specs.Reports.{image_fault_of};
 ghost use Rattle.swd_image_ends.specs.PieceReports.{LoadsReported, VerifiesReported};
-ghost use Rattle.swd_image_ends.specs.Pieces.{LoadFailsAt, LoadsAll, VerifiesAll, VerifyFailsAt, pieces_in};
+ghost use Rattle.swd_image_ends.specs.Pieces.{LoadFailsAt, LoadsAll, VerifiesAll, VerifyFailsAt, pieces_to_load};
 
 use std::alloc::Allocator;
 use std::io::Write;
@@ -31,12 +31,14 @@ pub fn load_pieces<W: Wire, O: Write, A: Allocator + Copy>(
     report: &mut Option<O>,
 ) -> Result<(), ImageFault>
     requires { (W.port wire.old).link.due ≡ Nothing }
-    ensures loads { OnOk result (LoadsAll W.port W.plan W.lawful tries resumes (pieces_in image.now) wire.old wire.new) }
-    ensures due { OnOk result ((W.port wire.new).link.due ≡ Nothing) }
-    ensures fault { IfErr result (LoadFailsAt W.port W.plan W.lawful tries resumes (pieces_in image.now) wire.old
+    ensures loads { OnOk result (LoadsAll W.port W.plan W.lawful tries resumes (pieces_to_load image.now) wire.old
         wire.new) }
-    ensures report { LoadsReported W.port W.plan W.lawful tries resumes (pieces_in image.now) (fault_of result) wire.old
-        wire.new (held O.contents report.old) (held O.contents report.new) }
+    ensures due { OnOk result ((W.port wire.new).link.due ≡ Nothing) }
+    ensures fault { IfErr result (LoadFailsAt W.port W.plan W.lawful tries resumes (pieces_to_load image.now) wire.old
+        wire.new) }
+    ensures report { LoadsReported W.port W.plan W.lawful tries resumes (pieces_to_load image.now)
+        (image_fault_of result) wire.old
+        wire.new (run_file_held O.contents report.old) (run_file_held O.contents report.new) }
     ensures plan { W.plan wire.new ≡ W.plan wire.old }
 {
     for piece in image.pieces() {
@@ -64,13 +66,14 @@ pub fn verify_pieces<W: Wire, O: Write, A: Allocator + Copy>(
     report: &mut Option<O>,
 ) -> Result<Option<ByteDifference>, ImageFault>
     requires { (W.port wire.old).link.due ≡ Nothing }
-    ensures verifies { IfOk result (λ difference. VerifiesAll W.port W.plan W.lawful tries resumes (pieces_in image.now)
+    ensures verifies { IfOk result (λ difference. VerifiesAll W.port W.plan W.lawful tries resumes
+        (pieces_to_load image.now)
         difference wire.old wire.new) }
     ensures due { IfOk result (λ difference. (W.port wire.new).link.due ≡ Nothing) }
-    ensures fault { IfErr result (VerifyFailsAt W.port W.plan W.lawful tries resumes (pieces_in image.now) wire.old
+    ensures fault { IfErr result (VerifyFailsAt W.port W.plan W.lawful tries resumes (pieces_to_load image.now) wire.old
         wire.new) }
-    ensures report { VerifiesReported W.port W.plan W.lawful tries resumes (pieces_in image.now) result wire.old
-        wire.new (held O.contents report.old) (held O.contents report.new) }
+    ensures report { VerifiesReported W.port W.plan W.lawful tries resumes (pieces_to_load image.now) result wire.old
+        wire.new (run_file_held O.contents report.old) (run_file_held O.contents report.new) }
     ensures plan { W.plan wire.new ≡ W.plan wire.old }
 {
     for piece in image.pieces() {

@@ -1,8 +1,8 @@
 //! Makes the calls of an image at a target behind OpenOCD's remote_bitbang characters.
 ghost use Rattle.std.specs.Prelude.{◌≡◌, [], length};
 ghost use Rattle.swd_port.specs.Stories.{FitsStory, port_at};
-ghost use Rattle.swd_run.specs.Records.{held};
-ghost use Rattle.swd_image.specs.Reports.{DumpReports, LoadReports, fault_of};
+ghost use Rattle.swd_run.specs.Records.{run_file_held};
+ghost use Rattle.swd_image.specs.Reports.{DumpReports, LoadReports, image_fault_of};
 ghost use Rattle.swd_remote.specs.WholeRuns.{GoesOver};
 ghost use Rattle.swd_image_ends.specs.RemoteImages.{DumpsRemote, LoadsRemote, VerifiesRemote};
 
@@ -10,8 +10,8 @@ use std::alloc::Allocator;
 use std::io::{Read, Write};
 use std::marker::Brand;
 use swd_image::{ByteDifference, ImageFault, dump_reporting, load_reporting, verify_reporting};
-use swd_port::{Outside, Story, Tied};
-use swd_remote::{Beginning, Kept, Line};
+use swd_port::{Story, Tied, TransportWire};
+use swd_remote::{InitialStreams, RemoteStreams, RemoteTransport};
 
 /// Loads an image by `swd_image::load_reporting` at the target behind a remote_bitbang server, and then sends `Q`. Returns
 /// the connection too, with the error that ended it, if any.
@@ -34,16 +34,17 @@ pub fn load_remote<P: Story, R: Read, W: Write, O: Write, A: Allocator + Copy>(
     tries: u32,
     resumes: u32,
     report: &mut Option<O>,
-) -> (Result<(), ImageFault>, Line<R, W>)
+) -> (Result<(), ImageFault>, RemoteStreams<R, W>)
     ensures { LoadsRemote P.at tries resumes addr
         (λ calls. ∥ GoesOver R.remaining W.contents (W.contents writer) (R.remaining reader) result.1 calls ∥₁
-        × LoadReports (port_at P.at) (λ calls. []) (FitsStory P.at) tries resumes addr bytes.now (fault_of result.0) []
-        calls (held O.contents report.old) (held O.contents report.new)) bytes.now result.0 }
+        × LoadReports (port_at P.at) (λ calls. []) (FitsStory P.at) tries resumes addr bytes.now
+        (image_fault_of result.0) []
+        calls (run_file_held O.contents report.old) (run_file_held O.contents report.new)) bytes.now result.0 }
 {
     load_begun::<P, Brand, R, W, O, A>(alloc, reader, writer, addr, bytes, tries, resumes, report)
 }
 
-fn load_begun<P: Story, B: Beginning, R: Read, W: Write, O: Write, A: Allocator + Copy>(
+fn load_begun<P: Story, B: InitialStreams, R: Read, W: Write, O: Write, A: Allocator + Copy>(
     alloc: A,
     reader: R,
     writer: W,
@@ -52,15 +53,18 @@ fn load_begun<P: Story, B: Beginning, R: Read, W: Write, O: Write, A: Allocator 
     tries: u32,
     resumes: u32,
     report: &mut Option<O>,
-) -> (Result<(), ImageFault>, Line<R, W>)
+) -> (Result<(), ImageFault>, RemoteStreams<R, W>)
     requires sent { B.sent ≡ W.contents writer }
     requires left { B.left ≡ R.remaining reader }
     ensures { LoadsRemote P.at tries resumes addr
         (λ calls. ∥ GoesOver R.remaining W.contents B.sent B.left result.1 calls ∥₁
-        × LoadReports (port_at P.at) (λ calls. []) (FitsStory P.at) tries resumes addr bytes.now (fault_of result.0) []
-        calls (held O.contents report.old) (held O.contents report.new)) bytes.now result.0 }
+        × LoadReports (port_at P.at) (λ calls. []) (FitsStory P.at) tries resumes addr bytes.now
+        (image_fault_of result.0) []
+        calls (run_file_held O.contents report.old) (run_file_held O.contents report.new)) bytes.now result.0 }
 {
-    let mut wire: Outside<Kept<R, W, B>, P, Tied> = Outside::begun(Kept::new(reader, writer));
+    let mut wire: TransportWire<RemoteTransport<R, W, B>, P, Tied> = TransportWire::begun(
+        RemoteTransport::new(reader, writer),
+    );
     let answer = load_reporting(alloc, &mut wire, addr, bytes, tries, resumes, report);
     (answer, wire.into_transport().hang_up())
 }
@@ -84,16 +88,17 @@ pub fn dump_remote<P: Story, R: Read, W: Write, O: Write, A: Allocator + Copy>(
     tries: u32,
     resumes: u32,
     report: &mut Option<O>,
-) -> (Result<Vec<u8, A>, ImageFault>, Line<R, W>)
+) -> (Result<Vec<u8, A>, ImageFault>, RemoteStreams<R, W>)
     ensures { DumpsRemote P.at tries resumes addr
         (λ calls. ∥ GoesOver R.remaining W.contents (W.contents writer) (R.remaining reader) result.1 calls ∥₁
-        × DumpReports (port_at P.at) (λ calls. []) (FitsStory P.at) tries resumes addr count (fault_of result.0) []
-        calls (held O.contents report.old) (held O.contents report.new)) count result.0 (λ bytes. bytes.items) }
+        × DumpReports (port_at P.at) (λ calls. []) (FitsStory P.at) tries resumes addr count (image_fault_of result.0)
+        []
+        calls (run_file_held O.contents report.old) (run_file_held O.contents report.new)) count result.0 (λ bytes. bytes.items) }
 {
     dump_begun::<P, Brand, R, W, O, A>(alloc, reader, writer, addr, count, tries, resumes, report)
 }
 
-fn dump_begun<P: Story, B: Beginning, R: Read, W: Write, O: Write, A: Allocator + Copy>(
+fn dump_begun<P: Story, B: InitialStreams, R: Read, W: Write, O: Write, A: Allocator + Copy>(
     alloc: A,
     reader: R,
     writer: W,
@@ -102,16 +107,19 @@ fn dump_begun<P: Story, B: Beginning, R: Read, W: Write, O: Write, A: Allocator 
     tries: u32,
     resumes: u32,
     report: &mut Option<O>,
-) -> (Result<Vec<u8, A>, ImageFault>, Line<R, W>)
+) -> (Result<Vec<u8, A>, ImageFault>, RemoteStreams<R, W>)
     requires sent { B.sent ≡ W.contents writer }
     requires left { B.left ≡ R.remaining reader }
     ensures { DumpsRemote P.at tries resumes addr
         (λ calls. ∥ GoesOver R.remaining W.contents B.sent B.left result.1 calls ∥₁
-        × DumpReports (port_at P.at) (λ calls. []) (FitsStory P.at) tries resumes addr count (fault_of result.0) []
-        calls (held O.contents report.old) (held O.contents report.new)) count result.0
+        × DumpReports (port_at P.at) (λ calls. []) (FitsStory P.at) tries resumes addr count (image_fault_of result.0)
+        []
+        calls (run_file_held O.contents report.old) (run_file_held O.contents report.new)) count result.0
         (λ bytes. bytes.items) }
 {
-    let mut wire: Outside<Kept<R, W, B>, P, Tied> = Outside::begun(Kept::new(reader, writer));
+    let mut wire: TransportWire<RemoteTransport<R, W, B>, P, Tied> = TransportWire::begun(
+        RemoteTransport::new(reader, writer),
+    );
     let answer = dump_reporting(alloc, &mut wire, addr, count, tries, resumes, report);
     (answer, wire.into_transport().hang_up())
 }
@@ -136,16 +144,19 @@ pub fn verify_remote<P: Story, R: Read, W: Write, O: Write, A: Allocator + Copy>
     tries: u32,
     resumes: u32,
     report: &mut Option<O>,
-) -> (Result<Option<ByteDifference>, ImageFault>, Line<R, W>)
+) -> (
+    Result<Option<ByteDifference>, ImageFault>,
+    RemoteStreams<R, W>,
+)
     ensures { VerifiesRemote P.at tries resumes addr
         (λ calls. ∥ GoesOver R.remaining W.contents (W.contents writer) (R.remaining reader) result.1 calls ∥₁
         × DumpReports (port_at P.at) (λ calls. []) (FitsStory P.at) tries resumes addr (length bytes.now)
-        (fault_of result.0) [] calls (held O.contents report.old) (held O.contents report.new)) bytes.now result.0 }
+        (image_fault_of result.0) [] calls (run_file_held O.contents report.old) (run_file_held O.contents report.new)) bytes.now result.0 }
 {
     verify_begun::<P, Brand, R, W, O, A>(alloc, reader, writer, addr, bytes, tries, resumes, report)
 }
 
-fn verify_begun<P: Story, B: Beginning, R: Read, W: Write, O: Write, A: Allocator + Copy>(
+fn verify_begun<P: Story, B: InitialStreams, R: Read, W: Write, O: Write, A: Allocator + Copy>(
     alloc: A,
     reader: R,
     writer: W,
@@ -154,15 +165,20 @@ fn verify_begun<P: Story, B: Beginning, R: Read, W: Write, O: Write, A: Allocato
     tries: u32,
     resumes: u32,
     report: &mut Option<O>,
-) -> (Result<Option<ByteDifference>, ImageFault>, Line<R, W>)
+) -> (
+    Result<Option<ByteDifference>, ImageFault>,
+    RemoteStreams<R, W>,
+)
     requires sent { B.sent ≡ W.contents writer }
     requires left { B.left ≡ R.remaining reader }
     ensures { VerifiesRemote P.at tries resumes addr
         (λ calls. ∥ GoesOver R.remaining W.contents B.sent B.left result.1 calls ∥₁
         × DumpReports (port_at P.at) (λ calls. []) (FitsStory P.at) tries resumes addr (length bytes.now)
-        (fault_of result.0) [] calls (held O.contents report.old) (held O.contents report.new)) bytes.now result.0 }
+        (image_fault_of result.0) [] calls (run_file_held O.contents report.old) (run_file_held O.contents report.new)) bytes.now result.0 }
 {
-    let mut wire: Outside<Kept<R, W, B>, P, Tied> = Outside::begun(Kept::new(reader, writer));
+    let mut wire: TransportWire<RemoteTransport<R, W, B>, P, Tied> = TransportWire::begun(
+        RemoteTransport::new(reader, writer),
+    );
     let answer = verify_reporting(alloc, &mut wire, addr, bytes, tries, resumes, report);
     (answer, wire.into_transport().hang_up())
 }

@@ -1,13 +1,14 @@
 //! Loads, verifies and dumps images at a simulated target.
 ghost use Rattle.std.specs.Prelude.{◌≡◌, ◌+◌, IfErr, IfOk, OnOk};
 ghost use Rattle.swd_host.specs.Reports.{IsAtRest};
-ghost use Rattle.swd_run.specs.Records.{held};
-ghost use Rattle.swd_image.specs.Reports.{DumpReports, fault_of};
+ghost use Rattle.swd_run.specs.Records.{run_file_held};
+ghost use Rattle.swd_image.specs.Reports.{DumpReports, image_fault_of};
 ghost use Rattle.swd_image.specs.Dumps.{DumpFails, Dumps};
-ghost use Rattle.swd_target.specs.Benches.{plan_of, port_of};
-ghost use Rattle.swd_image_ends.specs.Memories.{DumpsMemory, LoadsMemory, VerifiesMemory, AnyWire};
+ghost use Rattle.swd_target.specs.Benches.{bench_plan, bench_port};
+ghost use Rattle.swd_image_ends.specs.Memories.{DumpsSimulatedMemory, LoadsSimulatedMemory, VerifiesSimulatedMemory};
+ghost use Rattle.swd_image_ends.specs.Memories.{AnyImageWire};
 ghost use Rattle.swd_image_ends.specs.PieceReports.{LoadsReported, VerifiesReported};
-ghost use Rattle.swd_image_ends.specs.Pieces.{LoadFailsAt, LoadsAll, VerifiesAll, VerifyFailsAt, pieces_in};
+ghost use Rattle.swd_image_ends.specs.Pieces.{LoadFailsAt, LoadsAll, VerifiesAll, VerifyFailsAt, pieces_to_load};
 
 use crate::pieces::{load_pieces, verify_pieces};
 use std::alloc::Allocator;
@@ -32,16 +33,19 @@ pub fn load_simulated<O: Write, A: Allocator + Copy>(
     resumes: u32,
     report: &mut Option<O>,
 ) -> Result<(), ImageFault>
-    requires { IsAtRest (port_of bench.old) }
-    ensures memory { OnOk result (LoadsMemory (pieces_in image.now) (port_of bench.old).target.memory
-        (port_of bench.new).target.memory) }
-    ensures calls { OnOk result (LoadsAll port_of plan_of AnyWire tries resumes (pieces_in image.now) bench.old
+    requires { IsAtRest (bench_port bench.old) }
+    ensures memory { OnOk result (LoadsSimulatedMemory (pieces_to_load image.now) (bench_port bench.old).target.memory
+        (bench_port bench.new).target.memory) }
+    ensures calls { OnOk result (LoadsAll bench_port bench_plan AnyImageWire tries resumes (pieces_to_load image.now)
+        bench.old
         bench.new) }
-    ensures fault { IfErr result (LoadFailsAt port_of plan_of AnyWire tries resumes (pieces_in image.now) bench.old
+    ensures fault { IfErr result (LoadFailsAt bench_port bench_plan AnyImageWire tries resumes
+        (pieces_to_load image.now) bench.old
         bench.new) }
-    ensures report { LoadsReported port_of plan_of AnyWire tries resumes (pieces_in image.now) (fault_of result)
-        bench.old bench.new (held O.contents report.old) (held O.contents report.new) }
-    ensures plan { plan_of bench.new ≡ plan_of bench.old }
+    ensures report { LoadsReported bench_port bench_plan AnyImageWire tries resumes (pieces_to_load image.now)
+        (image_fault_of result)
+        bench.old bench.new (run_file_held O.contents report.old) (run_file_held O.contents report.new) }
+    ensures plan { bench_plan bench.new ≡ bench_plan bench.old }
 {
     load_pieces(alloc, bench, image, tries, resumes, report)
 }
@@ -62,16 +66,19 @@ pub fn verify_simulated<O: Write, A: Allocator + Copy>(
     resumes: u32,
     report: &mut Option<O>,
 ) -> Result<Option<ByteDifference>, ImageFault>
-    requires { IsAtRest (port_of bench.old) }
-    ensures memory { IfOk result (λ difference. VerifiesMemory (pieces_in image.now) difference
-        (port_of bench.old).target.memory (port_of bench.new).target.memory) }
-    ensures calls { IfOk result (λ difference. VerifiesAll port_of plan_of AnyWire tries resumes (pieces_in image.now)
+    requires { IsAtRest (bench_port bench.old) }
+    ensures memory { IfOk result (λ difference. VerifiesSimulatedMemory (pieces_to_load image.now) difference
+        (bench_port bench.old).target.memory (bench_port bench.new).target.memory) }
+    ensures calls { IfOk result (λ difference. VerifiesAll bench_port bench_plan AnyImageWire tries resumes
+        (pieces_to_load image.now)
         difference bench.old bench.new) }
-    ensures fault { IfErr result (VerifyFailsAt port_of plan_of AnyWire tries resumes (pieces_in image.now) bench.old
+    ensures fault { IfErr result (VerifyFailsAt bench_port bench_plan AnyImageWire tries resumes
+        (pieces_to_load image.now) bench.old
         bench.new) }
-    ensures report { VerifiesReported port_of plan_of AnyWire tries resumes (pieces_in image.now) result bench.old
-        bench.new (held O.contents report.old) (held O.contents report.new) }
-    ensures plan { plan_of bench.new ≡ plan_of bench.old }
+    ensures report { VerifiesReported bench_port bench_plan AnyImageWire tries resumes (pieces_to_load image.now) result
+        bench.old
+        bench.new (run_file_held O.contents report.old) (run_file_held O.contents report.new) }
+    ensures plan { bench_plan bench.new ≡ bench_plan bench.old }
 {
     verify_pieces(alloc, bench, image, tries, resumes, report)
 }
@@ -92,15 +99,19 @@ pub fn dump_simulated<O: Write, A: Allocator + Copy>(
     resumes: u32,
     report: &mut Option<O>,
 ) -> Result<Vec<u8, A>, ImageFault>
-    requires { IsAtRest (port_of bench.old) }
-    ensures memory { IfOk result (λ bytes. DumpsMemory addr count bytes.items (port_of bench.old).target.memory
-        (port_of bench.new).target.memory) }
-    ensures calls { IfOk result (λ bytes. Dumps port_of plan_of AnyWire tries resumes addr count bytes.items bench.old
+    requires { IsAtRest (bench_port bench.old) }
+    ensures memory { IfOk result (λ bytes. DumpsSimulatedMemory addr count bytes.items
+        (bench_port bench.old).target.memory
+        (bench_port bench.new).target.memory) }
+    ensures calls { IfOk result (λ bytes. Dumps bench_port bench_plan AnyImageWire tries resumes addr count bytes.items
+        bench.old
         bench.new) }
-    ensures fault { IfErr result (DumpFails port_of plan_of AnyWire tries resumes addr count bench.old bench.new) }
-    ensures report { DumpReports port_of plan_of AnyWire tries resumes addr count (fault_of result) bench.old bench.new
-        (held O.contents report.old) (held O.contents report.new) }
-    ensures plan { plan_of bench.new ≡ plan_of bench.old }
+    ensures fault { IfErr result (DumpFails bench_port bench_plan AnyImageWire tries resumes addr count bench.old
+        bench.new) }
+    ensures report { DumpReports bench_port bench_plan AnyImageWire tries resumes addr count (image_fault_of result)
+        bench.old bench.new
+        (run_file_held O.contents report.old) (run_file_held O.contents report.new) }
+    ensures plan { bench_plan bench.new ≡ bench_plan bench.old }
 {
     dump_reporting(alloc, bench, addr, count, tries, resumes, report)
 }

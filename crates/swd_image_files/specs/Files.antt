@@ -8,57 +8,62 @@ use Rattle.swd_image_files.specs.declared.format.Format.{Format}
 use Rattle.swd_image_files.specs.declared.format.Format.TheVariants.{Binary, IntelHex, SRecord}
 use Rattle.swd_image_files.specs.declared.kind.RecordFormat.{RecordFormat}
 use Rattle.swd_image_files.specs.declared.kind.RecordFormat.TheVariants.{Intel, Motorola}
-use Rattle.swd_image_files.specs.declared.place.Place.{Place}
-use Rattle.swd_image_files.specs.Images.{Contents, add_data, nothing}
-use Rattle.swd_image_files.specs.Lines.{lines}
-use Rattle.swd_image_files.specs.Overlaps.{AreApart, IsFirstTwice}
-use Rattle.swd_image_files.specs.Places.{after_line, next, start, with_line}
+use Rattle.swd_image_files.specs.declared.place.RecordState.{RecordState}
+use Rattle.swd_image_files.specs.Images.{ImageFileContents, image_file_add_data, image_file_nothing}
+use Rattle.swd_image_files.specs.Lines.{image_file_lines}
+use Rattle.swd_image_files.specs.Overlaps.{AreImageRangesApart, IsLowestImageOverlap}
+use Rattle.swd_image_files.specs.Places.{image_file_after_line, image_file_next_number, image_file_start}
+use Rattle.swd_image_files.specs.Places.{image_file_with_line}
 
 -- the image, if an end record came
-abbrev pub ended : Bool → Contents → Result Contents ImageFileFault
-ended came old = if came then Ok old else Err NoEnd
+abbrev pub image_file_at_end : Bool → ImageFileContents → Result ImageFileContents ImageFileFault
+image_file_at_end came old = if came then Ok old else Err NoEnd
 
 -- the result of a line with this number, or what follows from the place after it
-abbrev pub then_lines : ℕ → (Place → Result Contents ImageFileFault) → Result Place LineFlaw →
-    Result Contents ImageFileFault
-then_lines number rest (Ok place) = rest place
-then_lines number rest (Err flaw) = Err (Line number flaw)
+abbrev pub image_file_then_lines : ℕ → (RecordState → Result ImageFileContents ImageFileFault)
+    → Result RecordState LineFlaw → Result ImageFileContents ImageFileFault
+image_file_then_lines number rest (Ok place) = rest place
+image_file_then_lines number rest (Err flaw) = Err (Line number flaw)
 
 -- what some lines make of an image, from the line with this number on; or the first error
-abbrev pub after_lines : RecordFormat → Place → Contents → ℕ → List (List ℕ) → Result Contents ImageFileFault
-after_lines records place old number [] = ended place.ended old
-after_lines records place old number (line ∷ rest) =
-    then_lines number (λ after. after_lines records after (with_line records place line old) (next number) rest)
-    (after_line records place line)
+abbrev pub image_file_after_lines : RecordFormat → RecordState → ImageFileContents → ℕ → List (List ℕ)
+    → Result ImageFileContents ImageFileFault
+image_file_after_lines records place old number [] = image_file_at_end place.ended old
+image_file_after_lines records place old number (line ∷ rest) =
+    image_file_then_lines number (λ after. image_file_after_lines records after
+    (image_file_with_line records place line old) (image_file_next_number number) rest)
+    (image_file_after_line records place line)
 
 -- the image of a file of records, with this offset added to each address
-abbrev pub lines_contents : RecordFormat → ℕ → List ℕ → Result Contents ImageFileFault
-lines_contents records offset text = after_lines records (start offset) nothing 1 (lines text)
+abbrev pub image_file_of_lines : RecordFormat → ℕ → List ℕ → Result ImageFileContents ImageFileFault
+image_file_of_lines records offset text = image_file_after_lines records (image_file_start offset) image_file_nothing 1
+    (image_file_lines text)
 
 -- the image of a binary file: one piece
-abbrev pub binary_contents : ℕ → List ℕ → Result Contents ImageFileFault
-binary_contents base bytes =
-    if nat_le (base + length bytes) (2 ^ 32) then Ok (add_data nothing base bytes) else Err Range
+abbrev pub image_file_of_binary : ℕ → List ℕ → Result ImageFileContents ImageFileFault
+image_file_of_binary base bytes =
+    if nat_le (base + length bytes) (2 ^ 32) then Ok (image_file_add_data image_file_nothing base bytes) else Err Range
 
 -- the image of a file, addresses that two pieces have left aside
-abbrev pub contents_of : Format → ℕ → List ℕ → Result Contents ImageFileFault
-contents_of Binary base bytes = binary_contents base bytes
-contents_of IntelHex base bytes = lines_contents Intel base bytes
-contents_of SRecord base bytes = lines_contents Motorola base bytes
+abbrev pub image_file_contents : Format → ℕ → List ℕ → Result ImageFileContents ImageFileFault
+image_file_contents Binary base bytes = image_file_of_binary base bytes
+image_file_contents IntelHex base bytes = image_file_of_lines Intel base bytes
+image_file_contents SRecord base bytes = image_file_of_lines Motorola base bytes
 
 -- a file has this image, in which no two pieces have an address
-pub record IsImage (format : Format) (base : ℕ) (bytes : List ℕ) (image : Contents) : Type 0 where
-  pub is : contents_of format base bytes ≡ Ok image
-  pub apart : AreApart image.ranges
+pub record IsImage (format : Format) (base : ℕ) (bytes : List ℕ) (image : ImageFileContents) : Type 0 where
+  pub is : image_file_contents format base bytes ≡ Ok image
+  pub apart : AreImageRangesApart image.ranges
 
 -- the first error by a result, the addresses that two pieces have last; or memory ran out, which leaves those open
-abbrev pub IsFaultIn : Result Contents ImageFileFault → ImageFileFault → Type 0
-IsFaultIn meaning (Line line flaw) = meaning ≡ Err (Line line flaw)
-IsFaultIn meaning NoEnd = meaning ≡ Err NoEnd
-IsFaultIn meaning Range = meaning ≡ Err Range
-IsFaultIn meaning (Overlap addr) = (image : Contents) × (meaning ≡ Ok image) × IsFirstTwice image.ranges addr
-IsFaultIn meaning Memory = IsOk meaning
+abbrev pub IsImageFileFaultIn : Result ImageFileContents ImageFileFault → ImageFileFault → Type 0
+IsImageFileFaultIn meaning (Line line flaw) = meaning ≡ Err (Line line flaw)
+IsImageFileFaultIn meaning NoEnd = meaning ≡ Err NoEnd
+IsImageFileFaultIn meaning Range = meaning ≡ Err Range
+IsImageFileFaultIn meaning (Overlap addr) = (image : ImageFileContents) × (meaning ≡ Ok image)
+    × IsLowestImageOverlap image.ranges addr
+IsImageFileFaultIn meaning Memory = IsOk meaning
 
 -- the first error of a file
-abbrev pub IsFaultOf : Format → ℕ → List ℕ → ImageFileFault → Type 0
-IsFaultOf format base bytes fault = IsFaultIn (contents_of format base bytes) fault
+abbrev pub IsImageFileFault : Format → ℕ → List ℕ → ImageFileFault → Type 0
+IsImageFileFault format base bytes fault = IsImageFileFaultIn (image_file_contents format base bytes) fault

@@ -2,7 +2,8 @@
 ghost use Rattle.std.specs.Prelude.{◌≡◌, ◌+◌, ◌*◌, ◌%◌, ◌≤◌, ◌<◌, ◌++◌, length, slice_index, sum};
 ghost use Rattle.std.specs.List.{list_all};
 ghost use Rattle.arrayvec.specs.ArrayVec.{array_vec_len};
-ghost use Rattle.swd_image_files.specs.Digits.{bytes_of, digit_value as digit_in, is_digit as is_digit_in};
+ghost use Rattle.swd_image_files.specs.Digits.{image_file_digit_bytes, image_file_digit_value as digit_in};
+ghost use Rattle.swd_image_files.specs.Digits.{is_image_file_digit as is_digit_in};
 
 use arrayvec::ArrayVec;
 
@@ -48,7 +49,7 @@ fn byte_of(high: u8, low: u8) -> u8
 
 /// Returns the byte of the first two digits, and 0 if there are fewer.
 pub(crate) fn first_byte(digits: &[u8]) -> u8
-    ensures { result ≡ slice_index (bytes_of digits.now) 0 }
+    ensures { result ≡ slice_index (image_file_digit_bytes digits.now) 0 }
 {
     match digits {
         [high, low, ..] => byte_of(*high, *low),
@@ -59,7 +60,7 @@ pub(crate) fn first_byte(digits: &[u8]) -> u8
 /// Appends the bytes that the digits are.
 pub(crate) fn decode(bytes: &mut RecordBytes, digits: &[u8])
     requires { 2 * array_vec_len bytes.old + length digits.now ≤ 2 * LONGEST }
-    ensures { bytes.new.items ≡ bytes.old.items ++ bytes_of digits.now }
+    ensures { bytes.new.items ≡ bytes.old.items ++ image_file_digit_bytes digits.now }
 {
     let mut rest = digits;
     while let [high, low, others @ ..] = rest {

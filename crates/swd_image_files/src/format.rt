@@ -1,7 +1,7 @@
 //! The formats of image files.
 ghost use Rattle.std.specs.Prelude.{◌≡◌};
-ghost use Rattle.swd_image_files.specs.Formats.{ends_in as ends_in_text};
-ghost use Rattle.swd_image_files.specs.Formats.{format_of_name, format_of_word};
+ghost use Rattle.swd_image_files.specs.Formats.{image_name_ends_in as ends_in_text};
+ghost use Rattle.swd_image_files.specs.Formats.{image_format_of_name, image_format_of_word};
 
 use crate::parts::behind;
 
@@ -20,7 +20,7 @@ impl Format {
     /// Returns the format that the extension of a file name stands for, in upper or lower case: `hex`, `ihex` and
     /// `ihx` for Intel HEX; `srec`, `s19`, `s28`, `s37` and `mot` for S-records. Any other file is a binary.
     pub fn of_name(name: &str) -> Format
-        ensures { result ≡ format_of_name name.now }
+        ensures { result ≡ image_format_of_name name.now }
     {
         let name = name.as_bytes();
         if ends_in(name, b".hex") || ends_in(name, b".ihex") || ends_in(name, b".ihx") {
@@ -37,7 +37,7 @@ impl Format {
 
     /// Returns the format with this word: `bin`, `hex` or `srec`. Returns `None` for any other word.
     pub fn of_word(word: &str) -> Option<Format>
-        ensures { result ≡ format_of_word word.now }
+        ensures { result ≡ image_format_of_word word.now }
     {
         match word.as_bytes() {
             b"bin" => Some(Format::Binary),

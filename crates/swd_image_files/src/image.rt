@@ -32,11 +32,11 @@ pub struct Piece<'a> {
 }
 
 impl<A: Allocator> Image<A> {
-    ghost use Rattle.swd_image_files.specs.Images.{pieces_of, pieces_left};
+    ghost use Rattle.swd_image_files.specs.Images.{image_file_pieces, image_file_pieces_left};
 
     /// Returns the pieces, in the order of the file.
     pub fn pieces(&self) -> Pieces<'_>
-        ensures { pieces_left result ≡ pieces_of self.now.ranges.items self.now.bytes.items }
+        ensures { image_file_pieces_left result ≡ image_file_pieces self.now.ranges.items self.now.bytes.items }
     {
         Pieces {
             ranges: &self.ranges,
@@ -53,13 +53,13 @@ pub struct Pieces<'a> {
 }
 
 impl<'a> Iterator for Pieces<'a> {
-    ghost use Rattle.swd_image_files.specs.Images.{piece_of, pieces_left};
+    ghost use Rattle.swd_image_files.specs.Images.{image_file_piece, image_file_pieces_left};
 
     type Item = Piece<'a>;
 
-    ghost next_gives = { YieldsFirstBy piece_of pieces_left };
+    ghost next_gives = { YieldsFirstBy image_file_piece image_file_pieces_left };
 
-    ghost remaining = { item_count pieces_left };
+    ghost remaining = { item_count image_file_pieces_left };
 
     fn next(&mut self) -> Option<Piece<'a>> {
         let (range, ranges) = self.ranges.split_first()?;

@@ -9,7 +9,7 @@ pub(crate) enum RecordFormat {
 
 /// What a record says.
 #[derive(Clone, Copy)]
-pub(crate) enum Kind {
+pub(crate) enum RecordKind {
     /// Data at an address, relative to the base: the bytes of the record from `from` to its checksum.
     Data { addr: u32, from: usize },
     /// The base of the addresses that follow, and whether they wrap within its 64 KiB.

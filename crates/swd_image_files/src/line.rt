@@ -1,14 +1,15 @@
 //! Decodes the record of a line.
 ghost use Rattle.std.specs.Prelude.{◌≡◌, ◌+◌, ◌*◌, ◌^◌, ◌≤◌, ◌<◌, length, IfOk, IfErr, Ok, Err};
-ghost use Rattle.swd_image_files.specs.Records.{record_bytes as bytes_in, hex_bytes as hex_bytes_in};
-ghost use Rattle.swd_image_files.specs.Records.{srec_bytes as srec_bytes_in, record_kind as kind_in};
-ghost use Rattle.swd_image_files.specs.Records.{hex_kind as hex_kind_in, srec_kind as srec_kind_in, IsWithin};
-ghost use Rattle.swd_image_files.specs.Records.{srec_typed};
-ghost use Rattle.swd_image_files.specs.Records.{two as two_in, number as number_in, sized as sized_in, base as base_in};
+ghost use Rattle.swd_image_files.specs.Records.{image_file_record_bytes as bytes_in, hex_bytes as hex_bytes_in};
+ghost use Rattle.swd_image_files.specs.Records.{srec_bytes as srec_bytes_in, image_file_record_kind as kind_in};
+ghost use Rattle.swd_image_files.specs.Records.{hex_record_kind as hex_kind_in, srec_kind as srec_kind_in};
+ghost use Rattle.swd_image_files.specs.Records.{IsWithinImageRecord, srec_typed, image_file_two_bytes as two_in};
+ghost use Rattle.swd_image_files.specs.Records.{image_file_number as number_in, image_file_sized_kind as sized_in};
+ghost use Rattle.swd_image_files.specs.Records.{image_file_base_kind as base_in};
 
 use crate::digits::{RecordBytes, are_digits, decode, digit_value, first_byte, low_sum};
 use crate::fault::LineFlaw;
-use crate::kind::{Kind, RecordFormat};
+use crate::kind::{RecordFormat, RecordKind};
 use arrayvec::ArrayVec;
 
 /// Decodes the bytes of a record, and checks its digits, its length and its checksum. The first byte of an S-record
@@ -72,9 +73,9 @@ fn srec_bytes(line: &[u8]) -> Result<RecordBytes, LineFlaw>
 }
 
 /// Returns what a record says, by its bytes.
-pub(crate) fn record_kind(records: RecordFormat, bytes: &[u8]) -> Result<Kind, LineFlaw>
+pub(crate) fn record_kind(records: RecordFormat, bytes: &[u8]) -> Result<RecordKind, LineFlaw>
     ensures value { result ≡ kind_in records bytes.now }
-    ensures within { IfOk result (IsWithin (length bytes.now)) }
+    ensures within { IfOk result (IsWithinImageRecord (length bytes.now)) }
 {
     match records {
         RecordFormat::Intel => hex_kind(bytes),
@@ -83,29 +84,29 @@ pub(crate) fn record_kind(records: RecordFormat, bytes: &[u8]) -> Result<Kind, L
 }
 
 // Returns what an Intel HEX record says.
-fn hex_kind(bytes: &[u8]) -> Result<Kind, LineFlaw>
+fn hex_kind(bytes: &[u8]) -> Result<RecordKind, LineFlaw>
     ensures value { result ≡ hex_kind_in bytes.now }
-    ensures within { IfOk result (IsWithin (length bytes.now)) }
+    ensures within { IfOk result (IsWithinImageRecord (length bytes.now)) }
 {
     let len = bytes.len();
     if len < 5 {
         return Err(LineFlaw::BadLength);
     }
     match bytes[3] {
-        0 => Ok(Kind::Data {
+        0 => Ok(RecordKind::Data {
             addr: two(bytes, 1),
             from: 4,
         }),
-        1 => sized(len == 5, Kind::End),
+        1 => sized(len == 5, RecordKind::End),
         2 => base(bytes, 16, true),
-        3 | 5 => sized(len == 9, Kind::Other),
+        3 | 5 => sized(len == 9, RecordKind::Other),
         4 => base(bytes, 65536, false),
         _ => Err(LineFlaw::BadType),
     }
 }
 
 // Returns the base that a record with two bytes of data says, in these units.
-fn base(bytes: &[u8], unit: u32, wraps: bool) -> Result<Kind, LineFlaw>
+fn base(bytes: &[u8], unit: u32, wraps: bool) -> Result<RecordKind, LineFlaw>
     requires { unit ≤ 65536 }
     ensures { result ≡ base_in bytes.now unit wraps }
 {
@@ -113,13 +114,13 @@ fn base(bytes: &[u8], unit: u32, wraps: bool) -> Result<Kind, LineFlaw>
         return Err(LineFlaw::BadLength);
     }
     let at = unit * two(bytes, 4);
-    Ok(Kind::Base { at, wraps })
+    Ok(RecordKind::Base { at, wraps })
 }
 
 // Returns what an S-record says. Its first byte is its type, its second byte the number of those that follow.
-fn srec_kind(bytes: &[u8]) -> Result<Kind, LineFlaw>
+fn srec_kind(bytes: &[u8]) -> Result<RecordKind, LineFlaw>
     ensures value { result ≡ srec_kind_in bytes.now }
-    ensures within { IfOk result (IsWithin (length bytes.now)) }
+    ensures within { IfOk result (IsWithinImageRecord (length bytes.now)) }
 {
     match bytes {
         [kind, ..] => srec_typed(bytes, *kind),
@@ -128,19 +129,19 @@ fn srec_kind(bytes: &[u8]) -> Result<Kind, LineFlaw>
 }
 
 // Returns what an S-record of this type says.
-fn srec_typed(bytes: &[u8], kind: u8) -> Result<Kind, LineFlaw>
+fn srec_typed(bytes: &[u8], kind: u8) -> Result<RecordKind, LineFlaw>
     ensures value { result ≡ srec_typed bytes.now kind }
-    ensures within { IfOk result (IsWithin (length bytes.now)) }
+    ensures within { IfOk result (IsWithinImageRecord (length bytes.now)) }
 {
     let len = bytes.len();
     match kind {
-        0 => sized(5 <= len, Kind::Other),
+        0 => sized(5 <= len, RecordKind::Other),
         1..=3 => {
             let width = kind as usize + 1;
             if len < width + 3 {
                 return Err(LineFlaw::BadLength);
             }
-            Ok(Kind::Data {
+            Ok(RecordKind::Data {
                 addr: number(bytes, width),
                 from: width + 2,
             })
@@ -150,15 +151,15 @@ fn srec_typed(bytes: &[u8], kind: u8) -> Result<Kind, LineFlaw>
             if len != width + 3 {
                 return Err(LineFlaw::BadLength);
             }
-            Ok(Kind::Count(number(bytes, width)))
+            Ok(RecordKind::Count(number(bytes, width)))
         }
-        7..=9 => sized(len == 14 - kind as usize, Kind::End),
+        7..=9 => sized(len == 14 - kind as usize, RecordKind::End),
         _ => Err(LineFlaw::BadType),
     }
 }
 
 // Returns what a record says, if its length is right.
-fn sized(right: bool, kind: Kind) -> Result<Kind, LineFlaw>
+fn sized(right: bool, kind: RecordKind) -> Result<RecordKind, LineFlaw>
     ensures { result ≡ sized_in right kind }
 {
     if right {

@@ -1,6 +1,7 @@
 //! Finds addresses that two pieces have.
 ghost use Rattle.std.specs.Prelude.{◌≡◌, ◌<◌, All, IfOk, MatchOption};
-ghost use Rattle.swd_image_files.specs.Overlaps.{AreApart, IsFirstTwice, IsSound, first_from};
+ghost use Rattle.swd_image_files.specs.Overlaps.{AreImageRangesApart, IsLowestImageOverlap, IsSoundImageRange};
+ghost use Rattle.swd_image_files.specs.Overlaps.{first_image_overlap_from};
 
 use crate::image::Range;
 use std::alloc::{AllocError, Allocator};
@@ -10,8 +11,9 @@ pub(crate) fn first_overlap<A: Allocator>(
     alloc: A,
     ranges: &[Range],
 ) -> Result<Option<u32>, AllocError>
-    requires { All IsSound ranges.now }
-    ensures { IfOk result (λ found. MatchOption found (AreApart ranges.now) (IsFirstTwice ranges.now)) }
+    requires { All IsSoundImageRange ranges.now }
+    ensures { IfOk result (λ found. MatchOption found (AreImageRangesApart ranges.now)
+        (IsLowestImageOverlap ranges.now)) }
 {
     let mut sorted = Vec::from_slice(alloc, ranges)?;
     sorted.sort_unstable_by_key(|range| range.addr);
@@ -20,8 +22,8 @@ pub(crate) fn first_overlap<A: Allocator>(
 
 // Returns the first address of a range that begins before the end of the range before it.
 fn first_adjacent(sorted: &[Range]) -> Option<u32>
-    requires { All IsSound sorted.now }
-    ensures { result ≡ first_from 0 sorted.now }
+    requires { All IsSoundImageRange sorted.now }
+    ensures { result ≡ first_image_overlap_from 0 sorted.now }
 {
     let mut end = 0u64;
     for range in sorted {

@@ -1,11 +1,12 @@
 //! Where a file of records has led.
 ghost use Rattle.std.specs.Prelude.{◌≡◌, ◌+◌, ◌<◌, ◌≤◌, ◌^◌, length};
-ghost use Rattle.swd_image_files.specs.Places.{fits as fits_in, room as room_in, start as start_in};
-ghost use Rattle.swd_image_files.specs.Records.{field as field_in};
+ghost use Rattle.swd_image_files.specs.Places.{image_file_data_fits as fits_in, image_file_wrap_room as room_in};
+ghost use Rattle.swd_image_files.specs.Places.{image_file_start as start_in};
+ghost use Rattle.swd_image_files.specs.Records.{image_file_record_field as field_in};
 
 /// Where a file of records has led.
 #[derive(Clone, Copy)]
-pub(crate) struct Place {
+pub(crate) struct RecordState {
     // What is added to each address.
     pub(crate) offset: u32,
     // The base of the addresses, and whether they wrap within its 64 KiB.
@@ -18,10 +19,10 @@ pub(crate) struct Place {
 }
 
 /// Returns the place before the first line.
-pub(crate) fn start(offset: u32) -> Place
+pub(crate) fn start(offset: u32) -> RecordState
     ensures { result ≡ start_in offset }
 {
-    Place {
+    RecordState {
         offset,
         base: 0,
         wraps: false,
@@ -40,7 +41,7 @@ pub(crate) fn field(bytes: &[u8], from: usize) -> &[u8]
 }
 
 /// Returns how many of `len` bytes come before the addresses wrap.
-pub(crate) fn room(place: Place, addr: u32, len: usize) -> usize
+pub(crate) fn room(place: RecordState, addr: u32, len: usize) -> usize
     ensures value { result ≡ room_in place addr len }
     ensures within { result ≤ len }
 {

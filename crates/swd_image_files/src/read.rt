@@ -1,11 +1,12 @@
 //! Reads image files.
 ghost use Rattle.std.specs.Prelude.{◌≡◌, All, IfErr, IfOk, Ok, position};
-ghost use Rattle.swd_image_files.specs.Files.{IsFaultIn, IsFaultOf, IsImage, binary_contents, contents_of};
-ghost use Rattle.swd_image_files.specs.Files.{ended, lines_contents};
-ghost use Rattle.swd_image_files.specs.Images.{Contents, contents};
-ghost use Rattle.swd_image_files.specs.Overlaps.{IsSound};
-ghost use Rattle.swd_image_files.specs.Readings.{Holds};
-ghost use Rattle.swd_image_files.specs.Lines.{is_feed, line_len as line_len_in, without_return as without_return_in};
+ghost use Rattle.swd_image_files.specs.Files.{IsImageFileFaultIn, IsImageFileFault, IsImage, image_file_of_binary};
+ghost use Rattle.swd_image_files.specs.Files.{image_file_contents, image_file_at_end, image_file_of_lines};
+ghost use Rattle.swd_image_files.specs.Images.{ImageFileContents, contents_of_image};
+ghost use Rattle.swd_image_files.specs.Overlaps.{IsSoundImageRange};
+ghost use Rattle.swd_image_files.specs.Readings.{ImageFileHolds};
+ghost use Rattle.swd_image_files.specs.Lines.{is_image_file_feed, image_file_line_len as line_len_in};
+ghost use Rattle.swd_image_files.specs.Lines.{image_file_without_return as without_return_in};
 
 use crate::fault::ImageFileFault;
 use crate::format::Format;
@@ -13,7 +14,7 @@ use crate::image::Image;
 use crate::kind::RecordFormat;
 use crate::overlap::first_overlap;
 use crate::parts::{behind, front};
-use crate::reading::{Held, Reading};
+use crate::reading::{HeldPieces, RecordReading};
 use std::alloc::Allocator;
 
 /// Reads an image file. A binary is one piece at `base`. In the other formats `base` is added to each address. Its work
@@ -29,8 +30,8 @@ pub fn read_image<A: Allocator + Copy>(
     bytes: &[u8],
     base: u32,
 ) -> Result<Image<A>, ImageFileFault>
-    ensures ok { IfOk result (λ image. IsImage format base bytes.now (contents image)) }
-    ensures err { IfErr result (IsFaultOf format base bytes.now) }
+    ensures ok { IfOk result (λ image. IsImage format base bytes.now (contents_of_image image)) }
+    ensures err { IfErr result (IsImageFileFault format base bytes.now) }
 {
     let image = read_pieces(alloc, format, bytes, base)?;
     match first_overlap(alloc, &image.ranges) {
@@ -47,9 +48,9 @@ fn read_pieces<A: Allocator + Copy>(
     bytes: &[u8],
     base: u32,
 ) -> Result<Image<A>, ImageFileFault>
-    ensures ok { IfOk result (λ image. contents_of format base bytes.now ≡ Ok (contents image)) }
-    ensures sound { IfOk result (λ image. All IsSound image.ranges.items) }
-    ensures err { IfErr result (IsFaultOf format base bytes.now) }
+    ensures ok { IfOk result (λ image. image_file_contents format base bytes.now ≡ Ok (contents_of_image image)) }
+    ensures sound { IfOk result (λ image. All IsSoundImageRange image.ranges.items) }
+    ensures err { IfErr result (IsImageFileFault format base bytes.now) }
 {
     match format {
         Format::Binary => read_binary(alloc, bytes, base),
@@ -64,19 +65,19 @@ fn read_binary<A: Allocator + Copy>(
     bytes: &[u8],
     base: u32,
 ) -> Result<Image<A>, ImageFileFault>
-    ensures ok { IfOk result (λ image. binary_contents base bytes.now ≡ Ok (contents image)) }
-    ensures sound { IfOk result (λ image. All IsSound image.ranges.items) }
-    ensures err { IfErr result (IsFaultIn (binary_contents base bytes.now)) }
+    ensures ok { IfOk result (λ image. image_file_of_binary base bytes.now ≡ Ok (contents_of_image image)) }
+    ensures sound { IfOk result (λ image. All IsSoundImageRange image.ranges.items) }
+    ensures err { IfErr result (IsImageFileFaultIn (image_file_of_binary base bytes.now)) }
 {
     if bytes.len() as u64 > 0x1_0000_0000 - base as u64 {
         return Err(ImageFileFault::Range);
     }
-    let mut held = Held::new(alloc);
+    let mut held = HeldPieces::new(alloc);
     held.add(base as u64, bytes);
     if held.failed {
         return Err(ImageFileFault::Memory);
     }
-    let Held { image, .. } = held;
+    let HeldPieces { image, .. } = held;
     Ok(image)
 }
 
@@ -87,18 +88,18 @@ fn read_records<A: Allocator + Copy>(
     bytes: &[u8],
     base: u32,
 ) -> Result<Image<A>, ImageFileFault>
-    ensures ok { IfOk result (λ image. lines_contents records base bytes.now ≡ Ok (contents image)) }
-    ensures sound { IfOk result (λ image. All IsSound image.ranges.items) }
-    ensures err { IfErr result (IsFaultIn (lines_contents records base bytes.now)) }
+    ensures ok { IfOk result (λ image. image_file_of_lines records base bytes.now ≡ Ok (contents_of_image image)) }
+    ensures sound { IfOk result (λ image. All IsSoundImageRange image.ranges.items) }
+    ensures err { IfErr result (IsImageFileFaultIn (image_file_of_lines records base bytes.now)) }
 {
-    let Reading { place, held } = read_lines(alloc, records, bytes, base)?;
+    let RecordReading { place, held } = read_lines(alloc, records, bytes, base)?;
     if !place.ended {
         return Err(ImageFileFault::NoEnd);
     }
     if held.failed {
         return Err(ImageFileFault::Memory);
     }
-    let Held { image, .. } = held;
+    let HeldPieces { image, .. } = held;
     Ok(image)
 }
 
@@ -108,12 +109,12 @@ fn read_lines<A: Allocator + Copy>(
     records: RecordFormat,
     bytes: &[u8],
     base: u32,
-) -> Result<Reading<A>, ImageFileFault>
-    ensures ok { IfOk result (λ reading. (old : Contents) × Holds old reading.held
-        × (lines_contents records base bytes.now ≡ ended reading.place.ended old)) }
-    ensures err { IfErr result (IsFaultIn (lines_contents records base bytes.now)) }
+) -> Result<RecordReading<A>, ImageFileFault>
+    ensures ok { IfOk result (λ reading. (old : ImageFileContents) × ImageFileHolds old reading.held
+        × (image_file_of_lines records base bytes.now ≡ image_file_at_end reading.place.ended old)) }
+    ensures err { IfErr result (IsImageFileFaultIn (image_file_of_lines records base bytes.now)) }
 {
-    let mut reading = Reading::new(alloc, base);
+    let mut reading = RecordReading::new(alloc, base);
     let mut line = 1u64;
     let mut rest = bytes;
     let mut more = true;
@@ -144,7 +145,7 @@ fn line_len(text: &[u8]) -> usize
 
 // Returns the place of the first line feed.
 fn first_feed(text: &[u8]) -> Option<usize>
-    ensures { result ≡ position is_feed text.now }
+    ensures { result ≡ position is_image_file_feed text.now }
 {
     text.iter().position(|byte| *byte == b'\n')
 }

@@ -1,39 +1,41 @@
 //! Collects the data of a file of records.
 ghost use Rattle.std.specs.Prelude.{◌≡◌, ◌+◌, ◌≤◌, ◌<◌, ◌^◌, ◌++◌, length, true, OnOk, IfErr, Ok, Err};
-ghost use Rattle.swd_image_files.specs.Images.{Contents, add_data, contents, joined, nothing};
-ghost use Rattle.swd_image_files.specs.Places.{fits as fits_in, start as start_in};
-ghost use Rattle.swd_image_files.specs.Places.{after_kind, after_data, after_line, with_kind, with_data, with_line};
-ghost use Rattle.swd_image_files.specs.Lines.{is_blank_line as is_blank_in};
-ghost use Rattle.swd_image_files.specs.Records.{IsWithin};
+ghost use Rattle.swd_image_files.specs.Images.{ImageFileContents, image_file_add_data, contents_of_image};
+ghost use Rattle.swd_image_files.specs.Images.{image_file_ranges_joined, image_file_nothing};
+ghost use Rattle.swd_image_files.specs.Places.{image_file_data_fits as fits_in, image_file_start as start_in};
+ghost use Rattle.swd_image_files.specs.Places.{image_file_after_kind, image_file_after_data, image_file_after_line};
+ghost use Rattle.swd_image_files.specs.Places.{image_file_with_kind, image_file_with_data, image_file_with_line};
+ghost use Rattle.swd_image_files.specs.Lines.{is_image_file_blank_line as is_blank_in};
+ghost use Rattle.swd_image_files.specs.Records.{IsWithinImageRecord};
 
 use crate::fault::LineFlaw;
 use crate::image::{Image, Range};
-use crate::kind::{Kind, RecordFormat};
+use crate::kind::{RecordFormat, RecordKind};
 use crate::line::{record_bytes, record_kind};
-use crate::place::{Place, field, fits, room, start};
+use crate::place::{RecordState, field, fits, room, start};
 use std::alloc::{AllocError, Allocator};
 
 /// The data so far, unless memory ran out.
 #[derive(Drop)]
-pub(crate) struct Held<A: Allocator> {
+pub(crate) struct HeldPieces<A: Allocator> {
     pub(crate) image: Image<A>,
     pub(crate) failed: bool,
 }
 
-impl<A: Allocator> Held<A> {
-    ghost use Rattle.swd_image_files.specs.Readings.{Holds};
+impl<A: Allocator> HeldPieces<A> {
+    ghost use Rattle.swd_image_files.specs.Readings.{ImageFileHolds};
 
     /// Returns no data.
-    pub(crate) fn new(alloc: A) -> Held<A>
+    pub(crate) fn new(alloc: A) -> HeldPieces<A>
     where
         A: Copy,
-        ensures { Holds nothing result }
+        ensures { ImageFileHolds image_file_nothing result }
     {
         let image = Image {
             ranges: Vec::new(alloc),
             bytes: Vec::new(alloc),
         };
-        Held {
+        HeldPieces {
             image,
             failed: false,
         }
@@ -42,7 +44,8 @@ impl<A: Allocator> Held<A> {
     /// Appends bytes at an address. They join the last piece if they continue it.
     pub(crate) fn add(&mut self, at: u64, bytes: &[u8])
         requires { fits_in at (length bytes.now) ≡ true }
-        ensures { (old : Contents) → Holds old self.old → Holds (add_data old at bytes.now) self.new }
+        ensures { (old : ImageFileContents) → ImageFileHolds old self.old
+            → ImageFileHolds (image_file_add_data old at bytes.now) self.new }
     {
         if bytes.is_empty() || self.failed {
             return;
@@ -56,8 +59,8 @@ impl<A: Allocator> Held<A> {
 // Appends bytes at an address. After an error the image is unspecified.
 fn append<A: Allocator>(image: &mut Image<A>, addr: u32, bytes: &[u8]) -> Result<(), AllocError>
     requires { addr + length bytes.now ≤ 2 ^ 32 }
-    ensures { OnOk result (contents image.new ≡ record {
-      ranges = joined image.old.ranges.items addr (length bytes.now);
+    ensures { OnOk result (contents_of_image image.new ≡ record {
+      ranges = image_file_ranges_joined image.old.ranges.items addr (length bytes.now);
       bytes = image.old.bytes.items ++ bytes.now;
     }) }
 {
@@ -68,7 +71,7 @@ fn append<A: Allocator>(image: &mut Image<A>, addr: u32, bytes: &[u8]) -> Result
 // Appends a range, or extends the last one if the range continues it.
 fn join<A: Allocator>(ranges: &mut Vec<Range, A>, addr: u32, len: usize) -> Result<(), AllocError>
     requires { addr + len ≤ 2 ^ 32 }
-    ensures { OnOk result (ranges.new.items ≡ joined ranges.old.items addr len) }
+    ensures { OnOk result (ranges.new.items ≡ image_file_ranges_joined ranges.old.items addr len) }
 {
     let Some(last) = ranges.pop() else {
         ranges.push(Range { addr, len })?;
@@ -86,33 +89,33 @@ fn join<A: Allocator>(ranges: &mut Vec<Range, A>, addr: u32, len: usize) -> Resu
 
 /// The lines so far of a file of records.
 #[derive(Drop)]
-pub(crate) struct Reading<A: Allocator> {
-    pub(crate) place: Place,
-    pub(crate) held: Held<A>,
+pub(crate) struct RecordReading<A: Allocator> {
+    pub(crate) place: RecordState,
+    pub(crate) held: HeldPieces<A>,
 }
 
-impl<A: Allocator> Reading<A> {
-    ghost use Rattle.swd_image_files.specs.Readings.{Holds};
+impl<A: Allocator> RecordReading<A> {
+    ghost use Rattle.swd_image_files.specs.Readings.{ImageFileHolds};
 
     /// Returns the state before the first line.
-    pub(crate) fn new(alloc: A, offset: u32) -> Reading<A>
+    pub(crate) fn new(alloc: A, offset: u32) -> RecordReading<A>
     where
         A: Copy,
         ensures place { result.place ≡ start_in offset }
-        ensures held { Holds nothing result.held }
+        ensures held { ImageFileHolds image_file_nothing result.held }
     {
-        Reading {
+        RecordReading {
             place: start(offset),
-            held: Held::new(alloc),
+            held: HeldPieces::new(alloc),
         }
     }
 
     /// Takes a line without its line end. After an error the state is unspecified.
     pub(crate) fn take_line(&mut self, records: RecordFormat, line: &[u8]) -> Result<(), LineFlaw>
-        ensures ok { OnOk result (after_line records self.old.place line.now ≡ Ok self.new.place) }
-        ensures held { OnOk result ((old : Contents) → Holds old self.old.held
-            → Holds (with_line records self.old.place line.now old) self.new.held) }
-        ensures err { IfErr result (λ flaw. after_line records self.old.place line.now ≡ Err flaw) }
+        ensures ok { OnOk result (image_file_after_line records self.old.place line.now ≡ Ok self.new.place) }
+        ensures held { OnOk result ((old : ImageFileContents) → ImageFileHolds old self.old.held
+            → ImageFileHolds (image_file_with_line records self.old.place line.now old) self.new.held) }
+        ensures err { IfErr result (λ flaw. image_file_after_line records self.old.place line.now ≡ Err flaw) }
     {
         if is_blank_line(line) {
             return Ok(());
@@ -126,36 +129,36 @@ impl<A: Allocator> Reading<A> {
     }
 
     // Takes a record with these bytes. After an error the state is unspecified.
-    fn take_kind(&mut self, kind: Kind, bytes: &[u8]) -> Result<(), LineFlaw>
-        requires { IsWithin (length bytes.now) kind }
-        ensures ok { OnOk result (after_kind self.old.place kind bytes.now ≡ Ok self.new.place) }
-        ensures held { OnOk result ((old : Contents) → Holds old self.old.held
-            → Holds (with_kind self.old.place kind bytes.now old) self.new.held) }
-        ensures err { IfErr result (λ flaw. after_kind self.old.place kind bytes.now ≡ Err flaw) }
+    fn take_kind(&mut self, kind: RecordKind, bytes: &[u8]) -> Result<(), LineFlaw>
+        requires { IsWithinImageRecord (length bytes.now) kind }
+        ensures ok { OnOk result (image_file_after_kind self.old.place kind bytes.now ≡ Ok self.new.place) }
+        ensures held { OnOk result ((old : ImageFileContents) → ImageFileHolds old self.old.held
+            → ImageFileHolds (image_file_with_kind self.old.place kind bytes.now old) self.new.held) }
+        ensures err { IfErr result (λ flaw. image_file_after_kind self.old.place kind bytes.now ≡ Err flaw) }
     {
         match kind {
-            Kind::Data { addr, from } => return self.take_data(addr, field(bytes, from)),
-            Kind::Base { at, wraps } => {
+            RecordKind::Data { addr, from } => return self.take_data(addr, field(bytes, from)),
+            RecordKind::Base { at, wraps } => {
                 self.place.base = at;
                 self.place.wraps = wraps;
             }
-            Kind::Count(count) => {
+            RecordKind::Count(count) => {
                 if count as u64 != self.place.records {
                     return Err(LineFlaw::BadCount);
                 }
             }
-            Kind::End => self.place.ended = true,
-            Kind::Other => {}
+            RecordKind::End => self.place.ended = true,
+            RecordKind::Other => {}
         }
         Ok(())
     }
 
     // Takes the data of a record at an address, relative to the base.
     fn take_data(&mut self, addr: u32, bytes: &[u8]) -> Result<(), LineFlaw>
-        ensures ok { OnOk result (after_data self.old.place addr (length bytes.now) ≡ Ok self.new.place) }
-        ensures held { OnOk result ((old : Contents) → Holds old self.old.held
-            → Holds (with_data self.old.place addr bytes.now old) self.new.held) }
-        ensures err { IfErr result (λ flaw. after_data self.old.place addr (length bytes.now) ≡ Err flaw) }
+        ensures ok { OnOk result (image_file_after_data self.old.place addr (length bytes.now) ≡ Ok self.new.place) }
+        ensures held { OnOk result ((old : ImageFileContents) → ImageFileHolds old self.old.held
+            → ImageFileHolds (image_file_with_data self.old.place addr bytes.now old) self.new.held) }
+        ensures err { IfErr result (λ flaw. image_file_after_data self.old.place addr (length bytes.now) ≡ Err flaw) }
     {
         let base = self.place.offset as u64 + self.place.base as u64;
         let (first, second) = bytes.split_at(room(self.place, addr, bytes.len()));

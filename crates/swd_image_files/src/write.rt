@@ -1,11 +1,12 @@
 //! Writes image files.
-ghost use Rattle.std.specs.Prelude.{◌≡◌, ℕ, ◌+◌, ◌*◌, ◌≤◌, ◌<◌, ◌^◌, List, Option, ◌++◌, length};
+ghost use Rattle.std.specs.Prelude.{◌≡◌, ◌+◌, ◌*◌, ◌≤◌, ◌<◌, ◌^◌, ◌++◌, length};
 ghost use Rattle.arrayvec.specs.ArrayVec.{array_vec_len};
-ghost use Rattle.swd_io.specs.Blocks.{Sends, Writes};
-ghost use Rattle.swd_image_files.specs.Texts.{base_lines, data_line as data_line_in, digits_of, file_of};
-ghost use Rattle.swd_image_files.specs.Texts.{end_line as end_line_in, hex_digit as hex_digit_in};
-ghost use Rattle.swd_image_files.specs.Texts.{hex_line as hex_line_in, records_file};
-ghost use Rattle.swd_image_files.specs.Texts.{span as span_in, srec_line as srec_line_in};
+ghost use Rattle.swd_io.specs.Blocks.{WritesOutput, BlockQueues};
+ghost use Rattle.swd_image_files.specs.Texts.{image_file_base_lines, image_file_data_line as data_line_in};
+ghost use Rattle.swd_image_files.specs.Texts.{image_file_hex_digits, image_file_of_piece};
+ghost use Rattle.swd_image_files.specs.Texts.{image_file_end_line as end_line_in, image_file_hex_digit as hex_digit_in};
+ghost use Rattle.swd_image_files.specs.Texts.{hex_record_line as hex_line_in, image_file_of_records};
+ghost use Rattle.swd_image_files.specs.Texts.{image_file_record_span as span_in, srec_line as srec_line_in};
 
 use crate::digits::low_sum;
 use crate::format::Format;
@@ -36,7 +37,8 @@ pub fn write_image<W: Write>(
     writer: &mut W,
 ) -> Result<(), u64>
     requires { addr + length bytes.now ≤ 2 ^ 32 }
-    ensures { Writes result (W.contents writer.old) (W.contents writer.new) (file_of format addr bytes.now) }
+    ensures { WritesOutput result (W.contents writer.old) (W.contents writer.new)
+        (image_file_of_piece format addr bytes.now) }
 {
     match format {
         Format::Binary => match send(writer, bytes) {
@@ -56,7 +58,8 @@ fn write_records<W: Write>(
     writer: &mut W,
 ) -> Result<(), u64>
     requires { addr + length bytes.now ≤ 2 ^ 32 }
-    ensures { Writes result (W.contents writer.old) (W.contents writer.new) (records_file records addr bytes.now) }
+    ensures { WritesOutput result (W.contents writer.old) (W.contents writer.new)
+        (image_file_of_records records addr bytes.now) }
 {
     let mut block = Block::new(writer, 0);
     put_records(&mut block, records, addr, bytes);
@@ -69,8 +72,7 @@ fn write_records<W: Write>(
 // Appends the lines of an image of one piece.
 fn put_records<W: Write>(block: &mut Block<'_, W>, records: RecordFormat, addr: u32, bytes: &[u8])
     requires { addr + length bytes.now ≤ 2 ^ 32 }
-    ensures sends { (start : Option (List ℕ)) (all : List ℕ) → Sends W.contents start block.old all
-        → Sends W.contents start block.new (all ++ records_file records addr bytes.now) }
+    ensures sends { BlockQueues W.contents (image_file_of_records records addr bytes.now) block.old block.new }
     ensures writer { block.new.writer.ghost_name ≡ block.old.writer.ghost_name }
 {
     let mut at = addr as u64;
@@ -91,8 +93,7 @@ fn put_records<W: Write>(block: &mut Block<'_, W>, records: RecordFormat, addr: 
 // Writes an extended linear address record if the upper half of the address changes.
 fn put_base<W: Write>(block: &mut Block<'_, W>, records: RecordFormat, old: u32, new: u32)
     requires { new < 65536 }
-    ensures sends { (start : Option (List ℕ)) (all : List ℕ) → Sends W.contents start block.old all
-        → Sends W.contents start block.new (all ++ base_lines records old new) }
+    ensures sends { BlockQueues W.contents (image_file_base_lines records old new) block.old block.new }
     ensures writer { block.new.writer.ghost_name ≡ block.old.writer.ghost_name }
 {
     if let RecordFormat::Intel = records
@@ -181,7 +182,7 @@ fn srec_line(addr: u32, bytes: &[u8]) -> ArrayVec<u8, WIDEST>
 // Appends the hexadecimal digits of some bytes.
 fn push_bytes(line: &mut ArrayVec<u8, WIDEST>, bytes: &[u8])
     requires { array_vec_len line.old + 2 * length bytes.now ≤ WIDEST }
-    ensures items { line.new.items ≡ line.old.items ++ digits_of bytes.now }
+    ensures items { line.new.items ≡ line.old.items ++ image_file_hex_digits bytes.now }
     ensures len { array_vec_len line.new ≡ array_vec_len line.old + 2 * length bytes.now }
 {
     for byte in bytes {

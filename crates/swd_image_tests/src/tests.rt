@@ -1,11 +1,11 @@
 //! Loads, dumps and verifications at a simulated target.
 ghost use Rattle.std.specs.Prelude.{IsTrue};
-ghost use Rattle.swd_target.specs.Marks.{IsPlan};
+ghost use Rattle.swd_target.specs.Marks.{IsLegalPlan};
 
 mod dumps;
 mod expect;
 mod loads;
-mod long;
+mod long_images;
 mod memory;
 mod reports;
 
@@ -31,7 +31,7 @@ const QUIRKS: Quirks = Quirks {
 const TRIES: u32 = 3;
 
 fn are_legal(marks: &[Mark]) -> bool
-    ensures { IsTrue result → IsPlan marks.now }
+    ensures { IsTrue result → IsLegalPlan marks.now }
 {
     marks.iter().all(|mark| mark.legal())
 }

@@ -5,18 +5,18 @@ use Rattle.std.specs.Io.KnownBytes.{Appends}
 use Rattle.std.proofs.KnownBytes.{Appends-trans}
 use Rattle.std.proofs.lemmas.List.{length-append, append-nil, take-append-le}
 use Rattle.std.proofs.Math.Seq.{take-append-add}
-use Rattle.swd_io.specs.Blocks.{Carries, Stopped, SendsBy}
-use Rattle.swd_io.specs.Helds.{held_bytes}
+use Rattle.swd_io.specs.Blocks.{BlockBufferCarries, OutputStopped, BlockBufferSendsBy}
+use Rattle.swd_io.specs.Helds.{block_buffer_bytes}
 use Rattle.swd_io.specs.declared.block.Block.{Block}
 
 -- what was held went out
-pub gone_out : {W : Type 0} (contents : W → Option (List ℕ)) (start : Option (List ℕ)) (block after : Block W)
-    (all text : List ℕ) →
-    text ≡ held_bytes block.held → Appends (contents block.writer.now) (contents after.writer.now) text
-    → held_bytes after.held ≡ [] →
-    after.written ≡ min (block.written + length text) (2 ^ 64 - 1) → Carries contents start block all
-    → Carries contents start after all
-gone_out contents start block after all text e a n m h =
+pub block_buffer_flushed : {W : Type 0} (contents : W → Option (List ℕ)) (start : Option (List ℕ))
+    (block after : Block W) (all text : List ℕ) →
+    text ≡ block_buffer_bytes block.held → Appends (contents block.writer.now) (contents after.writer.now) text
+    → block_buffer_bytes after.held ≡ [] →
+    after.written ≡ min (block.written + length text) (2 ^ 64 - 1) → BlockBufferCarries contents start block all
+    → BlockBufferCarries contents start after all
+block_buffer_flushed contents start block after all text e a n m h =
     let whole : all ≡ h.sent ++ text = h.whole ∙ ap (λ x. h.sent ++ x) (sym e) in
     let gone : Appends start (contents after.writer.now) (h.sent ++ text) = Appends-trans _ _ _ _ _ h.gone a in
     let len : length (h.sent ++ text) ≡ length h.sent + length text = length-append h.sent text in
@@ -29,12 +29,12 @@ gone_out contents start block after all text e a n m h =
     }
 
 -- a beginning of what was held went out
-pub cut_short : {W : Type 0} (contents : W → Option (List ℕ)) (start new : Option (List ℕ)) (block : Block W)
-    (all text : List ℕ) (k told : ℕ) →
-    text ≡ held_bytes block.held → k < length text → Appends (contents block.writer.now) new (take k text)
+pub block_buffer_cut_short : {W : Type 0} (contents : W → Option (List ℕ)) (start new : Option (List ℕ))
+    (block : Block W) (all text : List ℕ) (k told : ℕ) →
+    text ≡ block_buffer_bytes block.held → k < length text → Appends (contents block.writer.now) new (take k text)
     → told ≡ min (block.written + k) (2 ^ 64 - 1) →
-    Carries contents start block all → Stopped told start new all
-cut_short contents start new block all text k told e l a m h =
+    BlockBufferCarries contents start block all → OutputStopped told start new all
+block_buffer_cut_short contents start new block all text k told e l a m h =
     let whole : all ≡ h.sent ++ text = h.whole ∙ ap (λ x. h.sent ++ x) (sym e) in
     let gone : Appends start new (h.sent ++ take k text) = Appends-trans _ _ _ _ _ h.gone a in
     let len : length (h.sent ++ text) ≡ length h.sent + length text = length-append h.sent text in
@@ -48,9 +48,9 @@ cut_short contents start new block all text k told e l a m h =
     }
 
 -- a text in which the writer failed may be longer
-pub stopped_more : (told : ℕ) (start now : Option (List ℕ)) (all more : List ℕ) → Stopped told start now all
-    → Stopped told start now (all ++ more)
-stopped_more told start now all more h =
+pub output_stopped_more : (told : ℕ) (start now : Option (List ℕ)) (all more : List ℕ)
+    → OutputStopped told start now all → OutputStopped told start now (all ++ more)
+output_stopped_more told start now all more h =
     let len : length (all ++ more) ≡ length all + length more = length-append all more in
     let short = h.short in
     record {
@@ -61,13 +61,13 @@ stopped_more told start now all more h =
     }
 
 -- whether the writer failed is told by the flag
-pub to_carries : {W : Type 0} (contents : W → Option (List ℕ)) (flag : Bool) (start : Option (List ℕ)) (block : Block W)
-    (all : List ℕ) →
-    flag ≡ false → SendsBy flag contents start block all → Carries contents start block all
-to_carries contents flag start block all e h = rw e at h
+pub block_buffer_unfailed : {W : Type 0} (contents : W → Option (List ℕ)) (flag : Bool) (start : Option (List ℕ))
+    (block : Block W) (all : List ℕ) →
+    flag ≡ false → BlockBufferSendsBy flag contents start block all → BlockBufferCarries contents start block all
+block_buffer_unfailed contents flag start block all e h = rw e at h
 
 -- where the flag says that the writer didn't fail, it has to hold the output except for the buffered bytes
-pub of_carries : {W : Type 0} (contents : W → Option (List ℕ)) (flag : Bool) (start : Option (List ℕ)) (block : Block W)
-    (all : List ℕ) →
-    flag ≡ false → Carries contents start block all → SendsBy flag contents start block all
-of_carries contents flag start block all e h = rw e h
+pub carried_block_buffer_sends : {W : Type 0} (contents : W → Option (List ℕ)) (flag : Bool) (start : Option (List ℕ))
+    (block : Block W) (all : List ℕ) →
+    flag ≡ false → BlockBufferCarries contents start block all → BlockBufferSendsBy flag contents start block all
+carried_block_buffer_sends contents flag start block all e h = rw e h

@@ -1,10 +1,10 @@
 -- A buffer of bytes.
 use Rattle.std.specs.Prelude.{ℕ, List, take}
-use Rattle.swd_io.specs.declared.held.Held.{Held}
+use Rattle.swd_io.specs.declared.held.HeldOutput.{HeldOutput}
 
 -- the buffered bytes, and their number
-abbrev pub held_bytes : Held → List ℕ
-held_bytes held = take held.len held.bytes
+abbrev pub block_buffer_bytes : HeldOutput → List ℕ
+block_buffer_bytes held = take held.len held.bytes
 
-abbrev pub count_of : Held → ℕ
-count_of held = held.len
+abbrev pub block_buffer_count : HeldOutput → ℕ
+block_buffer_count held = held.len

@@ -2,9 +2,10 @@
 ghost use Rattle.std.specs.Prelude.{◌≡◌, ℕ, ◌+◌, ◌-◌, ◌^◌, ◌≤◌, min, List, Option, ◌++◌, ◌∷◌, [], length, take, false};
 ghost use Rattle.std.specs.Prelude.{IfOk, IfErr};
 ghost use Rattle.std.specs.Io.KnownBytes.{Appends};
-ghost use Rattle.swd_io.specs.Blocks.{Sends, Stopped, held_len, is_failed};
+ghost use Rattle.swd_io.specs.Blocks.{BlockBufferSends, OutputStopped, block_buffer_len, block_writer_failed};
+ghost use Rattle.swd_io.specs.Blocks.{BlockQueues};
 
-use crate::held::{Held, SIZE};
+use crate::held::{HeldOutput, SIZE};
 use crate::output::send;
 use std::io::Write;
 
@@ -18,7 +19,7 @@ pub const LONGEST: usize = 1024;
 #[derive(Drop)]
 pub struct Block<'a, W> {
     writer: &'a mut W,
-    held: Held,
+    held: HeldOutput,
     // The number of written bytes, at most 2^64 - 1.
     written: u64,
     // Whether the writer failed.
@@ -30,11 +31,11 @@ impl<'a, W: Write> Block<'a, W> {
     pub fn new(writer: &'a mut W, written: u64) -> Block<'a, W>
         ensures writer { result.writer.ghost_name ≡ writer.entry.ghost_name }
         ensures sends { (start : Option (List ℕ)) (all : List ℕ) → Appends start (W.contents writer.old) all
-            → written ≡ min (length all) (2 ^ 64 - 1) → Sends W.contents start result all }
+            → written ≡ min (length all) (2 ^ 64 - 1) → BlockBufferSends W.contents start result all }
     {
         Block {
             writer,
-            held: Held::new(),
+            held: HeldOutput::new(),
             written,
             failed: false,
         }
@@ -42,7 +43,7 @@ impl<'a, W: Write> Block<'a, W> {
 
     /// Returns whether the writer failed.
     pub fn has_failed(&self) -> bool
-        ensures { result ≡ is_failed self.now }
+        ensures { result ≡ block_writer_failed self.now }
     {
         self.failed
     }
@@ -54,13 +55,14 @@ impl<'a, W: Write> Block<'a, W> {
     /// If the writer failed, now or before: how many bytes were written before that, at most 2^64 - 1.
     pub fn flush(&mut self) -> Result<u64, u64>
         ensures writer { self.new.writer.ghost_name ≡ self.old.writer.ghost_name }
-        ensures sends { (start : Option (List ℕ)) (all : List ℕ) → Sends W.contents start self.old all
-            → Sends W.contents start self.new all }
-        ensures ok { IfOk result (λ told. (start : Option (List ℕ)) (all : List ℕ) → Sends W.contents start self.old all
+        ensures sends { (start : Option (List ℕ)) (all : List ℕ) → BlockBufferSends W.contents start self.old all
+            → BlockBufferSends W.contents start self.new all }
+        ensures ok { IfOk result (λ told. (start : Option (List ℕ)) (all : List ℕ)
+            → BlockBufferSends W.contents start self.old all
             → Appends start (W.contents self.new.writer.now) all × (told ≡ min (length all) (2 ^ 64 - 1))) }
         ensures err { IfErr result (λ told. (start : Option (List ℕ)) (all : List ℕ)
-            → Sends W.contents start self.old all
-            → Stopped told start (W.contents self.new.writer.now) all) }
+            → BlockBufferSends W.contents start self.old all
+            → OutputStopped told start (W.contents self.new.writer.now) all) }
     {
         self.send_held();
         if self.failed {
@@ -74,9 +76,9 @@ impl<'a, W: Write> Block<'a, W> {
     #[inline(never)]
     fn send_held(&mut self)
         ensures writer { self.new.writer.ghost_name ≡ self.old.writer.ghost_name }
-        ensures sends { (start : Option (List ℕ)) (all : List ℕ) → Sends W.contents start self.old all
-            → Sends W.contents start self.new all }
-        ensures empty { is_failed self.new ≡ false → held_len self.new ≡ 0 }
+        ensures sends { (start : Option (List ℕ)) (all : List ℕ) → BlockBufferSends W.contents start self.old all
+            → BlockBufferSends W.contents start self.new all }
+        ensures empty { block_writer_failed self.new ≡ false → block_buffer_len self.new ≡ 0 }
     {
         if self.failed {
             return;
@@ -97,9 +99,9 @@ impl<'a, W: Write> Block<'a, W> {
     #[inline(always)]
     fn make_room(&mut self)
         ensures writer { self.new.writer.ghost_name ≡ self.old.writer.ghost_name }
-        ensures sends { (start : Option (List ℕ)) (all : List ℕ) → Sends W.contents start self.old all
-            → Sends W.contents start self.new all }
-        ensures room { is_failed self.new ≡ false → held_len self.new ≤ SIZE - LONGEST }
+        ensures sends { (start : Option (List ℕ)) (all : List ℕ) → BlockBufferSends W.contents start self.old all
+            → BlockBufferSends W.contents start self.new all }
+        ensures room { block_writer_failed self.new ≡ false → block_buffer_len self.new ≤ SIZE - LONGEST }
     {
         if self.held.len() > SIZE - LONGEST {
             self.send_held();
@@ -110,8 +112,7 @@ impl<'a, W: Write> Block<'a, W> {
     pub fn put_line(&mut self, line: &[u8])
         requires { length line.now ≤ LONGEST }
         ensures writer { self.new.writer.ghost_name ≡ self.old.writer.ghost_name }
-        ensures sends { (start : Option (List ℕ)) (all : List ℕ) → Sends W.contents start self.old all
-            → Sends W.contents start self.new (all ++ (line.now ++ 10 ∷ [])) }
+        ensures sends { BlockQueues W.contents (line.now ++ 10 ∷ []) self.old self.new }
     {
         self.put(line);
         self.put(b"\n");
@@ -122,8 +123,7 @@ impl<'a, W: Write> Block<'a, W> {
     pub fn put(&mut self, piece: &[u8])
         requires { length piece.now ≤ LONGEST }
         ensures writer { self.new.writer.ghost_name ≡ self.old.writer.ghost_name }
-        ensures sends { (start : Option (List ℕ)) (all : List ℕ) → Sends W.contents start self.old all
-            → Sends W.contents start self.new (all ++ piece.now) }
+        ensures sends { BlockQueues W.contents piece.now self.old self.new }
     {
         self.make_room();
         if !self.failed {
@@ -138,8 +138,7 @@ impl<'a, W: Write> Block<'a, W> {
         requires short { N ≤ LONGEST }
         requires within { count ≤ N }
         ensures writer { self.new.writer.ghost_name ≡ self.old.writer.ghost_name }
-        ensures sends { (start : Option (List ℕ)) (all : List ℕ) → Sends W.contents start self.old all
-            → Sends W.contents start self.new (all ++ take count piece.now) }
+        ensures sends { BlockQueues W.contents (take count piece.now) self.old self.new }
     {
         self.make_room();
         if !self.failed {
@@ -162,9 +161,8 @@ impl<'a, W: Write> Block<'a, W> {
         requires first { first_count ≤ A }
         requires second { second_count ≤ B }
         ensures writer { self.new.writer.ghost_name ≡ self.old.writer.ghost_name }
-        ensures sends { (start : Option (List ℕ)) (all : List ℕ) → Sends W.contents start self.old all
-            → Sends W.contents start self.new
-            (all ++ (take first_count first.now ++ (take second_count second.now ++ third.now))) }
+        ensures sends { BlockQueues W.contents
+            (take first_count first.now ++ (take second_count second.now ++ third.now)) self.old self.new }
     {
         self.make_room();
         if !self.failed {

@@ -9,19 +9,19 @@ pub(crate) const SIZE: usize = 32768;
 /// `ArrayVec` can't append the first bytes of a longer piece. A copy of constant length is a few
 /// instructions, where one of any length is a call.
 #[derive(Drop)]
-pub(crate) struct Held {
+pub(crate) struct HeldOutput {
     bytes: [u8; SIZE],
     len: usize,
     ghost room: { len ≤ 32768 },
 }
 
-impl Held {
-    ghost use Rattle.swd_io.specs.Helds.{held_bytes, count_of};
+impl HeldOutput {
+    ghost use Rattle.swd_io.specs.Helds.{block_buffer_bytes, block_buffer_count};
 
-    pub(crate) fn new() -> Held
-        ensures { held_bytes result ≡ [] }
+    pub(crate) fn new() -> HeldOutput
+        ensures { block_buffer_bytes result ≡ [] }
     {
-        Held {
+        HeldOutput {
             bytes: [0; SIZE],
             len: 0,
         }
@@ -29,21 +29,21 @@ impl Held {
 
     #[inline]
     pub(crate) fn len(&self) -> usize
-        ensures value { result ≡ count_of self.now }
-        ensures bytes { result ≡ length (held_bytes self.now) }
+        ensures value { result ≡ block_buffer_count self.now }
+        ensures bytes { result ≡ length (block_buffer_bytes self.now) }
     {
         self.len
     }
 
     pub(crate) fn as_slice(&self) -> &[u8]
-        ensures { result.now ≡ held_bytes self.now }
+        ensures { result.now ≡ block_buffer_bytes self.now }
     {
         &self.bytes[..self.len]
     }
 
     pub(crate) fn clear(&mut self)
-        ensures bytes { held_bytes self.new ≡ [] }
-        ensures count { count_of self.new ≡ 0 }
+        ensures bytes { block_buffer_bytes self.new ≡ [] }
+        ensures count { block_buffer_count self.new ≡ 0 }
     {
         self.len = 0;
     }
@@ -51,9 +51,9 @@ impl Held {
     /// Appends a piece. There has to be room for it.
     #[inline(always)]
     pub(crate) fn extend(&mut self, piece: &[u8])
-        requires { count_of self.old + length piece.now ≤ SIZE }
-        ensures bytes { held_bytes self.new ≡ held_bytes self.old ++ piece.now }
-        ensures count { count_of self.new ≡ count_of self.old + length piece.now }
+        requires { block_buffer_count self.old + length piece.now ≤ SIZE }
+        ensures bytes { block_buffer_bytes self.new ≡ block_buffer_bytes self.old ++ piece.now }
+        ensures count { block_buffer_count self.new ≡ block_buffer_count self.old + length piece.now }
     {
         let len = self.len;
         self.bytes[len..len + piece.len()].copy_from_slice(piece);
@@ -63,10 +63,10 @@ impl Held {
     /// Appends the first bytes of a piece. There has to be room for the whole piece.
     #[inline(always)]
     pub(crate) fn extend_first<const N: usize>(&mut self, piece: &[u8; N], count: usize)
-        requires room { count_of self.old + N ≤ SIZE }
+        requires room { block_buffer_count self.old + N ≤ SIZE }
         requires within { count ≤ N }
-        ensures bytes { held_bytes self.new ≡ held_bytes self.old ++ take count piece.now }
-        ensures count { count_of self.new ≡ count_of self.old + count }
+        ensures bytes { block_buffer_bytes self.new ≡ block_buffer_bytes self.old ++ take count piece.now }
+        ensures count { block_buffer_count self.new ≡ block_buffer_count self.old + count }
     {
         let len = self.len;
         self.extend(piece);
@@ -83,11 +83,11 @@ impl Held {
         second_count: usize,
         third: &[u8; C],
     )
-        requires room { count_of self.old + (A + B + C) ≤ SIZE }
+        requires room { block_buffer_count self.old + (A + B + C) ≤ SIZE }
         requires first { first_count ≤ A }
         requires second { second_count ≤ B }
-        ensures { held_bytes self.new
-            ≡ held_bytes self.old ++ (take first_count first.now ++ (take second_count second.now ++ third.now)) }
+        ensures { block_buffer_bytes self.new
+            ≡ block_buffer_bytes self.old ++ (take first_count first.now ++ (take second_count second.now ++ third.now)) }
     {
         self.extend_first(first, first_count);
         self.extend_first(second, second_count);

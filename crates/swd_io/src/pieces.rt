@@ -1,6 +1,6 @@
 //! Reads input piece by piece.
 ghost use Rattle.std.specs.Prelude.{◌≡◌, ℕ, List, [], ◌++◌, OnOk, IfErr};
-ghost use Rattle.swd_io.specs.Pieces.{Reads, fault_or};
+ghost use Rattle.swd_io.specs.Pieces.{ConsumerReads, consumer_fault_or};
 
 use std::fmt::Display;
 use std::io::Read;
@@ -56,7 +56,7 @@ pub enum Unread<F> {
 impl<F: Drop> Unread<F> {
     /// Returns the consumer's fault, or `reader` if the reader failed.
     pub fn fault_or(self, reader: F) -> F
-        ensures { result ≡ fault_or self reader }
+        ensures { result ≡ consumer_fault_or self reader }
     {
         match self {
             Unread::Reader => reader,
@@ -81,7 +81,7 @@ pub fn read_pieces<R: Read, W, C: Consumer<W>>(
     consumer: &mut C,
 ) -> Result<(), Unread<C::Fault>>
     requires { C.can_take consumer.old }
-    ensures { Reads C.takes C.stops result (R.remaining reader.old) (R.remaining reader.new)
+    ensures { ConsumerReads C.takes C.stops result (R.remaining reader.old) (R.remaining reader.new)
         (consumer.old, writer.old) (consumer.new, writer.new) }
 {
     let mut buffer = [0u8; PIECE];

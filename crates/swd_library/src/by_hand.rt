@@ -1,6 +1,6 @@
 //! The engine without a wire: it returns what to send, and takes what was seen.
 ghost use Rattle.std.specs.Prelude.{◌≤◌};
-ghost use Rattle.swd_port.specs.Stories.{IsSeen};
+ghost use Rattle.swd_port.specs.Stories.{IsPortSeen};
 
 use crate::whole::{BASE, Failure, IMAGE, writes};
 use std::alloc::Global;
@@ -81,7 +81,7 @@ impl Pins {
 
     // Performs a cue, and returns the reply.
     fn follow(&mut self, cue: Cue) -> u64
-        ensures { IsSeen cue result }
+        ensures { IsPortSeen cue result }
     {
         match cue {
             Cue::Lead {

@@ -1,5 +1,5 @@
 //! Ways to use the host: by `run` and `run_block` over a wire, by `resume` after a lost acknowledgement, by
-//! `run_outside` over a probe, by `run_over_line` over a connection, by the engine alone over two pins, and by `run` over
+//! `run_over_transport` over a probe, by `run_over_line` over a connection, by the engine alone over two pins, and by `run` over
 //! a wire that is recorded, whose trace shows the accesses.
 #![tactic(auto)]
 

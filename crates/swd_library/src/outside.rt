@@ -1,15 +1,15 @@
-//! The host over a line of your own: by `run_outside` over a probe, and by `run_over_line` over the characters of
+//! The host over a line of your own: by `run_over_transport` over a probe, and by `run_over_line` over the characters of
 //! remote_bitbang.
 ghost use Rattle.std.specs.FinMap.{empty};
 ghost use Rattle.std.specs.Prelude.{[]};
-ghost use Rattle.swd_port.specs.Port.{made};
+ghost use Rattle.swd_port.specs.Port.{port_made};
 
 use crate::whole::{BASE, Failure, QUIRKS, TRIES, writes};
 use std::alloc::Global;
-use swd_clocked::MarkedClocked;
+use swd_clocked::FaultyClocked;
 use swd_ends::ClockedProbe;
-use swd_host::{End, run_outside};
-use swd_port::{Access, Answer, Outside, Story};
+use swd_host::{End, run_over_transport};
+use swd_port::{Access, Answer, Story, TransportWire};
 use swd_remote::{ProbeTransport, run_over_line};
 use swd_target::Memory;
 
@@ -17,15 +17,15 @@ use swd_target::Memory;
 struct Untold;
 
 impl Story for Untold {
-    ghost at = { λ _. made 0 (record { words = empty; log = []; room = 0 }) };
+    ghost at = { λ _. port_made 0 (record { words = empty; log = []; room = 0 }) };
 }
 
 /// Loads the image over a probe, here one that clocks a simulated target.
 pub fn load(alloc: Global) -> Result<(), Failure> {
     let memory = Memory::new(alloc, BASE, 64, 65_536)?;
-    let probe = ClockedProbe::new(MarkedClocked::new(memory, QUIRKS, Vec::new(alloc)));
-    let mut wire = Outside::<_, Untold>::new(ProbeTransport::new(probe));
-    let report = run_outside(alloc, &mut wire, writes(alloc)?.as_slice(), TRIES)?;
+    let probe = ClockedProbe::new(FaultyClocked::new(memory, QUIRKS, Vec::new(alloc)));
+    let mut wire = TransportWire::<_, Untold>::new(ProbeTransport::new(probe));
+    let report = run_over_transport(alloc, &mut wire, writes(alloc)?.as_slice(), TRIES)?;
     // The probe may hold clocks that weren't sent yet, those of the idle cycles after the last access.
     let sent = wire.into_transport().finish();
     if report.ended != End::All || sent.is_err() {

@@ -1,7 +1,7 @@
 //! The host over a wire that loses an acknowledgement, and a run that is resumed.
 ghost use Rattle.std.specs.Prelude.{◌≡◌, IfOk};
 ghost use Rattle.swd_port.specs.declared.wire.Due.TheVariants.{Nothing};
-ghost use Rattle.swd_target.specs.Marks.{IsPlan};
+ghost use Rattle.swd_target.specs.Marks.{IsLegalPlan};
 
 use crate::whole::{BASE, Failure, IMAGE, QUIRKS, TRIES, writes};
 use std::alloc::{AllocError, Global};
@@ -22,7 +22,7 @@ fn write_all<W: Wire>(alloc: Global, wire: &mut W, accesses: &[Access]) -> Resul
 
 // Returns the plan of the requests: the target doesn't see the first one.
 fn plan(alloc: Global) -> Result<Vec<Mark>, AllocError>
-    ensures { IfOk result (λ plan. IsPlan plan.items) }
+    ensures { IfOk result (λ plan. IsLegalPlan plan.items) }
 {
     let mut plan = Vec::new(alloc);
     plan.push(Mark::Deaf)?;

@@ -2,12 +2,12 @@
 use crate::whole::{BASE, Failure, IMAGE, QUIRKS, TRIES, writes};
 use std::alloc::Global;
 use swd_host::{End, run};
-use swd_observer::{How, Told, TraceObserver};
+use swd_observer::{How, ObservedAccess, TraceObserver};
 use swd_recorder::Recorder;
 use swd_target::{Bench, Memory};
 
 // Whether the trace shows that this word of the image was written, exactly once, at its address.
-fn is_written(told: &Told, index: usize) -> bool {
+fn is_written(told: &ObservedAccess, index: usize) -> bool {
     let Some(word) = IMAGE.get(index) else {
         return false;
     };

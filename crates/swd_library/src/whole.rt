@@ -17,7 +17,7 @@ pub enum Failure {
     #[error("the run ended before all was done")]
     Stopped(End),
     /// An access was a bus error.
-    #[error("access {0} met a bus fault")]
+    #[error("access {0} met a bus error")]
     BusFault(usize),
     /// A word that was read isn't the one that was written.
     #[error("word {0} is another")]
@@ -86,7 +86,7 @@ fn compare(answers: &[Answer]) -> Result<(), Failure> {
 
 /// Loads the image, and reads it back.
 pub fn load(alloc: Global) -> Result<(), Failure> {
-    // The wire: here a simulated target. For a probe, implement `Transport` and call `run_outside`.
+    // The wire: here a simulated target. For a probe, implement `Transport` and call `run_over_transport`.
     let memory = Memory::new(alloc, BASE, 64, 65_536)?;
     let mut wire = Bench::new(memory, QUIRKS, Vec::new(alloc));
     let written = run(alloc, &mut wire, writes(alloc)?.as_slice(), TRIES)?;

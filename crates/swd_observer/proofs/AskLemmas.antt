@@ -1,36 +1,35 @@
 -- What OK tells that was seen, and what a request does by what is known of SELECT.
 use Rattle.std.proofs.Common.{◌≡◌, ◌<◌, ◌^◌, ℕ, Bool, true, false, refl, sym, ap, subst, inl, inr, arith, ◌∙◌, ◌⊎◌}
-use Rattle.std.specs.Prelude.{Option, Some, None, IfSome, unwrap_or, ◌||◌, ◌&&◌, ◌==◌, if◌then◌else◌}
-use Rattle.std.specs.Prelude.{not as no}
+use Rattle.std.specs.Prelude.{Option, Some, None, IfSome, unwrap_or, ◌||◌, ◌&&◌, ◌==◌, if◌then◌else◌, not as no}
 use Rattle.swd_bits.specs.declared.request.Request.{Request}
 use Rattle.swd_bits.specs.declared.request.Reg4.{Reg4}
 use Rattle.swd_bits.specs.declared.request.Reg4.TheVariants.{R0, R4, R8, RC}
 use Rattle.swd_port.specs.declared.select.Select.{Select}
 use Rattle.swd_port.specs.declared.register.Register.{Register}
-use Rattle.swd_port.specs.declared.register.Register.TheVariants.{SelectWrite}
-use Rattle.swd_port.specs.declared.register.Register.TheVariants.{CswWrite, TarWrite}
-use Rattle.swd_port.specs.declared.register.Register.TheVariants.{DrwRead, DrwWrite}
+use Rattle.swd_port.specs.declared.register.Register.TheVariants.{SelectWrite, CswWrite, TarWrite, DrwRead, DrwWrite}
 use Rattle.swd_port.specs.declared.state.Reply.{Reply}
 use Rattle.swd_port.specs.declared.state.Reply.TheVariants.{Okay, Waits, Faults, Silent}
 use Rattle.swd_port.specs.declared.mark.Mark.{Mark}
 use Rattle.swd_port.specs.declared.mark.Mark.TheVariants.{Clean, Wait, Flip, Deaf, Mute}
-use Rattle.swd_port.specs.Port.{Port, Target, register, dp_register, ap_register, mem_ap_register, no_ap_register}
-use Rattle.swd_port.specs.Port.{is_mem_ap}
-use Rattle.swd_port.specs.Choices.{Choice, is_wait, flip_of}
-use Rattle.swd_port.specs.Answers.{is_exempt, may_wait, reply_under, Sees, is_unpowered, is_answered}
-use Rattle.swd_port.specs.Asking.{AsksNow, reply_in, answer_in, after_okay, value_in, phase_after}
-use Rattle.swd_port.specs.Asking.{has_power, IsWordRead}
-use Rattle.swd_port.proofs.RequestLaws.{Told, told}
+use Rattle.swd_port.specs.Port.{Port, Target, port_register, port_dp_register, port_ap_register, mem_ap_register}
+use Rattle.swd_port.specs.Port.{port_no_ap_register, port_selects_mem_ap}
+use Rattle.swd_port.specs.Choices.{Choice, is_port_wait, port_flip_of}
+use Rattle.swd_port.specs.Answers.{is_exempt_register, port_may_wait, port_reply_under, PortSees, is_port_unpowered}
+use Rattle.swd_port.specs.Answers.{port_is_answered}
+use Rattle.swd_port.specs.Asking.{PortAsksNow, port_reply, port_answer, port_after_okay, port_value_in}
+use Rattle.swd_port.specs.Asking.{port_phase_after, port_has_power, IsPortWordRead}
+use Rattle.swd_port.proofs.RequestLaws.{PortReplied, port_replied}
 use Rattle.swd_observer.specs.declared.observer.Written.{Written}
 use Rattle.swd_observer.specs.declared.observer.Written.TheVariants.{Select as ToSelect, Csw as ToCsw, Tar as ToTar}
 use Rattle.swd_observer.specs.declared.observer.Written.TheVariants.{Drw as ToDrw}
-use Rattle.swd_observer.specs.declared.observer.Kind.{Kind}
-use Rattle.swd_observer.specs.declared.observer.Kind.TheVariants.{Other, Elsewhere, Reads, Writes, MayRead}
-use Rattle.swd_observer.specs.declared.observer.Kind.TheVariants.{MayWrite}
-use Rattle.swd_observer.specs.Observing.{Confirms, class_dp, class_of, kind_dp, kind_mem}
-use Rattle.swd_observer.specs.Observing.{maybe, kind_ap, kind_of, is_data, is_posted_read, is_rc}
+use Rattle.swd_observer.specs.declared.observer.RequestEffect.{RequestEffect}
+use Rattle.swd_observer.specs.declared.observer.RequestEffect.TheVariants.{Other, Elsewhere, Reads, Writes, MayRead}
+use Rattle.swd_observer.specs.declared.observer.RequestEffect.TheVariants.{MayWrite}
+use Rattle.swd_observer.specs.Observing.{Confirms, observed_class_dp, observed_class, observed_kind_dp}
+use Rattle.swd_observer.specs.Observing.{observed_kind_mem, observed_kind_maybe, observed_kind_ap, observed_kind}
+use Rattle.swd_observer.specs.Observing.{is_observed_data_register, is_observed_posted_read, is_observed_rc}
 
-seen_okay : (mark : Mark) (reply : Reply) → Sees mark reply 1 → reply ≡ Okay
+seen_okay : (mark : Mark) (reply : Reply) → PortSees mark reply 1 → reply ≡ Okay
 seen_okay Deaf reply h = absurd (let e : true ≡ false = h.not_okay in cc)
 seen_okay (Mute place) reply h = absurd (let e : true ≡ false = h.not_okay in cc)
 seen_okay mark Okay h = refl
@@ -48,9 +47,9 @@ waited : (b : Bool) (a : Reply) → (if b then Waits else a) ≡ Okay → a ≡ 
 waited true a e = absurd (cc)
 waited false a e = e
 
-under_okay : (mark : Mark) (r : Register) (a : Reply) → reply_under mark r a ≡ Okay → a ≡ Okay
+under_okay : (mark : Mark) (r : Register) (a : Reply) → port_reply_under mark r a ≡ Okay → a ≡ Okay
 under_okay Clean r a e = e
-under_okay Wait r a e = waited (may_wait r a) a e
+under_okay Wait r a e = waited (port_may_wait r a) a e
 under_okay (Flip place) r a e = e
 under_okay Deaf r a e = absurd (cc)
 under_okay (Mute place) r a e = e
@@ -63,44 +62,45 @@ clear_by true false true e f = absurd (cc)
 clear_by false false true e f = absurd (cc)
 
 -- an OK that was seen, whatever the mark
-pub record Okayed (s : Port) (q : Request) (t : Port) : Type 0 where
+pub record ObservedOkayed (s : Port) (q : Request) (t : Port) : Type 0 where
   pub busy : Bool
   pub filler : ℕ
   pub flip : Option ℕ
-  pub target : t.target ≡ after_okay busy (register s.target.select q) s.target
-  pub line : t.link.line ≡ phase_after q.read (register s.target.select q) flip
-      (value_in busy (register s.target.select q) filler s.target)
-  pub value : q.read ≡ true → value_in busy (register s.target.select q) filler s.target < 2 ^ 32
-  pub settled : is_exempt (register s.target.select q) ≡ false → s.target.pending ≡ None
-  pub clear : is_exempt (register s.target.select q) ≡ false →
-      (s.target.sticky_error || s.target.write_error || is_unpowered q.ap (has_power s.target)) ≡ false
+  pub target : t.target ≡ port_after_okay busy (port_register s.target.select q) s.target
+  pub line : t.link.line ≡ port_phase_after q.read (port_register s.target.select q) flip
+      (port_value_in busy (port_register s.target.select q) filler s.target)
+  pub value : q.read ≡ true → port_value_in busy (port_register s.target.select q) filler s.target < 2 ^ 32
+  pub settled : is_exempt_register (port_register s.target.select q) ≡ false → s.target.pending ≡ None
+  pub clear : is_exempt_register (port_register s.target.select q) ≡ false →
+      (s.target.sticky_error || s.target.write_error || is_port_unpowered q.ap (port_has_power s.target)) ≡ false
 
-word_read : (read : Bool) (value : ℕ) → IsWordRead Okay read value → read ≡ true → value < 2 ^ 32
+word_read : (read : Bool) (value : ℕ) → IsPortWordRead Okay read value → read ≡ true → value < 2 ^ 32
 word_read true value h e = h
 word_read false value h e = absurd (cc)
 
 -- where the host sees OK the target answered OK, whatever the mark
-pub okayed : (mark : Mark) (c : Choice) (s : Port) (q : Request) (t : Port) → AsksNow mark c s q 1 t → Okayed s q t
-okayed mark c s q t h =
-    let is : reply_in mark s.target q ≡ Okay = seen_okay mark (reply_in mark s.target q) h.sees in
-    let k : Told mark c Okay (register s.target.select q) s q 1 t =
-    told mark c Okay (register s.target.select q) s q 1 t is refl h in
+pub observed_ask_okayed : (mark : Mark) (c : Choice) (s : Port) (q : Request) (t : Port) → PortAsksNow mark c s q 1 t
+    → ObservedOkayed s q t
+observed_ask_okayed mark c s q t h =
+    let is : port_reply mark s.target q ≡ Okay = seen_okay mark (port_reply mark s.target q) h.sees in
+    let k : PortReplied mark c Okay (port_register s.target.select q) s q 1 t =
+    port_replied mark c Okay (port_register s.target.select q) s q 1 t is refl h in
     record {
-      busy = is_wait mark;
+      busy = is_port_wait mark;
       filler = c.filler;
-      flip = flip_of mark;
+      flip = port_flip_of mark;
       target = ap (λ p. p.target) k.after;
       line = ap (λ p. p.link.line) k.after;
       value = word_read q.read _ k.word;
       settled = k.settled;
-      clear = clear_by (is_answered s.target.reset (register s.target.select q)) (is_exempt
-          (register s.target.select q)) _
-          (under_okay mark (register s.target.select q) (answer_in s.target q) is);
+      clear = clear_by (port_is_answered s.target.reset (port_register s.target.select q)) (is_exempt_register
+          (port_register s.target.select q)) _
+          (under_okay mark (port_register s.target.select q) (port_answer s.target q) is);
     }
 
 -- the requests that tell: none of them is exempt
-plain_dp : (read : Bool) (addr : Reg4) (bank0 : Bool) → class_dp read addr ≡ Confirms
-    → is_exempt (dp_register read addr bank0) ≡ false
+plain_dp : (read : Bool) (addr : Reg4) (bank0 : Bool) → observed_class_dp read addr ≡ Confirms
+    → is_exempt_register (port_dp_register read addr bank0) ≡ false
 plain_dp true R0 b e = absurd (cc)
 plain_dp false R0 b e = absurd (cc)
 plain_dp true R4 b e = absurd (cc)
@@ -112,7 +112,7 @@ plain_dp true RC b e = refl
 plain_dp false RC b e = refl
 
 plain_ap : (m read : Bool) (addr : Reg4)
-    → is_exempt (if m then mem_ap_register read addr else no_ap_register read) ≡ false
+    → is_exempt_register (if m then mem_ap_register read addr else port_no_ap_register read) ≡ false
 plain_ap true true R0 = refl
 plain_ap true true R4 = refl
 plain_ap true true R8 = refl
@@ -124,41 +124,44 @@ plain_ap true false RC = refl
 plain_ap false true addr = refl
 plain_ap false false addr = refl
 
-plain_by : (ap : Bool) (s : Select) (read : Bool) (addr : Reg4) → (if ap then Confirms else class_dp read addr)
+plain_by : (ap : Bool) (s : Select) (read : Bool) (addr : Reg4) → (if ap then Confirms else observed_class_dp read addr)
     ≡ Confirms
-    → is_exempt (if ap then ap_register s read addr else dp_register read addr (s.dpbanksel == 0)) ≡ false
-plain_by true s read addr e = plain_ap (is_mem_ap s) read addr
+    → is_exempt_register (if ap then port_ap_register s read addr else port_dp_register read addr (s.dpbanksel == 0))
+    ≡ false
+plain_by true s read addr e = plain_ap (port_selects_mem_ap s) read addr
 plain_by false s read addr e = plain_dp read addr (s.dpbanksel == 0) e
 
 -- a request whose OK confirms isn't exempt, whatever SELECT is
-pub plain : (s : Select) (q : Request) → class_of q ≡ Confirms → is_exempt (register s q) ≡ false
-plain s q e = plain_by q.ap s q.read q.addr e
+pub observed_not_exempt : (s : Select) (q : Request) → observed_class q ≡ Confirms
+    → is_exempt_register (port_register s q) ≡ false
+observed_not_exempt s q e = plain_by q.ap s q.read q.addr e
 
 -- registers of which an observer keeps nothing
-abbrev pub is_harmless : Register → Bool
-is_harmless SelectWrite = false
-is_harmless CswWrite = false
-is_harmless TarWrite = false
-is_harmless DrwWrite = false
-is_harmless DrwRead = false
-is_harmless r = true
+abbrev pub is_observed_harmless : Register → Bool
+is_observed_harmless SelectWrite = false
+is_observed_harmless CswWrite = false
+is_observed_harmless TarWrite = false
+is_observed_harmless DrwWrite = false
+is_observed_harmless DrwRead = false
+is_observed_harmless r = true
 
 -- the register of each kind of write that an observer tracks
-abbrev pub register_for : Written → Register
-register_for ToSelect = SelectWrite
-register_for ToCsw = CswWrite
-register_for ToTar = TarWrite
-register_for ToDrw = DrwWrite
+abbrev pub observed_register_for : Written → Register
+observed_register_for ToSelect = SelectWrite
+observed_register_for ToCsw = CswWrite
+observed_register_for ToTar = TarWrite
+observed_register_for ToDrw = DrwWrite
 
-abbrev pub KindFits : Kind → Register → Type 0
-KindFits Other r = is_harmless r ≡ true
-KindFits (Elsewhere read) r = is_harmless r ≡ true
-KindFits Reads r = r ≡ DrwRead
-KindFits (Writes w) r = r ≡ register_for w
-KindFits MayRead r = (r ≡ DrwRead) ⊎ (is_harmless r ≡ true)
-KindFits (MayWrite w) r = (r ≡ register_for w) ⊎ (is_harmless r ≡ true)
+abbrev pub ObservedKindFits : RequestEffect → Register → Type 0
+ObservedKindFits Other r = is_observed_harmless r ≡ true
+ObservedKindFits (Elsewhere read) r = is_observed_harmless r ≡ true
+ObservedKindFits Reads r = r ≡ DrwRead
+ObservedKindFits (Writes w) r = r ≡ observed_register_for w
+ObservedKindFits MayRead r = (r ≡ DrwRead) ⊎ (is_observed_harmless r ≡ true)
+ObservedKindFits (MayWrite w) r = (r ≡ observed_register_for w) ⊎ (is_observed_harmless r ≡ true)
 
-fits_dp : (read : Bool) (addr : Reg4) (b : Bool) → KindFits (kind_dp read addr) (dp_register read addr b)
+fits_dp : (read : Bool) (addr : Reg4) (b : Bool)
+    → ObservedKindFits (observed_kind_dp read addr) (port_dp_register read addr b)
 fits_dp true R0 b = refl
 fits_dp false R0 b = refl
 fits_dp true R4 true = refl
@@ -170,7 +173,7 @@ fits_dp false R8 b = refl
 fits_dp true RC b = refl
 fits_dp false RC b = refl
 
-fits_mem : (read : Bool) (addr : Reg4) → KindFits (kind_mem read addr) (mem_ap_register read addr)
+fits_mem : (read : Bool) (addr : Reg4) → ObservedKindFits (observed_kind_mem read addr) (mem_ap_register read addr)
 fits_mem true R0 = refl
 fits_mem true R4 = refl
 fits_mem true R8 = refl
@@ -180,11 +183,11 @@ fits_mem false R4 = refl
 fits_mem false R8 = refl
 fits_mem false RC = refl
 
-harmless_no : (read : Bool) → is_harmless (no_ap_register read) ≡ true
+harmless_no : (read : Bool) → is_observed_harmless (port_no_ap_register read) ≡ true
 harmless_no true = refl
 harmless_no false = refl
 
-maybe_fits : (k : Kind) (r : Register) → KindFits k r → KindFits (maybe k) r
+maybe_fits : (k : RequestEffect) (r : Register) → ObservedKindFits k r → ObservedKindFits (observed_kind_maybe k) r
 maybe_fits Other r h = h
 maybe_fits (Elsewhere read) r h = h
 maybe_fits Reads r h = inl h
@@ -192,7 +195,8 @@ maybe_fits (Writes w) r h = inl h
 maybe_fits MayRead r h = h
 maybe_fits (MayWrite w) r h = h
 
-maybe_harmless : (k : Kind) (r : Register) → is_harmless r ≡ true → KindFits (maybe k) r
+maybe_harmless : (k : RequestEffect) (r : Register) → is_observed_harmless r ≡ true
+    → ObservedKindFits (observed_kind_maybe k) r
 maybe_harmless Other r h = h
 maybe_harmless (Elsewhere read) r h = h
 maybe_harmless Reads r h = inr h
@@ -201,38 +205,40 @@ maybe_harmless MayRead r h = inr h
 maybe_harmless (MayWrite w) r h = inr h
 
 fits_none : (m read : Bool) (addr : Reg4)
-    → KindFits (maybe (kind_mem read addr)) (if m then mem_ap_register read addr else no_ap_register read)
-fits_none true read addr = maybe_fits (kind_mem read addr) (mem_ap_register read addr) (fits_mem read addr)
-fits_none false read addr = maybe_harmless (kind_mem read addr) (no_ap_register read) (harmless_no read)
+    → ObservedKindFits (observed_kind_maybe (observed_kind_mem read addr))
+    (if m then mem_ap_register read addr else port_no_ap_register read)
+fits_none true read addr = maybe_fits (observed_kind_mem read addr) (mem_ap_register read addr) (fits_mem read addr)
+fits_none false read addr = maybe_harmless (observed_kind_mem read addr) (port_no_ap_register read) (harmless_no read)
 
 fits_some : (m d read : Bool) (addr : Reg4)
-    → KindFits (if m then kind_mem read addr else if d then Elsewhere read else Other)
-    (if m then mem_ap_register read addr else no_ap_register read)
+    → ObservedKindFits (if m then observed_kind_mem read addr else if d then Elsewhere read else Other)
+    (if m then mem_ap_register read addr else port_no_ap_register read)
 fits_some true d read addr = fits_mem read addr
 fits_some false true read addr = harmless_no read
 fits_some false false read addr = harmless_no read
 
 fits_ap : (known : Option Select) (s : Select) (read : Bool) (addr : Reg4) → IfSome known (λ v. s ≡ v)
-    → KindFits (kind_ap known read addr) (ap_register s read addr)
-fits_ap None s read addr h = fits_none (is_mem_ap s) read addr
+    → ObservedKindFits (observed_kind_ap known read addr) (port_ap_register s read addr)
+fits_ap None s read addr h = fits_none (port_selects_mem_ap s) read addr
 fits_ap (Some v) s read addr h =
-    subst (λ z. KindFits (kind_ap (Some v) read addr) (ap_register z read addr)) (sym h) (fits_some
-    (is_mem_ap v) (is_data v addr) read addr)
+    subst (λ z. ObservedKindFits (observed_kind_ap (Some v) read addr) (port_ap_register z read addr)) (sym h)
+    (fits_some (port_selects_mem_ap v) (is_observed_data_register v addr) read addr)
 
 fits_by : (ap : Bool) (known : Option Select) (s : Select) (read : Bool) (addr : Reg4) → IfSome known (λ v. s ≡ v)
-    → KindFits (if ap then kind_ap known read addr else kind_dp read addr)
-    (if ap then ap_register s read addr else dp_register read addr (s.dpbanksel == 0))
+    → ObservedKindFits (if ap then observed_kind_ap known read addr else observed_kind_dp read addr)
+    (if ap then port_ap_register s read addr else port_dp_register read addr (s.dpbanksel == 0))
 fits_by true known s read addr h = fits_ap known s read addr h
 fits_by false known s read addr h = fits_dp read addr (s.dpbanksel == 0)
 
 -- what a request is taken for fits the register that it names, if what is known of SELECT is true
-pub kind_fits : (known : Option Select) (s : Select) (q : Request) → IfSome known (λ v. s ≡ v)
-    → KindFits (kind_of known q) (register s q)
-kind_fits known s q h = fits_by q.ap known s q.read q.addr h
+pub observed_kind_fits : (known : Option Select) (s : Select) (q : Request) → IfSome known (λ v. s ≡ v)
+    → ObservedKindFits (observed_kind known q) (port_register s q)
+observed_kind_fits known s q h = fits_by q.ap known s q.read q.addr h
 
 -- the reads that give the read buffer
 posted_mem : (m : Bool) (addr : Reg4) (busy : Bool) (filler : ℕ) (x : Target)
-    → value_in busy (if m then mem_ap_register true addr else no_ap_register true) filler x ≡ unwrap_or x.buffer filler
+    → port_value_in busy (if m then mem_ap_register true addr else port_no_ap_register true) filler x
+    ≡ unwrap_or x.buffer filler
 posted_mem true R0 busy filler x = refl
 posted_mem true R4 busy filler x = refl
 posted_mem true R8 busy filler x = refl
@@ -240,10 +246,10 @@ posted_mem true RC busy filler x = refl
 posted_mem false addr busy filler x = refl
 
 posted_by : (ap : Bool) (s : Select) (read : Bool) (addr : Reg4) (busy : Bool) (filler : ℕ) (x : Target)
-    → (read && (ap || is_rc addr)) ≡ true
-    → value_in busy (if ap then ap_register s read addr else dp_register read addr (s.dpbanksel == 0)) filler x
-    ≡ unwrap_or x.buffer filler
-posted_by true s true addr busy filler x e = posted_mem (is_mem_ap s) addr busy filler x
+    → (read && (ap || is_observed_rc addr)) ≡ true
+    → port_value_in busy (if ap then port_ap_register s read addr else port_dp_register read addr (s.dpbanksel == 0))
+    filler x ≡ unwrap_or x.buffer filler
+posted_by true s true addr busy filler x e = posted_mem (port_selects_mem_ap s) addr busy filler x
 posted_by true s false addr busy filler x e = absurd (cc)
 posted_by false s false addr busy filler x e = absurd (cc)
 posted_by false s true R0 busy filler x e = absurd (cc)
@@ -252,24 +258,24 @@ posted_by false s true R8 busy filler x e = absurd (cc)
 posted_by false s true RC busy filler x e = refl
 
 -- an AP read or an RDBUFF read gives the word of the read buffer, or the filler where that is unknown
-pub posted : (s : Select) (q : Request) (busy : Bool) (filler : ℕ) (x : Target) → is_posted_read q ≡ true
-    → value_in busy (register s q) filler x ≡ unwrap_or x.buffer filler
-posted s q busy filler x e = posted_by q.ap s q.read q.addr busy filler x e
+pub observed_posted_value : (s : Select) (q : Request) (busy : Bool) (filler : ℕ) (x : Target)
+    → is_observed_posted_read q ≡ true → port_value_in busy (port_register s q) filler x ≡ unwrap_or x.buffer filler
+observed_posted_value s q busy filler x e = posted_by q.ap s q.read q.addr busy filler x e
 
 -- a read writes nothing, and a write reads nothing
-abbrev pub is_writing : Kind → Bool
-is_writing (Writes w) = true
-is_writing (MayWrite w) = true
-is_writing k = false
+abbrev pub is_observed_writing : RequestEffect → Bool
+is_observed_writing (Writes w) = true
+is_observed_writing (MayWrite w) = true
+is_observed_writing k = false
 
 -- the request reads DRW, or may
-abbrev pub is_reading : Kind → Bool
-is_reading Reads = true
-is_reading MayRead = true
-is_reading k = false
+abbrev pub is_observed_reading : RequestEffect → Bool
+is_observed_reading Reads = true
+is_observed_reading MayRead = true
+is_observed_reading k = false
 
 read_if : (m d : Bool) (addr : Reg4)
-    → is_writing (if m then kind_mem true addr else if d then Elsewhere true else Other) ≡ false
+    → is_observed_writing (if m then observed_kind_mem true addr else if d then Elsewhere true else Other) ≡ false
 read_if true d R0 = refl
 read_if true d R4 = refl
 read_if true d R8 = refl
@@ -277,31 +283,32 @@ read_if true d RC = refl
 read_if false true addr = refl
 read_if false false addr = refl
 
-read_none : (addr : Reg4) → is_writing (maybe (kind_mem true addr)) ≡ false
+read_none : (addr : Reg4) → is_observed_writing (observed_kind_maybe (observed_kind_mem true addr)) ≡ false
 read_none R0 = refl
 read_none R4 = refl
 read_none R8 = refl
 read_none RC = refl
 
-read_dp : (addr : Reg4) → is_writing (kind_dp true addr) ≡ false
+read_dp : (addr : Reg4) → is_observed_writing (observed_kind_dp true addr) ≡ false
 read_dp R0 = refl
 read_dp R4 = refl
 read_dp R8 = refl
 read_dp RC = refl
 
 reads_by : (ap : Bool) (known : Option Select) (read : Bool) (addr : Reg4) → read ≡ true
-    → is_writing (if ap then kind_ap known read addr else kind_dp read addr) ≡ false
+    → is_observed_writing (if ap then observed_kind_ap known read addr else observed_kind_dp read addr) ≡ false
 reads_by true None true addr e = read_none addr
-reads_by true (Some s) true addr e = read_if (is_mem_ap s) (is_data s addr) addr
+reads_by true (Some s) true addr e = read_if (port_selects_mem_ap s) (is_observed_data_register s addr) addr
 reads_by false known true addr e = read_dp addr
 reads_by ap known false addr e = absurd (cc)
 
 -- a read isn't taken for a write, nor for a possible one
-pub read_writes_not : (known : Option Select) (q : Request) → q.read ≡ true → is_writing (kind_of known q) ≡ false
-read_writes_not known q e = reads_by q.ap known q.read q.addr e
+pub observed_reads_only : (known : Option Select) (q : Request) → q.read ≡ true
+    → is_observed_writing (observed_kind known q) ≡ false
+observed_reads_only known q e = reads_by q.ap known q.read q.addr e
 
 write_if : (m d : Bool) (addr : Reg4)
-    → is_reading (if m then kind_mem false addr else if d then Elsewhere false else Other) ≡ false
+    → is_observed_reading (if m then observed_kind_mem false addr else if d then Elsewhere false else Other) ≡ false
 write_if true d R0 = refl
 write_if true d R4 = refl
 write_if true d R8 = refl
@@ -309,31 +316,32 @@ write_if true d RC = refl
 write_if false true addr = refl
 write_if false false addr = refl
 
-write_none : (addr : Reg4) → is_reading (maybe (kind_mem false addr)) ≡ false
+write_none : (addr : Reg4) → is_observed_reading (observed_kind_maybe (observed_kind_mem false addr)) ≡ false
 write_none R0 = refl
 write_none R4 = refl
 write_none R8 = refl
 write_none RC = refl
 
-write_dp : (addr : Reg4) → is_reading (kind_dp false addr) ≡ false
+write_dp : (addr : Reg4) → is_observed_reading (observed_kind_dp false addr) ≡ false
 write_dp R0 = refl
 write_dp R4 = refl
 write_dp R8 = refl
 write_dp RC = refl
 
 writes_by : (ap : Bool) (known : Option Select) (read : Bool) (addr : Reg4) → read ≡ false
-    → is_reading (if ap then kind_ap known read addr else kind_dp read addr) ≡ false
+    → is_observed_reading (if ap then observed_kind_ap known read addr else observed_kind_dp read addr) ≡ false
 writes_by true None false addr e = write_none addr
-writes_by true (Some s) false addr e = write_if (is_mem_ap s) (is_data s addr) addr
+writes_by true (Some s) false addr e = write_if (port_selects_mem_ap s) (is_observed_data_register s addr) addr
 writes_by false known false addr e = write_dp addr
 writes_by ap known true addr e = absurd (cc)
 
 -- a write isn't taken for a read of DRW, nor for a possible one
-pub write_reads_not : (known : Option Select) (q : Request) → q.read ≡ false → is_reading (kind_of known q) ≡ false
-write_reads_not known q e = writes_by q.ap known q.read q.addr e
+pub observed_writes_only : (known : Option Select) (q : Request) → q.read ≡ false
+    → is_observed_reading (observed_kind known q) ≡ false
+observed_writes_only known q e = writes_by q.ap known q.read q.addr e
 
 -- a request for a register of the access port is one of it
-ap_drw_read : (b read : Bool) (addr : Reg4) → dp_register read addr b ≡ DrwRead → ⊥
+ap_drw_read : (b read : Bool) (addr : Reg4) → port_dp_register read addr b ≡ DrwRead → ⊥
 ap_drw_read b true R0 e = cc
 ap_drw_read true true R4 e = cc
 ap_drw_read false true R4 e = cc
@@ -345,7 +353,7 @@ ap_drw_read false false R4 e = cc
 ap_drw_read b false R8 e = cc
 ap_drw_read b false RC e = cc
 
-ap_drw_write : (b read : Bool) (addr : Reg4) → dp_register read addr b ≡ DrwWrite → ⊥
+ap_drw_write : (b read : Bool) (addr : Reg4) → port_dp_register read addr b ≡ DrwWrite → ⊥
 ap_drw_write b true R0 e = cc
 ap_drw_write true true R4 e = cc
 ap_drw_write false true R4 e = cc
@@ -359,11 +367,12 @@ ap_drw_write b false RC e = cc
 
 drw_by : (ap : Bool) (s : Select) (read : Bool) (addr : Reg4) (r : Register)
     → (r ≡ DrwRead) ⊎ (r ≡ DrwWrite)
-    → (if ap then ap_register s read addr else dp_register read addr (s.dpbanksel == 0)) ≡ r → ap ≡ true
+    → (if ap then port_ap_register s read addr else port_dp_register read addr (s.dpbanksel == 0)) ≡ r → ap ≡ true
 drw_by true s read addr r h e = refl
 drw_by false s read addr r (inl h) e = absurd (ap_drw_read (s.dpbanksel == 0) read addr (e ∙ h))
 drw_by false s read addr r (inr h) e = absurd (ap_drw_write (s.dpbanksel == 0) read addr (e ∙ h))
 
 -- a request that reads or writes DRW is an AP access
-pub drw_is_ap : (s : Select) (q : Request) → (register s q ≡ DrwRead) ⊎ (register s q ≡ DrwWrite) → q.ap ≡ true
-drw_is_ap s q h = drw_by q.ap s q.read q.addr (register s q) h refl
+pub observed_drw_is_ap : (s : Select) (q : Request) → (port_register s q ≡ DrwRead) ⊎ (port_register s q ≡ DrwWrite)
+    → q.ap ≡ true
+observed_drw_is_ap s q h = drw_by q.ap s q.read q.addr (port_register s q) h refl

@@ -1,47 +1,49 @@
 -- What is known stays known when the pending transfer takes effect.
-use Rattle.std.proofs.Common.{◌≡◌, ◌≢◌, ◌+◌, ◌%◌, ◌<◌, ◌^◌, ℕ, Bool, true, false, List, refl, sym}
-use Rattle.std.proofs.Common.{ap, subst, inl, inr, arith, ◌∙◌}
-use Rattle.std.specs.Prelude.{Option, Some, None, IfSome, unwrap_or, ◌&&◌, ◌==◌, if◌then◌else◌}
-use Rattle.std.specs.Prelude.{not as no}
+use Rattle.std.proofs.Common.{◌≡◌, ◌≢◌, ◌+◌, ◌%◌, ◌<◌, ◌^◌, ℕ, Bool, true, false, List, refl, sym, ap, subst, inl, inr}
+use Rattle.std.proofs.Common.{arith, ◌∙◌}
+use Rattle.std.specs.Prelude.{Option, Some, None, IfSome, unwrap_or, ◌&&◌, ◌==◌, if◌then◌else◌, not as no}
 use Rattle.std.specs.Option.{option_map}
 use Rattle.swd_port.specs.declared.access.Transfer.{Transfer}
-use Rattle.swd_port.specs.PlainMemory.{succeeds_at, transfer_of}
+use Rattle.swd_port.specs.PlainMemory.{succeeds_at, plain_transfer_of}
 use Rattle.swd_port.specs.Port.{Port, Target}
 use Rattle.swd_port.specs.declared.state.Drw.{Drw}
 use Rattle.swd_port.specs.declared.state.Drw.TheVariants.{Reads, Writes}
-use Rattle.swd_port.specs.Choices.{Choice, IsChoice}
-use Rattle.swd_port.specs.Completion.{completion_of, Completes, next_address, access_at}
-use Rattle.swd_port.proofs.CompletionLaws.{same_target}
+use Rattle.swd_port.specs.Choices.{Choice, IsPortChoice}
+use Rattle.swd_port.specs.Completion.{port_completion, PortCompletes, port_tar_next_address, pending_access_at}
+use Rattle.swd_port.proofs.CompletionLaws.{no_pending_same_target}
 use Rattle.swd_observer.specs.declared.observer.Observer.{Observer}
-use Rattle.swd_observer.specs.declared.observer.Begun.{Begun}
-use Rattle.swd_observer.specs.declared.observer.Sent.{Sent}
-use Rattle.swd_observer.specs.Observing.{arrived, advance}
-use Rattle.swd_observer.specs.Knows.{Calm, IsOf, Flying, owed, gone, failed, Resting, Flight, Holds, Knows, here}
-use Rattle.swd_observer.specs.Knows.{spoiled}
+use Rattle.swd_observer.specs.declared.observer.StartedTransfer.{StartedTransfer}
+use Rattle.swd_observer.specs.declared.observer.SentWrite.{SentWrite}
+use Rattle.swd_observer.specs.Observing.{observer_arrival, observed_tar_advance}
+use Rattle.swd_observer.specs.Knows.{ObservedCalm, IsObservedPending, ObservedFlying, owed, gone, failed}
+use Rattle.swd_observer.specs.Knows.{ObservedResting, ObservedFlight, ObserverHolds, ObserverKnows, here, spoiled}
 
 -- nothing pending: a completion does nothing
-pub still : (P : Target → Type 0) (c : Choice) (x : Target) → x.pending ≡ None → P x → P (completion_of c x)
-still P c x none p = subst P (sym (same_target c x none)) p
+pub observed_no_pending_keeps : (P : Target → Type 0) (c : Choice) (x : Target) → x.pending ≡ None → P x
+    → P (port_completion c x)
+observed_no_pending_keeps P c x none p = subst P (sym (no_pending_same_target c x none)) p
 
 rests_tar : (tar : Option ℕ) (c : Choice) (x : Target) → IfSome tar (λ a. (x.tar ≡ Some a) × (x.pending ≡ None))
-    → IfSome tar (λ a. ((completion_of c x).tar ≡ Some a) × ((completion_of c x).pending ≡ None))
+    → IfSome tar (λ a. ((port_completion c x).tar ≡ Some a) × ((port_completion c x).pending ≡ None))
 rests_tar None c x h = h
-rests_tar (Some a) c x (tar, none) = (still (λ y. y.tar ≡ Some a) c x none tar, refl)
+rests_tar (Some a) c x (tar, none) = (observed_no_pending_keeps (λ y. y.tar ≡ Some a) c x none tar, refl)
 
-rests_done : (E : List Transfer → Type 0) (tar : Option ℕ) (c : Choice) (x : Target) → IsChoice c → Resting E tar x
-    → Resting E tar (completion_of c x)
+rests_done : (E : List Transfer → Type 0) (tar : Option ℕ) (c : Choice) (x : Target) → IsPortChoice c
+    → ObservedResting E tar x → ObservedResting E tar (port_completion c x)
 rests_done E tar c x choice h = record {
   now = h.later c choice;
-  later = λ d k. still (λ y. E y.memory.log) d (completion_of c x) refl (h.later c choice);
+  later = λ d k. observed_no_pending_keeps (λ y. E y.memory.log) d (port_completion c x) refl (h.later c choice);
   aimed = rests_tar tar c x h.aimed;
 }
 
 -- the next address, inside a kilobyte
-next_inside : (wraps : Bool) (at : ℕ) → at < 2 ^ 32 → at % 4 ≡ 0 → at % 1024 ≢ 1020 → next_address wraps at ≡ at + 4
+next_inside : (wraps : Bool) (at : ℕ) → at < 2 ^ 32 → at % 4 ≡ 0 → at % 1024 ≢ 1020
+    → port_tar_next_address wraps at ≡ at + 4
 next_inside true at range aligned inside = omega arith
 next_inside false at range aligned inside = omega arith
 
-advanced_at : (test : Bool) (wraps : Bool) (at : ℕ) (now : Option ℕ) → at < 2 ^ 32 → now ≡ Some (next_address wraps at)
+advanced_at : (test : Bool) (wraps : Bool) (at : ℕ) (now : Option ℕ) → at < 2 ^ 32
+    → now ≡ Some (port_tar_next_address wraps at)
     → ((at % 4 == 0) && no (at % 1024 == 1020)) ≡ test → IfSome (if test then Some (at + 4) else None) (λ a. now
     ≡ Some a)
 advanced_at true wraps at now range e test = e ∙ ap (λ n. Some n) (next_inside wraps at range (grind arith)
@@ -50,8 +52,8 @@ advanced_at false wraps at now range e test = tt
 
 advanced : (increments : Option Bool) (tar : Option ℕ) (c : Choice) (x : Target) (now : Option ℕ)
     → IfSome increments (λ b. x.increments ≡ b) → IfSome tar (λ a. a < 2 ^ 32) → IfSome tar (λ a. x.tar ≡ Some a)
-    → now ≡ (if x.increments then option_map (next_address c.wraps) x.tar else x.tar)
-    → IfSome (advance increments tar) (λ a. now ≡ Some a)
+    → now ≡ (if x.increments then option_map (port_tar_next_address c.wraps) x.tar else x.tar)
+    → IfSome (observed_tar_advance increments tar) (λ a. now ≡ Some a)
 advanced None tar c x now inc range at e = tt
 advanced (Some true) None c x now inc range at e = tt
 advanced (Some true) (Some a) c x now inc range at e =
@@ -60,68 +62,73 @@ advanced (Some false) None c x now inc range at e = tt
 advanced (Some false) (Some a) c x now inc range at e = rw (inc, at) at e
 
 -- where TAR is known the pending transfer is at that address, whatever the target chooses
-pub same_place : (tar : Option ℕ) (c : Choice) (x : Target) → IfSome tar (λ a. x.tar ≡ Some a)
+pub observed_transfer_at_tar : (tar : Option ℕ) (c : Choice) (x : Target) → IfSome tar (λ a. x.tar ≡ Some a)
     → IfSome tar (λ a. unwrap_or x.tar c.address ≡ a)
-same_place None c x h = tt
-same_place (Some a) c x h = ap (λ o. unwrap_or o c.address) h
+observed_transfer_at_tar None c x h = tt
+observed_transfer_at_tar (Some a) c x h = ap (λ o. unwrap_or o c.address) h
 
 -- a transfer that is owed is done or fails
-took_off : (E : List Transfer → Type 0) (b : Begun) (increments : Option Bool) (tar : Option ℕ) (c : Choice)
+took_off : (E : List Transfer → Type 0) (b : StartedTransfer) (increments : Option Bool) (tar : Option ℕ) (c : Choice)
     (x : Target)
     (drw : Drw) (test : Bool) → succeeds_at (unwrap_or x.tar c.address) x.memory ≡ test
     → IfSome increments (λ b. x.increments ≡ b) → IfSome tar (λ a. a < 2 ^ 32)
-    → Calm x → x.pending ≡ Some drw → IsOf b drw → IfSome tar (λ a. x.tar ≡ Some a) → E x.memory.log
-    → Flying E b increments tar (completion_of c x)
+    → ObservedCalm x → x.pending ≡ Some drw → IsObservedPending b drw → IfSome tar (λ a. x.tar ≡ Some a)
+    → E x.memory.log
+    → ObservedFlying E b increments tar (port_completion c x)
 took_off E b increments tar c x Reads true test inc range calm pending of at e =
     gone (record {
       sticky_error = rw (pending, test, calm.sticky_error) refl;
       write_error = calm.write_error;
       debug_power = calm.debug_power;
       power_up = calm.power_up;
-    }) refl (transfer_of (access_at (unwrap_or x.tar c.address) Reads) x.memory) x.memory.log (record {
+    }) refl (plain_transfer_of (pending_access_at (unwrap_or x.tar c.address) Reads) x.memory) x.memory.log (record {
       read = sym of;
-      addr = same_place tar c x at;
+      addr = observed_transfer_at_tar tar c x at;
       word = λ w. absurd (cc);
     }) (rw (pending, test) refl) e (λ r. rw (pending, test) refl)
-    (advanced increments tar c x (completion_of c x).tar inc range at (rw (pending, test) refl))
+    (advanced increments tar c x (port_completion c x).tar inc range at (rw (pending, test) refl))
 took_off E b increments tar c x (Writes word) true test inc range calm pending of at e =
     gone (record {
       sticky_error = rw (pending, test, calm.sticky_error) refl;
       write_error = calm.write_error;
       debug_power = calm.debug_power;
       power_up = calm.power_up;
-    }) refl (transfer_of (access_at (unwrap_or x.tar c.address) (Writes word)) x.memory) x.memory.log (record {
+    }) refl (plain_transfer_of (pending_access_at (unwrap_or x.tar c.address) (Writes word)) x.memory) x.memory.log
+    (record {
       read = sym of.0;
-      addr = same_place tar c x at;
+      addr = observed_transfer_at_tar tar c x at;
       word = λ w. of.1;
     }) (rw (pending, test) refl) e (λ r. absurd (let r0 = of.0 in cc))
-    (advanced increments tar c x (completion_of c x).tar inc range at (rw (pending, test) refl))
+    (advanced increments tar c x (port_completion c x).tar inc range at (rw (pending, test) refl))
 took_off E b increments tar c x Reads false test inc range calm pending of at e =
     failed refl (rw (pending, test, calm.sticky_error) refl) (rw (pending, test) e)
 took_off E b increments tar c x (Writes word) false test inc range calm pending of at e =
     failed refl (rw (pending, test, calm.sticky_error) refl) (rw (pending, test) e)
 
 -- a transfer in flight, pending, done or failed, is one of these after the pending one took effect
-pub flies_on : (E : List Transfer → Type 0) (b : Begun) (increments : Option Bool) (tar : Option ℕ) (c : Choice)
-    (x : Target)
+pub observed_flying_completes : (E : List Transfer → Type 0) (b : StartedTransfer) (increments : Option Bool)
+    (tar : Option ℕ) (c : Choice) (x : Target)
     → IfSome increments (λ b. x.increments ≡ b) → IfSome tar (λ a. a < 2 ^ 32)
-    → Flying E b increments tar x → Flying E b increments tar (completion_of c x)
-flies_on E b increments tar c x inc range (owed calm drw pending of at e) =
+    → ObservedFlying E b increments tar x → ObservedFlying E b increments tar (port_completion c x)
+observed_flying_completes E b increments tar c x inc range (owed calm drw pending of at e) =
     took_off E b increments tar c x drw _ refl inc range calm pending of at e
-flies_on E b increments tar c x inc range (gone calm none t log fits is e buffer next) =
-    still (λ y. Flying E b increments tar y) c x none (gone calm none t log fits is e buffer next)
-flies_on E b increments tar c x inc range (failed none error e) =
-    still (λ y. Flying E b increments tar y) c x none (failed none error e)
+observed_flying_completes E b increments tar c x inc range (gone calm none t log fits is e buffer next) =
+    observed_no_pending_keeps (λ y. ObservedFlying E b increments tar y) c x none
+    (gone calm none t log fits is e buffer next)
+observed_flying_completes E b increments tar c x inc range (failed none error e) =
+    observed_no_pending_keeps (λ y. ObservedFlying E b increments tar y) c x none (failed none error e)
 
-flight_on : (E : List Transfer → Type 0) (b : Option Begun) (increments : Option Bool) (tar : Option ℕ) (c : Choice)
-    (x : Target) → IsChoice c → IfSome increments (λ b. x.increments ≡ b) → IfSome tar (λ a. a < 2 ^ 32)
-    → Flight E b increments tar x → Flight E b increments tar (completion_of c x)
+flight_on : (E : List Transfer → Type 0) (b : Option StartedTransfer) (increments : Option Bool) (tar : Option ℕ)
+    (c : Choice) (x : Target) → IsPortChoice c → IfSome increments (λ b. x.increments ≡ b)
+    → IfSome tar (λ a. a < 2 ^ 32)
+    → ObservedFlight E b increments tar x → ObservedFlight E b increments tar (port_completion c x)
 flight_on E None increments tar c x choice inc range h = rests_done E tar c x choice h
-flight_on E (Some b) increments tar c x choice inc range h = flies_on E b increments tar c x inc range h
+flight_on E (Some b) increments tar c x choice inc range h =
+    observed_flying_completes E b increments tar c x inc range h
 
-pub holds_on : (E : List Transfer → Type 0) (o : Observer) (c : Choice) (x : Target) → IsChoice c → Holds E o x
-    → Holds E o (completion_of c x)
-holds_on E o c x choice h = record {
+pub observer_holds_completed : (E : List Transfer → Type 0) (o : Observer) (c : Choice) (x : Target) → IsPortChoice c
+    → ObserverHolds E o x → ObserverHolds E o (port_completion c x)
+observer_holds_completed E o c x choice h = record {
   select = h.select;
   increments = h.increments;
   range = h.range;
@@ -129,17 +136,20 @@ holds_on E o c x choice h = record {
 }
 
 -- no write was sent
-pub unsent : (sent : Option Sent) (P : Type 0) → sent ≡ None → IfSome sent (λ s. P)
-unsent None P e = tt
-unsent (Some s) P e = absurd (cc)
+pub observer_unsent : (sent : Option SentWrite) (P : Type 0) → sent ≡ None → IfSome sent (λ s. P)
+observer_unsent None P e = tt
+observer_unsent (Some s) P e = absurd (cc)
 
-pub knows_on : (E : List Transfer → Type 0) (o : Observer) (c : Choice) (x : Target) → IsChoice c → Knows E o x
-    → Knows E o (completion_of c x)
-knows_on E o c x choice (here clean h) = here clean (holds_on E (arrived o) c x choice h)
-knows_on E o c x choice (spoiled error rest h) = spoiled error rest (holds_on E (record o { sent = None }) c x choice h)
+pub observer_knows_completed : (E : List Transfer → Type 0) (o : Observer) (c : Choice) (x : Target) → IsPortChoice c
+    → ObserverKnows E o x → ObserverKnows E o (port_completion c x)
+observer_knows_completed E o c x choice (here clean h) =
+    here clean (observer_holds_completed E (observer_arrival o) c x choice h)
+observer_knows_completed E o c x choice (spoiled error rest h) =
+    spoiled error rest (observer_holds_completed E (record o { sent = None }) c x choice h)
 
 -- what is known is true after a possible completion
-pub stays : (E : List Transfer → Type 0) (o : Observer) (s t : Port) → Completes s t → Knows E o s.target
-    → Knows E o t.target
-stays E o s t (inl e) h = subst (λ p. Knows E o p.target) (sym e) h
-stays E o s t (inr (c, choice, e)) h = subst (λ p. Knows E o p.target) (sym e) (knows_on E o c s.target choice h)
+pub observer_knows_stays : (E : List Transfer → Type 0) (o : Observer) (s t : Port) → PortCompletes s t
+    → ObserverKnows E o s.target → ObserverKnows E o t.target
+observer_knows_stays E o s t (inl e) h = subst (λ p. ObserverKnows E o p.target) (sym e) h
+observer_knows_stays E o s t (inr (c, choice, e)) h =
+    subst (λ p. ObserverKnows E o p.target) (sym e) (observer_knows_completed E o c s.target choice h)

@@ -1,11 +1,10 @@
 -- OK to a request that isn't exempt: the transfer in flight took effect, and what the request itself leaves.
-use Rattle.std.proofs.Common.{◌≡◌, ◌+◌, ◌%◌, ◌<◌, ◌^◌, ℕ, Bool, true, false, List, ◌++◌, refl, sym, ap, subst}
-use Rattle.std.proofs.Common.{arith, ◌∙◌, append-nil}
-use Rattle.std.specs.Prelude.{Option, Some, None, IfSome, ◌&&◌, ◌==◌, nat_lt, if◌then◌else◌}
-use Rattle.std.specs.Prelude.{not as no}
+use Rattle.std.proofs.Common.{◌≡◌, ◌+◌, ◌%◌, ◌<◌, ◌^◌, ℕ, Bool, true, false, List, ◌++◌, refl, sym, ap, subst, arith}
+use Rattle.std.proofs.Common.{◌∙◌, append-nil}
+use Rattle.std.specs.Prelude.{Option, Some, None, IfSome, ◌&&◌, ◌==◌, nat_lt, if◌then◌else◌, not as no}
 use Rattle.std.specs.Option.{option_map, option_and_then}
-use Rattle.swd_bits.specs.Phases.{word_in, phase_number}
-use Rattle.swd_bits.proofs.PhaseLemmas.{phase_told, word_flip}
+use Rattle.swd_bits.specs.Phases.{data_phase_word, data_phase_number}
+use Rattle.swd_bits.proofs.PhaseLemmas.{data_phase_of_found_word, flipped_data_phase_no_word}
 use Rattle.swd_port.specs.declared.access.Transfer.{Transfer}
 use Rattle.swd_port.specs.declared.select.Select.{Select}
 use Rattle.swd_port.specs.declared.register.Register.{Register}
@@ -13,33 +12,34 @@ use Rattle.swd_port.specs.declared.register.Register.TheVariants.{SelectWrite, C
 use Rattle.swd_port.specs.declared.state.Drw.{Drw}
 use Rattle.swd_port.specs.declared.state.Drw.TheVariants.{Reads as DrwReads, Writes as DrwWrites}
 use Rattle.swd_port.specs.declared.state.PowerUp.TheVariants.{Seen}
-use Rattle.swd_port.specs.Phases.{flipped}
+use Rattle.swd_port.specs.Phases.{port_flipped}
 use Rattle.swd_port.specs.declared.csw.Csw.{Csw}
 use Rattle.swd_port.specs.Registers.{select_of, csw_of}
 use Rattle.swd_port.specs.Port.{Target}
-use Rattle.swd_port.specs.Asking.{after_okay, pending_once_read}
-use Rattle.swd_port.specs.Moving.{Arrives, arrival_of, after_bits, select_after, increments_after}
-use Rattle.swd_port.specs.Moving.{tar_written, pending_after}
-use Rattle.swd_observer.specs.declared.told.Told.{Told}
+use Rattle.swd_port.specs.Asking.{port_after_okay, pending_drw_once_read}
+use Rattle.swd_port.specs.Moving.{Arrives, port_arrival_of, port_after_bits, port_select_after_write}
+use Rattle.swd_port.specs.Moving.{port_csw_increments_after, tar_after_write, pending_after_write}
+use Rattle.swd_observer.specs.declared.told.ObservedAccess.{ObservedAccess}
 use Rattle.swd_observer.specs.declared.told.How.TheVariants.{Took}
 use Rattle.swd_observer.specs.declared.observer.Observer.{Observer}
-use Rattle.swd_observer.specs.declared.observer.Begun.{Begun}
+use Rattle.swd_observer.specs.declared.observer.StartedTransfer.{StartedTransfer}
 use Rattle.swd_observer.specs.declared.observer.Written.{Written}
 use Rattle.swd_observer.specs.declared.observer.Written.TheVariants.{Select as ToSelect, Csw as ToCsw, Tar as ToTar}
 use Rattle.swd_observer.specs.declared.observer.Written.TheVariants.{Drw as ToDrw}
-use Rattle.swd_observer.specs.declared.observer.Kind.TheVariants.{Reads, Writes}
-use Rattle.swd_observer.specs.Observing.{arrived, arrived_with, advance, tar_done, confirmed, told_of, told_with}
-use Rattle.swd_observer.specs.Observing.{word_if}
-use Rattle.swd_observer.specs.Observing.{word_of_begun, increments_in, whole_word, accepted}
-use Rattle.swd_observer.specs.Explained.{ExplainsSince, listed}
-use Rattle.swd_observer.specs.Knows.{owed, gone, failed, Resting, Flight, Holds, Knows, here}
-use Rattle.swd_observer.specs.Knows.{spoiled}
-use Rattle.swd_observer.proofs.ExplainLemmas.{took}
-use Rattle.swd_observer.proofs.KnownLemmas.{still, unsent}
-use Rattle.swd_observer.proofs.AskLemmas.{is_harmless, register_for}
+use Rattle.swd_observer.specs.declared.observer.RequestEffect.TheVariants.{Reads, Writes}
+use Rattle.swd_observer.specs.Observing.{observer_arrival, observer_arrival_of, observed_tar_advance, observed_tar_done}
+use Rattle.swd_observer.specs.Observing.{observer_confirmed, observed_flight_access, observed_begun, word_observed}
+use Rattle.swd_observer.specs.Observing.{observed_word_of_begun, observed_increments_in, observed_whole}
+use Rattle.swd_observer.specs.Observing.{observer_accepted}
+use Rattle.swd_observer.specs.Explained.{ObservedSince, one_observed}
+use Rattle.swd_observer.specs.Knows.{owed, gone, failed, ObservedResting, ObservedFlight, ObserverHolds, ObserverKnows}
+use Rattle.swd_observer.specs.Knows.{here, spoiled}
+use Rattle.swd_observer.proofs.ExplainLemmas.{observed_since_took}
+use Rattle.swd_observer.proofs.KnownLemmas.{observed_no_pending_keeps, observer_unsent}
+use Rattle.swd_observer.proofs.AskLemmas.{is_observed_harmless, observed_register_for}
 
 -- nothing is pending, and nothing is waited for
-pub record Settled (E : List Transfer → Type 0) (o : Observer) (x : Target) : Type 0 where
+pub record ObservedSettled (E : List Transfer → Type 0) (o : Observer) (x : Target) : Type 0 where
   pub select : IfSome o.select (λ s. x.select ≡ s)
   pub increments : IfSome o.increments (λ b. x.increments ≡ b)
   pub range : IfSome o.tar (λ a. a < 2 ^ 32)
@@ -48,11 +48,11 @@ pub record Settled (E : List Transfer → Type 0) (o : Observer) (x : Target) : 
   pub none : x.pending ≡ None
 
 -- what the request that told gave is the word of the read buffer
-abbrev pub IsRight : Option ℕ → Target → Type 0
-IsRight got x = IfSome got (λ w. (v : ℕ) → x.buffer ≡ Some v → v ≡ w)
+abbrev pub IsObservedRight : Option ℕ → Target → Type 0
+IsObservedRight got x = IfSome got (λ w. (v : ℕ) → x.buffer ≡ Some v → v ≡ w)
 
 matched_word : (r : Bool) (got word : Option ℕ) (t : Transfer) (x : Target)
-    → (r ≡ false → IfSome word (λ w. t.word ≡ w)) → (r ≡ true → x.buffer ≡ Some t.word) → IsRight got x
+    → (r ≡ false → IfSome word (λ w. t.word ≡ w)) → (r ≡ true → x.buffer ≡ Some t.word) → IsObservedRight got x
     → IfSome (if r then got else word) (λ w. t.word ≡ w)
 matched_word true None word t x f g right = tt
 matched_word true (Some w) word t x f g right = right t.word (g refl)
@@ -69,32 +69,33 @@ aimed_both None x none h = tt
 aimed_both (Some a) x none h = (h, none)
 
 rests_by : (E : List Transfer → Type 0) (tar : Option ℕ) (x : Target) → IfSome tar (λ a. x.tar ≡ Some a)
-    → E x.memory.log → x.pending ≡ None → Resting E tar x
+    → E x.memory.log → x.pending ≡ None → ObservedResting E tar x
 rests_by E tar x aimed now none = record {
   now = now;
-  later = λ c k. still (λ y. E y.memory.log) c x none now;
+  later = λ c k. observed_no_pending_keeps (λ y. E y.memory.log) c x none now;
   aimed = aimed_both tar x none aimed;
 }
 
 -- in a settled state the reports explain the log, and still do whatever completes
-pub rests : (E : List Transfer → Type 0) (o : Observer) (x : Target) → Settled E o x → Resting E o.tar x
-rests E o x h = rests_by E o.tar x h.aimed h.now h.none
+pub observed_settled_rests : (E : List Transfer → Type 0) (o : Observer) (x : Target) → ObservedSettled E o x
+    → ObservedResting E o.tar x
+observed_settled_rests E o x h = rests_by E o.tar x h.aimed h.now h.none
 
 -- the transfer in flight, once nothing is pending and no flag is set
-settle : (before : List Transfer) (told : List Told) (got : Option ℕ) (b : Option Begun) (increments : Option Bool)
-    (tar : Option ℕ) (x : Target) → x.sticky_error ≡ false → x.pending ≡ None → IsRight got x
-    → Flight (ExplainsSince before told) b increments tar x
-    → ExplainsSince before (told ++ listed (told_with Took got tar b)) x.memory.log
-    × IfSome (tar_done b increments tar) (λ a. x.tar ≡ Some a)
+settle : (before : List Transfer) (told : List ObservedAccess) (got : Option ℕ) (b : Option StartedTransfer)
+    (increments : Option Bool) (tar : Option ℕ) (x : Target) → x.sticky_error ≡ false → x.pending ≡ None
+    → IsObservedRight got x → ObservedFlight (ObservedSince before told) b increments tar x
+    → ObservedSince before (told ++ one_observed (observed_begun Took got tar b)) x.memory.log
+    × IfSome (observed_tar_done b increments tar) (λ a. x.tar ≡ Some a)
 settle before told got None increments tar x quiet none right h =
-    (subst (λ l. ExplainsSince before l x.memory.log) (sym (append-nil told)) h.now, aimed_only tar x h.aimed)
+    (subst (λ l. ObservedSince before l x.memory.log) (sym (append-nil told)) h.now, aimed_only tar x h.aimed)
 settle before told got (Some b) increments tar x quiet none right (owed calm drw pending of at e) =
     absurd (let clash : Some drw ≡ None = sym pending ∙ none in cc)
 settle before told got (Some b) increments tar x quiet none right (gone calm rest t log fits is e buffer next) = (
-  subst (λ l. ExplainsSince before (told ++ listed (told_with Took got tar (Some b))) l) (sym is)
-      (took before told
-      (record { place = b.place; read = b.read; addr = tar; word = word_of_begun b got; how = Took }) t log refl
-      (record {
+  subst (λ l. ObservedSince before (told ++ one_observed (observed_begun Took got tar (Some b))) l) (sym is)
+      (observed_since_took before told
+      (record { place = b.place; read = b.read; addr = tar; word = observed_word_of_begun b got; how = Took }) t log
+      refl (record {
         read = fits.read;
         addr = fits.addr;
         word = matched_word b.read got b.word t x fits.word buffer right;
@@ -111,40 +112,42 @@ range_at true at range e =
 range_at false at range e = tt
 
 range_advance : (increments : Option Bool) (tar : Option ℕ) → IfSome tar (λ a. a < 2 ^ 32)
-    → IfSome (advance increments tar) (λ a. a < 2 ^ 32)
+    → IfSome (observed_tar_advance increments tar) (λ a. a < 2 ^ 32)
 range_advance None tar range = tt
 range_advance (Some true) None range = tt
 range_advance (Some true) (Some a) range = range_at ((a % 4 == 0) && no (a % 1024 == 1020)) a range refl
 range_advance (Some false) tar range = range
 
 -- TAR, as known after the transfer in flight took effect, is below 2^32
-pub range_done : (b : Option Begun) (increments : Option Bool) (tar : Option ℕ) → IfSome tar (λ a. a < 2 ^ 32)
-    → IfSome (tar_done b increments tar) (λ a. a < 2 ^ 32)
-range_done None increments tar range = range
-range_done (Some b) increments tar range = range_advance increments tar range
+pub observed_tar_range_done : (b : Option StartedTransfer) (increments : Option Bool) (tar : Option ℕ)
+    → IfSome tar (λ a. a < 2 ^ 32) → IfSome (observed_tar_done b increments tar) (λ a. a < 2 ^ 32)
+observed_tar_range_done None increments tar range = range
+observed_tar_range_done (Some b) increments tar range = range_advance increments tar range
 
 -- with no flag set and nothing pending, a state is settled once the transfer in flight is reported as `Took`, where
 -- the word that was got, if any, is the read buffer's
-pub confirm : (before : List Transfer) (told : List Told) (got : Option ℕ) (o : Observer) (x : Target)
-    → x.sticky_error ≡ false → x.write_error ≡ false → x.pending ≡ None → IsRight got x
-    → Knows (ExplainsSince before told) o x
-    → Settled (ExplainsSince before (told ++ listed (told_of Took got o))) (confirmed o) x
-confirm before told got o x quiet whole none right (here clean h) =
-    let found = settle before told got (arrived o).begun (arrived o).increments
-    (arrived o).tar x quiet none right h.flight in
+pub observer_confirm_settles : (before : List Transfer) (told : List ObservedAccess) (got : Option ℕ) (o : Observer)
+    (x : Target) → x.sticky_error ≡ false → x.write_error ≡ false → x.pending ≡ None → IsObservedRight got x
+    → ObserverKnows (ObservedSince before told) o x
+    → ObservedSettled (ObservedSince before (told ++ one_observed (observed_flight_access Took got o)))
+    (observer_confirmed o) x
+observer_confirm_settles before told got o x quiet whole none right (here clean h) =
+    let found = settle before told got (observer_arrival o).begun (observer_arrival o).increments
+    (observer_arrival o).tar x quiet none right h.flight in
     record {
       select = h.select;
       increments = h.increments;
-      range = range_done (arrived o).begun (arrived o).increments (arrived o).tar h.range;
+      range = observed_tar_range_done (observer_arrival o).begun (observer_arrival o).increments
+          (observer_arrival o).tar h.range;
       aimed = found.1;
       now = found.0;
       none = none;
     }
-confirm before told got o x quiet whole none right (spoiled error rest h) =
+observer_confirm_settles before told got o x quiet whole none right (spoiled error rest h) =
     absurd (let clash : true ≡ false = sym error ∙ whole in cc)
 
 -- what a step leaves that an observer keeps
-pub record Same (x y : Target) : Type 0 where
+pub record ObservedSame (x y : Target) : Type 0 where
   pub select : y.select ≡ x.select
   pub increments : y.increments ≡ x.increments
   pub tar : y.tar ≡ x.tar
@@ -152,20 +155,21 @@ pub record Same (x y : Target) : Type 0 where
   pub memory : y.memory ≡ x.memory
 
 -- what is known of a value is true of an equal one
-pub same_known : (T : Type 0) (known : Option T) (a b : T) → b ≡ a → IfSome known (λ k. a ≡ k)
+pub observed_same_value : (T : Type 0) (known : Option T) (a b : T) → b ≡ a → IfSome known (λ k. a ≡ k)
     → IfSome known (λ k. b ≡ k)
-same_known T None a b e h = tt
-same_known T (Some k) a b e h = e ∙ h
+observed_same_value T None a b e h = tt
+observed_same_value T (Some k) a b e h = e ∙ h
 
 same_aimed : (tar : Option ℕ) (a b : Option ℕ) → b ≡ a → IfSome tar (λ k. a ≡ Some k) → IfSome tar (λ k. b ≡ Some k)
 same_aimed None a b e h = tt
 same_aimed (Some k) a b e h = e ∙ h
 
 -- a state is settled where it has the same as a settled one of what an observer keeps
-pub settled_same : (E : List Transfer → Type 0) (o : Observer) (x y : Target) → Same x y → Settled E o x → Settled E o y
-settled_same E o x y s h = record {
-  select = same_known Select o.select x.select y.select s.select h.select;
-  increments = same_known Bool o.increments x.increments y.increments s.increments h.increments;
+pub observed_same_settled : (E : List Transfer → Type 0) (o : Observer) (x y : Target) → ObservedSame x y
+    → ObservedSettled E o x → ObservedSettled E o y
+observed_same_settled E o x y s h = record {
+  select = observed_same_value Select o.select x.select y.select s.select h.select;
+  increments = observed_same_value Bool o.increments x.increments y.increments s.increments h.increments;
   range = h.range;
   aimed = same_aimed o.tar x.tar y.tar s.tar h.aimed;
   now = subst (λ m. E m.log) (sym s.memory) h.now;
@@ -173,29 +177,31 @@ settled_same E o x y s h = record {
 }
 
 -- a settled observer knows
-pub settled_holds : (E : List Transfer → Type 0) (o : Observer) (x : Target) → o.begun ≡ None → Settled E o x
-    → Holds E o x
-settled_holds E o x rest h = record {
+pub observer_settled_holds : (E : List Transfer → Type 0) (o : Observer) (x : Target) → o.begun ≡ None
+    → ObservedSettled E o x → ObserverHolds E o x
+observer_settled_holds E o x rest h = record {
   select = h.select;
   increments = h.increments;
   range = h.range;
-  flight = subst (λ b. Flight E b o.increments o.tar x) (sym rest) (rests E o x h);
+  flight = subst (λ b. ObservedFlight E b o.increments o.tar x) (sym rest) (observed_settled_rests E o x h);
 }
 
 -- in a settled state what an observer knows is true, if it has no unconfirmed write and nothing in flight
-pub settled_knows : (E : List Transfer → Type 0) (o : Observer) (x : Target) → o.sent ≡ None → o.begun ≡ None
-    → Settled E o x → Knows E o x
-settled_knows E o x sent rest h =
-    here (unsent o.sent _ sent) (subst (λ s. Holds E (arrived_with s o) x) (sym sent) (settled_holds E o x rest h))
+pub observer_settled_knows : (E : List Transfer → Type 0) (o : Observer) (x : Target) → o.sent ≡ None → o.begun ≡ None
+    → ObservedSettled E o x → ObserverKnows E o x
+observer_settled_knows E o x sent rest h =
+    here (observer_unsent o.sent _ sent) (subst (λ s. ObserverHolds E (observer_arrival_of s o) x) (sym sent)
+    (observer_settled_holds E o x rest h))
 
 -- a request that an observer keeps nothing of
-pending_same : (r : Register) (p : Option Drw) → is_harmless r ≡ true → pending_once_read r p ≡ p
+pending_same : (r : Register) (p : Option Drw) → is_observed_harmless r ≡ true → pending_drw_once_read r p ≡ p
 pending_same DrwRead p e = absurd (cc)
 pending_same r p e = refl
 
 -- OK to a request for a register of which an observer keeps nothing changes nothing of what it keeps
-pub same_okay : (busy : Bool) (r : Register) (x : Target) → is_harmless r ≡ true → Same x (after_okay busy r x)
-same_okay busy r x e = record {
+pub observed_same_at_okay : (busy : Bool) (r : Register) (x : Target) → is_observed_harmless r ≡ true
+    → ObservedSame x (port_after_okay busy r x)
+observed_same_at_okay busy r x e = record {
   select = refl;
   increments = refl;
   tar = refl;
@@ -203,15 +209,16 @@ same_okay busy r x e = record {
   memory = refl;
 }
 
-write_pends_not : (w : Written) (p : Option Drw) → pending_once_read (register_for w) p ≡ p
+write_pends_not : (w : Written) (p : Option Drw) → pending_drw_once_read (observed_register_for w) p ≡ p
 write_pends_not ToSelect p = refl
 write_pends_not ToCsw p = refl
 write_pends_not ToTar p = refl
 write_pends_not ToDrw p = refl
 
 -- nor does OK to a write that an observer tracks: its effect comes with its data
-pub same_write : (busy : Bool) (w : Written) (x : Target) → Same x (after_okay busy (register_for w) x)
-same_write busy w x = record {
+pub observed_same_at_write : (busy : Bool) (w : Written) (x : Target)
+    → ObservedSame x (port_after_okay busy (observed_register_for w) x)
+observed_same_at_write busy w x = record {
   select = refl;
   increments = refl;
   tar = refl;
@@ -220,12 +227,14 @@ same_write busy w x = record {
 }
 
 -- a DRW read is owed
-pub begins : (E : List Transfer → Type 0) (o : Observer) (x : Target) (busy : Bool) (word : Option ℕ) (place : ℕ)
-    → o.sent ≡ None → x.sticky_error ≡ false → x.write_error ≡ false → x.debug_power ≡ true → Settled E o x
-    → Knows E (accepted Reads word place o) (after_okay busy DrwRead x)
-begins E o x busy word place sent quiet whole power h =
-    here (unsent o.sent _ sent) (subst (λ s. Holds E (arrived_with s (accepted Reads word place o))
-    (after_okay busy DrwRead x)) (sym sent) (record {
+pub observer_knows_drw_read : (E : List Transfer → Type 0) (o : Observer) (x : Target) (busy : Bool) (word : Option ℕ)
+    (place : ℕ)
+    → o.sent ≡ None → x.sticky_error ≡ false → x.write_error ≡ false → x.debug_power ≡ true → ObservedSettled E o x
+    → ObserverKnows E (observer_accepted Reads word place o) (port_after_okay busy DrwRead x)
+observer_knows_drw_read E o x busy word place sent quiet whole power h =
+    here (observer_unsent o.sent _ sent) (subst
+    (λ s. ObserverHolds E (observer_arrival_of s (observer_accepted Reads word place o))
+    (port_after_okay busy DrwRead x)) (sym sent) (record {
       select = h.select;
       increments = h.increments;
       range = h.range;
@@ -235,27 +244,37 @@ begins E o x busy word place sent quiet whole power h =
     }))
 
 -- a write of which an observer keeps nothing
-select_same : (r : Register) (word : ℕ) (s : Select) → is_harmless r ≡ true → select_after (Arrives r word) s ≡ s
+select_same : (r : Register) (word : ℕ) (s : Select) → is_observed_harmless r ≡ true
+    → port_select_after_write (Arrives r word) s ≡ s
 select_same SelectWrite word s e = absurd (cc)
 select_same r word s e = refl
 
-increments_same : (r : Register) (word : ℕ) (b : Bool) → is_harmless r ≡ true → increments_after (Arrives r word) b ≡ b
+increments_same : (r : Register) (word : ℕ) (b : Bool) → is_observed_harmless r ≡ true
+    → port_csw_increments_after (Arrives r word) b ≡ b
 increments_same CswWrite word b e = absurd (cc)
 increments_same r word b e = refl
 
-tar_same : (r : Register) (word : ℕ) (tar : Option ℕ) → is_harmless r ≡ true → tar_written (Arrives r word) tar ≡ tar
+tar_same : (r : Register) (word : ℕ) (tar : Option ℕ) → is_observed_harmless r ≡ true
+    → tar_after_write (Arrives r word) tar ≡ tar
 tar_same TarWrite word tar e = absurd (cc)
 tar_same r word tar e = refl
 
-pends_same : (r : Register) (word : ℕ) (p : Option Drw) → is_harmless r ≡ true → pending_after (Arrives r word) p ≡ p
+pends_same : (r : Register) (word : ℕ) (p : Option Drw) → is_observed_harmless r ≡ true
+    → pending_after_write (Arrives r word) p ≡ p
 pends_same DrwWrite word p e = absurd (cc)
 pends_same r word p e = refl
 
 -- the data of a write of which an observer keeps nothing, arrived or corrupted, changes nothing of what it keeps
-pub same_bits : (r : Register) (found : Option ℕ) (x : Target) → is_harmless r ≡ true
-    → Same x (after_bits (arrival_of r found) x)
-same_bits r None x e = record { select = refl; increments = refl; tar = refl; pending = refl; memory = refl }
-same_bits r (Some word) x e = record {
+pub observed_same_at_data : (r : Register) (found : Option ℕ) (x : Target) → is_observed_harmless r ≡ true
+    → ObservedSame x (port_after_bits (port_arrival_of r found) x)
+observed_same_at_data r None x e = record {
+  select = refl;
+  increments = refl;
+  tar = refl;
+  pending = refl;
+  memory = refl;
+}
+observed_same_at_data r (Some word) x e = record {
   select = select_same r word x.select e;
   increments = increments_same r word x.increments e;
   tar = tar_same r word x.tar e;
@@ -264,16 +283,16 @@ same_bits r (Some word) x e = record {
 }
 
 -- the word that arrives is the one that was sent
-pub sent_arrives : (flip : Option ℕ) (sent word : ℕ) (ok : Bool) (found : ℕ) → sent < 2 ^ 33 → word < 2 ^ 32
-    → word_in sent ≡ word_if ok word → word_in (flipped flip sent) ≡ Some found
-    → IfSome (word_if ok word) (λ w. found ≡ w)
-sent_arrives flip sent word false found range small is e = tt
-sent_arrives None sent word true found range small is e =
+pub observed_sent_arrives : (flip : Option ℕ) (sent word : ℕ) (ok : Bool) (found : ℕ) → sent < 2 ^ 33 → word < 2 ^ 32
+    → data_phase_word sent ≡ word_observed ok word → data_phase_word (port_flipped flip sent) ≡ Some found
+    → IfSome (word_observed ok word) (λ w. found ≡ w)
+observed_sent_arrives flip sent word false found range small is e = tt
+observed_sent_arrives None sent word true found range small is e =
     let same : Some found ≡ Some word = sym e ∙ is in cc
-sent_arrives (Some place) sent word true found range small is e =
-    let phase : sent ≡ phase_number word = phase_told sent word range is in
-    let none : word_in (flipped (Some place) sent) ≡ None =
-    ap (λ n. word_in (flipped (Some place) n)) phase ∙ word_flip word place small in
+observed_sent_arrives (Some place) sent word true found range small is e =
+    let phase : sent ≡ data_phase_number word = data_phase_of_found_word sent word range is in
+    let none : data_phase_word (port_flipped (Some place) sent) ≡ None =
+    ap (λ n. data_phase_word (port_flipped (Some place) n)) phase ∙ flipped_data_phase_no_word word place small in
     absurd (let clash : Some found ≡ None = sym e ∙ none in cc)
 
 -- a write that arrived
@@ -288,16 +307,16 @@ step_by c true e = refl
 step_by c false e = tt
 
 stepped : (known : Option ℕ) (word : ℕ) → IfSome known (λ w. word ≡ w)
-    → IfSome (option_and_then increments_in known) (λ b. ((csw_of word).addr_inc == 1) ≡ b)
+    → IfSome (option_and_then observed_increments_in known) (λ b. ((csw_of word).addr_inc == 1) ≡ b)
 stepped None word h = tt
-stepped (Some w) word h = subst (λ z. IfSome (increments_in w) (λ b. ((csw_of z).addr_inc == 1) ≡ b)) (sym h)
+stepped (Some w) word h = subst (λ z. IfSome (observed_increments_in w) (λ b. ((csw_of z).addr_inc == 1) ≡ b)) (sym h)
     (step_by (csw_of w) ((csw_of w).size == 2 && nat_lt (csw_of w).addr_inc 2) refl)
 
 -- what is so of a word is so where a transfer is known to be of a word
-pub whole_is : (increments : Option Bool) (known : Option ℕ) (P : ℕ → Type 0) → IfSome known P
-    → IfSome (whole_word increments known) P
-whole_is None known P h = tt
-whole_is (Some b) known P h = h
+pub observed_whole_word_has : (increments : Option Bool) (known : Option ℕ) (P : ℕ → Type 0) → IfSome known P
+    → IfSome (observed_whole increments known) P
+observed_whole_word_has None known P h = tt
+observed_whole_word_has (Some b) known P h = h
 
 tar_arrives : (known : Option ℕ) (word : ℕ) → IfSome known (λ w. word ≡ w)
     → IfSome known (λ a. Some word ≡ Some a)
@@ -306,37 +325,39 @@ tar_arrives (Some w) word h = ap (λ n. Some n) h
 
 -- in a settled state without a flag, the word of a write that an observer tracks arrives: what it knows is true, with
 -- the write unconfirmed
-pub arrives : (E : List Transfer → Type 0) (o : Observer) (x : Target) (w : Written) (known : Option ℕ) (word place : ℕ)
+pub observer_knows_arrival : (E : List Transfer → Type 0) (o : Observer) (x : Target) (w : Written) (known : Option ℕ)
+    (word place : ℕ)
     → o.begun ≡ None → x.sticky_error ≡ false → x.write_error ≡ false → (w ≡ ToDrw → x.debug_power ≡ true)
     → (w ≡ ToDrw → x.power_up ≡ Seen) → IfSome known (λ v. v < 2 ^ 32)
-    → IfSome known (λ v. word ≡ v) → Settled E o x
-    → Knows E (accepted (Writes w) known place o) (after_bits (Arrives (register_for w) word) x)
-arrives E o x ToSelect known word place rest quiet intact power up range is h = here intact (record {
+    → IfSome known (λ v. word ≡ v) → ObservedSettled E o x
+    → ObserverKnows E (observer_accepted (Writes w) known place o)
+    (port_after_bits (Arrives (observed_register_for w) word) x)
+observer_knows_arrival E o x ToSelect known word place rest quiet intact power up range is h = here intact (record {
   select = mapped Select select_of known word is;
   increments = h.increments;
   range = h.range;
-  flight = subst (λ b. Flight E b o.increments o.tar (after_bits (Arrives SelectWrite word) x)) (sym rest)
-      (rests_by E o.tar (after_bits (Arrives SelectWrite word) x) h.aimed h.now h.none);
+  flight = subst (λ b. ObservedFlight E b o.increments o.tar (port_after_bits (Arrives SelectWrite word) x)) (sym rest)
+      (rests_by E o.tar (port_after_bits (Arrives SelectWrite word) x) h.aimed h.now h.none);
 })
-arrives E o x ToCsw known word place rest quiet intact power up range is h = here intact (record {
+observer_knows_arrival E o x ToCsw known word place rest quiet intact power up range is h = here intact (record {
   select = h.select;
   increments = stepped known word is;
   range = h.range;
-  flight = subst (λ b. Flight E b (option_and_then increments_in known) o.tar (after_bits
+  flight = subst (λ b. ObservedFlight E b (option_and_then observed_increments_in known) o.tar (port_after_bits
       (Arrives CswWrite word) x)) (sym rest)
-      (rests_by E o.tar (after_bits (Arrives CswWrite word) x) h.aimed h.now h.none);
+      (rests_by E o.tar (port_after_bits (Arrives CswWrite word) x) h.aimed h.now h.none);
 })
-arrives E o x ToTar known word place rest quiet intact power up range is h = here intact (record {
+observer_knows_arrival E o x ToTar known word place rest quiet intact power up range is h = here intact (record {
   select = h.select;
   increments = h.increments;
   range = range;
-  flight = subst (λ b. Flight E b o.increments known (after_bits (Arrives TarWrite word) x)) (sym rest)
-      (rests_by E known (after_bits (Arrives TarWrite word) x) (tar_arrives known word is) h.now h.none);
+  flight = subst (λ b. ObservedFlight E b o.increments known (port_after_bits (Arrives TarWrite word) x)) (sym rest)
+      (rests_by E known (port_after_bits (Arrives TarWrite word) x) (tar_arrives known word is) h.now h.none);
 })
-arrives E o x ToDrw known word place rest quiet intact power up range is h = here intact (record {
+observer_knows_arrival E o x ToDrw known word place rest quiet intact power up range is h = here intact (record {
   select = h.select;
   increments = h.increments;
   range = h.range;
   flight = owed (record { sticky_error = quiet; write_error = intact; debug_power = power refl; power_up = up refl })
-      (DrwWrites word) refl (refl, whole_is o.increments known (λ v. word ≡ v) is) h.aimed h.now;
+      (DrwWrites word) refl (refl, observed_whole_word_has o.increments known (λ v. word ≡ v) is) h.aimed h.now;
 })

@@ -7,53 +7,54 @@ use Rattle.swd_port.specs.declared.state.Reply.{Reply}
 use Rattle.swd_port.specs.declared.state.Reply.TheVariants.{Okay, Waits, Faults, Silent}
 use Rattle.swd_port.specs.declared.mark.Mark.{Mark}
 use Rattle.swd_port.specs.declared.mark.Mark.TheVariants.{Clean, Wait, Flip, Deaf, Mute}
-use Rattle.swd_port.specs.Port.{Port, Target, register}
+use Rattle.swd_port.specs.Port.{Port, Target, port_register}
 use Rattle.swd_port.specs.Choices.{Choice}
-use Rattle.swd_port.specs.Answers.{Sees, is_unpowered}
-use Rattle.swd_port.specs.Asking.{Asks, AsksNow, reply_in, has_power, target_after}
-use Rattle.swd_port.specs.Moving.{Passes}
-use Rattle.swd_port.proofs.RequestLaws.{told}
+use Rattle.swd_port.specs.Answers.{PortSees, is_port_unpowered}
+use Rattle.swd_port.specs.Asking.{PortAsks, PortAsksNow, port_reply, port_has_power, port_target_after}
+use Rattle.swd_port.specs.Moving.{PortPasses}
+use Rattle.swd_port.proofs.RequestLaws.{port_replied}
 use Rattle.swd_observer.specs.declared.observer.Observer.{Observer}
-use Rattle.swd_observer.specs.declared.observer.Begun.{Begun}
-use Rattle.swd_observer.specs.Observing.{arrived}
-use Rattle.swd_observer.specs.Knows.{Calm, Flying, owed, gone, failed, Flight, Holds, Knows, here, spoiled}
-use Rattle.swd_observer.proofs.KnownLemmas.{stays}
+use Rattle.swd_observer.specs.declared.observer.StartedTransfer.{StartedTransfer}
+use Rattle.swd_observer.specs.Observing.{observer_arrival}
+use Rattle.swd_observer.specs.Knows.{ObservedCalm, ObservedFlying, owed, gone, failed, ObservedFlight, ObserverHolds}
+use Rattle.swd_observer.specs.Knows.{ObserverKnows, here, spoiled}
+use Rattle.swd_observer.proofs.KnownLemmas.{observer_knows_stays}
 
 -- where the host sees WAIT the target answered WAIT
-pub seen_waits : (mark : Mark) (reply : Reply) → Sees mark reply 2 → reply ≡ Waits
-seen_waits Deaf reply h = absurd (let e : true ≡ false = h.not_wait in cc)
-seen_waits (Mute place) reply h = absurd (let e : true ≡ false = h.not_wait in cc)
-seen_waits mark Waits h = refl
-seen_waits Clean Okay h = absurd (omega arith)
-seen_waits Clean Faults h = absurd (omega arith)
-seen_waits Clean Silent h = absurd (omega arith)
-seen_waits Wait Okay h = absurd (omega arith)
-seen_waits Wait Faults h = absurd (omega arith)
-seen_waits Wait Silent h = absurd (omega arith)
-seen_waits (Flip place) Okay h = absurd (omega arith)
-seen_waits (Flip place) Faults h = absurd (omega arith)
-seen_waits (Flip place) Silent h = absurd (omega arith)
+pub observed_wait_reply : (mark : Mark) (reply : Reply) → PortSees mark reply 2 → reply ≡ Waits
+observed_wait_reply Deaf reply h = absurd (let e : true ≡ false = h.not_wait in cc)
+observed_wait_reply (Mute place) reply h = absurd (let e : true ≡ false = h.not_wait in cc)
+observed_wait_reply mark Waits h = refl
+observed_wait_reply Clean Okay h = absurd (omega arith)
+observed_wait_reply Clean Faults h = absurd (omega arith)
+observed_wait_reply Clean Silent h = absurd (omega arith)
+observed_wait_reply Wait Okay h = absurd (omega arith)
+observed_wait_reply Wait Faults h = absurd (omega arith)
+observed_wait_reply Wait Silent h = absurd (omega arith)
+observed_wait_reply (Flip place) Okay h = absurd (omega arith)
+observed_wait_reply (Flip place) Faults h = absurd (omega arith)
+observed_wait_reply (Flip place) Silent h = absurd (omega arith)
 
 -- where the host sees FAULT the target answered FAULT
-pub seen_faults : (mark : Mark) (reply : Reply) → Sees mark reply 4 → reply ≡ Faults
-seen_faults Deaf reply h = absurd (let e : true ≡ false = h.not_fault in cc)
-seen_faults (Mute place) reply h = absurd (let e : true ≡ false = h.not_fault in cc)
-seen_faults mark Faults h = refl
-seen_faults Clean Okay h = absurd (omega arith)
-seen_faults Clean Waits h = absurd (omega arith)
-seen_faults Clean Silent h = absurd (omega arith)
-seen_faults Wait Okay h = absurd (omega arith)
-seen_faults Wait Waits h = absurd (omega arith)
-seen_faults Wait Silent h = absurd (omega arith)
-seen_faults (Flip place) Okay h = absurd (omega arith)
-seen_faults (Flip place) Waits h = absurd (omega arith)
-seen_faults (Flip place) Silent h = absurd (omega arith)
+pub observed_fault_reply : (mark : Mark) (reply : Reply) → PortSees mark reply 4 → reply ≡ Faults
+observed_fault_reply Deaf reply h = absurd (let e : true ≡ false = h.not_fault in cc)
+observed_fault_reply (Mute place) reply h = absurd (let e : true ≡ false = h.not_fault in cc)
+observed_fault_reply mark Faults h = refl
+observed_fault_reply Clean Okay h = absurd (omega arith)
+observed_fault_reply Clean Waits h = absurd (omega arith)
+observed_fault_reply Clean Silent h = absurd (omega arith)
+observed_fault_reply Wait Okay h = absurd (omega arith)
+observed_fault_reply Wait Waits h = absurd (omega arith)
+observed_fault_reply Wait Silent h = absurd (omega arith)
+observed_fault_reply (Flip place) Okay h = absurd (omega arith)
+observed_fault_reply (Flip place) Waits h = absurd (omega arith)
+observed_fault_reply (Flip place) Silent h = absurd (omega arith)
 
 -- READOK, and STICKYERR where an access port had no power, which it had where a transfer was accepted
 abbrev refused : Bool → Bool → Target → Target
 refused read_ok unpowered x = record x { read_ok = read_ok; sticky_error = x.sticky_error || unpowered }
 
-calm_refused : (v u : Bool) (x : Target) → (Calm x → u ≡ false) → Calm x → Calm (refused v u x)
+calm_refused : (v u : Bool) (x : Target) → (ObservedCalm x → u ≡ false) → ObservedCalm x → ObservedCalm (refused v u x)
 calm_refused v u x off calm = record {
   sticky_error = rw (calm.sticky_error, off calm) refl;
   write_error = calm.write_error;
@@ -61,24 +62,26 @@ calm_refused v u x off calm = record {
   power_up = calm.power_up;
 }
 
-flies_refused : (E : List Transfer → Type 0) (b : Begun) (increments : Option Bool) (tar : Option ℕ) (v u : Bool)
-    (x : Target)
-    → (Calm x → u ≡ false) → Flying E b increments tar x → Flying E b increments tar (refused v u x)
+flies_refused : (E : List Transfer → Type 0) (b : StartedTransfer) (increments : Option Bool) (tar : Option ℕ)
+    (v u : Bool) (x : Target)
+    → (ObservedCalm x → u ≡ false) → ObservedFlying E b increments tar x
+    → ObservedFlying E b increments tar (refused v u x)
 flies_refused E b increments tar v u x off (owed calm drw pending of at e) =
     owed (calm_refused v u x off calm) drw pending of at e
 flies_refused E b increments tar v u x off (gone calm none t log fits is e buffer next) =
     gone (calm_refused v u x off calm) none t log fits is e buffer next
 flies_refused E b increments tar v u x off (failed none error e) = failed none (rw error refl) e
 
-flight_refused : (E : List Transfer → Type 0) (b : Option Begun) (increments : Option Bool) (tar : Option ℕ)
+flight_refused : (E : List Transfer → Type 0) (b : Option StartedTransfer) (increments : Option Bool) (tar : Option ℕ)
     (v u : Bool)
-    (x : Target) → (Calm x → u ≡ false) → Flight E b increments tar x → Flight E b increments tar (refused v u x)
+    (x : Target) → (ObservedCalm x → u ≡ false) → ObservedFlight E b increments tar x
+    → ObservedFlight E b increments tar (refused v u x)
 flight_refused E None increments tar v u x off h = record { now = h.now; later = h.later; aimed = h.aimed }
 flight_refused E (Some b) increments tar v u x off h = flies_refused E b increments tar v u x off h
 
-holds_refused : (E : List Transfer → Type 0) (o : Observer) (v u : Bool) (x : Target) → (Calm x → u ≡ false)
-    → Holds E o x
-    → Holds E o (refused v u x)
+holds_refused : (E : List Transfer → Type 0) (o : Observer) (v u : Bool) (x : Target) → (ObservedCalm x → u ≡ false)
+    → ObserverHolds E o x
+    → ObserverHolds E o (refused v u x)
 holds_refused E o v u x off h = record {
   select = h.select;
   increments = h.increments;
@@ -86,10 +89,10 @@ holds_refused E o v u x off h = record {
   flight = flight_refused E o.begun o.increments o.tar v u x off h.flight;
 }
 
-knows_refused : (E : List Transfer → Type 0) (o : Observer) (v u : Bool) (x : Target) → (Calm x → u ≡ false)
-    → Knows E o x
-    → Knows E o (refused v u x)
-knows_refused E o v u x off (here clean h) = here clean (holds_refused E (arrived o) v u x off h)
+knows_refused : (E : List Transfer → Type 0) (o : Observer) (v u : Bool) (x : Target) → (ObservedCalm x → u ≡ false)
+    → ObserverKnows E o x
+    → ObserverKnows E o (refused v u x)
+knows_refused E o v u x off (here clean h) = here clean (holds_refused E (observer_arrival o) v u x off h)
 knows_refused E o v u x off (spoiled error rest h) = spoiled error rest (holds_refused E
     (record o { sent = None }) v u x off h)
 
@@ -97,49 +100,52 @@ or_false : (b : Bool) → (b || false) ≡ b
 or_false true = refl
 or_false false = refl
 
-powered_calm : (ap : Bool) (x : Target) → Calm x → is_unpowered ap (has_power x) ≡ false
+powered_calm : (ap : Bool) (x : Target) → ObservedCalm x → is_port_unpowered ap (port_has_power x) ≡ false
 powered_calm true x calm = rw (calm.debug_power, calm.power_up) refl
 powered_calm false x calm = refl
 
-waited : (E : List Transfer → Type 0) (o : Observer) (busy : Bool) (q : Request) (x : Target) → Knows E o x
-    → Knows E o (target_after busy Waits (register x.select q) q.ap x)
+waited : (E : List Transfer → Type 0) (o : Observer) (busy : Bool) (q : Request) (x : Target) → ObserverKnows E o x
+    → ObserverKnows E o (port_target_after busy Waits (port_register x.select q) q.ap x)
 waited E o busy q x k =
-    subst (λ s. Knows E o (record (target_after busy Waits (register x.select q) q.ap x) { sticky_error = s }))
-    (or_false x.sticky_error)
-    (knows_refused E o (target_after busy Waits (register x.select q) q.ap x).read_ok false x (λ calm. refl) k)
+    subst (λ s. ObserverKnows E o (record (port_target_after busy Waits (port_register x.select q) q.ap x)
+    { sticky_error = s })) (or_false x.sticky_error)
+    (knows_refused E o (port_target_after busy Waits (port_register x.select q) q.ap x).read_ok false x (λ calm. refl)
+    k)
 
-faulted : (E : List Transfer → Type 0) (o : Observer) (busy : Bool) (q : Request) (x : Target) → Knows E o x
-    → Knows E o (target_after busy Faults (register x.select q) q.ap x)
+faulted : (E : List Transfer → Type 0) (o : Observer) (busy : Bool) (q : Request) (x : Target) → ObserverKnows E o x
+    → ObserverKnows E o (port_target_after busy Faults (port_register x.select q) q.ap x)
 faulted E o busy q x k =
-    knows_refused E o (target_after busy Faults (register x.select q) q.ap x).read_ok
-    (is_unpowered q.ap (has_power x)) x (powered_calm q.ap x) k
+    knows_refused E o (port_target_after busy Faults (port_register x.select q) q.ap x).read_ok
+    (is_port_unpowered q.ap (port_has_power x)) x (powered_calm q.ap x) k
 
-passed : (E : List Transfer → Type 0) (o : Observer) (s t : Port) → Passes s t → Knows E o s.target → Knows E o t.target
+passed : (E : List Transfer → Type 0) (o : Observer) (s t : Port) → PortPasses s t → ObserverKnows E o s.target
+    → ObserverKnows E o t.target
 passed E o s t (a, b, first, now, last) k =
-    stays E o b t last (subst (Knows E o) (sym (ap (λ p. p.target) now.after)) (stays E o s a first k))
+    observer_knows_stays E o b t last (subst (ObserverKnows E o) (sym (ap (λ p. p.target) now.after))
+    (observer_knows_stays E o s a first k))
 
 wait_now : (E : List Transfer → Type 0) (o : Observer) (q : Request) (mark : Mark) (c : Choice) (s t : Port)
-    → AsksNow mark c s q 2 t → Knows E o s.target → Knows E o t.target
+    → PortAsksNow mark c s q 2 t → ObserverKnows E o s.target → ObserverKnows E o t.target
 wait_now E o q mark c s t h k =
-    let is : reply_in mark s.target q ≡ Waits = seen_waits mark (reply_in mark s.target q) h.sees in
-    let after = told mark c Waits (register s.target.select q) s q 2 t is refl h in
-    subst (Knows E o) (sym (ap (λ p. p.target) after.after)) (waited E o true q s.target k)
+    let is : port_reply mark s.target q ≡ Waits = observed_wait_reply mark (port_reply mark s.target q) h.sees in
+    let after = port_replied mark c Waits (port_register s.target.select q) s q 2 t is refl h in
+    subst (ObserverKnows E o) (sym (ap (λ p. p.target) after.after)) (waited E o true q s.target k)
 
 fault_now : (E : List Transfer → Type 0) (o : Observer) (q : Request) (mark : Mark) (c : Choice) (s t : Port)
-    → AsksNow mark c s q 4 t → Knows E o s.target → Knows E o t.target
+    → PortAsksNow mark c s q 4 t → ObserverKnows E o s.target → ObserverKnows E o t.target
 fault_now E o q mark c s t h k =
-    let is : reply_in mark s.target q ≡ Faults = seen_faults mark (reply_in mark s.target q) h.sees in
-    let after = told mark c Faults (register s.target.select q) s q 4 t is refl h in
-    subst (Knows E o) (sym (ap (λ p. p.target) after.after)) (faulted E o true q s.target k)
+    let is : port_reply mark s.target q ≡ Faults = observed_fault_reply mark (port_reply mark s.target q) h.sees in
+    let after = port_replied mark c Faults (port_register s.target.select q) s q 4 t is refl h in
+    subst (ObserverKnows E o) (sym (ap (λ p. p.target) after.after)) (faulted E o true q s.target k)
 
 -- what is known is true after a request at which WAIT is seen, and its turnaround
-pub wait_step : (E : List Transfer → Type 0) (o : Observer) (q : Request) (s a t : Port) → Asks s q 2 a → Passes a t
-    → Knows E o s.target → Knows E o t.target
-wait_step E o q s d t (a, b, mark, c, first, now, last) passes k = passed E o d t passes
-    (stays E o b d last (wait_now E o q mark c a b now (stays E o s a first k)))
+pub observer_knows_wait : (E : List Transfer → Type 0) (o : Observer) (q : Request) (s a t : Port) → PortAsks s q 2 a
+    → PortPasses a t → ObserverKnows E o s.target → ObserverKnows E o t.target
+observer_knows_wait E o q s d t (a, b, mark, c, first, now, last) passes k = passed E o d t passes
+    (observer_knows_stays E o b d last (wait_now E o q mark c a b now (observer_knows_stays E o s a first k)))
 
 -- what is known is true after a request at which FAULT is seen, and its turnaround
-pub fault_step : (E : List Transfer → Type 0) (o : Observer) (q : Request) (s a t : Port) → Asks s q 4 a → Passes a t
-    → Knows E o s.target → Knows E o t.target
-fault_step E o q s d t (a, b, mark, c, first, now, last) passes k = passed E o d t passes
-    (stays E o b d last (fault_now E o q mark c a b now (stays E o s a first k)))
+pub observer_knows_fault : (E : List Transfer → Type 0) (o : Observer) (q : Request) (s a t : Port) → PortAsks s q 4 a
+    → PortPasses a t → ObserverKnows E o s.target → ObserverKnows E o t.target
+observer_knows_fault E o q s d t (a, b, mark, c, first, now, last) passes k = passed E o d t passes
+    (observer_knows_stays E o b d last (fault_now E o q mark c a b now (observer_knows_stays E o s a first k)))

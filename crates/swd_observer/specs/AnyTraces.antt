@@ -2,14 +2,16 @@
 use Rattle.std.specs.Prelude.{◌≡◌, true, false, List, None}
 use Rattle.swd_trace.specs.declared.item.Item.{Item}
 use Rattle.swd_port.specs.Port.{Port}
-use Rattle.swd_port.specs.Leading.{is_awaiting}
-use Rattle.swd_observer.specs.Runs.{Event, Runs, Accounted}
-use Rattle.swd_observer.specs.Traces.{from_unknown, told_in, is_whole, moves_in, moves_of}
+use Rattle.swd_port.specs.Leading.{port_line_awaits}
+use Rattle.swd_observer.specs.Runs.{ObservedEvent, ObservedRuns, Accounted}
+use Rattle.swd_observer.specs.Traces.{trace_observer_unknown, observed_in_trace, is_observed_gapless, observed_moves_in}
+use Rattle.swd_observer.specs.Traces.{observed_moves_of}
 
 -- THE THEOREM of a trace without junk bits and cut end. Let its transactions be those of a run of the port model from a
 -- state in which no transfer is pending and no write data is awaited. Then the accesses that an observer reports which
 -- knows nothing at first are those that the memory logged in that run.
-abbrev pub AnyTraceIsAccounted : Type 0
-AnyTraceIsAccounted = (items : List Item) (events : List Event) (s t : Port) → s.target.pending ≡ None
-    → is_awaiting s.link.line ≡ false → Runs events s t → is_whole items ≡ true → moves_in items 0 ≡ moves_of events
-    → Accounted s.target.memory.log (told_in items from_unknown) t
+abbrev pub ObservedAnyTraceAccounted : Type 0
+ObservedAnyTraceAccounted = (items : List Item) (events : List ObservedEvent) (s t : Port) → s.target.pending ≡ None
+    → port_line_awaits s.link.line ≡ false → ObservedRuns events s t → is_observed_gapless items ≡ true
+    → observed_moves_in items 0 ≡ observed_moves_of events
+    → Accounted s.target.memory.log (observed_in_trace items trace_observer_unknown) t

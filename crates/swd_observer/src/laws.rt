@@ -1,46 +1,47 @@
 //! Laws that relate an observer to the port model. The functions do nothing: their contracts are the laws.
-ghost use Rattle.swd_observer.specs.Laws.{KnownStays, KnownAtWait, KnownAtFault, KnownAtOkay, KnownAtAbort};
-ghost use Rattle.swd_observer.specs.Laws.{KnownAtDpidr, KnownAtLost, KnownAtStatus, KnownAlways};
-ghost use Rattle.swd_observer.specs.Runs.{RunsAreAccounted, MadeIsAccounted, AnyIsAccounted};
-ghost use Rattle.swd_observer.specs.Sure.{ClearIsSure};
-ghost use Rattle.swd_observer.specs.Traces.{TraceIsAccounted};
-ghost use Rattle.swd_observer.specs.AnyTraces.{AnyTraceIsAccounted};
+ghost use Rattle.swd_observer.specs.Laws.{ObserverAtCompletion, ObserverAtWait, ObserverAtFault, ObserverAtOkay};
+ghost use Rattle.swd_observer.specs.Laws.{ObserverAtAbort};
+ghost use Rattle.swd_observer.specs.Laws.{ObserverAtDpidr, ObserverAtLost, ObserverAtStatus, ObserverAlways};
+ghost use Rattle.swd_observer.specs.Runs.{ObservedRunsAccounted, ObservedMadeAccounted, ObservedAnyAccounted};
+ghost use Rattle.swd_observer.specs.Sure.{ObservedClearIsSure};
+ghost use Rattle.swd_observer.specs.Traces.{ObservedTraceAccounted};
+ghost use Rattle.swd_observer.specs.AnyTraces.{ObservedAnyTraceAccounted};
 
 /// States that what is known remains true whenever a pending transfer takes effect.
 pub fn completion()
-    ensures { KnownStays }
+    ensures { ObserverAtCompletion }
 {}
 
 /// States that WAIT shows nothing, and that FAULT shows that the transfer in flight had no effect.
 pub fn refusals()
-    ensures wait { KnownAtWait }
-    ensures fault { KnownAtFault }
+    ensures wait { ObserverAtWait }
+    ensures fault { ObserverAtFault }
 {}
 
 /// States what OK to a request that can be refused shows: the transfer in flight took effect, exactly once.
 /// No other transfer took effect, except that the request itself may be one where it is reported as `May`.
 pub fn confirmations()
-    ensures { KnownAtOkay }
+    ensures { ObserverAtOkay }
 {}
 
 /// States what the requests show that are never refused. A read of DPIDR shows nothing. After a write of
 /// ABORT the transfer in flight is reported as `May`, or as `Not` if FAULT was answered before. A read of
 /// CTRL/STAT shows whether the transfer met an error, if its parity is right and DPBANKSEL is known to be 0.
 pub fn exempt_requests()
-    ensures dpidr { KnownAtDpidr }
-    ensures abort { KnownAtAbort }
-    ensures status { KnownAtStatus }
+    ensures dpidr { ObserverAtDpidr }
+    ensures abort { ObserverAtAbort }
+    ensures status { ObserverAtStatus }
 {}
 
 /// States what is known after a lost acknowledgement. The transfer in flight is reported as `May`, or as
 /// `Not` if FAULT was answered before. The request itself is reported as `May` if it may be a DRW read.
 pub fn lost_requests()
-    ensures { KnownAtLost }
+    ensures { ObserverAtLost }
 {}
 
 /// States the same of every transaction, whatever its request and its result.
 pub fn transactions()
-    ensures { KnownAlways }
+    ensures { ObserverAlways }
 {}
 
 /// States the theorem of whole runs, from any state of which the observer knows nothing wrong: the reported
@@ -54,10 +55,10 @@ pub fn transactions()
 /// SELECT is known, ABORT is written only where no transfer is in flight, and the data registers are those of
 /// AP 0.
 pub fn observed_runs()
-    ensures runs { RunsAreAccounted }
-    ensures made { MadeIsAccounted }
-    ensures any { AnyIsAccounted }
-    ensures sure { ClearIsSure }
+    ensures runs { ObservedRunsAccounted }
+    ensures made { ObservedMadeAccounted }
+    ensures any { ObservedAnyAccounted }
+    ensures sure { ObservedClearIsSure }
 {}
 
 /// States the theorem of a trace without junk bits or a cut end. If its transactions are those of a run, the
@@ -65,6 +66,6 @@ pub fn observed_runs()
 /// `observed_runs`. The run starts in the target's reset state, or for an observer that knows nothing, in any
 /// state without a pending transfer in which no write data is awaited.
 pub fn observed_traces()
-    ensures made { TraceIsAccounted }
-    ensures any { AnyTraceIsAccounted }
+    ensures made { ObservedTraceAccounted }
+    ensures any { ObservedAnyTraceAccounted }
 {}

@@ -25,6 +25,6 @@ mod observer;
 mod told;
 mod trace;
 
-pub use observer::{Begun, Observer, Older, Sent, Standing, Tells, Written};
-pub use told::{How, Told};
-pub use trace::{Shown, TraceObserver};
+pub use observer::{Observations, Observer, Older, SentWrite, Standing, StartedTransfer, Written};
+pub use told::{How, ObservedAccess};
+pub use trace::{ShownItem, TraceObserver};

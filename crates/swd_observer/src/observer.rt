@@ -1,16 +1,24 @@
 //! What the transactions on the wire show of the target.
 ghost use Rattle.std.specs.Prelude.{◌≡◌, ◌&&◌, Some, None, is_some, if◌then◌else◌};
 ghost use Rattle.swd_observer.specs.declared.told.How.TheVariants.{Took};
-ghost use Rattle.swd_port.specs.Registers.{bit_of};
-ghost use Rattle.swd_observer.specs.Observing.{unknown, as_made, arrived, advance, confirmed, doubted, undone};
-ghost use Rattle.swd_observer.specs.Observing.{told_of, told_older, doubt_told, last_tells, flushing, flagged};
-ghost use Rattle.swd_observer.specs.Observing.{told_flagged, is_status_known, steps_of, whole_word, word_for, slot_of};
-ghost use Rattle.swd_observer.specs.Observing.{kind_of, kind_elsewhere, accepted, told_itself, is_posted_read};
-ghost use Rattle.swd_observer.specs.Observing.{is_resend, is_plain, standing_after, unless, confirming, may_have};
-ghost use Rattle.swd_observer.specs.Observing.{tells_confirming, watch, tells, watch_end, tells_end, is_read_of, done};
-ghost use Rattle.swd_observer.specs.Observing.{class_of, word_if, watch_class, tells_class, unanswered, told_unanswered};
+ghost use Rattle.swd_port.specs.Registers.{register_bit};
+ghost use Rattle.swd_observer.specs.Observing.{observer_unknown, observer_as_made, observer_arrival};
+ghost use Rattle.swd_observer.specs.Observing.{observed_tar_advance, observer_confirmed, observer_doubted};
+ghost use Rattle.swd_observer.specs.Observing.{observer_transfer_undone, observed_flight_access, observed_older};
+ghost use Rattle.swd_observer.specs.Observing.{observed_doubt, observed_last_accesses, observed_older_flush};
+ghost use Rattle.swd_observer.specs.Observing.{observer_flagged, observed_flagged, is_status_observed};
+ghost use Rattle.swd_observer.specs.Observing.{observed_csw_increments, observed_whole, observed_older_word};
+ghost use Rattle.swd_observer.specs.Observing.{observed_older_slot, observed_kind, observed_kind_elsewhere};
+ghost use Rattle.swd_observer.specs.Observing.{observer_accepted, observed_itself, is_observed_posted_read};
+ghost use Rattle.swd_observer.specs.Observing.{is_observed_resend, is_observed_plain, observed_standing_after};
+ghost use Rattle.swd_observer.specs.Observing.{unless_observed_older, observer_after_confirm, observed_may_access};
+ghost use Rattle.swd_observer.specs.Observing.{observed_at_confirm, observer_after_item, observed_at_item};
+ghost use Rattle.swd_observer.specs.Observing.{observer_after_tx_end, observed_at_tx_end, is_observed_read_kind};
+ghost use Rattle.swd_observer.specs.Observing.{observer_transfer_done, observed_class, word_observed};
+ghost use Rattle.swd_observer.specs.Observing.{observer_after_class, observed_at_class, observer_unanswered};
+ghost use Rattle.swd_observer.specs.Observing.{observed_unanswered_read};
 
-use crate::told::{How, Told};
+use crate::told::{How, ObservedAccess};
 use swd_bits::{Reg4, Request, Tx, TxEnd};
 use swd_port::{Csw, Select};
 use swd_trace::Item;
@@ -27,7 +35,7 @@ pub enum Written {
 /// A write that was answered OK. Its data is known to be intact only once the next request that can be
 /// refused is answered OK (IHI 0031, B4, "Data transfer").
 #[derive(Clone, Copy, Debug, PartialEq, Eq)]
-pub struct Sent {
+pub struct SentWrite {
     pub written: Written,
     /// The word as seen on the wire, or `None` if its parity was wrong.
     pub word: Option<u32>,
@@ -37,7 +45,7 @@ pub struct Sent {
 
 /// A transfer that a DRW access started, at TAR. It may still meet a bus error.
 #[derive(Clone, Copy, Debug, PartialEq, Eq)]
-pub struct Begun {
+pub struct StartedTransfer {
     pub read: bool,
     /// The word of a write, if it is known.
     pub word: Option<u32>,
@@ -88,8 +96,8 @@ pub struct Observer {
     pub increments: Option<bool>,
     /// TAR, a byte address.
     pub tar: Option<u32>,
-    pub sent: Option<Sent>,
-    pub begun: Option<Begun>,
+    pub sent: Option<SentWrite>,
+    pub begun: Option<StartedTransfer>,
     /// Whether FAULT was answered, and the sticky error that it shows is still set, so that the transfer in
     /// flight had no effect.
     pub refused: bool,
@@ -99,15 +107,15 @@ pub struct Observer {
 /// The accesses that an item reports, in this order: an earlier read that took effect, the access in flight,
 /// and the item's own request.
 #[derive(Clone, Copy, Debug, PartialEq, Eq)]
-pub struct Tells {
-    pub older: Option<Told>,
-    pub before: Option<Told>,
-    pub itself: Option<Told>,
+pub struct Observations {
+    pub older: Option<ObservedAccess>,
+    pub before: Option<ObservedAccess>,
+    pub itself: Option<ObservedAccess>,
 }
 
 /// What a request does that is answered OK and can be refused.
 #[derive(Clone, Copy, Debug, PartialEq, Eq)]
-pub(crate) enum Kind {
+pub(crate) enum RequestEffect {
     /// Nothing that an observer tracks.
     Other,
     /// It may access memory by a register that the port model doesn't have. The field says whether it reads.
@@ -133,7 +141,7 @@ pub(crate) enum Class {
     Confirms,
 }
 
-const NOTHING: Tells = Tells {
+const NOTHING: Observations = Observations {
     older: None,
     before: None,
     itself: None,
@@ -142,7 +150,7 @@ const NOTHING: Tells = Tells {
 impl Observer {
     /// Returns an observer that knows nothing, for a capture that begins anywhere.
     pub fn new() -> Observer
-        ensures { result ≡ unknown }
+        ensures { result ≡ observer_unknown }
     {
         Observer {
             select: None,
@@ -157,7 +165,7 @@ impl Observer {
 
     /// Returns an observer of a target in its reset state, with SELECT, CSW and TAR 0.
     pub fn of_made() -> Observer
-        ensures { result ≡ as_made }
+        ensures { result ≡ observer_as_made }
     {
         Observer {
             select: Some(Select::of(0)),
@@ -172,7 +180,7 @@ impl Observer {
 
     // Updates the state after the last write arrived intact.
     fn arrived(self) -> Observer
-        ensures { result ≡ arrived self }
+        ensures { result ≡ observer_arrival self }
     {
         let mut now = self;
         now.sent = None;
@@ -194,7 +202,7 @@ impl Observer {
             }
             Written::Tar => now.tar = sent.word,
             Written::Drw => {
-                now.begun = Some(Begun {
+                now.begun = Some(StartedTransfer {
                     read: false,
                     word: whole(self.increments, sent.word),
                     place: sent.place,
@@ -206,7 +214,7 @@ impl Observer {
 
     // Updates the state after the transfer in flight took effect.
     fn done(self) -> Observer
-        ensures { result ≡ done self }
+        ensures { result ≡ observer_transfer_done self }
     {
         let mut now = self;
         now.begun = None;
@@ -220,7 +228,7 @@ impl Observer {
 
     // Updates the state after the transfer in flight may have met a bus error.
     fn undone(self) -> Observer
-        ensures { result ≡ undone self }
+        ensures { result ≡ observer_transfer_undone self }
     {
         let mut lost = self;
         lost.begun = None;
@@ -234,31 +242,31 @@ impl Observer {
 
     // Updates the state after OK to a request that can be refused.
     fn confirmed(self) -> Observer
-        ensures { result ≡ confirmed self }
+        ensures { result ≡ observer_confirmed self }
     {
         self.arrived().done()
     }
 
     // Updates the state after flags may have changed unseen.
     fn doubted(self) -> Observer
-        ensures { result ≡ doubted self }
+        ensures { result ≡ observer_doubted self }
     {
         let mut unsure = self;
         if let Some(sent) = self.sent {
-            unsure.sent = Some(Sent { word: None, ..sent });
+            unsure.sent = Some(SentWrite { word: None, ..sent });
         }
         unsure.arrived().undone()
     }
 
     // Reports the access in flight.
-    fn told(self, how: How, got: Option<u32>) -> Option<Told>
-        ensures { result ≡ told_of how got self }
+    fn told(self, how: How, got: Option<u32>) -> Option<ObservedAccess>
+        ensures { result ≡ observed_flight_access how got self }
     {
         let arrived = self.arrived();
         let Some(begun) = arrived.begun else {
             return None;
         };
-        Some(Told {
+        Some(ObservedAccess {
             place: begun.place,
             read: begun.read,
             addr: arrived.tar,
@@ -268,8 +276,8 @@ impl Observer {
     }
 
     // Reports the access in flight if no later request shows what happened to it.
-    fn doubt(self) -> Option<Told>
-        ensures { result ≡ doubt_told self }
+    fn doubt(self) -> Option<ObservedAccess>
+        ensures { result ≡ observed_doubt self }
     {
         self.told(if self.refused { How::Not } else { How::May }, None)
     }
@@ -277,7 +285,7 @@ impl Observer {
     // Returns whether the debug port's address 4 is known to be CTRL/STAT: DPBANKSEL is 0, and no write to
     // SELECT is unconfirmed.
     fn is_status_known(self) -> bool
-        ensures { result ≡ is_status_known self }
+        ensures { result ≡ is_status_observed self }
     {
         let to_select = match self.sent {
             Some(sent) => matches!(&sent.written, Written::Select),
@@ -291,7 +299,7 @@ impl Observer {
 
     // Updates the state after a read of CTRL/STAT with these flags.
     fn flagged(self, sticky: bool, damaged: bool) -> Observer
-        ensures { result ≡ flagged sticky damaged self }
+        ensures { result ≡ observer_flagged sticky damaged self }
     {
         let arrived = self.arrived();
         if !sticky && !damaged {
@@ -310,42 +318,42 @@ impl Observer {
     }
 
     // Updates the state after a request that was answered OK.
-    fn accepted(self, kind: Kind, word: Option<u32>, place: u64) -> Observer
-        ensures { result ≡ accepted kind word place self }
+    fn accepted(self, kind: RequestEffect, word: Option<u32>, place: u64) -> Observer
+        ensures { result ≡ observer_accepted kind word place self }
     {
         let mut now = self;
         match kind {
-            Kind::Other | Kind::Elsewhere(_) => {}
-            Kind::Reads => {
-                now.begun = Some(Begun {
+            RequestEffect::Other | RequestEffect::Elsewhere(_) => {}
+            RequestEffect::Reads => {
+                now.begun = Some(StartedTransfer {
                     read: true,
                     word: None,
                     place,
                 })
             }
-            Kind::Writes(written) => {
-                now.sent = Some(Sent {
+            RequestEffect::Writes(written) => {
+                now.sent = Some(SentWrite {
                     written,
                     word,
                     place,
                 })
             }
-            Kind::MayRead => now.tar = None,
-            Kind::MayWrite(Written::Select) => {}
-            Kind::MayWrite(Written::Csw) => now.increments = None,
-            Kind::MayWrite(_) => now.tar = None,
+            RequestEffect::MayRead => now.tar = None,
+            RequestEffect::MayWrite(Written::Select) => {}
+            RequestEffect::MayWrite(Written::Csw) => now.increments = None,
+            RequestEffect::MayWrite(_) => now.tar = None,
         }
         now
     }
 
     // Reports the older read, with this word.
-    fn told_older(self, word: Option<u32>) -> Option<Told>
-        ensures { result ≡ told_older word self.older }
+    fn told_older(self, word: Option<u32>) -> Option<ObservedAccess>
+        ensures { result ≡ observed_older word self.older }
     {
         let Some(older) = self.older else {
             return None;
         };
-        Some(Told {
+        Some(ObservedAccess {
             place: older.place,
             read: true,
             addr: older.addr,
@@ -356,7 +364,7 @@ impl Observer {
 
     // Returns the word of the older read, if this request returned it.
     fn word_for(self, request: Request, word: Option<u32>) -> Option<u32>
-        ensures { result ≡ word_for self.older request word }
+        ensures { result ≡ observed_older_word self.older request word }
     {
         let Some(older) = self.older else {
             return None;
@@ -369,7 +377,7 @@ impl Observer {
 
     // Returns the read that was in flight, if its word wasn't seen yet.
     fn slot(self, standing: Option<Standing>) -> Option<Older>
-        ensures { result ≡ slot_of (arrived self).begun (arrived self).tar standing }
+        ensures { result ≡ observed_older_slot (observer_arrival self).begun (observer_arrival self).tar standing }
     {
         let arrived = self.arrived();
         let Some(begun) = arrived.begun else {
@@ -391,16 +399,21 @@ impl Observer {
 
     // Does the same after a request that returned this word, if any.
     fn slot_at(self, request: Request, word: Option<u32>, plain: bool) -> Option<Older>
-        ensures { result ≡ slot_of (arrived self).begun (arrived self).tar
-            (standing_after request (is_some word) plain) }
+        ensures { result ≡ observed_older_slot (observer_arrival self).begun (observer_arrival self).tar
+            (observed_standing_after request (is_some word) plain) }
     {
         self.slot(standing_after(request, word.is_some(), plain))
     }
 
     // Reports a transfer that took effect, unless it is held as the older read.
-    fn told_done(self, request: Request, word: Option<u32>, slot: Option<Older>) -> Option<Told>
-        ensures { result ≡ unless slot
-            (told_of Took (whole_word self.increments (if is_posted_read request then word else None)) self) }
+    fn told_done(
+        self,
+        request: Request,
+        word: Option<u32>,
+        slot: Option<Older>,
+    ) -> Option<ObservedAccess>
+        ensures { result ≡ unless_observed_older slot
+            (observed_flight_access Took (observed_whole self.increments (if is_observed_posted_read request then word else None)) self) }
     {
         match slot {
             Some(_) => None,
@@ -409,9 +422,9 @@ impl Observer {
     }
 
     // Takes a word that was moved, by a request that can be refused.
-    fn confirm(&mut self, request: Request, word: Option<u32>, place: u64) -> Tells
-        ensures observer { self.new ≡ confirming request word place self.old }
-        ensures tells { result ≡ tells_confirming request word place self.old }
+    fn confirm(&mut self, request: Request, word: Option<u32>, place: u64) -> Observations
+        ensures observer { self.new ≡ observer_after_confirm request word place self.old }
+        ensures tells { result ≡ observed_at_confirm request word place self.old }
     {
         let older = self.told_older(self.word_for(request, whole(self.increments, word)));
         let now = self.confirmed();
@@ -420,7 +433,7 @@ impl Observer {
         let before = self.told_done(request, word, slot);
         let itself = told_itself(kind, whole(now.increments, word), now.tar, place);
         *self = now.accepted(kind, word, place).holding(slot);
-        Tells {
+        Observations {
             older,
             before,
             itself,
@@ -435,10 +448,10 @@ impl Observer {
     }
 
     // Reports the older read, and this access.
-    fn flushing(self, before: Option<Told>) -> Tells
-        ensures { result ≡ flushing before self }
+    fn flushing(self, before: Option<ObservedAccess>) -> Observations
+        ensures { result ≡ observed_older_flush before self }
     {
-        Tells {
+        Observations {
             older: self.told_older(None),
             before,
             itself: None,
@@ -446,11 +459,11 @@ impl Observer {
     }
 
     // Takes a read of the debug port's address 4.
-    fn status(&mut self, word: u32, parity_ok: bool) -> Tells
-        ensures observer { self.new ≡ record (if parity_ok && is_status_known self.old then
-            flagged (bit_of 5 word) (bit_of 7 word) self.old else self.old) { older = None } }
-        ensures tells { result ≡ flushing (if parity_ok && is_status_known self.old then
-            told_flagged (bit_of 5 word) (bit_of 7 word) self.old else None) self.old }
+    fn status(&mut self, word: u32, parity_ok: bool) -> Observations
+        ensures observer { self.new ≡ record (if parity_ok && is_status_observed self.old then
+            observer_flagged (register_bit 5 word) (register_bit 7 word) self.old else self.old) { older = None } }
+        ensures tells { result ≡ observed_older_flush (if parity_ok && is_status_observed self.old then
+            observed_flagged (register_bit 5 word) (register_bit 7 word) self.old else None) self.old }
     {
         let mut now = *self;
         let mut before = None;
@@ -469,9 +482,9 @@ impl Observer {
     }
 
     // Takes a write of ABORT.
-    fn abort(&mut self) -> Tells
-        ensures observer { self.new ≡ doubted self.old }
-        ensures tells { result ≡ flushing (doubt_told self.old) self.old }
+    fn abort(&mut self) -> Observations
+        ensures observer { self.new ≡ observer_doubted self.old }
+        ensures tells { result ≡ observed_older_flush (observed_doubt self.old) self.old }
     {
         let tells = self.flushing(self.doubt());
         *self = self.doubted();
@@ -479,9 +492,10 @@ impl Observer {
     }
 
     // Takes a request that was answered OK, with its word.
-    fn moved(&mut self, request: Request, word: u32, parity_ok: bool, place: u64) -> Tells
-        ensures observer { self.new ≡ watch_class (class_of request) request word parity_ok place self.old }
-        ensures tells { result ≡ tells_class (class_of request) request word parity_ok place self.old }
+    fn moved(&mut self, request: Request, word: u32, parity_ok: bool, place: u64) -> Observations
+        ensures observer { self.new ≡ observer_after_class (observed_class request) request word parity_ok place
+            self.old }
+        ensures tells { result ≡ observed_at_class (observed_class request) request word parity_ok place self.old }
     {
         match class_of(request) {
             Class::Passes => NOTHING,
@@ -492,10 +506,11 @@ impl Observer {
     }
 
     // Takes a request without acknowledgement.
-    fn unanswered(&mut self, request: Request, place: u64) -> Tells
-        ensures observer { self.new ≡ unanswered (kind_of (doubted self.old).select request) (doubted self.old) }
-        ensures tells { result ≡ record (flushing (doubt_told self.old) self.old) {
-          itself = told_unanswered (kind_of (doubted self.old).select request) (doubted self.old).tar place;
+    fn unanswered(&mut self, request: Request, place: u64) -> Observations
+        ensures observer { self.new ≡ observer_unanswered (observed_kind (observer_doubted self.old).select request)
+            (observer_doubted self.old) }
+        ensures tells { result ≡ record (observed_older_flush (observed_doubt self.old) self.old) {
+          itself = observed_unanswered_read (observed_kind (observer_doubted self.old).select request) (observer_doubted self.old).tar place;
         } }
     {
         let mut tells = self.abort();
@@ -507,9 +522,9 @@ impl Observer {
     }
 
     // Takes a transaction.
-    fn watch_tx(&mut self, tx: Tx, place: u64) -> Tells
-        ensures observer { self.new ≡ watch_end tx.result tx.request place self.old }
-        ensures tells { result ≡ tells_end tx.result tx.request place self.old }
+    fn watch_tx(&mut self, tx: Tx, place: u64) -> Observations
+        ensures observer { self.new ≡ observer_after_tx_end tx.result tx.request place self.old }
+        ensures tells { result ≡ observed_at_tx_end tx.result tx.request place self.old }
     {
         match tx.result {
             TxEnd::Moved { word, parity_ok } => self.moved(tx.request, word, parity_ok, place),
@@ -524,9 +539,9 @@ impl Observer {
 
     /// Takes the next item of a trace, and returns the accesses that it reports. `place` is the number of
     /// bits before the item; `TraceObserver` counts them.
-    pub fn watch(&mut self, item: &Item, place: u64) -> Tells
-        ensures observer { self.new ≡ watch item.now place self.old }
-        ensures tells { result ≡ tells item.now place self.old }
+    pub fn watch(&mut self, item: &Item, place: u64) -> Observations
+        ensures observer { self.new ≡ observer_after_item item.now place self.old }
+        ensures tells { result ≡ observed_at_item item.now place self.old }
     {
         match *item {
             Item::Tx(tx) => self.watch_tx(tx, place),
@@ -540,8 +555,8 @@ impl Observer {
     }
 
     /// Returns what a trace that ends here shows of the accesses that weren't reported yet.
-    pub fn last(&self) -> Tells
-        ensures { result ≡ last_tells self.now }
+    pub fn last(&self) -> Observations
+        ensures { result ≡ observed_last_accesses self.now }
     {
         self.flushing(self.doubt())
     }
@@ -549,7 +564,7 @@ impl Observer {
 
 // Returns what an OK to a request shows.
 fn class_of(request: Request) -> Class
-    ensures { result ≡ class_of request }
+    ensures { result ≡ observed_class request }
 {
     match (request.ap, request.read, request.addr) {
         (false, true, Reg4::R0) => Class::Passes,
@@ -561,14 +576,14 @@ fn class_of(request: Request) -> Class
 
 // Returns the word if its parity is right.
 fn word_if(parity_ok: bool, word: u32) -> Option<u32>
-    ensures { result ≡ word_if parity_ok word }
+    ensures { result ≡ word_observed parity_ok word }
 {
     if parity_ok { Some(word) } else { None }
 }
 
 // Returns whether TAR increments, if CSW says that a transfer is a word.
 fn steps(csw: Csw) -> Option<bool>
-    ensures { result ≡ steps_of csw }
+    ensures { result ≡ observed_csw_increments csw }
 {
     if csw.size == 2 && csw.addr_inc < 2 {
         Some(csw.addr_inc == 1)
@@ -579,7 +594,7 @@ fn steps(csw: Csw) -> Option<bool>
 
 // Returns the word of a transfer if its size is known to be a word.
 fn whole(increments: Option<bool>, word: Option<u32>) -> Option<u32>
-    ensures { result ≡ whole_word increments word }
+    ensures { result ≡ observed_whole increments word }
 {
     match increments {
         Some(_) => word,
@@ -589,7 +604,7 @@ fn whole(increments: Option<bool>, word: Option<u32>) -> Option<u32>
 
 // Returns TAR after a transfer that took effect.
 fn advance(increments: Option<bool>, tar: Option<u32>) -> Option<u32>
-    ensures { result ≡ advance increments tar }
+    ensures { result ≡ observed_tar_advance increments tar }
 {
     match (increments, tar) {
         (Some(true), Some(at)) if at % 4 == 0 && at % 1024 != 1020 => Some(at + 4),
@@ -599,73 +614,73 @@ fn advance(increments: Option<bool>, tar: Option<u32>) -> Option<u32>
 }
 
 // Returns what a request does, by what is known of SELECT.
-fn kind_of(select: Option<Select>, request: Request) -> Kind
-    ensures { result ≡ kind_of select request }
+fn kind_of(select: Option<Select>, request: Request) -> RequestEffect
+    ensures { result ≡ observed_kind select request }
 {
     if !request.ap {
         return match (request.read, request.addr) {
-            (false, Reg4::R8) => Kind::Writes(Written::Select),
-            _ => Kind::Other,
+            (false, Reg4::R8) => RequestEffect::Writes(Written::Select),
+            _ => RequestEffect::Other,
         };
     }
     let kind = match (request.read, request.addr) {
-        (true, Reg4::RC) => Kind::Reads,
-        (true, _) | (false, Reg4::R8) => Kind::Other,
-        (false, Reg4::R0) => Kind::Writes(Written::Csw),
-        (false, Reg4::R4) => Kind::Writes(Written::Tar),
-        (false, Reg4::RC) => Kind::Writes(Written::Drw),
+        (true, Reg4::RC) => RequestEffect::Reads,
+        (true, _) | (false, Reg4::R8) => RequestEffect::Other,
+        (false, Reg4::R0) => RequestEffect::Writes(Written::Csw),
+        (false, Reg4::R4) => RequestEffect::Writes(Written::Tar),
+        (false, Reg4::RC) => RequestEffect::Writes(Written::Drw),
     };
     match (select, kind) {
         (Some(select), _) if select.apsel == 0 && select.apbanksel == 0 => kind,
         (Some(select), _) => elsewhere(select, request),
-        (None, Kind::Reads) => Kind::MayRead,
-        (None, Kind::Writes(written)) => Kind::MayWrite(written),
+        (None, RequestEffect::Reads) => RequestEffect::MayRead,
+        (None, RequestEffect::Writes(written)) => RequestEffect::MayWrite(written),
         (None, _) => kind,
     }
 }
 
 // Returns what a request for a register of another access port or bank does.
-fn elsewhere(select: Select, request: Request) -> Kind
-    ensures { result ≡ kind_elsewhere select request.read request.addr }
+fn elsewhere(select: Select, request: Request) -> RequestEffect
+    ensures { result ≡ observed_kind_elsewhere select request.read request.addr }
 {
     let is_data_address = matches!(&request.addr, Reg4::RC);
     if select.apbanksel == 1 || (select.apbanksel == 0 && is_data_address) {
-        Kind::Elsewhere(request.read)
+        RequestEffect::Elsewhere(request.read)
     } else {
-        Kind::Other
+        RequestEffect::Other
     }
 }
 
-fn is_read(kind: Kind) -> bool
-    ensures { result ≡ is_read_of kind }
+fn is_read(kind: RequestEffect) -> bool
+    ensures { result ≡ is_observed_read_kind kind }
 {
-    matches!(&kind, Kind::Reads | Kind::MayRead)
+    matches!(&kind, RequestEffect::Reads | RequestEffect::MayRead)
 }
 
 // Returns the word if the request returns the read buffer.
 fn got_by(request: Request, word: Option<u32>) -> Option<u32>
-    ensures { result ≡ (if is_posted_read request then word else None) }
+    ensures { result ≡ (if is_observed_posted_read request then word else None) }
 {
     if is_posted(request) { word } else { None }
 }
 
 // Returns whether a request is RESEND, which returns the last returned value.
 fn is_resend(request: Request) -> bool
-    ensures { result ≡ is_resend request }
+    ensures { result ≡ is_observed_resend request }
 {
     !request.ap && request.read && matches!(&request.addr, Reg4::R8)
 }
 
 // Returns whether a request is known not to be an access itself, or is a DRW read.
-fn is_plain(kind: Kind) -> bool
-    ensures { result ≡ is_plain kind }
+fn is_plain(kind: RequestEffect) -> bool
+    ensures { result ≡ is_observed_plain kind }
 {
-    matches!(&kind, Kind::Other | Kind::Reads)
+    matches!(&kind, RequestEffect::Other | RequestEffect::Reads)
 }
 
 // Returns what holds the word of a read that this request confirmed.
 fn standing_after(request: Request, seen: bool, plain: bool) -> Option<Standing>
-    ensures { result ≡ standing_after request seen plain }
+    ensures { result ≡ observed_standing_after request seen plain }
 {
     if is_resend(request) {
         return Some(Standing::Buffer);
@@ -679,27 +694,32 @@ fn standing_after(request: Request, seen: bool, plain: bool) -> Option<Standing>
 
 // Returns whether a request returns the read buffer: an AP read or RDBUFF.
 fn is_posted(request: Request) -> bool
-    ensures { result ≡ is_posted_read request }
+    ensures { result ≡ is_observed_posted_read request }
 {
     request.read && (request.ap || matches!(&request.addr, Reg4::RC))
 }
 
 // Reports a request if it isn't known what it does.
-fn told_itself(kind: Kind, word: Option<u32>, tar: Option<u32>, place: u64) -> Option<Told>
-    ensures { result ≡ told_itself kind word tar place }
+fn told_itself(
+    kind: RequestEffect,
+    word: Option<u32>,
+    tar: Option<u32>,
+    place: u64,
+) -> Option<ObservedAccess>
+    ensures { result ≡ observed_itself kind word tar place }
 {
     match kind {
-        Kind::Elsewhere(read) => may_have(read, None, None, place),
-        Kind::MayRead => may_have(true, tar, None, place),
-        Kind::MayWrite(Written::Drw) => may_have(false, tar, word, place),
+        RequestEffect::Elsewhere(read) => may_have(read, None, None, place),
+        RequestEffect::MayRead => may_have(true, tar, None, place),
+        RequestEffect::MayWrite(Written::Drw) => may_have(false, tar, word, place),
         _ => None,
     }
 }
 
-fn may_have(read: bool, addr: Option<u32>, word: Option<u32>, place: u64) -> Option<Told>
-    ensures { result ≡ may_have read addr word place }
+fn may_have(read: bool, addr: Option<u32>, word: Option<u32>, place: u64) -> Option<ObservedAccess>
+    ensures { result ≡ observed_may_access read addr word place }
 {
-    Some(Told {
+    Some(ObservedAccess {
         place,
         read,
         addr,

@@ -13,7 +13,7 @@ pub enum How {
 
 /// An access of the memory behind the access port, by a request for DRW. Unknown values are `None`.
 #[derive(Clone, Copy, Debug, PartialEq, Eq)]
-pub struct Told {
+pub struct ObservedAccess {
     /// The number of bits of the trace before the first bit of its request.
     pub place: u64,
     /// Whether it is a read.

@@ -1,16 +1,17 @@
 //! An observer of a whole trace.
 ghost use Rattle.std.specs.Prelude.{◌≡◌, not, Some, None};
-ghost use Rattle.swd_observer.specs.Traces.{item_len, is_gap, from_unknown, from_made, after_item, shown_at};
-ghost use Rattle.swd_observer.specs.Observing.{last_tells};
+ghost use Rattle.swd_observer.specs.Traces.{observed_item_len, is_observed_gap, trace_observer_unknown};
+ghost use Rattle.swd_observer.specs.Traces.{trace_observer_made, trace_observer_step, observed_shown_at};
+ghost use Rattle.swd_observer.specs.Observing.{observed_last_accesses};
 
-use crate::observer::{Observer, Tells};
+use crate::observer::{Observations, Observer};
 use swd_bits::{MOVED_BITS, REFUSED_BITS, SWITCH_BITS, TxEnd, UNACKNOWLEDGED_BITS};
 use swd_trace::Item;
 
 /// What an item of a trace shows, in this order.
 #[derive(Clone, Copy, Debug, PartialEq, Eq)]
-pub struct Shown {
-    pub tells: Tells,
+pub struct ShownItem {
+    pub tells: Observations,
     /// The number of bits before a gap, at the gap's first item. A gap is a series of junk bits and cut ends.
     /// It may hide accesses, and after it nothing is known of the target.
     pub gap: Option<u64>,
@@ -37,7 +38,7 @@ pub struct TraceObserver {
 impl TraceObserver {
     /// Returns an observer for a trace of a target of which nothing is known.
     pub fn new() -> TraceObserver
-        ensures { result ≡ from_unknown }
+        ensures { result ≡ trace_observer_unknown }
     {
         TraceObserver {
             observer: Observer::new(),
@@ -48,7 +49,7 @@ impl TraceObserver {
 
     /// Returns an observer for a trace of a target in its reset state.
     pub fn of_made() -> TraceObserver
-        ensures { result ≡ from_made }
+        ensures { result ≡ trace_observer_made }
     {
         TraceObserver {
             observer: Observer::of_made(),
@@ -58,9 +59,9 @@ impl TraceObserver {
     }
 
     /// Takes the next item, and returns what it shows.
-    pub fn watch(&mut self, item: &Item) -> Shown
-        ensures observer { self.new ≡ after_item item.now self.old }
-        ensures shown { result ≡ shown_at item.now self.old }
+    pub fn watch(&mut self, item: &Item) -> ShownItem
+        ensures observer { self.new ≡ trace_observer_step item.now self.old }
+        ensures shown { result ≡ observed_shown_at item.now self.old }
     {
         let belongs = belongs(item);
         let gap = if belongs || self.in_gap {
@@ -71,12 +72,12 @@ impl TraceObserver {
         let tells = self.observer.watch(item, self.place);
         self.place = self.place.saturating_add(bits_in(item));
         self.in_gap = !belongs;
-        Shown { tells, gap }
+        ShownItem { tells, gap }
     }
 
     /// Returns what a trace that ends here shows of the accesses that weren't reported yet.
-    pub fn last(&self) -> Tells
-        ensures { result ≡ last_tells self.now.observer }
+    pub fn last(&self) -> Observations
+        ensures { result ≡ observed_last_accesses self.now.observer }
     {
         self.observer.last()
     }
@@ -84,14 +85,14 @@ impl TraceObserver {
 
 // Returns whether an item is neither a junk bit nor a cut end.
 fn belongs(item: &Item) -> bool
-    ensures { result ≡ not (is_gap item.now) }
+    ensures { result ≡ not (is_observed_gap item.now) }
 {
     !matches!(item, Item::Junk(_) | Item::Cut(_))
 }
 
 // Returns how many bits an item has.
 fn bits_in(item: &Item) -> u64
-    ensures { result ≡ item_len item.now }
+    ensures { result ≡ observed_item_len item.now }
 {
     match *item {
         Item::Reset(count) | Item::Idle(count) => count,

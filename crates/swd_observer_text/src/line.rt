@@ -2,11 +2,11 @@
 ghost use Rattle.std.specs.Prelude.{◌≡◌, ◌+◌, ◌≤◌, ◌++◌, ◌∷◌, []};
 ghost use Rattle.std.specs.Fmt.{decimal};
 ghost use Rattle.arrayvec.specs.ArrayString.{array_string_len};
-ghost use Rattle.swd_observer_text.specs.Accesses.{access_line, gap_line, word_text};
+ghost use Rattle.swd_observer_text.specs.Accesses.{observer_text_access, observer_text_gap, observer_text_word};
 
 use arrayvec::ArrayString;
 use swd_bits::push_word;
-use swd_observer::{How, Told};
+use swd_observer::{How, ObservedAccess};
 
 /// The most bytes of a line, with its line feed.
 pub(crate) const LONGEST: usize = 46;
@@ -16,8 +16,8 @@ pub(crate) type Line = ArrayString<LONGEST>;
 
 /// Returns the line of an access: `@PLACE r ADDR WORD`, or with `w` for a write. ` may` or ` not` follows if it may
 /// not have taken effect, or didn't.
-pub(crate) fn line_of(told: &Told) -> Line
-    ensures bytes { result.bytes ≡ access_line told.now ++ 10 ∷ [] }
+pub(crate) fn line_of(told: &ObservedAccess) -> Line
+    ensures bytes { result.bytes ≡ observer_text_access told.now ++ 10 ∷ [] }
 {
     let mut line = Line::new();
     push_place(&mut line, told.place);
@@ -35,7 +35,7 @@ pub(crate) fn line_of(told: &Told) -> Line
 
 /// Returns the line of a gap: `@PLACE gap`.
 pub(crate) fn line_of_gap(place: u64) -> Line
-    ensures bytes { result.bytes ≡ gap_line place ++ 10 ∷ [] }
+    ensures bytes { result.bytes ≡ observer_text_gap place ++ 10 ∷ [] }
 {
     let mut line = Line::new();
     push_place(&mut line, place);
@@ -56,7 +56,7 @@ fn push_place(line: &mut Line, place: u64)
 // Appends eight hexadecimal digits, or eight question marks for an unknown word.
 fn push_known(line: &mut Line, word: Option<u32>)
     requires { array_string_len line.old + 8 ≤ LONGEST }
-    ensures bytes { line.new.bytes ≡ line.old.bytes ++ word_text word }
+    ensures bytes { line.new.bytes ≡ line.old.bytes ++ observer_text_word word }
     ensures len { array_string_len line.new ≡ array_string_len line.old + 8 }
 {
     match word {

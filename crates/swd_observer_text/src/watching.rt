@@ -3,15 +3,16 @@ ghost use Rattle.std.specs.Prelude.{◌≡◌, ◌+◌, ◌*◌, ◌≤◌, ◌+
 ghost use Rattle.arrayvec.specs.ArrayString.{array_string_len};
 ghost use Rattle.swd_trace.specs.declared.item.Item.TheVariants.{Junk};
 ghost use Rattle.swd_trace.specs.Held.{idle_items};
-ghost use Rattle.swd_resync.specs.AsItems.{items_of_part};
+ghost use Rattle.swd_resync.specs.AsItems.{resync_part_items};
 ghost use Rattle.swd_resync.specs.declared.part.Part.TheVariants.{Item as OfStretch};
-ghost use Rattle.swd_observer.specs.Observing.{last_tells, unknown};
-ghost use Rattle.swd_observer.specs.Traces.{after_items};
-ghost use Rattle.swd_observer_text.specs.Accesses.{accesses, gap_text, shown_text, tells_text, told_text};
+ghost use Rattle.swd_observer.specs.Observing.{observed_last_accesses, observer_unknown};
+ghost use Rattle.swd_observer.specs.Traces.{trace_observer_after};
+ghost use Rattle.swd_observer_text.specs.Accesses.{observer_text_of_items, observer_text_of_gap, observer_text_shown};
+ghost use Rattle.swd_observer_text.specs.Accesses.{observer_text_reported, observer_text_of_access};
 
 use crate::line::{LONGEST, line_of, line_of_gap};
 use arrayvec::ArrayString;
-use swd_observer::{Observer, Shown, Tells, Told, TraceObserver};
+use swd_observer::{Observations, ObservedAccess, Observer, ShownItem, TraceObserver};
 use swd_resync::{Part, phase_len};
 use swd_trace::Item;
 
@@ -19,9 +20,9 @@ use swd_trace::Item;
 pub const LONGEST_SHOWN: usize = 4 * LONGEST;
 
 // Appends the line of an access, if there is one.
-fn push_told<const N: usize>(text: &mut ArrayString<N>, told: Option<Told>)
+fn push_told<const N: usize>(text: &mut ArrayString<N>, told: Option<ObservedAccess>)
     requires { array_string_len text.old + LONGEST ≤ N }
-    ensures bytes { text.new.bytes ≡ text.old.bytes ++ told_text told }
+    ensures bytes { text.new.bytes ≡ text.old.bytes ++ observer_text_of_access told }
     ensures len { array_string_len text.new ≤ array_string_len text.old + LONGEST }
 {
     if let Some(told) = told {
@@ -30,9 +31,9 @@ fn push_told<const N: usize>(text: &mut ArrayString<N>, told: Option<Told>)
 }
 
 // Appends the lines of the accesses that are reported together.
-fn push_tells<const N: usize>(text: &mut ArrayString<N>, tells: Tells)
+fn push_tells<const N: usize>(text: &mut ArrayString<N>, tells: Observations)
     requires { array_string_len text.old + 3 * LONGEST ≤ N }
-    ensures bytes { text.new.bytes ≡ text.old.bytes ++ tells_text tells }
+    ensures bytes { text.new.bytes ≡ text.old.bytes ++ observer_text_reported tells }
     ensures len { array_string_len text.new ≤ array_string_len text.old + 3 * LONGEST }
 {
     push_told(text, tells.older);
@@ -43,7 +44,7 @@ fn push_tells<const N: usize>(text: &mut ArrayString<N>, tells: Tells)
 // Appends the line of a gap, if there is one.
 fn push_gap<const N: usize>(text: &mut ArrayString<N>, gap: Option<u64>)
     requires { array_string_len text.old + LONGEST ≤ N }
-    ensures bytes { text.new.bytes ≡ text.old.bytes ++ gap_text gap }
+    ensures bytes { text.new.bytes ≡ text.old.bytes ++ observer_text_of_gap gap }
     ensures len { array_string_len text.new ≤ array_string_len text.old + LONGEST }
 {
     if let Some(place) = gap {
@@ -52,9 +53,9 @@ fn push_gap<const N: usize>(text: &mut ArrayString<N>, gap: Option<u64>)
 }
 
 // Appends the lines of what an item shows.
-fn push_shown<const N: usize>(text: &mut ArrayString<N>, shown: Shown)
+fn push_shown<const N: usize>(text: &mut ArrayString<N>, shown: ShownItem)
     requires { array_string_len text.old + LONGEST_SHOWN ≤ N }
-    ensures bytes { text.new.bytes ≡ text.old.bytes ++ shown_text shown }
+    ensures bytes { text.new.bytes ≡ text.old.bytes ++ observer_text_shown shown }
     ensures len { array_string_len text.new ≤ array_string_len text.old + LONGEST_SHOWN }
 {
     push_tells(text, shown.tells);
@@ -63,7 +64,7 @@ fn push_shown<const N: usize>(text: &mut ArrayString<N>, shown: Shown)
 
 // Takes the data phase of `len` bits after WAIT or FAULT, if there is one. It shows nothing.
 fn watch_phase(observer: &mut TraceObserver, len: u8)
-    ensures { observer.new ≡ after_items (idle_items len) observer.old }
+    ensures { observer.new ≡ trace_observer_after (idle_items len) observer.old }
 {
     if len > 0 {
         let _ = observer.watch(&Item::Idle(u64::from(len)));
@@ -78,8 +79,9 @@ fn watch_item<const N: usize>(
     text: &mut ArrayString<N>,
 )
     requires { array_string_len text.old + LONGEST_SHOWN ≤ N }
-    ensures observer { observer.new ≡ after_items (items_of_part over (OfStretch item.now)) observer.old }
-    ensures bytes { text.new.bytes ≡ text.old.bytes ++ accesses (items_of_part over (OfStretch item.now)) observer.old }
+    ensures observer { observer.new ≡ trace_observer_after (resync_part_items over (OfStretch item.now)) observer.old }
+    ensures bytes { text.new.bytes ≡ text.old.bytes
+        ++ observer_text_of_items (resync_part_items over (OfStretch item.now)) observer.old }
     ensures len { array_string_len text.new ≤ array_string_len text.old + LONGEST_SHOWN }
 {
     push_shown(text, observer.watch(item));
@@ -89,7 +91,7 @@ fn watch_item<const N: usize>(
 // Returns whether the observer is in a gap and knows nothing of the target: a junk bit then only moves its place.
 fn is_lost(observer: &TraceObserver) -> bool
     ensures gap { result ≡ true → observer.now.in_gap ≡ true }
-    ensures unknown { result ≡ true → observer.now.observer ≡ unknown }
+    ensures unknown { result ≡ true → observer.now.observer ≡ observer_unknown }
 {
     let Observer {
         select,
@@ -113,8 +115,9 @@ fn is_lost(observer: &TraceObserver) -> bool
 // Takes a skip, and appends the lines of what it shows. After its first bit nothing is known of the target.
 fn watch_skip<const N: usize>(observer: &mut TraceObserver, count: u64, text: &mut ArrayString<N>)
     requires { array_string_len text.old + LONGEST_SHOWN ≤ N }
-    ensures observer { observer.new ≡ after_items (replicate count (Junk false)) observer.old }
-    ensures bytes { text.new.bytes ≡ text.old.bytes ++ accesses (replicate count (Junk false)) observer.old }
+    ensures observer { observer.new ≡ trace_observer_after (replicate count (Junk false)) observer.old }
+    ensures bytes { text.new.bytes ≡ text.old.bytes
+        ++ observer_text_of_items (replicate count (Junk false)) observer.old }
     ensures len { array_string_len text.new ≤ array_string_len text.old + LONGEST_SHOWN }
 {
     if count == 0 {
@@ -147,8 +150,9 @@ pub fn watch_part<const N: usize>(
     text: &mut ArrayString<N>,
 )
     requires { array_string_len text.old + LONGEST_SHOWN ≤ N }
-    ensures observer { observer.new ≡ after_items (items_of_part over part.now) observer.old }
-    ensures bytes { text.new.bytes ≡ text.old.bytes ++ accesses (items_of_part over part.now) observer.old }
+    ensures observer { observer.new ≡ trace_observer_after (resync_part_items over part.now) observer.old }
+    ensures bytes { text.new.bytes ≡ text.old.bytes
+        ++ observer_text_of_items (resync_part_items over part.now) observer.old }
     ensures len { array_string_len text.new ≤ array_string_len text.old + LONGEST_SHOWN }
 {
     match part {
@@ -160,7 +164,8 @@ pub fn watch_part<const N: usize>(
 /// Appends the lines of the accesses that weren't reported yet, for a capture that ends here.
 pub fn push_last<const N: usize>(observer: &TraceObserver, text: &mut ArrayString<N>)
     requires { array_string_len text.old + LONGEST_SHOWN ≤ N }
-    ensures bytes { text.new.bytes ≡ text.old.bytes ++ tells_text (last_tells observer.now.observer) }
+    ensures bytes { text.new.bytes ≡ text.old.bytes
+        ++ observer_text_reported (observed_last_accesses observer.now.observer) }
     ensures len { array_string_len text.new ≤ array_string_len text.old + LONGEST_SHOWN }
 {
     push_tells(text, observer.last());

@@ -2,7 +2,7 @@
 ghost use Rattle.std.specs.Prelude.{◌<◌, ◌^◌, IfSome, true};
 ghost use Rattle.swd_bits.specs.declared.request.Request.{Request};
 ghost use Rattle.swd_bits.specs.Bits.{low_bits};
-ghost use Rattle.swd_bits.specs.Transactions.{Spells};
+ghost use Rattle.swd_bits.specs.Transactions.{SpellsTx};
 
 use swd_bits::{MOVED_BITS, Tx, TxBits, TxEnd};
 
@@ -11,7 +11,7 @@ use swd_bits::{MOVED_BITS, Tx, TxBits, TxEnd};
 pub fn word_moved(bits: u64) -> Option<u32>
     requires { bits < 2 ^ 46 }
     ensures { IfSome result (λ word. (request : Request)
-        × Spells (record { request = request; result = TxEnd.Moved word true }) (low_bits 46 bits)) }
+        × SpellsTx (record { request = request; result = TxEnd.Moved word true }) (low_bits 46 bits)) }
 {
     let bits = TxBits {
         len: MOVED_BITS,

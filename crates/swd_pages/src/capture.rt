@@ -1,7 +1,7 @@
 //! The lines of two parts, with their places and their registers' names.
 ghost use Rattle.std.specs.Prelude.{◌≡◌, [], ◌∷◌, ◌++◌, false, true};
 ghost use Rattle.swd_capture.specs.declared.printed.LineForm.{LineForm as Form};
-ghost use Rattle.swd_capture.specs.Printing.{entry};
+ghost use Rattle.swd_capture.specs.Printing.{capture_printed_entry};
 
 use arrayvec::ArrayString;
 use swd_capture::{LineForm, Printed, Teller};
@@ -10,7 +10,8 @@ use swd_resync::Part;
 /// Returns the lines of the first two parts of a trace.
 pub fn lines(first: &Part, second: &Part) -> ArrayString<1024>
     ensures { let form : Form = record { places = true; names = true } in result.bytes
-        ≡ entry (Printed.Lines form) false [] first.now ++ entry (Printed.Lines form) false (first.now ∷ []) second.now }
+        ≡ capture_printed_entry (Printed.Lines form) false [] first.now
+        ++ capture_printed_entry (Printed.Lines form) false (first.now ∷ []) second.now }
 {
     let form = LineForm {
         places: true,

@@ -2,7 +2,7 @@
 ghost use Rattle.std.specs.Prelude.{◌≡◌, OnOk};
 ghost use Rattle.swd_port.specs.declared.wire.Due.TheVariants.{Nothing};
 ghost use Rattle.swd_host.specs.Reports.{IsAtRest};
-ghost use Rattle.swd_image.specs.Images.{IsLoaded};
+ghost use Rattle.swd_image.specs.Images.{IsImageLoaded};
 
 use std::alloc::Global;
 use swd_image::{ImageFault, load};
@@ -18,7 +18,7 @@ pub fn flash<W: Wire>(
 ) -> Result<(), ImageFault>
     requires { (W.port wire.old).link.due ≡ Nothing }
     ensures { OnOk result (W.lawful wire.new → IsAtRest (W.port wire.old)
-        → IsLoaded addr bytes.now (W.port wire.old).target.memory (W.port wire.new).target.memory) }
+        → IsImageLoaded addr bytes.now (W.port wire.old).target.memory (W.port wire.new).target.memory) }
 {
     load(alloc, wire, addr, bytes, 8, 1)
 }

@@ -3,120 +3,123 @@ use Rattle.std.proofs.Common.{◌≡◌, ◌≢◌, ◌+◌, ◌≤◌, ℕ, fal
 use Rattle.std.specs.Prelude.{◌==◌}
 use Rattle.swd_bits.specs.declared.ack.Ack.{Ack}
 use Rattle.swd_bits.specs.declared.ack.Ack.TheVariants.{Ok as AckOk, Wait as AckWait, Fault as AckFault}
-use Rattle.swd_bits.specs.Bits.{low_bits, number}
-use Rattle.swd_bits.specs.Wire.{ack}
+use Rattle.swd_bits.specs.Bits.{low_bits, bits_number}
+use Rattle.swd_bits.specs.Wire.{bits_of_ack}
 use Rattle.swd_bits.proofs.BitsLemmas.{number-low_bits}
 use Rattle.swd_port.specs.declared.wire.Due.TheVariants.{Nothing}
 use Rattle.swd_port.specs.Port.{Port}
-use Rattle.swd_port.specs.Choices.{Mark, Clean, Wait, Flip, Deaf, Mute, Choice, disturbs, loses}
+use Rattle.swd_port.specs.Choices.{Mark, Clean, Wait, Flip, Deaf, Mute, Choice, port_disturbs, port_loses}
 use Rattle.swd_bits.specs.declared.request.Request.{Request}
-use Rattle.swd_port.specs.Answers.{Reply, driven, seen_at, due_after}
-use Rattle.swd_port.specs.Completion.{Completes}
-use Rattle.swd_port.specs.Moves.{Kept, Around}
-use Rattle.swd_port.specs.Outcomes.{Steady}
-use Rattle.swd_port.specs.Asking.{Asks, AsksNow, reply_in, tally_after}
+use Rattle.swd_port.specs.Answers.{Reply, port_ack_driven, port_seen_at, port_due_after}
+use Rattle.swd_port.specs.Completion.{PortCompletes}
+use Rattle.swd_port.specs.Moves.{PortKept, PortAround}
+use Rattle.swd_port.specs.Outcomes.{PortSteady}
+use Rattle.swd_port.specs.Asking.{PortAsks, PortAsksNow, port_reply, port_tally_after}
 use Rattle.swd_port.specs.declared.cue.Cue.TheVariants.{Lead, Ask, Take, Give, Pass}
-use Rattle.swd_port.specs.Leading.{LeadsNow}
-use Rattle.swd_port.specs.Moving.{TakesNow, GivesNow, PassesNow}
-use Rattle.swd_port.specs.Laws.Calls.{DueAfterStep, AcknowledgementSeen, NoAcknowledgementSeen, Asked}
-use Rattle.swd_port.specs.Laws.Calls.{RequestCounted, OthersUncounted, IdentificationKept, with_asked, CountedApart}
-use Rattle.swd_port.proofs.CompletionLaws.{kept}
-use Rattle.swd_port.proofs.AnswerLaws.{lost_due, none_due, muted_due}
-use Rattle.swd_port.proofs.RequestLaws.{steady}
+use Rattle.swd_port.specs.Leading.{PortLeadsNow}
+use Rattle.swd_port.specs.Moving.{PortTakesNow, PortGivesNow, PortPassesNow}
+use Rattle.swd_port.specs.Laws.Calls.{PortDueAfterStep, PortAckSeen, PortNoAckSeen, PortAsked, PortRequestCounted}
+use Rattle.swd_port.specs.Laws.Calls.{PortOthersUncounted, PortIdentificationKept, port_with_asked, PortCountedApart}
+use Rattle.swd_port.proofs.CompletionLaws.{port_kept}
+use Rattle.swd_port.proofs.AnswerLaws.{port_due_lost, port_due_after_no_ack, port_due_after_muted}
+use Rattle.swd_port.proofs.RequestLaws.{port_steady}
 
 -- acknowledgements by their numbers
-ack_bits : (a : Ack) → low_bits 3 (number (ack a)) ≡ ack a
+ack_bits : (a : Ack) → low_bits 3 (bits_number (bits_of_ack a)) ≡ bits_of_ack a
 unfolding low_bits
 ack_bits AckOk = refl
 ack_bits AckWait = refl
 ack_bits AckFault = refl
 
 -- three bits are an acknowledgement exactly if their number is its number: 1 for OK, 2 for WAIT, 4 for FAULT
-pub acknowledgement_seen : AcknowledgementSeen
-acknowledgement_seen seen a range =
-    (λ e. sym (ap number e ∙ number-low_bits 3 seen range), λ e. sym (ap (low_bits 3) e ∙ ack_bits a))
+pub port_ack_seen : PortAckSeen
+port_ack_seen seen a range =
+    (λ e. sym (ap bits_number e ∙ number-low_bits 3 seen range), λ e. sym (ap (low_bits 3) e ∙ ack_bits a))
 
 differs : (seen n : ℕ) → seen ≢ n → (seen == n) ≡ false
 differs seen n other = grind arith
 
 -- a request that isn't lost shows what is driven
-plain_seen : (mark : Mark) (reply : Reply) → loses mark ≡ 0 → seen_at mark reply ≡ driven reply
+plain_seen : (mark : Mark) (reply : Reply) → port_loses mark ≡ 0 → port_seen_at mark reply ≡ port_ack_driven reply
 plain_seen mark reply h = grind arith
 
-plain_due : (mark : Mark) (c : Choice) (q : Request) (seen : ℕ) (s t : Port) → AsksNow mark c s q seen t
-    → seen_at mark (reply_in mark s.target q) ≡ driven (reply_in mark s.target q)
-    → seen ≡ driven (reply_in mark s.target q) → t.link.due ≡ due_after q.read seen
+plain_due : (mark : Mark) (c : Choice) (q : Request) (seen : ℕ) (s t : Port) → PortAsksNow mark c s q seen t
+    → port_seen_at mark (port_reply mark s.target q) ≡ port_ack_driven (port_reply mark s.target q)
+    → seen ≡ port_ack_driven (port_reply mark s.target q) → t.link.due ≡ port_due_after q.read seen
 plain_due mark c q seen s t now same sees =
-    ap (λ p. p.link.due) now.after ∙ ap (due_after q.read) (same ∙ sym sees)
+    ap (λ p. p.link.due) now.after ∙ ap (port_due_after q.read) (same ∙ sym sees)
 
 -- three bits that are none of these have another number than 1, 2 and 4, and only a line reset is due after them
-pub no_acknowledgement_seen : NoAcknowledgementSeen
-no_acknowledgement_seen seen read range none =
+pub port_no_ack_seen : PortNoAckSeen
+port_no_ack_seen seen read range none =
     let not_okay : (seen == 1) ≡ false = differs seen 1
-    (λ e. none AckOk ((acknowledgement_seen seen AckOk range).1 e)) in
+    (λ e. none AckOk ((port_ack_seen seen AckOk range).1 e)) in
     let not_wait : (seen == 2) ≡ false = differs seen 2
-    (λ e. none AckWait ((acknowledgement_seen seen AckWait range).1 e)) in
+    (λ e. none AckWait ((port_ack_seen seen AckWait range).1 e)) in
     let not_fault : (seen == 4) ≡ false = differs seen 4
-    (λ e. none AckFault ((acknowledgement_seen seen AckFault range).1 e)) in (
+    (λ e. none AckFault ((port_ack_seen seen AckFault range).1 e)) in (
       record { not_okay = not_okay; not_wait = not_wait; not_fault = not_fault },
-      lost_due read seen not_okay not_wait
+      port_due_lost read seen not_okay not_wait
           not_fault,
     )
 
-due_now : (mark : Mark) (c : Choice) (q : Request) (seen : ℕ) (s t : Port) → AsksNow mark c s q seen t
-    → t.link.due ≡ due_after q.read seen
+due_now : (mark : Mark) (c : Choice) (q : Request) (seen : ℕ) (s t : Port) → PortAsksNow mark c s q seen t
+    → t.link.due ≡ port_due_after q.read seen
 due_now Clean c q seen s t now = plain_due Clean c q seen s t now (plain_seen Clean _ refl) now.sees
 due_now Wait c q seen s t now = plain_due Wait c q seen s t now (plain_seen Wait _ refl) now.sees
 due_now (Flip place) c q seen s t now = plain_due (Flip place) c q seen s t now (plain_seen (Flip place) _ refl)
     now.sees
-due_now Deaf c q seen s t now = ap (λ p. p.link.due) now.after ∙ sym (none_due q.read seen now.sees)
+due_now Deaf c q seen s t now = ap (λ p. p.link.due) now.after ∙ sym (port_due_after_no_ack q.read seen now.sees)
 due_now (Mute place) c q seen s t now = ap (λ p. p.link.due) now.after
-    ∙ (muted_due place (reply_in (Mute place) s.target q) q.read now.legal ∙ sym (none_due q.read seen now.sees))
+    ∙ (port_due_after_muted place (port_reply (Mute place) s.target q) q.read now.legal ∙ sym
+    (port_due_after_no_ack q.read seen now.sees))
 
-due_after_request : (q : Request) (seen : ℕ) (s t : Port) → Asks s q seen t → t.link.due ≡ due_after q.read seen
+due_after_request : (q : Request) (seen : ℕ) (s t : Port) → PortAsks s q seen t
+    → t.link.due ≡ port_due_after q.read seen
 due_after_request q seen s t (a, b, mark, c, first, now, last) =
-    let k : Kept b t = kept b t last in
+    let k : PortKept b t = port_kept b t last in
     ap (λ l. l.due) k.link ∙ due_now mark c q seen a b now
 
 -- nothing is due after a step that leaves it so
-due_stays : (b t : Port) → b.link.due ≡ Nothing → Completes b t → t.link.due ≡ Nothing
-due_stays b t e last = let k : Kept b t = kept b t last in ap (λ l. l.due) k.link ∙ e
+due_stays : (b t : Port) → b.link.due ≡ Nothing → PortCompletes b t → t.link.due ≡ Nothing
+due_stays b t e last = let k : PortKept b t = port_kept b t last in ap (λ l. l.due) k.link ∙ e
 
 -- what is due after a call follows from its cue and from what was seen
-pub due_after_step : DueAfterStep
-due_after_step (Lead ones undriven switch zeros) seen s t h = due_stays h.1 t (ap (λ p. p.link.due) h.3.after) h.4
-due_after_step (Ask q) seen s t h = due_after_request q seen s t h
-due_after_step Take seen s t h = due_stays h.1 t (ap (λ p. p.link.due) h.3.after) h.4
-due_after_step (Give sent) seen s t h = due_stays h.1 t (ap (λ p. p.link.due) h.3.after) h.4
-due_after_step Pass seen s t h = due_stays h.1 t (ap (λ p. p.link.due) h.3.after) h.4
+pub port_due_after_step : PortDueAfterStep
+port_due_after_step (Lead ones undriven switch zeros) seen s t h = due_stays h.1 t (ap (λ p. p.link.due) h.3.after) h.4
+port_due_after_step (Ask q) seen s t h = due_after_request q seen s t h
+port_due_after_step Take seen s t h = due_stays h.1 t (ap (λ p. p.link.due) h.3.after) h.4
+port_due_after_step (Give sent) seen s t h = due_stays h.1 t (ap (λ p. p.link.due) h.3.after) h.4
+port_due_after_step Pass seen s t h = due_stays h.1 t (ap (λ p. p.link.due) h.3.after) h.4
 
 -- the numbers over a step and its completions
-counted_around : (s a b t : Port) → Completes s a → b.tally ≡ a.tally → Completes b t → t.tally ≡ s.tally
-counted_around s a b t first u last = let k : Kept s a = kept s a first in let l : Kept b t = kept b t last in l.tally
+counted_around : (s a b t : Port) → PortCompletes s a → b.tally ≡ a.tally → PortCompletes b t → t.tally ≡ s.tally
+counted_around s a b t first u last = let k : PortKept s a = port_kept s a first in let l : PortKept b t = port_kept b t last in l.tally
     ∙ u ∙ k.tally
 
 -- a call that isn't a request changes none of the three counts
-pub others_uncounted : OthersUncounted
-others_uncounted (Lead ones undriven switch zeros) seen s t other h = counted_around s h.0 h.1 t h.2 (ap (λ p. p.tally) h.3.after) h.4
-others_uncounted (Ask q) seen s t other h = grind arith
-others_uncounted Take seen s t other h = counted_around s h.0 h.1 t h.2 (ap (λ p. p.tally) h.3.after) h.4
-others_uncounted (Give sent) seen s t other h = counted_around s h.0 h.1 t h.2 (ap (λ p. p.tally) h.3.after) h.4
-others_uncounted Pass seen s t other h = counted_around s h.0 h.1 t h.2 (ap (λ p. p.tally) h.3.after) h.4
+pub port_others_uncounted : PortOthersUncounted
+port_others_uncounted (Lead ones undriven switch zeros) seen s t other h =
+    counted_around s h.0 h.1 t h.2 (ap (λ p. p.tally) h.3.after) h.4
+port_others_uncounted (Ask q) seen s t other h = grind arith
+port_others_uncounted Take seen s t other h = counted_around s h.0 h.1 t h.2 (ap (λ p. p.tally) h.3.after) h.4
+port_others_uncounted (Give sent) seen s t other h = counted_around s h.0 h.1 t h.2 (ap (λ p. p.tally) h.3.after) h.4
+port_others_uncounted Pass seen s t other h = counted_around s h.0 h.1 t h.2 (ap (λ p. p.tally) h.3.after) h.4
 
 -- what DPIDR gives over a step and its completions
-identified_around : (s a b t : Port) → Completes s a → b.target.identification ≡ a.target.identification → Completes b t
-    → t.target.identification ≡ s.target.identification
-identified_around s a b t first u last = let k : Kept s a = kept s a first in let l : Kept b t = kept b t last in
+identified_around : (s a b t : Port) → PortCompletes s a → b.target.identification ≡ a.target.identification
+    → PortCompletes b t → t.target.identification ≡ s.target.identification
+identified_around s a b t first u last = let k : PortKept s a = port_kept s a first in let l : PortKept b t = port_kept b t last in
     l.identification ∙ u ∙ k.identification
 
-one_disturbed : (mark : Mark) → disturbs mark ≤ 1
+one_disturbed : (mark : Mark) → port_disturbs mark ≤ 1
 one_disturbed Clean = omega arith
 one_disturbed Wait = omega arith
 one_disturbed (Flip place) = omega arith
 one_disturbed Deaf = omega arith
 one_disturbed (Mute place) = omega arith
 
-one_lost : (mark : Mark) → loses mark ≤ 1
+one_lost : (mark : Mark) → port_loses mark ≤ 1
 one_lost Clean = omega arith
 one_lost Wait = omega arith
 one_lost (Flip place) = omega arith
@@ -131,12 +134,12 @@ grows_one a b n e h = omega arith
 
 -- a request raises the count of requests by one, and those of disturbed and of lost ones by at most one; WDATAERR,
 -- the power requests, SELECT, CSW, the identification, and power seen as acknowledged are unchanged
-pub request_counted : RequestCounted
-request_counted q seen s t (a, b, mark, c, first, now, last) =
-    let k : Kept s a = kept s a first in let l : Kept b t = kept b t last in
-    let n : t.tally ≡ tally_after mark s.tally = l.tally ∙ ap (λ p. p.tally) now.after
-    ∙ ap (tally_after mark) k.tally in
-    let y : Steady a.target b.target = steady _ _ _ q.ap a.target b.target (ap (λ p. p.target) now.after) in
+pub port_request_counted : PortRequestCounted
+port_request_counted q seen s t (a, b, mark, c, first, now, last) =
+    let k : PortKept s a = port_kept s a first in let l : PortKept b t = port_kept b t last in
+    let n : t.tally ≡ port_tally_after mark s.tally = l.tally ∙ ap (λ p. p.tally) now.after
+    ∙ ap (port_tally_after mark) k.tally in
+    let y : PortSteady a.target b.target = port_steady _ _ _ q.ap a.target b.target (ap (λ p. p.target) now.after) in
     record {
       asked = ap (λ n. n.asked) n;
       disturbed_least = grows _ _ _ (ap (λ n. n.disturbed) n);
@@ -154,29 +157,29 @@ request_counted q seen s t (a, b, mark, c, first, now, last) =
     }
 
 -- no call changes the word that DPIDR returns
-pub identification_kept : IdentificationKept
-identification_kept (Lead ones undriven switch zeros) seen s t h =
+pub port_identification_kept : PortIdentificationKept
+port_identification_kept (Lead ones undriven switch zeros) seen s t h =
     identified_around s h.0 h.1 t h.2 (ap (λ p. p.target.identification) h.3.after) h.4
-identification_kept (Ask q) seen s t h = let c : Asked s t = request_counted q seen s t h in c.identification
-identification_kept Take seen s t h =
+port_identification_kept (Ask q) seen s t h = let c : PortAsked s t = port_request_counted q seen s t h in c.identification
+port_identification_kept Take seen s t h =
     identified_around s h.0 h.1 t h.2 (ap (λ p. p.target.identification) h.3.after) h.4
-identification_kept (Give sent) seen s t h =
+port_identification_kept (Give sent) seen s t h =
     identified_around s h.0 h.1 t h.2 (ap (λ p. p.target.identification) h.3.after) h.4
-identification_kept Pass seen s t h =
+port_identification_kept Pass seen s t h =
     identified_around s h.0 h.1 t h.2 (ap (λ p. p.target.identification) h.3.after) h.4
 
 -- another number of requests
-completed_apart : (n : ℕ) (s t : Port) → Completes s t → Completes (with_asked n s) (with_asked n t)
-completed_apart n s t (inl e) = inl (ap (with_asked n) e)
-completed_apart n s t (inr (c, fits, e)) = inr (c, fits, ap (with_asked n) e)
+completed_apart : (n : ℕ) (s t : Port) → PortCompletes s t → PortCompletes (port_with_asked n s) (port_with_asked n t)
+completed_apart n s t (inl e) = inl (ap (port_with_asked n) e)
+completed_apart n s t (inr (c, fits, e)) = inr (c, fits, ap (port_with_asked n) e)
 
 -- a step that doesn't count, and its completions
 moved_apart : (Step : Port → Port → Type 0) (n : ℕ) (s t : Port)
-    → ((a b : Port) → Step a b → Step (with_asked n a) (with_asked n b)) → Around Step s t
-    → Around Step (with_asked n s) (with_asked (n + 0) t)
-moved_apart Step n s t apart h = subst (λ m. Around Step (with_asked n s) (with_asked m t)) (omega arith) (
-  with_asked n h.0,
-  with_asked n h.1,
+    → ((a b : Port) → Step a b → Step (port_with_asked n a) (port_with_asked n b)) → PortAround Step s t
+    → PortAround Step (port_with_asked n s) (port_with_asked (n + 0) t)
+moved_apart Step n s t apart h = subst (λ m. PortAround Step (port_with_asked n s) (port_with_asked m t)) (omega arith) (
+  port_with_asked n h.0,
+  port_with_asked n h.1,
   completed_apart n s h.0 h.2,
   apart h.0 h.1 h.3,
   completed_apart n h.1 t h.4,
@@ -184,12 +187,12 @@ moved_apart Step n s t apart h = subst (λ m. Around Step (with_asked n s) (with
 
 -- a step stays one if another number replaces the count of requests; a request still raises it by one, and no other
 -- call does
-pub counted_apart : CountedApart
-counted_apart n (Lead ones undriven switch zeros) seen s t h =
-    moved_apart (λ a b. LeadsNow a ones b) n s t (λ a b now. record { after = ap (with_asked n) now.after }) h
-counted_apart n (Ask q) seen s t h = (
-  with_asked n h.0,
-  with_asked (n + 1) h.1,
+pub port_counted_apart : PortCountedApart
+port_counted_apart n (Lead ones undriven switch zeros) seen s t h =
+    moved_apart (λ a b. PortLeadsNow a ones b) n s t (λ a b now. record { after = ap (port_with_asked n) now.after }) h
+port_counted_apart n (Ask q) seen s t h = (
+  port_with_asked n h.0,
+  port_with_asked (n + 1) h.1,
   h.2,
   h.3,
   completed_apart n s h.0 h.4,
@@ -199,14 +202,14 @@ counted_apart n (Ask q) seen s t h = (
     settled = h.5.settled;
     word = h.5.word;
     sees = h.5.sees;
-    after = ap (with_asked (n + 1)) h.5.after;
+    after = ap (port_with_asked (n + 1)) h.5.after;
   },
   completed_apart (n + 1) h.1 t h.6,
 )
-counted_apart n Take seen s t h =
-    moved_apart (λ a b. TakesNow a seen b) n s t
-    (λ a b now. record { gets = now.gets; after = ap (with_asked n) now.after }) h
-counted_apart n (Give sent) seen s t h =
-    moved_apart (λ a b. GivesNow a sent b) n s t (λ a b now. record { after = ap (with_asked n) now.after }) h
-counted_apart n Pass seen s t h =
-    moved_apart PassesNow n s t (λ a b now. record { after = ap (with_asked n) now.after }) h
+port_counted_apart n Take seen s t h =
+    moved_apart (λ a b. PortTakesNow a seen b) n s t
+    (λ a b now. record { gets = now.gets; after = ap (port_with_asked n) now.after }) h
+port_counted_apart n (Give sent) seen s t h =
+    moved_apart (λ a b. PortGivesNow a sent b) n s t (λ a b now. record { after = ap (port_with_asked n) now.after }) h
+port_counted_apart n Pass seen s t h =
+    moved_apart PortPassesNow n s t (λ a b now. record { after = ap (port_with_asked n) now.after }) h

@@ -1,6 +1,5 @@
 mod CountSteps
 mod NotedSteps
-mod Telling
 mod Wents
 pub mod MapLemmas
 pub mod RegisterLemmas

@@ -20,20 +20,20 @@ two_blocks w k high low h j = ap (λ x. bit_and x (high * 2 ^ k + low)) (sym (sh
     ∙ and_block k (w / 2 ^ k) high (w % 2 ^ k) low j h
 
 -- the bits that SELECT names
-pub select_bits : (w : ℕ) → bit_and w select_mask ≡ w / 2 ^ 24 % 2 ^ 8 * 2 ^ 24 + w % 2 ^ 8
-select_bits w =
+pub select_mask_bits : (w : ℕ) → bit_and w select_mask ≡ w / 2 ^ 24 % 2 ^ 8 * 2 ^ 24 + w % 2 ^ 8
+select_mask_bits w =
     let parts : bit_and w select_mask ≡ bit_and (w / 2 ^ 24) 255 * 2 ^ 24 + bit_and (w % 2 ^ 24) 255 = two_blocks w 24
     255 255 (omega arith) (omega arith) in
     let high : bit_and (w / 2 ^ 24) 255 ≡ w / 2 ^ 24 % 2 ^ 8 = and_mask (w / 2 ^ 24) 8 in
     let low : bit_and (w % 2 ^ 24) 255 ≡ w % 2 ^ 24 % 2 ^ 8 = and_mask (w % 2 ^ 24) 8 in
     omega arith
 
-pub select_kept : (w : ℕ) → select_word (select_of w) ≡ bit_and w select_mask
-select_kept w = let e = select_bits w in omega arith
+pub port_select_kept : (w : ℕ) → select_word (select_of w) ≡ bit_and w select_mask
+port_select_kept w = let e = select_mask_bits w in omega arith
 
 -- the bits that CSW names
-pub csw_bits : (w : ℕ) → bit_and w csw_mask ≡ w / 2 ^ 24 % 2 ^ 7 * 2 ^ 24 + w / 2 ^ 4 % 2 ^ 4 * 2 ^ 4 + w % 2 ^ 3
-csw_bits w =
+pub csw_mask_bits : (w : ℕ) → bit_and w csw_mask ≡ w / 2 ^ 24 % 2 ^ 7 * 2 ^ 24 + w / 2 ^ 4 % 2 ^ 4 * 2 ^ 4 + w % 2 ^ 3
+csw_mask_bits w =
     let parts : bit_and w csw_mask ≡ bit_and (w / 2 ^ 24) 127 * 2 ^ 24 + bit_and (w % 2 ^ 24) 247 = two_blocks w 24 127
     247 (omega arith) (omega arith) in
     let more : bit_and (w % 2 ^ 24) 247 ≡ bit_and (w % 2 ^ 24 / 2 ^ 4) 15 * 2 ^ 4 + bit_and (w % 2 ^ 24 % 2 ^ 4) 7 =
@@ -43,17 +43,17 @@ csw_bits w =
     let low : bit_and (w % 2 ^ 24 % 2 ^ 4) 7 ≡ w % 2 ^ 24 % 2 ^ 4 % 2 ^ 3 = and_mask (w % 2 ^ 24 % 2 ^ 4) 3 in
     omega arith
 
-pub csw_kept : (w : ℕ) → csw_word (csw_of w) ≡ bit_and w csw_mask
-csw_kept w =
-    let e = csw_bits w in
+pub port_csw_kept : (w : ℕ) → csw_word (csw_of w) ≡ bit_and w csw_mask
+port_csw_kept w =
+    let e = csw_mask_bits w in
     let six : bit (w / 64 % 2 == 1) ≡ w / 64 % 2 = digit (w / 64 % 2) (omega arith) in
     let seven : bit (w / 128 % 2 == 1) ≡ w / 128 % 2 = digit (w / 128 % 2) (omega arith) in
     omega arith
 
 -- the word that the code joins from a SELECT's fields
-pub select_joined : (s : Select) (a b d : ℕ) → a ≡ s.apsel → b ≡ bit_and s.apbanksel 15 → d ≡ bit_and s.dpbanksel 15 →
-    bit_or (bit_or (a * 16777216 % 4294967296) (b * 16 % 4294967296)) d ≡ select_word s
-select_joined s a b d e f g =
+pub select_word_joined : (s : Select) (a b d : ℕ) → a ≡ s.apsel → b ≡ bit_and s.apbanksel 15
+    → d ≡ bit_and s.dpbanksel 15 → bit_or (bit_or (a * 16777216 % 4294967296) (b * 16 % 4294967296)) d ≡ select_word s
+select_word_joined s a b d e f g =
     let middle : b ≡ s.apbanksel % 2 ^ 4 = f ∙ and_mask s.apbanksel 4 in
     let low : d ≡ s.dpbanksel % 2 ^ 4 = g ∙ and_mask s.dpbanksel 4 in
     let top : a * 16777216 % 4294967296 ≡ a % 256 * 2 ^ 24 = omega arith in
@@ -66,11 +66,11 @@ select_joined s a b d e f g =
     rw (top, place, one, same, two) (omega arith)
 
 -- what fits its fields is read back
-pub select_same : (s : Select) → IsSelect s → select_of (select_word s) ≡ s
-select_same s fits =
+pub select_word_read_back : (s : Select) → IsSelect s → select_of (select_word s) ≡ s
+select_word_read_back s fits =
     let a : select_word s / 2 ^ 24 % 256 ≡ s.apsel = omega arith in
     let b : select_word s / 16 % 16 ≡ s.apbanksel = omega arith in
     let d : select_word s % 16 ≡ s.dpbanksel = omega arith in
     rw (a, b, d) refl
 
-pub ruleset register_laws = (select_kept, csw_kept)
+pub ruleset register_laws = (port_select_kept, port_csw_kept)

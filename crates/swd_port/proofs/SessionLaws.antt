@@ -1,7 +1,7 @@
 -- A story for every session, step by step: the pending transfer takes effect before each request, and an unknown word
 -- is 0.
-use Rattle.std.proofs.Common.{◌≡◌, ◌<◌, ◌^◌, ◌%◌, ℕ, zero, suc, Bool, true, false, List, [], ◌∷◌, length, Option}
-use Rattle.std.proofs.Common.{Some, None, refl, sym, ap, subst, inl, inr, ◌⊎◌, arith}
+use Rattle.std.proofs.Common.{◌≡◌, ◌<◌, ◌^◌, ◌%◌, ℕ, zero, suc, Bool, true, false, List, [], ◌∷◌, length, Option, Some}
+use Rattle.std.proofs.Common.{None, refl, sym, ap, subst, inl, inr, ◌⊎◌, arith}
 use Rattle.std.specs.Prelude.{IfSome, unwrap_or, if◌then◌else◌, ◌==◌, not}
 use Rattle.std.specs.FinMap.{FinMap, insert, get}
 use Rattle.std.specs.Ordering.{nat_cmp}
@@ -10,49 +10,51 @@ use Rattle.std.proofs.lemmas.Nat.{xor_lt}
 use Rattle.std.proofs.lemmas.Bool.{cases_eq}
 use Rattle.std.proofs.Math.Pow.{pow-lt}
 use Rattle.swd_bits.specs.declared.request.Request.{Request}
-use Rattle.swd_bits.specs.Phases.{phase_number, word_in}
+use Rattle.swd_bits.specs.Phases.{data_phase_number, data_phase_word}
 use Rattle.swd_port.specs.declared.cue.Cue.{Cue}
 use Rattle.swd_port.specs.declared.cue.Cue.TheVariants.{Lead, Ask, Take, Give, Pass}
 use Rattle.swd_port.specs.declared.call.Call.{Call}
 use Rattle.swd_port.specs.declared.wire.Due.{Due}
 use Rattle.swd_port.specs.declared.wire.Due.TheVariants.{Nothing}
-use Rattle.swd_port.specs.PlainMemory.{PlainMemory, word_at}
+use Rattle.swd_port.specs.PlainMemory.{PlainMemory, plain_word_at}
 use Rattle.swd_port.specs.Registers.{csw_read}
-use Rattle.swd_port.specs.Phases.{flipped}
-use Rattle.swd_port.specs.Port.{Port, Target, Register, Drw, Reads, Writes, Line, Drives, Awaits, Idle, register}
-use Rattle.swd_port.specs.Port.{TarWrite, DrwWrite, RdbuffRead, CswRead, TarRead, ApZeroRead, DrwRead, made}
-use Rattle.swd_port.specs.Choices.{Mark, Clean, Wait, Flip, Deaf, Mute, IsMark, flip_of, is_wait}
-use Rattle.swd_port.specs.Answers.{Reply, Okay, Waits, Faults, Silent, seen_at, driven}
-use Rattle.swd_port.specs.Completion.{completed, fails, memory_after, tar_after}
-use Rattle.swd_port.specs.Asking.{reply_in, after_reply, target_after, buffer_once_read, is_posted}
-use Rattle.swd_port.specs.Asking.{line_after, phase_after, pending_once_read}
-use Rattle.swd_port.specs.Moving.{bits_driven, after_take, Arrival, Arrives, Damaged, Unawaited, arrival, arrival_of}
-use Rattle.swd_port.specs.Moving.{after_arrival, after_pass, forgotten, tar_written, pending_after}
-use Rattle.swd_port.specs.Leading.{after_lead}
-use Rattle.swd_port.specs.Stories.{IsStep, due_by, port_at, FitsStory}
-use Rattle.swd_port.specs.Laws.NeverStuck.{IsOfWords}
-use Rattle.swd_port.specs.Laws.Sessions.{AreWords, AreChosen, Session, word_pending, MadeOfWords, EachStepGoesOn}
-use Rattle.swd_port.specs.Laws.Sessions.{EachSessionFits}
+use Rattle.swd_port.specs.Phases.{port_flipped}
+use Rattle.swd_port.specs.Port.{Port, Target, Register, Drw, Reads, Writes, AfterAck, Drives, Awaits, Idle}
+use Rattle.swd_port.specs.Port.{port_register, TarWrite, DrwWrite, RdbuffRead, CswRead, TarRead, ApZeroRead, DrwRead}
+use Rattle.swd_port.specs.Choices.{Mark, Clean, Wait, Flip, Deaf, Mute, IsPortMark, port_flip_of, is_port_wait}
+use Rattle.swd_port.specs.Answers.{Reply, Okay, Waits, Faults, Silent, port_seen_at}
+use Rattle.swd_port.specs.Completion.{port_completed, pending_fails, memory_after_pending, tar_after_pending}
+use Rattle.swd_port.specs.Asking.{port_reply, port_after_reply, port_target_after, port_buffer_once_read}
+use Rattle.swd_port.specs.Asking.{is_port_posted, port_line_after, port_phase_after, pending_drw_once_read}
+use Rattle.swd_port.specs.Moving.{port_bits_driven, port_after_take, PortArrival, Arrives, Damaged, Unawaited}
+use Rattle.swd_port.specs.Moving.{port_arrival, port_arrival_of, port_after_arrival, port_after_pass}
+use Rattle.swd_port.specs.Moving.{port_value_forgotten, tar_after_write, pending_after_write}
+use Rattle.swd_port.specs.Leading.{port_after_lead}
+use Rattle.swd_port.specs.Stories.{IsPortStep, port_due_by, port_at, FitsStory}
+use Rattle.swd_port.specs.Laws.NeverStuck.{PortReadsWords}
+use Rattle.swd_port.specs.Laws.Sessions.{PortHasWords, PortCallsChosen, PortSession, pending_write_word}
+use Rattle.swd_port.specs.Laws.Sessions.{MadePortHasWords, PortStepForEachCue, PortSessionFits}
 use Rattle.swd_port.proofs.AnswerLaws.{answer_laws}
-use Rattle.swd_port.proofs.CallLaws.{due_after_step}
-use Rattle.swd_port.proofs.MapLemmas.{get_same, get_other}
-use Rattle.swd_port.proofs.NeverStuckLaws.{zeros, zeros_are, asks_zeros, completed_buffer, value_word}
+use Rattle.swd_port.proofs.CallLaws.{port_due_after_step}
+use Rattle.swd_port.proofs.MapLemmas.{port_map_get_same, port_map_get_other}
+use Rattle.swd_port.proofs.NeverStuckLaws.{port_zeros, port_zeros_fit, port_asks_with_zeros, buffer_word_after_pending}
+use Rattle.swd_port.proofs.NeverStuckLaws.{port_value_range}
 
 -- words of the memory after a write
 stored : (m : FinMap nat_cmp ℕ) (k v q : ℕ) → v < 2 ^ 32 → unwrap_or (get m q) 0 < 2 ^ 32
     → (q ≡ k) ⊎ (q ≡ k → ⊥) → unwrap_or (get (insert m k v) q) 0 < 2 ^ 32
-stored m k v q word h (inl e) = subst (λ o. unwrap_or o 0 < 2 ^ 32) (sym (get_same m k v q e)) word
-stored m k v q word h (inr d) = subst (λ o. unwrap_or o 0 < 2 ^ 32) (sym (get_other m k v q d)) h
+stored m k v q word h (inl e) = subst (λ o. unwrap_or o 0 < 2 ^ 32) (sym (port_map_get_same m k v q e)) word
+stored m k v q word h (inr d) = subst (λ o. unwrap_or o 0 < 2 ^ 32) (sym (port_map_get_other m k v q d)) h
 
 abbrev AreStored : PlainMemory → Type 0
-AreStored m = (at : ℕ) → word_at at m < 2 ^ 32
+AreStored m = (at : ℕ) → plain_word_at at m < 2 ^ 32
 
 stored_if : (b : Bool) (m n : PlainMemory) → AreStored m → AreStored n → AreStored (if b then m else n)
 stored_if true m n g h = g
 stored_if false m n g h = h
 
-stored_after : (pending : Option Drw) (at : ℕ) (m : PlainMemory) → word_pending pending < 2 ^ 32 → AreStored m
-    → AreStored (memory_after pending at m)
+stored_after : (pending : Option Drw) (at : ℕ) (m : PlainMemory) → pending_write_word pending < 2 ^ 32 → AreStored m
+    → AreStored (memory_after_pending pending at m)
 stored_after None at m word h = h
 stored_after (Some Reads) at m word h = stored_if _ _ m h h
 stored_after (Some (Writes v)) at m word h =
@@ -60,22 +62,22 @@ stored_after (Some (Writes v)) at m word h =
 
 -- TAR after the pending transfer
 advanced : (pending : Option Drw) (failed increments : Bool) (tar : Option ℕ) → IfSome tar (λ word. word < 2 ^ 32)
-    → IfSome (tar_after pending failed increments false tar) (λ word. word < 2 ^ 32)
+    → IfSome (tar_after_pending pending failed increments false tar) (λ word. word < 2 ^ 32)
 advanced None failed increments tar h = h
 advanced (Some drw) true increments tar h = tt
 advanced (Some drw) false true None h = tt
 advanced (Some drw) false true (Some at) h = omega arith
 advanced (Some drw) false false tar h = h
 
-completed_words : (s : Port) → AreWords s → AreWords (completed zeros s)
+completed_words : (s : Port) → PortHasWords s → PortHasWords (port_completed port_zeros s)
 completed_words s w =
     let x = s.target in
     let at = unwrap_or x.tar 0 in
-    let failed = fails x.pending at x.memory in
+    let failed = pending_fails x.pending at x.memory in
     record {
       reads = record {
         identification = w.reads.identification;
-        buffer = completed_buffer x.pending failed at x.memory x.buffer w.reads.memory w.reads.buffer;
+        buffer = buffer_word_after_pending x.pending failed at x.memory x.buffer w.reads.memory w.reads.buffer;
         last_returned = w.reads.last_returned;
         memory = stored_after x.pending at x.memory w.pending w.reads.memory;
       };
@@ -90,7 +92,7 @@ csw_word_read false upper = omega arith
 
 -- what an OK leaves in the read buffer, in the last returned value, and pending
 buffered : (r : Register) (csw : ℕ) (tar buffer : Option ℕ) → csw < 2 ^ 32 → IfSome tar (λ word. word < 2 ^ 32)
-    → IfSome buffer (λ word. word < 2 ^ 32) → IfSome (buffer_once_read r csw tar buffer) (λ word. word < 2 ^ 32)
+    → IfSome buffer (λ word. word < 2 ^ 32) → IfSome (port_buffer_once_read r csw tar buffer) (λ word. word < 2 ^ 32)
 buffered RdbuffRead csw tar buffer c t b = tt
 buffered CswRead csw tar buffer c t b = c
 buffered TarRead csw tar buffer c t b = t
@@ -102,33 +104,34 @@ chosen : (b : Bool) (x y : Option ℕ) → IfSome x (λ word. word < 2 ^ 32) →
 chosen true x y g h = g
 chosen false x y g h = h
 
-pending_read : (r : Register) (pending : Option Drw) → word_pending pending < 2 ^ 32
-    → word_pending (pending_once_read r pending) < 2 ^ 32
+pending_read : (r : Register) (pending : Option Drw) → pending_write_word pending < 2 ^ 32
+    → pending_write_word (pending_drw_once_read r pending) < 2 ^ 32
 pending_read DrwRead pending h = omega arith
 pending_read r pending h = h
 
-flipped_range : (mark : Mark) (bits : ℕ) → IsMark mark → bits < 2 ^ 33 → flipped (flip_of mark) bits < 2 ^ 33
+flipped_range : (mark : Mark) (bits : ℕ) → IsPortMark mark → bits < 2 ^ 33
+    → port_flipped (port_flip_of mark) bits < 2 ^ 33
 flipped_range (Flip place) bits legal h = xor_lt 33 bits (2 ^ place) h (pow-lt legal)
 flipped_range Clean bits legal h = h
 flipped_range Wait bits legal h = h
 flipped_range Deaf bits legal h = h
 flipped_range (Mute place) bits legal h = h
 
-driven_after : (mark : Mark) (reply : Reply) (read : Bool) (r : Register) (value : ℕ) (line : Line) → IsMark mark
-    → value < 2 ^ 32 → bits_driven line < 2 ^ 33
-    → bits_driven (line_after reply (phase_after read r (flip_of mark) value) line) < 2 ^ 33
-driven_after mark Okay true r value line legal word h = flipped_range mark (phase_number value) legal (omega arith)
+driven_after : (mark : Mark) (reply : Reply) (read : Bool) (r : Register) (value : ℕ) (line : AfterAck)
+    → IsPortMark mark → value < 2 ^ 32 → port_bits_driven line < 2 ^ 33
+    → port_bits_driven (port_line_after reply (port_phase_after read r (port_flip_of mark) value) line) < 2 ^ 33
+driven_after mark Okay true r value line legal word h = flipped_range mark (data_phase_number value) legal (omega arith)
 driven_after mark Okay false r value line legal word h = omega arith
 driven_after mark Waits read r value line legal word h = h
 driven_after mark Faults read r value line legal word h = h
 driven_after mark Silent read r value line legal word h = h
 
-replied_words : (busy : Bool) (reply : Reply) (r : Register) (ap : Bool) (x : Target) → IsOfWords x
-    → IfSome x.tar (λ word. word < 2 ^ 32) → IsOfWords (target_after busy reply r ap x)
+replied_words : (busy : Bool) (reply : Reply) (r : Register) (ap : Bool) (x : Target) → PortReadsWords x
+    → IfSome x.tar (λ word. word < 2 ^ 32) → PortReadsWords (port_target_after busy reply r ap x)
 replied_words busy Okay r ap x w tar = record {
   identification = w.identification;
   buffer = buffered r _ x.tar x.buffer (csw_word_read x.increments x.csw_upper) tar w.buffer;
-  last_returned = chosen (is_posted r) x.buffer x.last_returned w.buffer w.last_returned;
+  last_returned = chosen (is_port_posted r) x.buffer x.last_returned w.buffer w.last_returned;
   memory = w.memory;
 }
 replied_words busy Waits r ap x w tar = record {
@@ -147,74 +150,74 @@ replied_words busy Silent r ap x w tar = w
 
 -- what a reply leaves as it was
 replied_tar : (busy : Bool) (reply : Reply) (r : Register) (ap : Bool) (x : Target)
-    → (target_after busy reply r ap x).tar ≡ x.tar
+    → (port_target_after busy reply r ap x).tar ≡ x.tar
 replied_tar busy Okay r ap x = refl
 replied_tar busy Waits r ap x = refl
 replied_tar busy Faults r ap x = refl
 replied_tar busy Silent r ap x = refl
 
-replied_pending : (busy : Bool) (reply : Reply) (r : Register) (ap : Bool) (x : Target) → word_pending x.pending < 2 ^ 32
-    → word_pending (target_after busy reply r ap x).pending < 2 ^ 32
+replied_pending : (busy : Bool) (reply : Reply) (r : Register) (ap : Bool) (x : Target)
+    → pending_write_word x.pending < 2 ^ 32 → pending_write_word (port_target_after busy reply r ap x).pending < 2 ^ 32
 replied_pending busy Okay r ap x h = pending_read r x.pending h
 replied_pending busy Waits r ap x h = h
 replied_pending busy Faults r ap x h = h
 replied_pending busy Silent r ap x h = h
 
-asked_words : (mark : Mark) (q : Request) (a : Port) → IsMark mark → AreWords a →
-    let r = register a.target.select q in
-    AreWords (after_reply mark (reply_in mark a.target q) r q zeros a)
+asked_words : (mark : Mark) (q : Request) (a : Port) → IsPortMark mark → PortHasWords a →
+    let r = port_register a.target.select q in
+    PortHasWords (port_after_reply mark (port_reply mark a.target q) r q port_zeros a)
 asked_words mark q a legal w =
     let x = a.target in
-    let r = register x.select q in
-    let reply = reply_in mark x q in
-    let busy = is_wait mark in
+    let r = port_register x.select q in
+    let reply = port_reply mark x q in
+    let busy = is_port_wait mark in
     record {
       reads = replied_words busy reply r q.ap x w.reads w.tar;
       tar = subst (λ o. IfSome o (λ word. word < 2 ^ 32)) (sym (replied_tar busy reply r q.ap x)) w.tar;
       pending = replied_pending busy reply r q.ap x w.pending;
       driven = driven_after mark reply q.read r _ a.link.line legal
-          (value_word busy r x w.reads.identification w.reads.buffer w.reads.last_returned) w.driven;
+          (port_value_range busy r x w.reads.identification w.reads.buffer w.reads.last_returned) w.driven;
     }
 
 -- what the 33 bits of a write leave
-abbrev IsArrived : Arrival → Type 0
+abbrev IsArrived : PortArrival → Type 0
 IsArrived (Arrives r word) = word < 2 ^ 32
 IsArrived a = Unit {0}
 
 arrived_if : (even : Bool) (r : Register) (sent : ℕ)
-    → IsArrived (arrival_of r (if even then Some (sent % 2 ^ 32) else None))
+    → IsArrived (port_arrival_of r (if even then Some (sent % 2 ^ 32) else None))
 arrived_if true r sent = omega arith
 arrived_if false r sent = tt
 
-arrived : (r : Register) (sent : ℕ) → IsArrived (arrival_of r (word_in sent))
+arrived : (r : Register) (sent : ℕ) → IsArrived (port_arrival_of r (data_phase_word sent))
 arrived r sent = arrived_if (count_ones sent % 2 == 0) r sent
 
-forgets : (a : Arrival) (value : Option ℕ) → IfSome value (λ word. word < 2 ^ 32)
-    → IfSome (forgotten a value) (λ word. word < 2 ^ 32)
+forgets : (a : PortArrival) (value : Option ℕ) → IfSome value (λ word. word < 2 ^ 32)
+    → IfSome (port_value_forgotten a value) (λ word. word < 2 ^ 32)
 forgets (Arrives r word) value h = chosen _ None value tt h
 forgets Unawaited value h = h
 forgets Damaged value h = h
 
-written_tar : (a : Arrival) (tar : Option ℕ) → IsArrived a → IfSome tar (λ word. word < 2 ^ 32)
-    → IfSome (tar_written a tar) (λ word. word < 2 ^ 32)
+written_tar : (a : PortArrival) (tar : Option ℕ) → IsArrived a → IfSome tar (λ word. word < 2 ^ 32)
+    → IfSome (tar_after_write a tar) (λ word. word < 2 ^ 32)
 written_tar (Arrives TarWrite word) tar a h = a
 written_tar (Arrives r word) tar a h = h
 written_tar Unawaited tar a h = h
 written_tar Damaged tar a h = h
 
-written_pending : (a : Arrival) (pending : Option Drw) → IsArrived a → word_pending pending < 2 ^ 32
-    → word_pending (pending_after a pending) < 2 ^ 32
+written_pending : (a : PortArrival) (pending : Option Drw) → IsArrived a → pending_write_word pending < 2 ^ 32
+    → pending_write_word (pending_after_write a pending) < 2 ^ 32
 written_pending (Arrives DrwWrite word) pending a h = a
 written_pending (Arrives r word) pending a h = h
 written_pending Unawaited pending a h = h
 written_pending Damaged pending a h = h
 
-arrives : (line : Line) (sent : ℕ) → IsArrived (arrival line sent)
-arrives (Awaits r flip) sent = arrived r (flipped flip sent)
+arrives : (line : AfterAck) (sent : ℕ) → IsArrived (port_arrival line sent)
+arrives (Awaits r flip) sent = arrived r (port_flipped flip sent)
 arrives (Drives bits) sent = tt
 arrives Idle sent = tt
 
-given_words : (a : Arrival) (s : Port) → IsArrived a → AreWords s → AreWords (after_arrival a s)
+given_words : (a : PortArrival) (s : Port) → IsArrived a → PortHasWords s → PortHasWords (port_after_arrival a s)
 given_words a s came w =
     let x = s.target in
     record {
@@ -230,10 +233,10 @@ given_words a s came w =
     }
 
 -- other steps change nothing of these
-same_words : (s t : Port) → AreWords s → t.target.identification ≡ s.target.identification
+same_words : (s t : Port) → PortHasWords s → t.target.identification ≡ s.target.identification
     → t.target.buffer ≡ s.target.buffer → t.target.last_returned ≡ s.target.last_returned
     → t.target.memory ≡ s.target.memory → t.target.tar ≡ s.target.tar → t.target.pending ≡ s.target.pending
-    → bits_driven t.link.line < 2 ^ 33 → AreWords t
+    → port_bits_driven t.link.line < 2 ^ 33 → PortHasWords t
 same_words s t w i b l m a p d = record {
   reads = record {
     identification = subst (λ n. n < 2 ^ 32) (sym i) w.reads.identification;
@@ -242,55 +245,64 @@ same_words s t w i b l m a p d = record {
     memory = subst AreStored (sym m) w.reads.memory;
   };
   tar = subst (λ o. IfSome o (λ word. word < 2 ^ 32)) (sym a) w.tar;
-  pending = subst (λ o. word_pending o < 2 ^ 32) (sym p) w.pending;
+  pending = subst (λ o. pending_write_word o < 2 ^ 32) (sym p) w.pending;
   driven = d;
 }
 
-line_led : (b : Bool) (line : Line) → bits_driven line < 2 ^ 33 → bits_driven (if b then Idle else line) < 2 ^ 33
+line_led : (b : Bool) (line : AfterAck) → port_bits_driven line < 2 ^ 33
+    → port_bits_driven (if b then Idle else line) < 2 ^ 33
 line_led true line h = omega arith
 line_led false line h = h
 
-seen_range : (mark : Mark) (reply : Reply) → IsMark mark → seen_at mark reply < 8
+seen_range : (mark : Mark) (reply : Reply) → IsPortMark mark → port_seen_at mark reply < 8
 seen_range mark reply legal = grind (arith, answer_laws)
 
 -- from a state whose values are words, each cue has a step to such a state again, under every mark
-pub each_step_goes_on : EachStepGoesOn
-each_step_goes_on mark (Lead ones undriven switch zeros) s legal w =
-    let t = after_lead ones s in (
+pub port_step_for_each_cue : PortStepForEachCue
+port_step_for_each_cue mark (Lead ones undriven switch zeros) s legal w =
+    let t = port_after_lead ones s in (
       0,
       t,
       refl,
       (s, t, inl refl, record { after = refl }, inl refl),
       same_words s t w refl refl refl refl refl refl (line_led (not (ones == 0)) s.link.line w.driven),
     )
-each_step_goes_on mark (Ask q) s legal w =
-    let a = completed zeros s in
-    let reply = reply_in mark a.target q in
-    let t = after_reply mark reply (register a.target.select q) q zeros a in (
-      seen_at mark reply,
+port_step_for_each_cue mark (Ask q) s legal w =
+    let a = port_completed port_zeros s in
+    let reply = port_reply mark a.target q in
+    let t = port_after_reply mark reply (port_register a.target.select q) q port_zeros a in (
+      port_seen_at mark reply,
       t,
       seen_range mark reply legal,
-      (a, t, mark, zeros, inr (zeros, zeros_are, refl), asks_zeros mark s q legal w.reads, inl refl),
+      (
+        a,
+        t,
+        mark,
+        port_zeros,
+        inr (port_zeros, port_zeros_fit, refl),
+        port_asks_with_zeros mark s q legal w.reads,
+        inl refl,
+      ),
       asked_words mark q a legal (completed_words s w),
     )
-each_step_goes_on mark Take s legal w =
-    let t = after_take s in (
-      bits_driven s.link.line,
+port_step_for_each_cue mark Take s legal w =
+    let t = port_after_take s in (
+      port_bits_driven s.link.line,
       t,
       w.driven,
       (s, t, inl refl, record { gets = refl; after = refl }, inl refl),
       same_words s t w refl refl refl refl refl refl (omega arith),
     )
-each_step_goes_on mark (Give sent) s legal w =
-    let t = after_arrival (arrival s.link.line sent) s in (
+port_step_for_each_cue mark (Give sent) s legal w =
+    let t = port_after_arrival (port_arrival s.link.line sent) s in (
       0,
       t,
       refl,
       (s, t, inl refl, record { after = refl }, inl refl),
-      given_words (arrival s.link.line sent) s (arrives s.link.line sent) w,
+      given_words (port_arrival s.link.line sent) s (arrives s.link.line sent) w,
     )
-each_step_goes_on mark Pass s legal w =
-    let t = after_pass s in (
+port_step_for_each_cue mark Pass s legal w =
+    let t = port_after_pass s in (
       0,
       t,
       refl,
@@ -299,8 +311,8 @@ each_step_goes_on mark Pass s legal w =
     )
 
 -- a state before any call is such a state, where the identification and the memory's words are below 2^32
-pub made_of_words : MadeOfWords
-made_of_words identification m i h = record {
+pub made_port_has_words : MadePortHasWords
+made_port_has_words identification m i h = record {
   reads = record { identification = i; buffer = tt; last_returned = tt; memory = h };
   tar = omega arith;
   pending = omega arith;
@@ -317,16 +329,16 @@ shown_as s t due same e =
 record Reached : Type 0 where
   calls : List Call
   port : Port
-  words : AreWords port
+  words : PortHasWords port
 
-module _ (next : List Call → Cue) (marks : ℕ → Mark) (s : Port) (legal : (k : ℕ) → IsMark (marks k)) (w : AreWords s)
-    (rests : s.link.due ≡ Nothing) where
+module _ (next : List Call → Cue) (marks : ℕ → Mark) (s : Port) (legal : (k : ℕ) → IsPortMark (marks k))
+    (w : PortHasWords s) (rests : s.link.due ≡ Nothing) where
   -- the next call, under the mark of its number
   abbrev reach : ℕ → Reached
   reach zero = record { calls = []; port = s; words = w }
   reach (suc k) =
       let r = reach k in
-      let went = each_step_goes_on (marks k) (next r.calls) r.port (legal k) r.words in
+      let went = port_step_for_each_cue (marks k) (next r.calls) r.port (legal k) r.words in
       record { calls = record { cue = next r.calls; seen = went.0 } ∷ r.calls; port = went.1; words = went.4 }
 
   abbrev story : ℕ → Port
@@ -336,35 +348,36 @@ module _ (next : List Call → Cue) (marks : ℕ → Mark) (s : Port) (legal : (
   long zero = refl
   long (suc k) = ap suc (long k)
 
-  due : (k : ℕ) → (story k).link.due ≡ due_by (reach k).calls
+  due : (k : ℕ) → (story k).link.due ≡ port_due_by (reach k).calls
   due zero = rests
   due (suc k) =
       let r = reach k in
-      let went = each_step_goes_on (marks k) (next r.calls) r.port (legal k) r.words in
-      due_after_step (next r.calls) went.0 r.port went.1 went.3
+      let went = port_step_for_each_cue (marks k) (next r.calls) r.port (legal k) r.words in
+      port_due_after_step (next r.calls) went.0 r.port went.1 went.3
 
-  chose : (k : ℕ) → AreChosen next (reach k).calls
+  chose : (k : ℕ) → PortCallsChosen next (reach k).calls
   chose zero = tt
   chose (suc k) =
       let r = reach k in
-      let went = each_step_goes_on (marks k) (next r.calls) r.port (legal k) r.words in
+      let went = port_step_for_each_cue (marks k) (next r.calls) r.port (legal k) r.words in
       (refl, went.2, chose k)
 
   -- the port that a story shows after these calls is its state
   shown : (k : ℕ) → port_at story (reach k).calls ≡ story k
-  shown k = shown_as (story (length (reach k).calls)) (story k) (due_by (reach k).calls) (ap story (long k)) (due k)
+  shown k = shown_as (story (length (reach k).calls)) (story k) (port_due_by (reach k).calls) (ap story (long k))
+      (due k)
 
   fits : (k : ℕ) → FitsStory story (reach k).calls
   fits zero = tt
   fits (suc k) =
       let r = reach k in
-      let went = each_step_goes_on (marks k) (next r.calls) r.port (legal k) r.words in (
+      let went = port_step_for_each_cue (marks k) (next r.calls) r.port (legal k) r.words in (
         fits k,
-        subst (λ p. IsStep (next r.calls) went.0 p (port_at story (reach (suc k)).calls)) (sym (shown k))
-            (subst (λ p. IsStep (next r.calls) went.0 r.port p) (sym (shown (suc k))) went.3),
+        subst (λ p. IsPortStep (next r.calls) went.0 p (port_at story (reach (suc k)).calls)) (sym (shown k))
+            (subst (λ p. IsPortStep (next r.calls) went.0 r.port p) (sym (shown (suc k))) went.3),
       )
 
-  session : (n : ℕ) → Session next s n
+  session : (n : ℕ) → PortSession next s n
   session n = record {
     story = story;
     calls = (reach n).calls;
@@ -376,5 +389,5 @@ module _ (next : List Call → Cue) (marks : ℕ → Mark) (s : Port) (legal : (
 
 -- each host has a session of any length that is consistent with states of the model, whatever it chooses and whatever
 -- the marks
-pub each_session_fits : EachSessionFits
-each_session_fits next marks s n legal w rests = session next marks s legal w rests n
+pub port_session_fits : PortSessionFits
+port_session_fits next marks s n legal w rests = session next marks s legal w rests n

@@ -5,14 +5,14 @@ use Rattle.swd_bits.specs.declared.request.Reg4.{Reg4}
 use Rattle.swd_bits.specs.declared.request.Reg4.TheVariants.{R0, R4, R8, RC}
 use Rattle.swd_port.specs.declared.wire.Due.TheVariants.{Lost}
 use Rattle.swd_port.specs.PlainMemory.{PlainMemory, succeeds_at}
-use Rattle.swd_bits.specs.Phases.{phase_number}
-use Rattle.swd_port.specs.Port.{Port, CtrlStatRead, Drives, made, register}
+use Rattle.swd_bits.specs.Phases.{data_phase_number}
+use Rattle.swd_port.specs.Port.{Port, CtrlStatRead, Drives, port_made, port_register}
 use Rattle.swd_port.specs.Choices.{Clean, Wait, Choice}
-use Rattle.swd_port.specs.Answers.{seen_at}
-use Rattle.swd_port.specs.Completion.{completed}
-use Rattle.swd_port.specs.Asking.{reply_in, after_reply, value_in}
-use Rattle.swd_port.specs.Moving.{Arrives, Damaged, after_arrival, after_take}
-use Rattle.swd_port.specs.Leading.{after_lead}
+use Rattle.swd_port.specs.Answers.{port_seen_at}
+use Rattle.swd_port.specs.Completion.{port_completed}
+use Rattle.swd_port.specs.Asking.{port_reply, port_after_reply, port_value_in}
+use Rattle.swd_port.specs.Moving.{Arrives, Damaged, port_after_arrival, port_after_take}
+use Rattle.swd_port.specs.Leading.{port_after_lead}
 
 -- the choices of these runs
 abbrev choice : Choice
@@ -33,47 +33,48 @@ ap_write addr = record { ap = true; read = false; addr = addr }
 
 -- a clean request, and what the host sees of it
 abbrev asked : Request → Port → Port
-asked q s = after_reply Clean (reply_in Clean s.target q) (register s.target.select q) q choice s
+asked q s = port_after_reply Clean (port_reply Clean s.target q) (port_register s.target.select q) q choice s
 
 abbrev seen : Request → Port → ℕ
-seen q s = seen_at Clean (reply_in Clean s.target q)
+seen q s = port_seen_at Clean (port_reply Clean s.target q)
 
 -- a request of a busy target
 abbrev asked_busy : Request → Port → Port
-asked_busy q s = after_reply Wait (reply_in Wait s.target q) (register s.target.select q) q choice s
+asked_busy q s = port_after_reply Wait (port_reply Wait s.target q) (port_register s.target.select q) q choice s
 
 -- a read with its data phase, and the value that it gives
 abbrev taken : Request → Port → Port
-taken q s = after_take (asked q s)
+taken q s = port_after_take (asked q s)
 
 abbrev value : Request → Port → ℕ
-value q s = value_in false (register s.target.select q) choice.filler s.target
+value q s = port_value_in false (port_register s.target.select q) choice.filler s.target
 
 -- a write whose word arrives, and one whose data is damaged
 abbrev given : Request → ℕ → Port → Port
-given q word s = after_arrival (Arrives (register s.target.select q) word) (asked q s)
+given q word s = port_after_arrival (Arrives (port_register s.target.select q) word) (asked q s)
 
 abbrev damaged : Request → Port → Port
-damaged q s = after_arrival Damaged (asked q s)
+damaged q s = port_after_arrival Damaged (asked q s)
 
 -- a target that was reset and read, and one that is set up for transfers
 abbrev live : PlainMemory → Port
-live m = taken (dp_read R0) (after_lead 56 (made 0x2ba0_1477 m))
+live m = taken (dp_read R0) (port_after_lead 56 (port_made 0x2ba0_1477 m))
 
 abbrev up : PlainMemory → Port
 up m = given (ap_write R0) 0x2300_0012 (given (dp_write R4) 0x5000_0000 (live m))
 
-before_any_lead : (m : PlainMemory) → seen (dp_read R0) (made 0x2ba0_1477 m) ≡ 7
+before_any_lead : (m : PlainMemory) → seen (dp_read R0) (port_made 0x2ba0_1477 m) ≡ 7
 before_any_lead m = refl
 
-lost_before_any_lead : (m : PlainMemory) → (asked (dp_read R0) (made 0x2ba0_1477 m)).link.due ≡ Lost
+lost_before_any_lead : (m : PlainMemory) → (asked (dp_read R0) (port_made 0x2ba0_1477 m)).link.due ≡ Lost
 lost_before_any_lead m = refl
 
 dpidr : (m : PlainMemory)
-    → (asked (dp_read R0) (after_lead 56 (made 0x2ba0_1477 m))).link.line ≡ Drives (phase_number 0x2ba0_1477)
+    → (asked (dp_read R0) (port_after_lead 56 (port_made 0x2ba0_1477 m))).link.line
+    ≡ Drives (data_phase_number 0x2ba0_1477)
 dpidr m = refl
 
-unknown_buffer : (m : PlainMemory) → (asked (dp_read RC) (live m)).link.line ≡ Drives (phase_number 0xa5a5_a5a5)
+unknown_buffer : (m : PlainMemory) → (asked (dp_read RC) (live m)).link.line ≡ Drives (data_phase_number 0xa5a5_a5a5)
 unknown_buffer m = refl
 
 read_ok : (m : PlainMemory) → value (dp_read R4) (taken (dp_read RC) (live m)) ≡ 0x0000_0040
@@ -81,7 +82,7 @@ read_ok m = refl
 
 -- a line reset in place of the data of a SELECT write
 abbrev cut_short : PlainMemory → Port
-cut_short m = after_lead 100 (asked (dp_write R8) (live m))
+cut_short m = port_after_lead 100 (asked (dp_write R8) (live m))
 
 silent_while_fresh : (m : PlainMemory) → seen (dp_read R4) (cut_short m) ≡ 7
 silent_while_fresh m = refl
@@ -111,7 +112,7 @@ abbrev late : PlainMemory → Port
 late m = asked_busy (dp_read R4) (given (dp_write R4) 0x5000_0000 (live m))
 
 late_in_status : (m : PlainMemory)
-    → value_in true CtrlStatRead choice.filler (given (dp_write R4) 0x5000_0000 (live m)).target ≡ 0x5000_0000
+    → port_value_in true CtrlStatRead choice.filler (given (dp_write R4) 0x5000_0000 (live m)).target ≡ 0x5000_0000
 late_in_status m = refl
 
 late_is_disturbed : (m : PlainMemory) → (late m).tally.disturbed ≡ 1
@@ -128,11 +129,11 @@ late_no_more_for_access_ports m = refl
 
 -- once it was seen, no busy target finds it late
 stays_there : (m : PlainMemory)
-    → value_in true CtrlStatRead choice.filler (asked (dp_read R4) (late m)).target ≡ 0xf000_0000
+    → port_value_in true CtrlStatRead choice.filler (asked (dp_read R4) (late m)).target ≡ 0xf000_0000
 stays_there m = refl
 
 -- an access port that answers has it
-there_by_access : (m : PlainMemory) → value_in true CtrlStatRead choice.filler (up m).target ≡ 0xf000_0000
+there_by_access : (m : PlainMemory) → port_value_in true CtrlStatRead choice.filler (up m).target ≡ 0xf000_0000
 there_by_access m = refl
 
 csw_is_posted : (m : PlainMemory) → value (ap_read R0) (up m) ≡ 0xa5a5_a5a5
@@ -148,7 +149,7 @@ damaged_write_keeps_returned m = refl
 
 -- a write to an address where the memory has no word, done at once
 abbrev failed : PlainMemory → Port
-failed m = completed choice (given (ap_write RC) 1 (given (ap_write R4) 0x3000_0000 (up m)))
+failed m = port_completed choice (given (ap_write RC) 1 (given (ap_write R4) 0x3000_0000 (up m)))
 
 bus_error_is_a_fault : (m : PlainMemory) → succeeds_at 0x3000_0000 m ≡ false → seen (dp_read RC) (failed m) ≡ 4
 bus_error_is_a_fault m none = rw none refl
@@ -163,7 +164,7 @@ bus_error_cleared m none = rw none refl
 
 -- a write to an address where it has one, at the end of a kilobyte
 abbrev moved : Bool → PlainMemory → Port
-moved wraps m = completed (record choice { wraps = wraps })
+moved wraps m = port_completed (record choice { wraps = wraps })
     (given (ap_write RC) 1 (given (ap_write R4) 0x2000_03fc (up m)))
 
 wraps_inside : (m : PlainMemory) → succeeds_at 0x2000_03fc m ≡ true

@@ -5,60 +5,62 @@ use Rattle.std.specs.Prelude.{ℕ, ◌≡◌, ◌<◌, ◌^◌, ◌+◌, ◌||�
 use Rattle.std.specs.Prelude.{unwrap_or}
 use Rattle.swd_bits.specs.declared.request.Request.{Request}
 use Rattle.swd_port.specs.Registers.{ctrl_stat_read, csw_read}
-use Rattle.swd_bits.specs.Phases.{phase_number}
-use Rattle.swd_port.specs.Phases.{flipped}
-use Rattle.swd_port.specs.Port.{Port, Target, Tally, Register, DpidrRead, CtrlStatRead, ResendRead, RdbuffRead}
+use Rattle.swd_bits.specs.Phases.{data_phase_number}
+use Rattle.swd_port.specs.Phases.{port_flipped}
+use Rattle.swd_port.specs.Port.{Port, Target, PortTally, Register, DpidrRead, CtrlStatRead, ResendRead, RdbuffRead}
 use Rattle.swd_port.specs.Port.{DpZeroRead, CswRead, CswWrite, TarRead, TarWrite, DrwRead, DrwWrite, ApZeroRead}
-use Rattle.swd_port.specs.Port.{ApIgnoredWrite, Live, PowerUp, Late, Seen, Line, Drives, Awaits, Drw}
-use Rattle.swd_port.specs.Port.{Reads, register}
-use Rattle.swd_port.specs.Choices.{Mark, IsMark, flip_of, is_wait, disturbs, loses, Choice, IsChoice}
-use Rattle.swd_port.specs.Answers.{Reply, Okay, Waits, Faults, Silent, is_exempt, is_dpidr, is_okay, is_there}
-use Rattle.swd_port.specs.Answers.{is_unpowered}
-use Rattle.swd_port.specs.Answers.{answer, reply_under, seen_at, Sees, due_after}
-use Rattle.swd_port.specs.Completion.{Completes}
+use Rattle.swd_port.specs.Port.{ApIgnoredWrite, Live, PowerUp, Late, Seen, AfterAck, Drives, Awaits, Drw, Reads}
+use Rattle.swd_port.specs.Port.{port_register}
+use Rattle.swd_port.specs.Choices.{Mark, IsPortMark, port_flip_of, is_port_wait, port_disturbs, port_loses, Choice}
+use Rattle.swd_port.specs.Choices.{IsPortChoice}
+use Rattle.swd_port.specs.Answers.{Reply, Okay, Waits, Faults, Silent, is_exempt_register, is_dpidr_register}
+use Rattle.swd_port.specs.Answers.{is_port_okay, is_port_power_there, is_port_unpowered, port_answer_by}
+use Rattle.swd_port.specs.Answers.{port_reply_under, port_seen_at, PortSees, port_due_after}
+use Rattle.swd_port.specs.Completion.{PortCompletes}
 
 -- an AP read or the RDBUFF read: they return the read buffer, and READOK is about them
-abbrev pub is_posted : Register → Bool
-is_posted RdbuffRead = true
-is_posted CswRead = true
-is_posted TarRead = true
-is_posted DrwRead = true
-is_posted ApZeroRead = true
-is_posted _ = false
+abbrev pub is_port_posted : Register → Bool
+is_port_posted RdbuffRead = true
+is_port_posted CswRead = true
+is_port_posted TarRead = true
+is_port_posted DrwRead = true
+is_port_posted ApZeroRead = true
+is_port_posted _ = false
 
 -- debug power is on
-abbrev pub has_power : Target → Bool
-has_power x = x.debug_power && is_there x.power_up
+abbrev pub port_has_power : Target → Bool
+port_has_power x = x.debug_power && is_port_power_there x.power_up
 
 -- the answer in a state where no WAIT is asked for
-abbrev pub answer_in : Target → Request → Reply
-answer_in x q = answer x.reset x.sticky_error x.write_error (is_unpowered q.ap (has_power x)) (register x.select q)
+abbrev pub port_answer : Target → Request → Reply
+port_answer x q = port_answer_by x.reset x.sticky_error x.write_error (is_port_unpowered q.ap (port_has_power x))
+    (port_register x.select q)
 
 -- the reply in a state under a mark (this project's choice)
-abbrev pub reply_in : Mark → Target → Request → Reply
-reply_in mark x q = reply_under mark (register x.select q) (answer_in x q)
+abbrev pub port_reply : Mark → Target → Request → Reply
+port_reply mark x q = port_reply_under mark (port_register x.select q) (port_answer x q)
 
 -- The word that a read returns, from the words of DPIDR and CTRL/STAT, the last returned value, the read buffer, and a
 -- filler for an unknown word. RESEND returns the last returned value again; an AP read and RDBUFF return the read
 -- buffer.
-abbrev pub value_read : Register → ℕ → ℕ → Option ℕ → Option ℕ → ℕ → ℕ
-value_read DpidrRead identification status last_returned buffer filler = identification
-value_read CtrlStatRead identification status last_returned buffer filler = status
-value_read ResendRead identification status last_returned buffer filler = unwrap_or last_returned filler
-value_read DpZeroRead identification status last_returned buffer filler = 0
-value_read r identification status last_returned buffer filler = unwrap_or buffer filler
+abbrev pub port_value_read : Register → ℕ → ℕ → Option ℕ → Option ℕ → ℕ → ℕ
+port_value_read DpidrRead identification status last_returned buffer filler = identification
+port_value_read CtrlStatRead identification status last_returned buffer filler = status
+port_value_read ResendRead identification status last_returned buffer filler = unwrap_or last_returned filler
+port_value_read DpZeroRead identification status last_returned buffer filler = 0
+port_value_read r identification status last_returned buffer filler = unwrap_or buffer filler
 
 -- a request for a register of an access port
-abbrev pub is_access_port : Register → Bool
-is_access_port CswRead = true
-is_access_port CswWrite = true
-is_access_port TarRead = true
-is_access_port TarWrite = true
-is_access_port DrwRead = true
-is_access_port DrwWrite = true
-is_access_port ApZeroRead = true
-is_access_port ApIgnoredWrite = true
-is_access_port r = false
+abbrev pub is_access_port_register : Register → Bool
+is_access_port_register CswRead = true
+is_access_port_register CswWrite = true
+is_access_port_register TarRead = true
+is_access_port_register TarWrite = true
+is_access_port_register DrwRead = true
+is_access_port_register DrwWrite = true
+is_access_port_register ApZeroRead = true
+is_access_port_register ApIgnoredWrite = true
+is_access_port_register r = false
 
 -- The state of power-up after an OK from a target that is busy or not. A read of CTRL/STAT finds power-up acknowledged,
 -- except at a busy target where it wasn't read as acknowledged before. An access port that answers has power (this
@@ -66,110 +68,117 @@ is_access_port r = false
 abbrev pub power_up_after : Bool → Register → PowerUp → PowerUp
 power_up_after busy CtrlStatRead Seen = Seen
 power_up_after busy CtrlStatRead u = if busy then Late else Seen
-power_up_after busy r u = if is_access_port r then Seen else u
+power_up_after busy r u = if is_access_port_register r then Seen else u
 
 -- the word that CTRL/STAT returns in a state, where the target is busy or not
-abbrev pub status_in : Bool → Target → ℕ
-status_in busy x = ctrl_stat_read x.sticky_error x.read_ok x.write_error x.debug_power x.system_power
-    (is_there (power_up_after busy CtrlStatRead x.power_up))
+abbrev pub ctrl_stat_word_in : Bool → Target → ℕ
+ctrl_stat_word_in busy x = ctrl_stat_read x.sticky_error x.read_ok x.write_error x.debug_power x.system_power
+    (is_port_power_there (power_up_after busy CtrlStatRead x.power_up))
 
 -- the word that a read returns in a state; the filler replaces an unknown one (this project's choice)
-abbrev pub value_in : Bool → Register → ℕ → Target → ℕ
-value_in busy r filler x = value_read r x.identification (status_in busy x) x.last_returned x.buffer filler
+abbrev pub port_value_in : Bool → Register → ℕ → Target → ℕ
+port_value_in busy r filler x = port_value_read r x.identification (ctrl_stat_word_in busy x) x.last_returned x.buffer
+    filler
 
 -- the data phase after an OK; its 33 bits arrive with this bit changed, if any (the changed bit: this project's choice)
-abbrev pub phase_after : Bool → Register → Option ℕ → ℕ → Line
-phase_after read r flip value = if read then Drives (flipped flip (phase_number value)) else Awaits r flip
+abbrev pub port_phase_after : Bool → Register → Option ℕ → ℕ → AfterAck
+port_phase_after read r flip value = if read then Drives (port_flipped flip (data_phase_number value)) else Awaits r
+    flip
 
 -- only an OK is followed by a data phase
-abbrev pub line_after : Reply → Line → Line → Line
-line_after reply phase line = if is_okay reply then phase else line
+abbrev pub port_line_after : Reply → AfterAck → AfterAck → AfterAck
+port_line_after reply phase line = if is_port_okay reply then phase else line
 
 -- The read buffer after a read returned it. An AP read puts its own result there, DRW when its transfer is done; RDBUFF
 -- leaves it unknown (an unknown TAR is an unknown result).
-abbrev pub buffer_once_read : Register → ℕ → Option ℕ → Option ℕ → Option ℕ
-buffer_once_read RdbuffRead csw tar buffer = None
-buffer_once_read CswRead csw tar buffer = Some csw
-buffer_once_read TarRead csw tar buffer = tar
-buffer_once_read ApZeroRead csw tar buffer = Some 0
-buffer_once_read r csw tar buffer = buffer
+abbrev pub port_buffer_once_read : Register → ℕ → Option ℕ → Option ℕ → Option ℕ
+port_buffer_once_read RdbuffRead csw tar buffer = None
+port_buffer_once_read CswRead csw tar buffer = Some csw
+port_buffer_once_read TarRead csw tar buffer = tar
+port_buffer_once_read ApZeroRead csw tar buffer = Some 0
+port_buffer_once_read r csw tar buffer = buffer
 
 -- a DRW read is pending from its OK on
-abbrev pub pending_once_read : Register → Option Drw → Option Drw
-pending_once_read DrwRead pending = Some Reads
-pending_once_read r pending = pending
+abbrev pub pending_drw_once_read : Register → Option Drw → Option Drw
+pending_drw_once_read DrwRead pending = Some Reads
+pending_drw_once_read r pending = pending
 
 -- The target after an OK. A DPIDR read makes a fresh target live, and a read has its effects. A write's effects come
 -- with its data phase. READOK is 1 if the last AP read or RDBUFF read that was answered got OK.
-abbrev pub after_okay : Bool → Register → Target → Target
-after_okay busy r x = record x {
-  reset = if is_dpidr r then Live else x.reset;
-  read_ok = if is_posted r then true else x.read_ok;
-  buffer = buffer_once_read r (csw_read x.increments x.csw_upper) x.tar x.buffer;
-  last_returned = if is_posted r then x.buffer else x.last_returned;
-  pending = pending_once_read r x.pending;
+abbrev pub port_after_okay : Bool → Register → Target → Target
+port_after_okay busy r x = record x {
+  reset = if is_dpidr_register r then Live else x.reset;
+  read_ok = if is_port_posted r then true else x.read_ok;
+  buffer = port_buffer_once_read r (csw_read x.increments x.csw_upper) x.tar x.buffer;
+  last_returned = if is_port_posted r then x.buffer else x.last_returned;
+  pending = pending_drw_once_read r x.pending;
   power_up = power_up_after busy r x.power_up;
 }
 
 -- the target after WAIT: only READOK changes
-abbrev pub after_wait : Register → Target → Target
-after_wait r x = record x { read_ok = if is_posted r then false else x.read_ok }
+abbrev pub port_after_wait : Register → Target → Target
+port_after_wait r x = record x { read_ok = if is_port_posted r then false else x.read_ok }
 
 -- the target after FAULT: only READOK changes, and STICKYERR for an AP access without power (that FAULT: this project's
 -- choice)
-abbrev pub after_fault : Register → Bool → Target → Target
-after_fault r ap x = record x {
-  read_ok = if is_posted r then false else x.read_ok;
-  sticky_error = x.sticky_error || is_unpowered ap (has_power x);
+abbrev pub port_after_fault : Register → Bool → Target → Target
+port_after_fault r ap x = record x {
+  read_ok = if is_port_posted r then false else x.read_ok;
+  sticky_error = x.sticky_error || is_port_unpowered ap (port_has_power x);
 }
 
 -- the target after a reply; silence changes nothing
-abbrev pub target_after : Bool → Reply → Register → Bool → Target → Target
-target_after busy Okay r ap x = after_okay busy r x
-target_after busy Waits r ap x = after_wait r x
-target_after busy Faults r ap x = after_fault r ap x
-target_after busy Silent r ap x = x
+abbrev pub port_target_after : Bool → Reply → Register → Bool → Target → Target
+port_target_after busy Okay r ap x = port_after_okay busy r x
+port_target_after busy Waits r ap x = port_after_wait r x
+port_target_after busy Faults r ap x = port_after_fault r ap x
+port_target_after busy Silent r ap x = x
 
 -- the counts after one more request, by its mark (this project's choice)
-abbrev pub tally_after : Mark → Tally → Tally
-tally_after mark n = record { asked = n.asked + 1; disturbed = n.disturbed + disturbs mark; lost = n.lost + loses mark }
+abbrev pub port_tally_after : Mark → PortTally → PortTally
+port_tally_after mark n = record {
+  asked = n.asked + 1;
+  disturbed = n.disturbed + port_disturbs mark;
+  lost = n.lost + port_loses mark;
+}
 
 -- the state after a reply to a request
-abbrev pub after_reply : Mark → Reply → Register → Request → Choice → Port → Port
-after_reply mark reply r q c s = record {
+abbrev pub port_after_reply : Mark → Reply → Register → Request → Choice → Port → Port
+port_after_reply mark reply r q c s = record {
   link = record {
-    due = due_after q.read (seen_at mark reply);
-    line = line_after reply (phase_after q.read r (flip_of mark) (value_in (is_wait mark) r c.filler s.target))
-        s.link.line;
+    due = port_due_after q.read (port_seen_at mark reply);
+    line = port_line_after reply (port_phase_after q.read r (port_flip_of mark)
+        (port_value_in (is_port_wait mark) r c.filler s.target)) s.link.line;
   };
-  target = target_after (is_wait mark) reply r q.ap s.target;
-  tally = tally_after mark s.tally;
+  target = port_target_after (is_port_wait mark) reply r q.ap s.target;
+  tally = port_tally_after mark s.tally;
 }
 
 -- The pending transfer has to complete before an OK or FAULT to a request that isn't exempt, so that its error makes
 -- that answer FAULT. Before WAIT, silence, and the OK to an exempt request it may still be pending (this project's
 -- choice).
-abbrev pub IsSettled : Reply → Register → Option Drw → Type 0
-IsSettled Okay r pending = is_exempt r ≡ false → pending ≡ None
-IsSettled Faults r pending = is_exempt r ≡ false → pending ≡ None
-IsSettled reply r pending = Unit {0}
+abbrev pub IsPendingSettled : Reply → Register → Option Drw → Type 0
+IsPendingSettled Okay r pending = is_exempt_register r ≡ false → pending ≡ None
+IsPendingSettled Faults r pending = is_exempt_register r ≡ false → pending ≡ None
+IsPendingSettled reply r pending = Unit {0}
 
 -- what a read returns at its OK is a word: 32 bits
-abbrev pub IsWordRead : Reply → Bool → ℕ → Type 0
-IsWordRead Okay true value = value < 2 ^ 32
-IsWordRead reply read value = Unit {0}
+abbrev pub IsPortWordRead : Reply → Bool → ℕ → Type 0
+IsPortWordRead Okay true value = value < 2 ^ 32
+IsPortWordRead reply read value = Unit {0}
 
 -- a request with its mark and the target's choice, without completion: what the host sees, and the state after it
-pub record AsksNow (mark : Mark) (c : Choice) (s : Port) (q : Request) (seen : ℕ) (t : Port) : Type 0 where
-  pub legal : IsMark mark
-  pub choice : IsChoice c
-  pub settled : IsSettled (reply_in mark s.target q) (register s.target.select q) s.target.pending
-  pub word : IsWordRead (reply_in mark s.target q) q.read
-      (value_in (is_wait mark) (register s.target.select q) c.filler s.target)
-  pub sees : Sees mark (reply_in mark s.target q) seen
-  pub after : t ≡ after_reply mark (reply_in mark s.target q) (register s.target.select q) q c s
+pub record PortAsksNow (mark : Mark) (c : Choice) (s : Port) (q : Request) (seen : ℕ) (t : Port) : Type 0 where
+  pub legal : IsPortMark mark
+  pub choice : IsPortChoice c
+  pub settled : IsPendingSettled (port_reply mark s.target q) (port_register s.target.select q) s.target.pending
+  pub word : IsPortWordRead (port_reply mark s.target q) q.read
+      (port_value_in (is_port_wait mark) (port_register s.target.select q) c.filler s.target)
+  pub sees : PortSees mark (port_reply mark s.target q) seen
+  pub after : t ≡ port_after_reply mark (port_reply mark s.target q) (port_register s.target.select q) q c s
 
 -- one call of `ask`: some mark, some choice, and completion before and after
-abbrev pub Asks : Port → Request → ℕ → Port → Type 0
-Asks s q seen t =
-    (a : Port) × (b : Port) × (mark : Mark) × (c : Choice) × Completes s a × AsksNow mark c a q seen b × Completes b t
+abbrev pub PortAsks : Port → Request → ℕ → Port → Type 0
+PortAsks s q seen t =
+    (a : Port) × (b : Port) × (mark : Mark) × (c : Choice) × PortCompletes s a × PortAsksNow mark c a q seen b
+    × PortCompletes b t

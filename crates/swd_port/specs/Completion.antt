@@ -6,63 +6,63 @@ use Rattle.std.specs.Prelude.{Some, None, unwrap_or}
 use Rattle.std.specs.Option.{option_map}
 use Rattle.swd_port.specs.declared.access.Access.{Access}
 use Rattle.swd_port.specs.declared.access.Access.TheVariants.{Read, Write}
-use Rattle.swd_port.specs.PlainMemory.{PlainMemory, succeeds_at, word_at, plain_after}
+use Rattle.swd_port.specs.PlainMemory.{PlainMemory, succeeds_at, plain_word_at, plain_after}
 use Rattle.swd_port.specs.Port.{Port, Target, Drw, Reads, Writes}
-use Rattle.swd_port.specs.Choices.{Choice, IsChoice}
+use Rattle.swd_port.specs.Choices.{Choice, IsPortChoice}
 
 -- a DRW transfer at an address, as an access of the plain memory
-abbrev pub access_at : ℕ → Drw → Access
-access_at at Reads = Read at
-access_at at (Writes word) = Write at word
+abbrev pub pending_access_at : ℕ → Drw → Access
+pending_access_at at Reads = Read at
+pending_access_at at (Writes word) = Write at word
 
 -- the pending transfer is a bus error
-abbrev pub fails : Option Drw → ℕ → PlainMemory → Bool
-fails None at m = false
-fails (Some drw) at m = not (succeeds_at at m)
+abbrev pub pending_fails : Option Drw → ℕ → PlainMemory → Bool
+pending_fails None at m = false
+pending_fails (Some drw) at m = not (succeeds_at at m)
 
 -- the memory after the transfer (this project's choice)
-abbrev pub memory_after : Option Drw → ℕ → PlainMemory → PlainMemory
-memory_after None at m = m
-memory_after (Some drw) at m = plain_after (access_at at drw) m
+abbrev pub memory_after_pending : Option Drw → ℕ → PlainMemory → PlainMemory
+memory_after_pending None at m = m
+memory_after_pending (Some drw) at m = plain_after (pending_access_at at drw) m
 
 -- the address plus 4; at the end of a kilobyte the low ten bits wrap to 0, or it carries, modulo 2^32
-abbrev pub next_address : Bool → ℕ → ℕ
-next_address wraps at = if wraps then at / 1024 * 1024 + (at + 4) % 1024 else (at + 4) % 2 ^ 32
+abbrev pub port_tar_next_address : Bool → ℕ → ℕ
+port_tar_next_address wraps at = if wraps then at / 1024 * 1024 + (at + 4) % 1024 else (at + 4) % 2 ^ 32
 
 -- TAR after the transfer. After a bus error it is unknown, and an unknown TAR stays unknown (this project's choice).
 -- Otherwise it is 4 more where AddrInc is single, and unchanged where it is off.
-abbrev pub tar_after : Option Drw → Bool → Bool → Bool → Option ℕ → Option ℕ
-tar_after None failed increments wraps tar = tar
-tar_after (Some drw) failed increments wraps tar =
-    if failed then None else if increments then option_map (next_address wraps) tar else tar
+abbrev pub tar_after_pending : Option Drw → Bool → Bool → Bool → Option ℕ → Option ℕ
+tar_after_pending None failed increments wraps tar = tar
+tar_after_pending (Some drw) failed increments wraps tar =
+    if failed then None else if increments then option_map (port_tar_next_address wraps) tar else tar
 
 -- the read buffer after the transfer: the word of a read; unknown after a bus error (this project's choice)
-abbrev pub buffer_after : Option Drw → Bool → ℕ → PlainMemory → Option ℕ → Option ℕ
-buffer_after None failed at m buffer = buffer
-buffer_after (Some Reads) failed at m buffer = if failed then None else Some (word_at at m)
-buffer_after (Some (Writes word)) failed at m buffer = if failed then None else buffer
+abbrev pub buffer_after_pending : Option Drw → Bool → ℕ → PlainMemory → Option ℕ → Option ℕ
+buffer_after_pending None failed at m buffer = buffer
+buffer_after_pending (Some Reads) failed at m buffer = if failed then None else Some (plain_word_at at m)
+buffer_after_pending (Some (Writes word)) failed at m buffer = if failed then None else buffer
 
 -- The target after the pending transfer took effect, at TAR, or at the choice's address where TAR is unknown. Without a
 -- pending transfer it is unchanged. A bus error sets STICKYERR.
-abbrev pub completion_of : Choice → Target → Target
-completion_of c x =
+abbrev pub port_completion : Choice → Target → Target
+port_completion c x =
     let at = unwrap_or x.tar c.address in
-    let failed = fails x.pending at x.memory in
+    let failed = pending_fails x.pending at x.memory in
     record x {
       sticky_error = x.sticky_error || failed;
-      tar = tar_after x.pending failed x.increments c.wraps x.tar;
-      buffer = buffer_after x.pending failed at x.memory x.buffer;
+      tar = tar_after_pending x.pending failed x.increments c.wraps x.tar;
+      buffer = buffer_after_pending x.pending failed at x.memory x.buffer;
       pending = None;
-      memory = memory_after x.pending at x.memory;
+      memory = memory_after_pending x.pending at x.memory;
     }
 
-abbrev pub completed : Choice → Port → Port
-completed c s = record s { target = completion_of c s.target }
+abbrev pub port_completed : Choice → Port → Port
+port_completed c s = record s { target = port_completion c s.target }
 
 -- the pending transfer may take effect now, or not yet (when it does is this project's choice)
-abbrev pub Completes : Port → Port → Type 0
-Completes s t = (t ≡ s) ⊎ ((c : Choice) × IsChoice c × (t ≡ completed c s))
+abbrev pub PortCompletes : Port → Port → Type 0
+PortCompletes s t = (t ≡ s) ⊎ ((c : Choice) × IsPortChoice c × (t ≡ port_completed c s))
 
 -- the memory may become m once the pending transfer has taken effect
 abbrev pub MayBecome : Port → PlainMemory → Type 0
-MayBecome s m = (c : Choice) × IsChoice c × (m ≡ (completed c s).target.memory)
+MayBecome s m = (c : Choice) × IsPortChoice c × (m ≡ (port_completed c s).target.memory)

@@ -2,18 +2,18 @@
 -- follows from the definitions of the steps, which name the source of each rule.
 use Rattle.std.specs.Prelude.{ℕ, ◌≡◌, ◌⊎◌, ◌||◌, true, Option, Some, None}
 use Rattle.swd_port.specs.declared.wire.Due.TheVariants.{Nothing}
-use Rattle.swd_bits.specs.Phases.{word_in, IsPhaseOf, IsNoPhase}
-use Rattle.swd_port.specs.Port.{Port, Target, idle_link, Register, Fresh}
-use Rattle.swd_port.specs.Completion.{Completes}
-use Rattle.swd_port.specs.Moving.{Arrives, after_bits}
-use Rattle.swd_port.specs.Leading.{is_awaiting}
+use Rattle.swd_bits.specs.Phases.{data_phase_word, IsDataPhaseOf, IsNoDataPhase}
+use Rattle.swd_port.specs.Port.{Port, Target, port_idle_link, Register, Fresh}
+use Rattle.swd_port.specs.Completion.{PortCompletes}
+use Rattle.swd_port.specs.Moving.{Arrives, port_after_bits}
+use Rattle.swd_port.specs.Leading.{port_line_awaits}
 
 -- a step, with a possible completion before it and one after it
-abbrev pub Around : (Port → Port → Type 0) → Port → Port → Type 0
-Around Step s t = (a : Port) × (b : Port) × Completes s a × Step a b × Completes b t
+abbrev pub PortAround : (Port → Port → Type 0) → Port → Port → Type 0
+PortAround Step s t = (a : Port) × (b : Port) × PortCompletes s a × Step a b × PortCompletes b t
 
 -- what a completion keeps: all except STICKYERR, TAR, the read buffer, the pending transfer and the memory
-pub record Kept (s t : Port) : Type 0 where
+pub record PortKept (s t : Port) : Type 0 where
   pub link : t.link ≡ s.link
   pub tally : t.tally ≡ s.tally
   pub reset : t.target.reset ≡ s.target.reset
@@ -32,39 +32,43 @@ pub record Kept (s t : Port) : Type 0 where
   pub pending : (t.target.pending ≡ s.target.pending) ⊎ (t.target.pending ≡ None)
 
 -- nothing is due, and the target and the counts are unchanged
-pub record Passed (s t : Port) : Type 0 where
+pub record PortPassed (s t : Port) : Type 0 where
   pub due : t.link.due ≡ Nothing
   pub target : t.target ≡ s.target
   pub tally : t.tally ≡ s.tally
 
 -- the 33 bits that the host gets of a value: its phase, or no word's phase where a bit is changed
-pub data Got (flip : Option ℕ) (value bits : ℕ) : Type 0 where
-  whole : flip ≡ None → IsPhaseOf value bits → word_in bits ≡ Some value → Got flip value bits
-  damaged : (place : ℕ) → flip ≡ Some place → IsNoPhase bits → word_in bits ≡ None → Got flip value bits
+pub data PortPhaseGot (flip : Option ℕ) (value bits : ℕ) : Type 0 where
+  whole : flip ≡ None → IsDataPhaseOf value bits → data_phase_word bits ≡ Some value → PortPhaseGot flip value bits
+  damaged : (place : ℕ) → flip ≡ Some place → IsNoDataPhase bits → data_phase_word bits ≡ None
+      → PortPhaseGot flip value bits
 
 -- a write was done with its word
-pub record Gave (r : Register) (word : ℕ) (s t : Port) : Type 0 where
-  pub link : t.link ≡ idle_link
-  pub target : t.target ≡ after_bits (Arrives r word) s.target
+pub record PortWritten (r : Register) (word : ℕ) (s t : Port) : Type 0 where
+  pub link : t.link ≡ port_idle_link
+  pub target : t.target ≡ port_after_bits (Arrives r word) s.target
   pub tally : t.tally ≡ s.tally
 
 -- a write whose data was corrupted: it isn't done, and WDATAERR is set
-pub record Spoiled (s t : Port) : Type 0 where
-  pub link : t.link ≡ idle_link
+pub record PortWriteSpoiled (s t : Port) : Type 0 where
+  pub link : t.link ≡ port_idle_link
   pub target : t.target ≡ record s.target { write_error = true }
   pub tally : t.tally ≡ s.tally
 
 -- what the target does with the 33 bits of a word, by the bit that was changed
-pub data Given (r : Register) (flip : Option ℕ) (word : ℕ) (s t : Port) : Type 0 where
-  whole : flip ≡ None → Gave r word s t → Given r flip word s t
-  damaged : (place : ℕ) → flip ≡ Some place → Spoiled s t → Given r flip word s t
+pub data PortWriteGiven (r : Register) (flip : Option ℕ) (word : ℕ) (s t : Port) : Type 0 where
+  whole : flip ≡ None → PortWritten r word s t → PortWriteGiven r flip word s t
+  damaged : (place : ℕ) → flip ≡ Some place → PortWriteSpoiled s t → PortWriteGiven r flip word s t
 
 -- the target after a line reset: fresh, with WDATAERR set where write data was awaited
-abbrev pub reset_target : Port → Target
-reset_target s = record s.target { reset = Fresh; write_error = is_awaiting s.link.line || s.target.write_error }
+abbrev pub port_reset_target : Port → Target
+port_reset_target s = record s.target {
+  reset = Fresh;
+  write_error = port_line_awaits s.link.line || s.target.write_error;
+}
 
 -- a line reset: nothing is due, and except for that every register, the pending transfer and the memory are unchanged
-pub record WasReset (s t : Port) : Type 0 where
-  pub link : t.link ≡ idle_link
-  pub target : t.target ≡ reset_target s
+pub record PortWasReset (s t : Port) : Type 0 where
+  pub link : t.link ≡ port_idle_link
+  pub target : t.target ≡ port_reset_target s
   pub tally : t.tally ≡ s.tally

@@ -5,150 +5,150 @@
 use Rattle.std.specs.Prelude.{ℕ, ◌≡◌, ◌||◌, ◌&&◌, ◌==◌, not, Bool, true, false, if◌then◌else◌, Option, Some, None}
 use Rattle.swd_port.specs.declared.wire.Due.TheVariants.{Nothing}
 use Rattle.swd_port.specs.declared.select.Select.{Select}
-use Rattle.swd_port.specs.Registers.{bit_of, select_of, csw_of}
-use Rattle.swd_bits.specs.Phases.{word_in}
-use Rattle.swd_port.specs.Phases.{flipped, undriven}
-use Rattle.swd_port.specs.Port.{Port, Target, idle_link, Register, AbortWrite, CtrlStatWrite, SelectWrite, CswWrite}
-use Rattle.swd_port.specs.Port.{TarWrite, DrwWrite, ApIgnoredWrite, PowerUp, Unseen, Line, Drives, Awaits, Drw}
-use Rattle.swd_port.specs.Port.{Writes}
-use Rattle.swd_port.specs.Completion.{Completes}
+use Rattle.swd_port.specs.Registers.{register_bit, select_of, csw_of}
+use Rattle.swd_bits.specs.Phases.{data_phase_word}
+use Rattle.swd_port.specs.Phases.{port_flipped, port_undriven}
+use Rattle.swd_port.specs.Port.{Port, Target, port_idle_link, Register, AbortWrite, CtrlStatWrite, SelectWrite}
+use Rattle.swd_port.specs.Port.{CswWrite, TarWrite, DrwWrite, ApIgnoredWrite, PowerUp, Unseen, AfterAck, Drives, Awaits}
+use Rattle.swd_port.specs.Port.{Drw, Writes}
+use Rattle.swd_port.specs.Completion.{PortCompletes}
 
 -- the 33 bits that the host gets; an undriven line reads 1 (this project's choice)
-abbrev pub bits_driven : Line → ℕ
-bits_driven (Drives bits) = bits
-bits_driven line = undriven
+abbrev pub port_bits_driven : AfterAck → ℕ
+port_bits_driven (Drives bits) = bits
+port_bits_driven line = port_undriven
 
 -- the state after the host took the 33 bits of a read: only the link changes
-abbrev pub after_take : Port → Port
-after_take s = record s { link = idle_link }
+abbrev pub port_after_take : Port → Port
+port_after_take s = record s { link = port_idle_link }
 
--- one call of `take`, without completion; `Takes` has completion before and after
-pub record TakesNow (s : Port) (bits : ℕ) (t : Port) : Type 0 where
-  pub gets : bits ≡ bits_driven s.link.line
-  pub after : t ≡ after_take s
+-- one call of `take`, without completion; `PortTakes` has completion before and after
+pub record PortTakesNow (s : Port) (bits : ℕ) (t : Port) : Type 0 where
+  pub gets : bits ≡ port_bits_driven s.link.line
+  pub after : t ≡ port_after_take s
 
-abbrev pub Takes : Port → ℕ → Port → Type 0
-Takes s bits t = (a : Port) × (b : Port) × Completes s a × TakesNow a bits b × Completes b t
+abbrev pub PortTakes : Port → ℕ → Port → Type 0
+PortTakes s bits t = (a : Port) × (b : Port) × PortCompletes s a × PortTakesNow a bits b × PortCompletes b t
 
 -- What the target reads from the 33 bits that reach it.
-pub data Arrival : Type 0 where
+pub data PortArrival : Type 0 where
   -- it awaited no data
-  Unawaited : Arrival
+  Unawaited : PortArrival
   -- their parity is wrong
-  Damaged : Arrival
+  Damaged : PortArrival
   -- they are the word of this write
-  Arrives : (write : Register) (word : ℕ) → Arrival
+  Arrives : (write : Register) (word : ℕ) → PortArrival
 
 -- what arrives at a write, from the word if the parity is right
-abbrev pub arrival_of : Register → Option ℕ → Arrival
-arrival_of r None = Damaged
-arrival_of r (Some word) = Arrives r word
+abbrev pub port_arrival_of : Register → Option ℕ → PortArrival
+port_arrival_of r None = Damaged
+port_arrival_of r (Some word) = Arrives r word
 
 -- what arrives of 33 bits that were sent, with the awaited bit changed, if any (the change: this project's choice)
-abbrev pub arrival : Line → ℕ → Arrival
-arrival (Awaits r flip) sent = arrival_of r (word_in (flipped flip sent))
-arrival line sent = Unawaited
+abbrev pub port_arrival : AfterAck → ℕ → PortArrival
+port_arrival (Awaits r flip) sent = port_arrival_of r (data_phase_word (port_flipped flip sent))
+port_arrival line sent = Unawaited
 
 -- data arrived with wrong parity
-abbrev pub is_damaged : Arrival → Bool
-is_damaged Damaged = true
-is_damaged a = false
+abbrev pub port_arrival_is_damaged : PortArrival → Bool
+port_arrival_is_damaged Damaged = true
+port_arrival_is_damaged a = false
 
 -- a write of any AP, after which the read buffer and the last returned value are unknown, whatever it wrote (this
 -- project's choice)
-abbrev pub is_ap_write : Register → Bool
-is_ap_write CswWrite = true
-is_ap_write TarWrite = true
-is_ap_write DrwWrite = true
-is_ap_write ApIgnoredWrite = true
-is_ap_write r = false
+abbrev pub is_ap_write_register : Register → Bool
+is_ap_write_register CswWrite = true
+is_ap_write_register TarWrite = true
+is_ap_write_register DrwWrite = true
+is_ap_write_register ApIgnoredWrite = true
+is_ap_write_register r = false
 
 -- a value that an AP write makes unknown, once its data arrived with right parity (this project's choice)
-abbrev pub forgotten : Arrival → Option ℕ → Option ℕ
-forgotten (Arrives r word) value = if is_ap_write r then None else value
-forgotten a value = value
+abbrev pub port_value_forgotten : PortArrival → Option ℕ → Option ℕ
+port_value_forgotten (Arrives r word) value = if is_ap_write_register r then None else value
+port_value_forgotten a value = value
 
 -- ABORT's STKERRCLR, bit 2, clears STICKYERR
-abbrev pub sticky_error_after : Arrival → Bool → Bool
-sticky_error_after (Arrives AbortWrite word) flag = flag && not (bit_of 2 word)
-sticky_error_after a flag = flag
+abbrev pub stickyerr_after_write : PortArrival → Bool → Bool
+stickyerr_after_write (Arrives AbortWrite word) flag = flag && not (register_bit 2 word)
+stickyerr_after_write a flag = flag
 
 -- ABORT's WDERRCLR, bit 3, clears WDATAERR; corrupted data sets it, also that of ABORT (for ABORT: this project's
 -- choice)
-abbrev pub write_error_after : Arrival → Bool → Bool
-write_error_after (Arrives AbortWrite word) flag = flag && not (bit_of 3 word)
-write_error_after a flag = is_damaged a || flag
+abbrev pub wdataerr_after_write : PortArrival → Bool → Bool
+wdataerr_after_write (Arrives AbortWrite word) flag = flag && not (register_bit 3 word)
+wdataerr_after_write a flag = port_arrival_is_damaged a || flag
 
 -- CTRL/STAT stores its bits 28 and 30, the power requests (only these: this project's choice)
-abbrev pub power_after : ℕ → Arrival → Bool → Bool
-power_after n (Arrives CtrlStatWrite word) power = bit_of n word
-power_after n a power = power
+abbrev pub port_power_after_write : ℕ → PortArrival → Bool → Bool
+port_power_after_write n (Arrives CtrlStatWrite word) power = register_bit n word
+port_power_after_write n a power = power
 
 -- power-up that was requested anew wasn't seen yet
-abbrev pub power_up_written : Arrival → PowerUp → PowerUp
-power_up_written (Arrives CtrlStatWrite word) u = Unseen
-power_up_written a u = u
+abbrev pub port_power_up_after_write : PortArrival → PowerUp → PowerUp
+port_power_up_after_write (Arrives CtrlStatWrite word) u = Unseen
+port_power_up_after_write a u = u
 
 -- SELECT stores its fields
-abbrev pub select_after : Arrival → Select → Select
-select_after (Arrives SelectWrite word) select = select_of word
-select_after a select = select
+abbrev pub port_select_after_write : PortArrival → Select → Select
+port_select_after_write (Arrives SelectWrite word) select = select_of word
+port_select_after_write a select = select
 
 -- CSW stores whether AddrInc is 01, and its bits [30:24] (only these: this project's choice)
-abbrev pub increments_after : Arrival → Bool → Bool
-increments_after (Arrives CswWrite word) increments = (csw_of word).addr_inc == 1
-increments_after a increments = increments
+abbrev pub port_csw_increments_after : PortArrival → Bool → Bool
+port_csw_increments_after (Arrives CswWrite word) increments = (csw_of word).addr_inc == 1
+port_csw_increments_after a increments = increments
 
 -- bits [30:24] of CSW, as last written (this project's choice)
-abbrev pub csw_upper_after : Arrival → ℕ → ℕ
+abbrev pub csw_upper_after : PortArrival → ℕ → ℕ
 csw_upper_after (Arrives CswWrite word) upper = (csw_of word).upper
 csw_upper_after a upper = upper
 
 -- TAR is stored as it is written
-abbrev pub tar_written : Arrival → Option ℕ → Option ℕ
-tar_written (Arrives TarWrite word) tar = Some word
-tar_written a tar = tar
+abbrev pub tar_after_write : PortArrival → Option ℕ → Option ℕ
+tar_after_write (Arrives TarWrite word) tar = Some word
+tar_after_write a tar = tar
 
 -- a DRW write is pending once its data arrived
-abbrev pub pending_after : Arrival → Option Drw → Option Drw
-pending_after (Arrives DrwWrite word) pending = Some (Writes word)
-pending_after a pending = pending
+abbrev pub pending_after_write : PortArrival → Option Drw → Option Drw
+pending_after_write (Arrives DrwWrite word) pending = Some (Writes word)
+pending_after_write a pending = pending
 
 -- the target after the 33 bits of a write: the write is done if their parity is right, else WDATAERR is set
-abbrev pub after_bits : Arrival → Target → Target
-after_bits a x = record x {
-  sticky_error = sticky_error_after a x.sticky_error;
-  write_error = write_error_after a x.write_error;
-  debug_power = power_after 28 a x.debug_power;
-  system_power = power_after 30 a x.system_power;
-  power_up = power_up_written a x.power_up;
-  select = select_after a x.select;
-  increments = increments_after a x.increments;
+abbrev pub port_after_bits : PortArrival → Target → Target
+port_after_bits a x = record x {
+  sticky_error = stickyerr_after_write a x.sticky_error;
+  write_error = wdataerr_after_write a x.write_error;
+  debug_power = port_power_after_write 28 a x.debug_power;
+  system_power = port_power_after_write 30 a x.system_power;
+  power_up = port_power_up_after_write a x.power_up;
+  select = port_select_after_write a x.select;
+  increments = port_csw_increments_after a x.increments;
   csw_upper = csw_upper_after a x.csw_upper;
-  tar = tar_written a x.tar;
-  buffer = forgotten a x.buffer;
-  last_returned = forgotten a x.last_returned;
-  pending = pending_after a x.pending;
+  tar = tar_after_write a x.tar;
+  buffer = port_value_forgotten a x.buffer;
+  last_returned = port_value_forgotten a x.last_returned;
+  pending = pending_after_write a x.pending;
 }
 
-abbrev pub after_arrival : Arrival → Port → Port
-after_arrival a s = record s { link = idle_link; target = after_bits a s.target }
+abbrev pub port_after_arrival : PortArrival → Port → Port
+port_after_arrival a s = record s { link = port_idle_link; target = port_after_bits a s.target }
 
--- one call of `give`, without completion; `Gives` has completion before and after
-pub record GivesNow (s : Port) (sent : ℕ) (t : Port) : Type 0 where
-  pub after : t ≡ after_arrival (arrival s.link.line sent) s
+-- one call of `give`, without completion; `PortGives` has completion before and after
+pub record PortGivesNow (s : Port) (sent : ℕ) (t : Port) : Type 0 where
+  pub after : t ≡ port_after_arrival (port_arrival s.link.line sent) s
 
-abbrev pub Gives : Port → ℕ → Port → Type 0
-Gives s sent t = (a : Port) × (b : Port) × Completes s a × GivesNow a sent b × Completes b t
+abbrev pub PortGives : Port → ℕ → Port → Type 0
+PortGives s sent t = (a : Port) × (b : Port) × PortCompletes s a × PortGivesNow a sent b × PortCompletes b t
 
 -- the state after the turnaround that follows WAIT or FAULT
-abbrev pub after_pass : Port → Port
-after_pass s = record s { link = record s.link { due = Nothing } }
+abbrev pub port_after_pass : Port → Port
+port_after_pass s = record s { link = record s.link { due = Nothing } }
 
--- one call of `pass`, without completion: the turnaround doesn't change the target; `Passes` has completion before and
+-- one call of `pass`, without completion: the turnaround doesn't change the target; `PortPasses` has completion before and
 -- after
-pub record PassesNow (s t : Port) : Type 0 where
-  pub after : t ≡ after_pass s
+pub record PortPassesNow (s t : Port) : Type 0 where
+  pub after : t ≡ port_after_pass s
 
-abbrev pub Passes : Port → Port → Type 0
-Passes s t = (a : Port) × (b : Port) × Completes s a × PassesNow a b × Completes b t
+abbrev pub PortPasses : Port → Port → Type 0
+PortPasses s t = (a : Port) × (b : Port) × PortCompletes s a × PortPassesNow a b × PortCompletes b t

@@ -12,8 +12,8 @@ pub use Rattle.swd_port.specs.declared.state.PowerUp.{PowerUp}
 pub use Rattle.swd_port.specs.declared.state.PowerUp.TheVariants.{Unseen, Late, Seen}
 pub use Rattle.swd_port.specs.declared.state.Drw.{Drw}
 pub use Rattle.swd_port.specs.declared.state.Drw.TheVariants.{Reads, Writes}
-pub use Rattle.swd_port.specs.declared.state.Line.{Line}
-pub use Rattle.swd_port.specs.declared.state.Line.TheVariants.{Idle, Drives, Awaits}
+pub use Rattle.swd_port.specs.declared.state.AfterAck.{AfterAck}
+pub use Rattle.swd_port.specs.declared.state.AfterAck.TheVariants.{Idle, Drives, Awaits}
 use Rattle.std.specs.Prelude.{ℕ, ◌==◌, ◌&&◌, not, Bool, true, false, Option, Some, None, if◌then◌else◌}
 use Rattle.swd_bits.specs.declared.request.Request.{Request}
 use Rattle.swd_bits.specs.declared.request.Reg4.{Reg4}
@@ -22,18 +22,18 @@ use Rattle.swd_port.specs.declared.wire.Due.{Due}
 use Rattle.swd_port.specs.declared.wire.Due.TheVariants.{Nothing}
 use Rattle.swd_port.specs.declared.select.Select.{Select}
 use Rattle.swd_port.specs.PlainMemory.{PlainMemory}
-use Rattle.swd_port.specs.Registers.{no_select}
+use Rattle.swd_port.specs.Registers.{port_select_zero}
 
 -- the debug port's registers by direction, address and whether DPBANKSEL is 0, on which address 4 alone depends
-abbrev pub dp_register : Bool → Reg4 → Bool → Register
-dp_register true R0 bank0 = DpidrRead
-dp_register false R0 bank0 = AbortWrite
-dp_register true R4 bank0 = if bank0 then CtrlStatRead else DpZeroRead
-dp_register false R4 bank0 = if bank0 then CtrlStatWrite else DpIgnoredWrite
-dp_register true R8 bank0 = ResendRead
-dp_register false R8 bank0 = SelectWrite
-dp_register true RC bank0 = RdbuffRead
-dp_register false RC bank0 = DpIgnoredWrite
+abbrev pub port_dp_register : Bool → Reg4 → Bool → Register
+port_dp_register true R0 bank0 = DpidrRead
+port_dp_register false R0 bank0 = AbortWrite
+port_dp_register true R4 bank0 = if bank0 then CtrlStatRead else DpZeroRead
+port_dp_register false R4 bank0 = if bank0 then CtrlStatWrite else DpIgnoredWrite
+port_dp_register true R8 bank0 = ResendRead
+port_dp_register false R8 bank0 = SelectWrite
+port_dp_register true RC bank0 = RdbuffRead
+port_dp_register false RC bank0 = DpIgnoredWrite
 
 -- the registers of AP 0 in AP bank 0, by direction and address
 abbrev pub mem_ap_register : Bool → Reg4 → Register
@@ -47,66 +47,66 @@ mem_ap_register true RC = DrwRead
 mem_ap_register false RC = DrwWrite
 
 -- the registers of any other AP or AP bank, by direction
-abbrev pub no_ap_register : Bool → Register
-no_ap_register true = ApZeroRead
-no_ap_register false = ApIgnoredWrite
+abbrev pub port_no_ap_register : Bool → Register
+port_no_ap_register true = ApZeroRead
+port_no_ap_register false = ApIgnoredWrite
 
 -- SELECT names AP 0 and AP bank 0
-abbrev pub is_mem_ap : Select → Bool
-is_mem_ap s = (s.apsel == 0) && (s.apbanksel == 0)
+abbrev pub port_selects_mem_ap : Select → Bool
+port_selects_mem_ap s = (s.apsel == 0) && (s.apbanksel == 0)
 
 -- the access port's registers under a SELECT
-abbrev pub ap_register : Select → Bool → Reg4 → Register
-ap_register s read addr = if is_mem_ap s then mem_ap_register read addr else no_ap_register read
+abbrev pub port_ap_register : Select → Bool → Reg4 → Register
+port_ap_register s read addr = if port_selects_mem_ap s then mem_ap_register read addr else port_no_ap_register read
 
 -- the register that a request names
-abbrev pub register : Select → Request → Register
-register s q = if q.ap then ap_register s q.read q.addr else dp_register q.read q.addr (s.dpbanksel == 0)
+abbrev pub port_register : Select → Request → Register
+port_register s q = if q.ap then port_ap_register s q.read q.addr else port_dp_register q.read q.addr (s.dpbanksel == 0)
 
 -- the request for each register, under a SELECT that reaches it
-abbrev pub request_of : Register → Request
-request_of DpidrRead = record { ap = false; read = true; addr = R0 }
-request_of AbortWrite = record { ap = false; read = false; addr = R0 }
-request_of CtrlStatRead = record { ap = false; read = true; addr = R4 }
-request_of CtrlStatWrite = record { ap = false; read = false; addr = R4 }
-request_of ResendRead = record { ap = false; read = true; addr = R8 }
-request_of SelectWrite = record { ap = false; read = false; addr = R8 }
-request_of RdbuffRead = record { ap = false; read = true; addr = RC }
-request_of DpZeroRead = record { ap = false; read = true; addr = R4 }
-request_of DpIgnoredWrite = record { ap = false; read = false; addr = RC }
-request_of CswRead = record { ap = true; read = true; addr = R0 }
-request_of CswWrite = record { ap = true; read = false; addr = R0 }
-request_of TarRead = record { ap = true; read = true; addr = R4 }
-request_of TarWrite = record { ap = true; read = false; addr = R4 }
-request_of ApZeroRead = record { ap = true; read = true; addr = R8 }
-request_of ApIgnoredWrite = record { ap = true; read = false; addr = R8 }
-request_of DrwRead = record { ap = true; read = true; addr = RC }
-request_of DrwWrite = record { ap = true; read = false; addr = RC }
+abbrev pub port_request_for : Register → Request
+port_request_for DpidrRead = record { ap = false; read = true; addr = R0 }
+port_request_for AbortWrite = record { ap = false; read = false; addr = R0 }
+port_request_for CtrlStatRead = record { ap = false; read = true; addr = R4 }
+port_request_for CtrlStatWrite = record { ap = false; read = false; addr = R4 }
+port_request_for ResendRead = record { ap = false; read = true; addr = R8 }
+port_request_for SelectWrite = record { ap = false; read = false; addr = R8 }
+port_request_for RdbuffRead = record { ap = false; read = true; addr = RC }
+port_request_for DpZeroRead = record { ap = false; read = true; addr = R4 }
+port_request_for DpIgnoredWrite = record { ap = false; read = false; addr = RC }
+port_request_for CswRead = record { ap = true; read = true; addr = R0 }
+port_request_for CswWrite = record { ap = true; read = false; addr = R0 }
+port_request_for TarRead = record { ap = true; read = true; addr = R4 }
+port_request_for TarWrite = record { ap = true; read = false; addr = R4 }
+port_request_for ApZeroRead = record { ap = true; read = true; addr = R8 }
+port_request_for ApIgnoredWrite = record { ap = true; read = false; addr = R8 }
+port_request_for DrwRead = record { ap = true; read = true; addr = RC }
+port_request_for DrwWrite = record { ap = true; read = false; addr = RC }
 
 -- a SELECT that reaches this register: bank 0 for CTRL/STAT, another bank for the debug port's zero register, and bank
 -- 0 of AP 0 for its registers
-abbrev pub is_reached : Select → Register → Bool
-is_reached s CtrlStatRead = s.dpbanksel == 0
-is_reached s CtrlStatWrite = s.dpbanksel == 0
-is_reached s DpZeroRead = not (s.dpbanksel == 0)
-is_reached s CswRead = is_mem_ap s
-is_reached s CswWrite = is_mem_ap s
-is_reached s TarRead = is_mem_ap s
-is_reached s TarWrite = is_mem_ap s
-is_reached s DrwRead = is_mem_ap s
-is_reached s DrwWrite = is_mem_ap s
-is_reached s r = true
+abbrev pub is_port_register_reached : Select → Register → Bool
+is_port_register_reached s CtrlStatRead = s.dpbanksel == 0
+is_port_register_reached s CtrlStatWrite = s.dpbanksel == 0
+is_port_register_reached s DpZeroRead = not (s.dpbanksel == 0)
+is_port_register_reached s CswRead = port_selects_mem_ap s
+is_port_register_reached s CswWrite = port_selects_mem_ap s
+is_port_register_reached s TarRead = port_selects_mem_ap s
+is_port_register_reached s TarWrite = port_selects_mem_ap s
+is_port_register_reached s DrwRead = port_selects_mem_ap s
+is_port_register_reached s DrwWrite = port_selects_mem_ap s
+is_port_register_reached s r = true
 
 -- The link between the host and the target.
-pub record Link : Type 0 where
+pub record PortLink : Type 0 where
   -- what is due next, as the host sees it
   pub due : Due
   -- what the target drives or awaits
-  pub line : Line
+  pub line : AfterAck
 
 -- Nothing is due, and the target neither drives nor awaits.
-abbrev pub idle_link : Link
-idle_link = record { due = Nothing; line = Idle }
+abbrev pub port_idle_link : PortLink
+port_idle_link = record { due = Nothing; line = Idle }
 
 -- The state of the target. `None` in TAR, the read buffer or the last returned value: it is unknown, and any word may
 -- replace it, anew at each use.
@@ -140,20 +140,20 @@ pub record Target : Type 0 where
   pub memory : PlainMemory
 
 -- Counts beside the state: the requests so far, and how many of them were disturbed and lost, by their marks.
-pub record Tally : Type 0 where
+pub record PortTally : Type 0 where
   pub asked : ℕ
   pub disturbed : ℕ
   pub lost : ℕ
 
 -- The state of the model.
 pub record Port : Type 0 where
-  pub link : Link
+  pub link : PortLink
   pub target : Target
-  pub tally : Tally
+  pub tally : PortTally
 
 -- the target before any call, with any identification and memory (this project's choice)
-abbrev pub made_target : ℕ → PlainMemory → Target
-made_target identification memory = record {
+abbrev pub port_made_target : ℕ → PlainMemory → Target
+port_made_target identification memory = record {
   reset = Unreset;
   sticky_error = false;
   write_error = false;
@@ -161,7 +161,7 @@ made_target identification memory = record {
   debug_power = false;
   system_power = false;
   power_up = Unseen;
-  select = no_select;
+  select = port_select_zero;
   increments = false;
   csw_upper = 0;
   tar = Some 0;
@@ -173,9 +173,9 @@ made_target identification memory = record {
 }
 
 -- the state before any call (this project's choice)
-abbrev pub made : ℕ → PlainMemory → Port
-made identification memory = record {
-  link = idle_link;
-  target = made_target identification memory;
+abbrev pub port_made : ℕ → PlainMemory → Port
+port_made identification memory = record {
+  link = port_idle_link;
+  target = port_made_target identification memory;
   tally = record { asked = 0; disturbed = 0; lost = 0 };
 }

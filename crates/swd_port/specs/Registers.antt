@@ -25,8 +25,8 @@ abbrev pub ctrl_stat_mask : ℕ
 ctrl_stat_mask = 0xfcff_ffff
 
 -- bit n of a word, the least significant being 0
-abbrev pub bit_of : ℕ → ℕ → Bool
-bit_of n word = word / 2 ^ n % 2 == 1
+abbrev pub register_bit : ℕ → ℕ → Bool
+register_bit n word = word / 2 ^ n % 2 == 1
 
 -- APSEL [31:24], APBANKSEL [7:4], DPBANKSEL [3:0]
 abbrev pub select_of : ℕ → Select
@@ -37,8 +37,8 @@ abbrev pub select_word : Select → ℕ
 select_word s = s.apsel % 256 * 2 ^ 24 + s.apbanksel % 16 * 16 + s.dpbanksel % 16
 
 -- SELECT 0: AP 0 and the banks 0
-abbrev pub no_select : Select
-no_select = record { apsel = 0; apbanksel = 0; dpbanksel = 0 }
+abbrev pub port_select_zero : Select
+port_select_zero = record { apsel = 0; apbanksel = 0; dpbanksel = 0 }
 
 -- the bits that SELECT names
 abbrev pub select_mask : ℕ
@@ -55,8 +55,8 @@ abbrev pub csw_of : ℕ → Csw
 csw_of word = record {
   size = word % 8;
   addr_inc = word / 16 % 4;
-  device_en = bit_of 6 word;
-  tr_in_prog = bit_of 7 word;
+  device_en = register_bit 6 word;
+  tr_in_prog = register_bit 7 word;
   upper = word / 2 ^ 24 % 128;
 }
 
@@ -84,12 +84,12 @@ ctrl_stat_read sticky_error read_ok write_error debug_power system_power there =
     bit system_power * 0x4000_0000 + bit (system_power && there) * 0x8000_0000
 
 -- AddrInc of a CSW that increments, 01, and of one that doesn't, 00
-abbrev pub addr_inc_of : Bool → ℕ
-addr_inc_of true = 1
-addr_inc_of false = 0
+abbrev pub csw_addr_inc_of : Bool → ℕ
+csw_addr_inc_of true = 1
+csw_addr_inc_of false = 0
 
 -- CSW as it is read: word size alone, DeviceEn, no transfer in progress (which fields are fixed: this project's choice)
 abbrev pub csw_read : Bool → ℕ → ℕ
 csw_read increments upper =
-    let addr_inc = addr_inc_of increments in
+    let addr_inc = csw_addr_inc_of increments in
     csw_word (record { size = 2; addr_inc = addr_inc; device_en = true; tr_in_prog = false; upper = upper })

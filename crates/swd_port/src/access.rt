@@ -1,6 +1,6 @@
 //! Accesses of a plain memory, their answers, and the transfers in its log.
 ghost use Rattle.std.specs.Prelude.{◌≡◌, ◌+◌, ◌*◌, ◌≤◌, ◌^◌, ◌++◌, OnOk};
-ghost use Rattle.swd_port.specs.PlainMemory.{reads};
+ghost use Rattle.swd_port.specs.PlainMemory.{plain_reads};
 
 use std::alloc::{AllocError, Allocator};
 use std::fmt;
@@ -71,7 +71,7 @@ pub fn push_reads<A: Allocator>(
     count: u32,
 ) -> Result<(), AllocError>
     requires { addr + 4 * count ≤ 2 ^ 32 }
-    ensures { OnOk result (list.new.items ≡ list.old.items ++ reads addr count) }
+    ensures { OnOk result (list.new.items ≡ list.old.items ++ plain_reads addr count) }
 {
     for index in 0..count {
         list.push(Access::Read(addr + 4 * index))?;

@@ -1,6 +1,6 @@
 //! Marks: the faults injected into the requests of a wire.
 ghost use Rattle.std.specs.Prelude.{◌≡◌, ◌↔◌, IsTrue};
-ghost use Rattle.swd_port.specs.Choices.{IsMark, loses};
+ghost use Rattle.swd_port.specs.Choices.{IsPortMark, port_loses};
 
 use std::fmt;
 
@@ -25,7 +25,7 @@ pub enum Mark {
 impl Mark {
     /// Returns whether the bit is in range: below 33 for `Flip`, below 3 for `Mute`.
     pub fn legal(&self) -> bool
-        ensures { IsTrue result ↔ IsMark self.now }
+        ensures { IsTrue result ↔ IsPortMark self.now }
     {
         match *self {
             Mark::Flip(place) => place < 33,
@@ -36,7 +36,7 @@ impl Mark {
 
     /// Returns whether the acknowledgement may be lost: `Deaf` and `Mute`.
     pub fn is_lost(&self) -> bool
-        ensures { IsTrue result ↔ (loses self.now ≡ 1) }
+        ensures { IsTrue result ↔ (port_loses self.now ≡ 1) }
     {
         matches!(self, Mark::Deaf | Mark::Mute(_))
     }

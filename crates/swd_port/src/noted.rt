@@ -9,32 +9,32 @@ use std::marker::Model;
 
 /// The calls of a wire so far, the last one first, which only contracts see, as `calls`. It takes no bytes.
 #[derive(Drop)]
-pub struct Noted {
+pub struct NotedCalls {
     pub ghost calls: { List Noticed },
 }
 
-impl Model for Noted {
+impl Model for NotedCalls {
     ghost also_owns = { λ _. ftrue };
 }
 
-impl Noted {
+impl NotedCalls {
     /// Creates a record without calls.
-    pub fn new() -> Noted
+    pub fn new() -> NotedCalls
         ensures { result.calls ≡ [] }
     {
-        Noted {}
+        NotedCalls {}
     }
 
     /// Adds a call.
-    pub fn and(&self, _call: &Call) -> Noted
+    pub fn and(&self, _call: &Call) -> NotedCalls
         ensures { result.calls ≡ _call.now ∷ self.now.calls }
     {
-        Noted {}
+        NotedCalls {}
     }
 }
 
-impl fmt::Debug for Noted {
+impl fmt::Debug for NotedCalls {
     fn fmt<W: fmt::Write>(&self, f: &mut fmt::Formatter<W>) -> fmt::Result {
-        f.write_str("Noted")
+        f.write_str("NotedCalls")
     }
 }

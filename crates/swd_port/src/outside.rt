@@ -1,13 +1,14 @@
 //! A wire over a transport of which nothing is proved.
 ghost use Rattle.std.specs.Prelude.{◌≡◌, ◌<◌, ◌^◌, ◌++◌, ◌∷◌, ℕ, Bool, List, [], true, false};
 ghost use Rattle.swd_port.specs.Port.{Port};
-ghost use Rattle.swd_port.specs.Stories.{due_by, due_once, port_at, is_send, FitsStory, IsSeen};
-ghost use Rattle.swd_port.specs.Transports.{Attempt, attempt, Goes, Fetches, Went, WentOver};
+ghost use Rattle.swd_port.specs.Stories.{port_due_by, port_due_once, port_at, is_port_send, FitsStory, IsPortSeen};
+ghost use Rattle.swd_port.specs.Transports.{PortAttempt, port_attempt, PortTransportSteps, PortTransportFetches};
+ghost use Rattle.swd_port.specs.Transports.{PortTransportHas, PortTransportHasOver};
 ghost use Rattle.swd_port.specs.declared.cue.Cue.TheVariants.{Ask, Take};
 
 use crate::call::Call;
 use crate::cue::Cue;
-use crate::noted::Noted;
+use crate::noted::NotedCalls;
 use crate::wire::{Due, Wire};
 use std::marker::PhantomData;
 use swd_bits::Request;
@@ -26,7 +27,7 @@ pub struct Disconnected;
 pub trait Transport {
     /// What a transport states about the calls made of it, the first one first. Optional, for implementers who state
     /// what was sent on the line.
-    ghost tells: { List Attempt → Self → Type 0 } = { λ _ _. Unit {0} };
+    ghost tells: { List PortAttempt → Self → Type 0 } = { λ _ _. Unit {0} };
 
     /// Performs the cue, and returns what is seen: the three bits after a request, or the 33 bits of a read's data
     /// phase, the first in time least significant. For other cues the number is ignored.
@@ -36,9 +37,10 @@ pub trait Transport {
     ///
     /// # Errors
     ///
-    /// Returns `Disconnected` if the other end can't be reached. An [`Outside`] doesn't call the transport again then.
+    /// Returns `Disconnected` if the other end can't be reached. An [`TransportWire`] doesn't call the transport again then.
     fn step(&mut self, cue: Cue) -> Result<u64, Disconnected>
-        ensures told { (made : List Attempt) → tells made self.old → tells (made ++ attempt cue result ∷ []) self.new };
+        ensures told { (made : List PortAttempt) → tells made self.old
+            → tells (made ++ port_attempt cue result ∷ []) self.new };
 }
 
 /// Whether the contracts of a wire relate its calls to those that it makes of its transport. It is for contracts alone.
@@ -53,7 +55,7 @@ impl Tie for Loose {
     ghost ties = { false };
 }
 
-/// The [`Tie`] of a wire over a transport of which no call was made before ([`Outside::begun`]).
+/// The [`Tie`] of a wire over a transport of which no call was made before ([`TransportWire::begun`]).
 pub struct Tied;
 
 impl Tie for Tied {
@@ -66,21 +68,21 @@ impl Tie for Tied {
 /// A read's data phase is fetched with its acknowledgement. So a failed data phase also shows as a lost
 /// acknowledgement, which the model of a wire has. Where a write's data fails, the next request shows it.
 #[derive(Drop)]
-pub struct Outside<T: Transport, S: Story, K: Tie = Loose> {
+pub struct TransportWire<T: Transport, S: Story, K: Tie = Loose> {
     transport: T,
     due: Due,
     // The last data phase of a read that was fetched.
     fetched: u64,
     pub gone: bool,
-    pub noted: Noted,
+    pub noted: NotedCalls,
     story: PhantomData<S>,
     tie: PhantomData<K>,
-    ghost tracked: { due ≡ due_by noted.calls },
+    ghost tracked: { due ≡ port_due_by noted.calls },
     ghost range: { fetched < 2 ^ 33 },
-    ghost went: { K.ties ≡ true → ∥ Went T.tells noted.calls gone fetched transport ∥₁ },
+    ghost went: { K.ties ≡ true → ∥ PortTransportHas T.tells noted.calls gone fetched transport ∥₁ },
 }
 
-impl<T: Transport, S: Story, K: Tie> Wire for Outside<T, S, K> {
+impl<T: Transport, S: Story, K: Tie> Wire for TransportWire<T, S, K> {
     ghost port = { λ wire. port_at S.at wire.noted.calls };
 
     ghost lawful = { λ wire. FitsStory S.at wire.noted.calls };
@@ -108,8 +110,8 @@ impl<T: Transport, S: Story, K: Tie> Wire for Outside<T, S, K> {
 
 // Returns what has to come next, after this was seen.
 fn due_once(cue: Cue, seen: u64) -> Due
-    requires { IsSeen cue seen }
-    ensures { result ≡ due_once cue seen }
+    requires { IsPortSeen cue seen }
+    ensures { result ≡ port_due_once cue seen }
 {
     match cue {
         Cue::Ask(request) => Due::after(request.read, seen as u8),
@@ -131,8 +133,8 @@ struct Met {
 #[inline(always)]
 fn meet<T: Transport>(transport: &mut T, cue: Cue, gone: bool, fetched: u64) -> Met
     requires { fetched < 2 ^ 33 }
-    ensures goes { Goes T.tells cue gone fetched result transport.old transport.new }
-    ensures seen { IsSeen cue result.seen }
+    ensures goes { PortTransportSteps T.tells cue gone fetched result transport.old transport.new }
+    ensures seen { IsPortSeen cue result.seen }
     ensures range { result.fetched < 2 ^ 33 }
 {
     match cue {
@@ -148,8 +150,8 @@ fn meet<T: Transport>(transport: &mut T, cue: Cue, gone: bool, fetched: u64) -> 
 
 // Makes a call at which nothing is seen.
 fn send<T: Transport>(transport: &mut T, cue: Cue, gone: bool, fetched: u64) -> Met
-    requires { is_send cue ≡ true }
-    ensures goes { Goes T.tells cue gone fetched result transport.old transport.new }
+    requires { is_port_send cue ≡ true }
+    ensures goes { PortTransportSteps T.tells cue gone fetched result transport.old transport.new }
     ensures seen { result.seen ≡ 0 }
     ensures fetched { result.fetched ≡ fetched }
 {
@@ -163,7 +165,7 @@ fn send<T: Transport>(transport: &mut T, cue: Cue, gone: bool, fetched: u64) -> 
 // Sends a request, and fetches the data phase of a read that is answered OK.
 fn ask<T: Transport>(transport: &mut T, request: Request, gone: bool, fetched: u64) -> Met
     requires { fetched < 2 ^ 33 }
-    ensures goes { Goes T.tells (Ask request) gone fetched result transport.old transport.new }
+    ensures goes { PortTransportSteps T.tells (Ask request) gone fetched result transport.old transport.new }
     ensures seen { result.seen < 8 }
     ensures range { result.fetched < 2 ^ 33 }
 {
@@ -194,7 +196,7 @@ fn ask<T: Transport>(transport: &mut T, request: Request, gone: bool, fetched: u
 // Fetches the data phase of a read that was answered OK; if that fails, no acknowledgement is seen.
 fn fetch<T: Transport>(transport: &mut T, request: Request, fetched: u64) -> Met
     requires { fetched < 2 ^ 33 }
-    ensures fetches { Fetches T.tells request fetched result transport.old transport.new }
+    ensures fetches { PortTransportFetches T.tells request fetched result transport.old transport.new }
     ensures seen { result.seen < 8 }
     ensures range { result.fetched < 2 ^ 33 }
 {
@@ -212,32 +214,32 @@ fn fetch<T: Transport>(transport: &mut T, request: Request, fetched: u64) -> Met
     }
 }
 
-impl<T: Transport, S: Story> Outside<T, S> {
+impl<T: Transport, S: Story> TransportWire<T, S> {
     /// Creates a wire without calls.
-    pub fn new(transport: T) -> Outside<T, S>
+    pub fn new(transport: T) -> TransportWire<T, S>
         ensures { result.noted.calls ≡ [] }
     {
-        Outside {
+        TransportWire {
             transport,
             due: Due::Nothing,
             fetched: 0,
             gone: false,
-            noted: Noted::new(),
+            noted: NotedCalls::new(),
             story: PhantomData,
             tie: PhantomData,
         }
     }
 }
 
-impl<T: Transport, S: Story> Outside<T, S, Tied> {
+impl<T: Transport, S: Story> TransportWire<T, S, Tied> {
     /// Creates a wire without calls, over a transport of which no call was made either. What the transport states of
     /// its calls then holds for those that the wire makes of it.
-    pub fn begun(transport: T) -> Outside<T, S, Tied>
+    pub fn begun(transport: T) -> TransportWire<T, S, Tied>
         requires { T.tells [] transport }
         ensures { result.noted.calls ≡ [] }
     {
-        let noted = Noted::new();
-        Outside {
+        let noted = NotedCalls::new();
+        TransportWire {
             transport,
             due: Due::Nothing,
             fetched: 0,
@@ -249,12 +251,12 @@ impl<T: Transport, S: Story> Outside<T, S, Tied> {
     }
 }
 
-impl<T: Transport, S: Story, K: Tie> Outside<T, S, K> {
+impl<T: Transport, S: Story, K: Tie> TransportWire<T, S, K> {
     /// Consumes the wire, and returns the transport.
     pub fn into_transport(self) -> T
-        ensures { K.ties ≡ true → ∥ WentOver T.tells self.noted.calls self.gone result ∥₁ }
+        ensures { K.ties ≡ true → ∥ PortTransportHasOver T.tells self.noted.calls self.gone result ∥₁ }
     {
-        let Outside { transport, .. } = self;
+        let TransportWire { transport, .. } = self;
         transport
     }
 

@@ -1,6 +1,6 @@
 //! The registers that a request can name.
 ghost use Rattle.std.specs.Prelude.{◌≡◌, true};
-ghost use Rattle.swd_port.specs.Port.{register, request_of, is_reached};
+ghost use Rattle.swd_port.specs.Port.{port_register, port_request_for, is_port_register_reached};
 ghost use Rattle.swd_port.specs.declared.select.Select.{Select};
 
 use swd_bits::{Reg4, Request};
@@ -49,8 +49,9 @@ impl Register {
     /// Returns the request that names this register, under a SELECT that reaches it. SELECT 0 reaches all but
     /// `DpZeroRead`, which has no address in bank 0 of the debug port.
     pub fn request(self) -> Request
-        ensures exact { result ≡ request_of self }
-        ensures named { (select : Select) → is_reached select self ≡ true → register select result ≡ self }
+        ensures exact { result ≡ port_request_for self }
+        ensures named { (select : Select) → is_port_register_reached select self ≡ true
+            → port_register select result ≡ self }
     {
         let (ap, read, addr) = match self {
             Register::DpidrRead => (false, true, Reg4::R0),

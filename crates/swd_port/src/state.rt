@@ -49,7 +49,7 @@ pub enum Reply {
 
 /// What the target does on the line after an acknowledgement.
 #[derive(Clone, Copy, Debug, PartialEq, Eq)]
-pub enum Line {
+pub enum AfterAck {
     /// Nothing.
     Idle,
     /// It drives these 33 bits of a read's data phase, the first bit in time least significant: 32

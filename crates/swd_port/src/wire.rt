@@ -1,13 +1,13 @@
 //! The wire between a host and a target, whose calls are steps of the port model.
 ghost use Rattle.std.specs.Prelude.{◌≡◌, ◌≢◌, ◌<◌, ◌^◌, List, [], ◌∷◌};
-ghost use Rattle.swd_port.specs.Answers.{due_after};
+ghost use Rattle.swd_port.specs.Answers.{port_due_after};
 ghost use Rattle.swd_port.specs.declared.wire.Due.TheVariants.{Nothing, Take, Give, Pass};
 ghost use Rattle.swd_port.specs.Port.{Port};
 ghost use Rattle.swd_port.specs.Choices.{Mark};
-ghost use Rattle.swd_port.specs.Leading.{MayLead, Leads};
-ghost use Rattle.swd_port.specs.Asking.{Asks};
-ghost use Rattle.swd_port.specs.Moving.{Takes, Gives, Passes};
-ghost use Rattle.swd_port.specs.Stories.{MayStep, IsSeen, IsStep, due_once};
+ghost use Rattle.swd_port.specs.Leading.{PortMayLead, PortLeads};
+ghost use Rattle.swd_port.specs.Asking.{PortAsks};
+ghost use Rattle.swd_port.specs.Moving.{PortTakes, PortGives, PortPasses};
+ghost use Rattle.swd_port.specs.Stories.{PortMayStep, IsPortSeen, IsPortStep, port_due_once};
 ghost use Rattle.swd_port.specs.declared.call.Call.{Call};
 
 use crate::cue::Cue;
@@ -36,7 +36,7 @@ impl Due {
     /// Returns what has to come next after these three bits were seen in answer to a read or a write, the first bit in
     /// time least significant.
     pub fn after(read: bool, seen: u8) -> Due
-        ensures { result ≡ due_after read seen }
+        ensures { result ≡ port_due_after read seen }
     {
         match seen {
             1 if read => Due::Take,
@@ -103,10 +103,10 @@ pub trait Wire {
     /// Performs the cue, and returns what is seen. After a request these are three bits: 1 is OK, 2 WAIT, 4 FAULT, and
     /// every other number no acknowledgement. For a read's data phase they are its 33 bits; for any other cue 0.
     fn step(&mut self, cue: Cue) -> u64
-        requires { MayStep (port self.old).link.due cue }
-        ensures seen { IsSeen cue result }
-        ensures due { (port self.new).link.due ≡ due_once cue result }
-        ensures step { lawful self.new → lawful self.old × IsStep cue result (port self.old) (port self.new) }
+        requires { PortMayStep (port self.old).link.due cue }
+        ensures seen { IsPortSeen cue result }
+        ensures due { (port self.new).link.due ≡ port_due_once cue result }
+        ensures step { lawful self.new → lawful self.old × IsPortStep cue result (port self.old) (port self.new) }
         ensures plan { plan self.new ≡ plan self.old }
         ensures notes { (calls : List Call) → notes calls self.old
             → notes (record { cue = cue; seen = result } ∷ calls) self.new };
@@ -116,9 +116,9 @@ pub trait Wire {
     /// of the ones are left undriven.
     #[inline(always)]
     final fn lead(&mut self, ones: u32, switch: bool, zeros: u32)
-        requires { MayLead (port self.old).link.due ones switch zeros }
+        requires { PortMayLead (port self.old).link.due ones switch zeros }
         ensures due { (port self.new).link.due ≡ Nothing }
-        ensures step { lawful self.new → lawful self.old × Leads (port self.old) ones (port self.new) }
+        ensures step { lawful self.new → lawful self.old × PortLeads (port self.old) ones (port self.new) }
         ensures plan { plan self.new ≡ plan self.old }
     {
         let undriven = self.due().undriven();
@@ -135,7 +135,7 @@ pub trait Wire {
     final fn line_reset(&mut self)
         requires { (port self.old).link.due ≡ Nothing }
         ensures due { (port self.new).link.due ≡ Nothing }
-        ensures step { lawful self.new → lawful self.old × Leads (port self.old) 56 (port self.new) }
+        ensures step { lawful self.new → lawful self.old × PortLeads (port self.old) 56 (port self.new) }
         ensures plan { plan self.new ≡ plan self.old }
     {
         self.lead(56, false, 2)
@@ -145,7 +145,7 @@ pub trait Wire {
     final fn idle(&mut self, cycles: u32)
         requires { (port self.old).link.due ≡ Nothing }
         ensures due { (port self.new).link.due ≡ Nothing }
-        ensures step { lawful self.new → lawful self.old × Leads (port self.old) 0 (port self.new) }
+        ensures step { lawful self.new → lawful self.old × PortLeads (port self.old) 0 (port self.new) }
         ensures plan { plan self.new ≡ plan self.old }
     {
         self.lead(0, false, cycles)
@@ -157,8 +157,8 @@ pub trait Wire {
     final fn ask(&mut self, request: Request) -> u8
         requires { (port self.old).link.due ≡ Nothing }
         ensures range { result < 8 }
-        ensures due { (port self.new).link.due ≡ due_after request.read result }
-        ensures step { lawful self.new → lawful self.old × Asks (port self.old) request result (port self.new) }
+        ensures due { (port self.new).link.due ≡ port_due_after request.read result }
+        ensures step { lawful self.new → lawful self.old × PortAsks (port self.old) request result (port self.new) }
         ensures plan { plan self.new ≡ plan self.old }
     {
         self.step(Cue::Ask(request)) as u8
@@ -170,7 +170,7 @@ pub trait Wire {
         requires { (port self.old).link.due ≡ Take }
         ensures range { result < 2 ^ 33 }
         ensures due { (port self.new).link.due ≡ Nothing }
-        ensures step { lawful self.new → lawful self.old × Takes (port self.old) result (port self.new) }
+        ensures step { lawful self.new → lawful self.old × PortTakes (port self.old) result (port self.new) }
         ensures plan { plan self.new ≡ plan self.old }
     {
         self.step(Cue::Take)
@@ -182,7 +182,7 @@ pub trait Wire {
         requires due { (port self.old).link.due ≡ Give }
         requires range { bits < 2 ^ 33 }
         ensures due { (port self.new).link.due ≡ Nothing }
-        ensures step { lawful self.new → lawful self.old × Gives (port self.old) bits (port self.new) }
+        ensures step { lawful self.new → lawful self.old × PortGives (port self.old) bits (port self.new) }
         ensures plan { plan self.new ≡ plan self.old }
     {
         let _ = self.step(Cue::Give(bits));
@@ -193,7 +193,7 @@ pub trait Wire {
     final fn pass(&mut self)
         requires { (port self.old).link.due ≡ Pass }
         ensures due { (port self.new).link.due ≡ Nothing }
-        ensures step { lawful self.new → lawful self.old × Passes (port self.old) (port self.new) }
+        ensures step { lawful self.new → lawful self.old × PortPasses (port self.old) (port self.new) }
         ensures plan { plan self.new ≡ plan self.old }
     {
         let _ = self.step(Cue::Pass);

@@ -7,36 +7,36 @@ use Rattle.swd_port.specs.declared.wire.Due.{Due}
 use Rattle.swd_port.specs.declared.wire.Due.TheVariants.{Nothing, Lost}
 use Rattle.swd_port.specs.declared.state.Reset.{Reset}
 use Rattle.swd_port.specs.declared.state.Reset.TheVariants.{Fresh}
-use Rattle.swd_port.specs.declared.state.Line.TheVariants.{Idle}
-use Rattle.swd_port.specs.Port.{Port, made_target}
-use Rattle.swd_port.specs.Phases.{undriven}
+use Rattle.swd_port.specs.declared.state.AfterAck.TheVariants.{Idle}
+use Rattle.swd_port.specs.Port.{Port, port_made_target}
+use Rattle.swd_port.specs.Phases.{port_undriven}
 use Rattle.swd_port.specs.declared.mark.Mark.TheVariants.{Deaf}
 use Rattle.swd_port.specs.declared.cue.Cue.{Cue}
 use Rattle.swd_port.specs.declared.cue.Cue.TheVariants.{Lead, Ask, Take, Give, Pass}
-use Rattle.swd_port.specs.Asking.{Asks}
-use Rattle.swd_port.specs.Leading.{Leads}
-use Rattle.swd_port.specs.Stories.{IsStep}
-use Rattle.swd_port.proofs.WorkedLaws.{choice, choice_fits}
+use Rattle.swd_port.specs.Asking.{PortAsks}
+use Rattle.swd_port.specs.Leading.{PortLeads}
+use Rattle.swd_port.specs.Stories.{IsPortStep}
+use Rattle.swd_port.proofs.WorkedLaws.{port_case_choice, port_case_choice_fits}
 
 -- the port machine behind it, of which nothing but the line resets is seen
-abbrev pub open_port : Due → Reset → ℕ → Port
-open_port due reset asked = record {
+abbrev pub open_wire_port : Due → Reset → ℕ → Port
+open_wire_port due reset asked = record {
   link = record { due = due; line = Idle };
-  target = record (made_target 0 (record { words = empty; log = []; room = 0 })) { reset = reset };
+  target = record (port_made_target 0 (record { words = empty; log = []; room = 0 })) { reset = reset };
   tally = record { asked = asked; disturbed = 0; lost = asked };
 }
 
 open_asked : (q : Request) (due : Due) (reset : Reset) (n : ℕ)
-    → Asks (open_port due reset n) q 7 (open_port Lost reset (n + 1))
+    → PortAsks (open_wire_port due reset n) q 7 (open_wire_port Lost reset (n + 1))
 open_asked q due reset n = (
-  open_port due reset n,
-  open_port Lost reset (n + 1),
+  open_wire_port due reset n,
+  open_wire_port Lost reset (n + 1),
   Deaf,
-  choice,
+  port_case_choice,
   inl refl,
   record {
     legal = tt;
-    choice = choice_fits;
+    choice = port_case_choice_fits;
     settled = tt;
     word = tt;
     sees =
@@ -47,37 +47,43 @@ open_asked q due reset n = (
 )
 
 open_led : (b : Bool) (ones : ℕ) (due : Due) (reset : Reset) (n : ℕ) → (ones == 0) ≡ b
-    → Leads (open_port due reset n) ones (open_port Nothing (if b then reset else Fresh) n)
+    → PortLeads (open_wire_port due reset n) ones (open_wire_port Nothing (if b then reset else Fresh) n)
 open_led true ones due reset n e =
-    (open_port due reset n, open_port Nothing reset n, inl refl, record { after = rw e refl }, inl refl)
+    (open_wire_port due reset n, open_wire_port Nothing reset n, inl refl, record { after = rw e refl }, inl refl)
 open_led false ones due reset n e =
-    (open_port due reset n, open_port Nothing Fresh n, inl refl, record { after = rw e refl }, inl refl)
+    (open_wire_port due reset n, open_wire_port Nothing Fresh n, inl refl, record { after = rw e refl }, inl refl)
 
 -- what is seen at a cue, what is due then, and whether the target was reset or asked
-abbrev pub open_seen : Cue → ℕ
-open_seen (Ask request) = 7
-open_seen Take = undriven
-open_seen cue = 0
+abbrev pub open_wire_seen : Cue → ℕ
+open_wire_seen (Ask request) = 7
+open_wire_seen Take = port_undriven
+open_wire_seen cue = 0
 
-abbrev pub open_after : Cue → Due → Reset → ℕ → Port
-open_after (Lead ones released switch zeros) due reset n = open_port Nothing (if ones == 0 then reset else Fresh) n
-open_after (Ask request) due reset n = open_port Lost reset (n + 1)
-open_after cue due reset n = open_port Nothing reset n
+abbrev pub open_wire_after : Cue → Due → Reset → ℕ → Port
+open_wire_after (Lead ones released switch zeros) due reset n =
+    open_wire_port Nothing (if ones == 0 then reset else Fresh) n
+open_wire_after (Ask request) due reset n = open_wire_port Lost reset (n + 1)
+open_wire_after cue due reset n = open_wire_port Nothing reset n
 
 step_of : (cue : Cue) (due : Due) (reset : Reset) (n : ℕ)
-    → IsStep cue (open_seen cue) (open_port due reset n) (open_after cue due reset n)
+    → IsPortStep cue (open_wire_seen cue) (open_wire_port due reset n) (open_wire_after cue due reset n)
 step_of (Lead ones released switch zeros) due reset n = open_led (ones == 0) ones due reset n refl
 step_of (Ask request) due reset n = open_asked request due reset n
-step_of Take due reset n =
-    (open_port due reset n, open_port Nothing reset n, inl refl, record { gets = refl; after = refl }, inl refl)
+step_of Take due reset n = (
+  open_wire_port due reset n,
+  open_wire_port Nothing reset n,
+  inl refl,
+  record { gets = refl; after = refl },
+  inl refl,
+)
 step_of (Give bits) due reset n =
-    (open_port due reset n, open_port Nothing reset n, inl refl, record { after = refl }, inl refl)
+    (open_wire_port due reset n, open_wire_port Nothing reset n, inl refl, record { after = refl }, inl refl)
 step_of Pass due reset n =
-    (open_port due reset n, open_port Nothing reset n, inl refl, record { after = refl }, inl refl)
+    (open_wire_port due reset n, open_wire_port Nothing reset n, inl refl, record { after = refl }, inl refl)
 
 -- each cue is a step of that port machine, for `OpenWire::step`
-pub open_step : (cue found : Cue) (due : Due) (reset : Reset) (n : ℕ) → cue ≡ found
-    → IsStep cue (open_seen found) (open_port due reset n) (open_after found due reset n)
-open_step cue found due reset n is =
-    subst (λ x. IsStep x (open_seen found) (open_port due reset n) (open_after found due reset n)) (sym is)
-    (step_of found due reset n)
+pub open_wire_step : (cue found : Cue) (due : Due) (reset : Reset) (n : ℕ) → cue ≡ found
+    → IsPortStep cue (open_wire_seen found) (open_wire_port due reset n) (open_wire_after found due reset n)
+open_wire_step cue found due reset n is =
+    subst (λ x. IsPortStep x (open_wire_seen found) (open_wire_port due reset n) (open_wire_after found due reset n))
+    (sym is) (step_of found due reset n)

@@ -2,10 +2,10 @@
 //! answers are written.
 ghost use Rattle.std.specs.Prelude.{◌≡◌, ◌==◌, [], if◌then◌else◌};
 ghost use Rattle.std.specs.FinMap.{empty};
-ghost use Rattle.swd_port.specs.declared.state.Line.TheVariants.{Idle};
+ghost use Rattle.swd_port.specs.declared.state.AfterAck.TheVariants.{Idle};
 ghost use Rattle.swd_port.specs.declared.state.Reset.TheVariants.{Fresh};
 ghost use Rattle.swd_port.specs.declared.wire.Due.TheVariants.{Nothing};
-ghost use Rattle.swd_port.specs.Port.{made_target, made};
+ghost use Rattle.swd_port.specs.Port.{port_made_target, port_made};
 
 mod expect;
 
@@ -14,8 +14,8 @@ use expect::{expect_at, expect_eq, expect_eq_at};
 use std::test::Fail;
 use swd_bits::word_of;
 use swd_port::{
-    Abort, Access, Answer, Count, Csw, CtrlStat, Cue, Disconnected, Due, Mark, Outside, Register,
-    Reset, Select, Story, Transport, Wire,
+    Abort, Access, Answer, Count, Csw, CtrlStat, Cue, Disconnected, Due, Mark, Register, Reset,
+    Select, Story, Transport, TransportWire, Wire,
 };
 
 // A wire with nothing at its other end, where every bit reads 1. It keeps the law: no request is
@@ -30,7 +30,7 @@ struct OpenWire {
 impl Wire for OpenWire {
     ghost port = { λ wire. record {
       link = record { due = wire.due; line = Idle };
-      target = record (made_target 0 (record { words = empty; log = []; room = 0 })) { reset = wire.reset };
+      target = record (port_made_target 0 (record { words = empty; log = []; room = 0 })) { reset = wire.reset };
       tally = record { asked = wire.asked.ticks; disturbed = 0; lost = wire.asked.ticks };
     } };
 
@@ -216,21 +216,21 @@ impl Transport for Breaking {
 struct Untold;
 
 impl Story for Untold {
-    ghost at = { λ _. made 0 (record { words = empty; log = []; room = 0 }) };
+    ghost at = { λ _. port_made 0 (record { words = empty; log = []; room = 0 }) };
 }
 
 #[test]
 fn a_wire_to_the_outside_says_what_came_back(rt: HostRuntime) {
-    let mut wire: Outside<Agreeing, Untold> = Outside::new(Agreeing { failing: false });
+    let mut wire: TransportWire<Agreeing, Untold> = TransportWire::new(Agreeing { failing: false });
     expect_eq(&rt, &identification(&mut &mut wire), &Some(0));
     expect_eq(&rt, &wire.due(), &Due::Nothing);
-    let mut wire: Outside<Agreeing, Untold> = Outside::new(Agreeing { failing: true });
+    let mut wire: TransportWire<Agreeing, Untold> = TransportWire::new(Agreeing { failing: true });
     expect_eq(&rt, &identification(&mut &mut wire), &None);
     expect_eq(&rt, &wire.due(), &Due::Lost);
 }
 
 // DPIDR is read, ABORT is written, and DPIDR is read again. What was seen after the last request.
-fn three_requests(wire: &mut Outside<Breaking, Untold>) -> u8 {
+fn three_requests(wire: &mut TransportWire<Breaking, Untold>) -> u8 {
     for register in [Register::DpidrRead, Register::AbortWrite] {
         if wire.due() != Due::Nothing {
             return 7;
@@ -256,7 +256,7 @@ fn nothing_is_sent_once_the_other_end_went_away(rt: HostRuntime) {
     // the two of the last read.
     for fails_at in 1..=6u8 {
         let way = Breaking { calls: 0, fails_at };
-        let mut wire: Outside<Breaking, Untold> = Outside::new(way);
+        let mut wire: TransportWire<Breaking, Untold> = TransportWire::new(way);
         expect_eq_at(&rt, &fails_at, &three_requests(&mut wire), &7);
         expect_at(&rt, &fails_at, wire.is_gone());
         expect_eq(&rt, &wire.into_transport().calls, &fails_at);
@@ -265,7 +265,7 @@ fn nothing_is_sent_once_the_other_end_went_away(rt: HostRuntime) {
         calls: 0,
         fails_at: 7,
     };
-    let mut wire: Outside<Breaking, Untold> = Outside::new(way);
+    let mut wire: TransportWire<Breaking, Untold> = TransportWire::new(way);
     expect_eq(&rt, &three_requests(&mut wire), &1);
     assert!(rt; !wire.is_gone());
     expect_eq(&rt, &wire.into_transport().calls, &6);

@@ -12,7 +12,7 @@ fn main(rt: HostRuntime) -> anyhow::Result<()> {
         late: false,
         filler: 0,
     };
-    // The wire: here a simulated target. For a probe, implement `Transport` and call `swd_host::run_outside`.
+    // The wire: here a simulated target. For a probe, implement `Transport` and call `swd_host::run_over_transport`.
     let memory = Memory::new(alloc, 0x2000_0000, 16, 16)?;
     let mut wire = Bench::new(memory, quirks, Vec::new(alloc));
     let accesses = [

@@ -1,8 +1,8 @@
 //! Transactions that aren't complete yet.
 ghost use Rattle.std.specs.Prelude.{◌≡◌, ◌<◌, true, IfNone};
-ghost use Rattle.swd_recorder.specs.Chains.{is_none};
-ghost use Rattle.swd_port.specs.Stories.{IsSeen};
-ghost use Rattle.swd_recorder.specs.Items.{ack_seen, in_hand_once};
+ghost use Rattle.swd_recorder.specs.Chains.{is_recorded_no_ack};
+ghost use Rattle.swd_port.specs.Stories.{IsPortSeen};
+ghost use Rattle.swd_recorder.specs.Items.{recorded_ack_seen, recorded_in_hand_once};
 
 use swd_bits::{Ack, Request};
 use swd_port::Cue;
@@ -16,8 +16,8 @@ pub(crate) struct InHand {
 
 /// Returns the incomplete transaction after a call at which `seen` was seen, if there is one.
 pub(crate) fn in_hand_once(cue: Cue, seen: u64) -> Option<InHand>
-    requires { IsSeen cue seen }
-    ensures { result ≡ in_hand_once cue seen }
+    requires { IsPortSeen cue seen }
+    ensures { result ≡ recorded_in_hand_once cue seen }
 {
     let Cue::Ask(request) = cue else {
         return None;
@@ -31,8 +31,8 @@ pub(crate) fn in_hand_once(cue: Cue, seen: u64) -> Option<InHand>
 /// Returns the acknowledgement with this number, of which the first bit in time is least significant.
 pub(crate) fn ack_seen(seen: u64) -> Option<Ack>
     requires { seen < 8 }
-    ensures is { result ≡ ack_seen seen }
-    ensures none { IfNone result (is_none seen ≡ true) }
+    ensures is { result ≡ recorded_ack_seen seen }
+    ensures none { IfNone result (is_recorded_no_ack seen ≡ true) }
 {
     Ack::of(seen as u8)
 }

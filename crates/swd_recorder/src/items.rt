@@ -1,9 +1,9 @@
 //! The items of a wire's calls, appended call by call.
 ghost use Rattle.std.specs.Prelude.{◌≡◌, ◌≢◌, ◌^◌, ◌<◌, true, false, [], ◌∷◌, ◌++◌, None, Some};
-ghost use Rattle.swd_port.specs.Stories.{IsSeen};
+ghost use Rattle.swd_port.specs.Stories.{IsPortSeen};
 ghost use Rattle.swd_trace.specs.declared.item.Item.{Item};
-ghost use Rattle.swd_recorder.specs.Chains.{Clear, is_chained, is_end};
-ghost use Rattle.swd_recorder.specs.Items.{moved, refused, idle_in};
+ghost use Rattle.swd_recorder.specs.Chains.{Clear, is_recorded_chain, is_recorded_end};
+ghost use Rattle.swd_recorder.specs.Items.{recorded_moved, recorded_refused, recorded_idle_in};
 
 use crate::in_hand::{InHand, ack_seen};
 use std::alloc::Allocator;
@@ -17,19 +17,20 @@ use swd_trace::Item;
 pub(crate) struct Items<A: Allocator> {
     pub(crate) list: Vec<Item, A>,
     pub(crate) is_cut: bool,
-    ghost chained: { is_chained Clear list.items ≡ true },
+    ghost chained: { is_recorded_chain Clear list.items ≡ true },
 }
 
 impl<A: Allocator> Items<A> {
-    ghost use Rattle.swd_recorder.specs.Chains.{place_of, may_lower, may_ask};
-    ghost use Rattle.swd_recorder.specs.Items.{high_items, low_items, tx_item, ack_seen, unanswered, items_of};
-    ghost use Rattle.swd_recorder.specs.Items.{idle_at_end};
-    ghost use Rattle.swd_recorder.specs.Kept.{Adds, kept_of, nothing_kept};
-    ghost use Rattle.swd_recorder.specs.Steps.{MayAdd, MayAddLead, is_inside};
+    ghost use Rattle.swd_recorder.specs.Chains.{recorded_place_of, recorded_may_lower, recorded_may_ask};
+    ghost use Rattle.swd_recorder.specs.Items.{recorded_high_items, recorded_low_items, recorded_tx_item};
+    ghost use Rattle.swd_recorder.specs.Items.{recorded_ack_seen, recorded_unanswered, recorded_items_of};
+    ghost use Rattle.swd_recorder.specs.Items.{recorded_idle_at_end};
+    ghost use Rattle.swd_recorder.specs.Kept.{RecorderAdds, recorder_kept_of, recorder_nothing_kept};
+    ghost use Rattle.swd_recorder.specs.Steps.{RecorderMayAdd, RecorderMayAddLead, is_recorded_inside};
 
     /// Returns an empty list.
     pub(crate) fn new(alloc: A) -> Items<A>
-        ensures { kept_of result ≡ nothing_kept }
+        ensures { recorder_kept_of result ≡ recorder_nothing_kept }
     {
         Items {
             list: Vec::new(alloc),
@@ -40,10 +41,11 @@ impl<A: Allocator> Items<A> {
     /// Appends the items of a call at which `seen` was seen, with this incomplete transaction. A line reset
     /// inside a transaction truncates the items, since what the line carries there is no item.
     pub(crate) fn add(&mut self, in_hand: Option<InHand>, cue: Cue, seen: u64)
-        requires may { MayAdd in_hand cue (kept_of self.old) }
-        requires seen { IsSeen cue seen }
-        ensures adds { Adds (items_of in_hand cue seen) (kept_of self.old) (kept_of self.new) }
-        ensures inside { is_inside in_hand cue ≡ true → self.new.is_cut ≡ true }
+        requires may { RecorderMayAdd in_hand cue (recorder_kept_of self.old) }
+        requires seen { IsPortSeen cue seen }
+        ensures adds { RecorderAdds (recorded_items_of in_hand cue seen) (recorder_kept_of self.old)
+            (recorder_kept_of self.new) }
+        ensures inside { is_recorded_inside in_hand cue ≡ true → self.new.is_cut ≡ true }
     {
         match (cue, in_hand) {
             (Cue::Lead { .. }, Some(_)) => self.is_cut = true,
@@ -66,8 +68,9 @@ impl<A: Allocator> Items<A> {
 
     // Appends ones, with `switch` the switch and the ones again, and zeros.
     fn lead(&mut self, ones: u32, switch: bool, zeros: u32)
-        requires { MayAddLead ones switch zeros (kept_of self.old) }
-        ensures { Adds (high_items ones switch ++ low_items zeros) (kept_of self.old) (kept_of self.new) }
+        requires { RecorderMayAddLead ones switch zeros (recorder_kept_of self.old) }
+        ensures { RecorderAdds (recorded_high_items ones switch ++ recorded_low_items zeros) (recorder_kept_of self.old)
+            (recorder_kept_of self.new) }
     {
         let reset = Item::Reset(u64::from(ones));
         let idle = Item::Idle(u64::from(zeros));
@@ -83,8 +86,9 @@ impl<A: Allocator> Items<A> {
     // Appends a transaction without acknowledgement; of any other request it appends nothing yet.
     fn ask(&mut self, request: Request, seen: u64)
         requires range { seen < 8 }
-        requires place { self.old.is_cut ≡ false → may_ask (place_of self.old.list.items) ≡ true }
-        ensures { Adds (unanswered request seen (ack_seen seen)) (kept_of self.old) (kept_of self.new) }
+        requires place { self.old.is_cut ≡ false → recorded_may_ask (recorded_place_of self.old.list.items) ≡ true }
+        ensures { RecorderAdds (recorded_unanswered request seen (recorded_ack_seen seen)) (recorder_kept_of self.old)
+            (recorder_kept_of self.new) }
     {
         match ack_seen(seen) {
             Some(_) => {}
@@ -94,9 +98,9 @@ impl<A: Allocator> Items<A> {
 
     // Appends a complete transaction.
     fn whole(&mut self, request: Request, end: TxEnd)
-        requires is_end { is_end end ≡ true }
-        requires place { self.old.is_cut ≡ false → may_ask (place_of self.old.list.items) ≡ true }
-        ensures { Adds (tx_item request end) (kept_of self.old) (kept_of self.new) }
+        requires is_end { is_recorded_end end ≡ true }
+        requires place { self.old.is_cut ≡ false → recorded_may_ask (recorded_place_of self.old.list.items) ≡ true }
+        ensures { RecorderAdds (recorded_tx_item request end) (recorder_kept_of self.old) (recorder_kept_of self.new) }
     {
         self.append(&[Item::Tx(Tx {
             request,
@@ -107,8 +111,9 @@ impl<A: Allocator> Items<A> {
     // Appends items. No idle cycles among them may follow others.
     fn append(&mut self, more: &[Item])
         requires some { more.now ≢ [] }
-        requires chained { self.old.is_cut ≡ false → is_chained (place_of self.old.list.items) more.now ≡ true }
-        ensures { Adds more.now (kept_of self.old) (kept_of self.new) }
+        requires chained { self.old.is_cut ≡ false
+            → is_recorded_chain (recorded_place_of self.old.list.items) more.now ≡ true }
+        ensures { RecorderAdds more.now (recorder_kept_of self.old) (recorder_kept_of self.new) }
     {
         if self.is_cut {
             return;
@@ -121,8 +126,8 @@ impl<A: Allocator> Items<A> {
 
     // Appends idle cycles. Zeros after zeros are one item.
     fn idle(&mut self, zeros: u64)
-        requires { self.old.is_cut ≡ false → may_lower (place_of self.old.list.items) zeros ≡ true }
-        ensures { Adds (Item.Idle zeros ∷ []) (kept_of self.old) (kept_of self.new) }
+        requires { self.old.is_cut ≡ false → recorded_may_lower (recorded_place_of self.old.list.items) zeros ≡ true }
+        ensures { RecorderAdds (Item.Idle zeros ∷ []) (recorder_kept_of self.old) (recorder_kept_of self.new) }
     {
         if self.is_cut {
             return;
@@ -143,7 +148,7 @@ impl<A: Allocator> Items<A> {
 
     // Returns how many idle cycles the last item has: 0 if it isn't idle cycles.
     fn idle_so_far(&self) -> u64
-        ensures { result ≡ idle_at_end self.now.list.items }
+        ensures { result ≡ recorded_idle_at_end self.now.list.items }
     {
         match self.list.last() {
             Some(last) => idle_cycles(last),
@@ -154,7 +159,7 @@ impl<A: Allocator> Items<A> {
 
 // Returns how many idle cycles an item has.
 fn idle_cycles(item: &Item) -> u64
-    ensures { result ≡ idle_in item.now }
+    ensures { result ≡ recorded_idle_in item.now }
 {
     match item {
         Item::Idle(count) => *count,
@@ -165,8 +170,8 @@ fn idle_cycles(item: &Item) -> u64
 // Returns the result of a transaction whose data phase has these bits.
 fn moved(bits: u64) -> TxEnd
     requires { bits < 2 ^ 33 }
-    ensures is { result ≡ moved bits }
-    ensures end { is_end result ≡ true }
+    ensures is { result ≡ recorded_moved bits }
+    ensures end { is_recorded_end result ≡ true }
 {
     // With right parity the number of ones is even.
     TxEnd::Moved {
@@ -177,8 +182,8 @@ fn moved(bits: u64) -> TxEnd
 
 // Returns the result of a transaction that was answered WAIT or FAULT.
 fn refused(ack: Ack) -> TxEnd
-    ensures is { result ≡ refused ack }
-    ensures end { is_end result ≡ true }
+    ensures is { result ≡ recorded_refused ack }
+    ensures end { is_recorded_end result ≡ true }
 {
     match ack {
         Ack::Fault => TxEnd::Fault,

@@ -1,15 +1,15 @@
 //! A wire that forwards every call to another one, and keeps what was sent and seen.
 ghost use Rattle.std.specs.Prelude.{◌≡◌, ◌≤◌, ◌+◌, ◌↔◌, true, false, List, [], ◌∷◌};
 ghost use Rattle.swd_port.specs.declared.wire.Due.TheVariants.{Nothing, Lost};
-ghost use Rattle.swd_port.specs.Stories.{MayStep, IsSeen, IsStep, due_by, due_once};
+ghost use Rattle.swd_port.specs.Stories.{PortMayStep, IsPortSeen, IsPortStep, port_due_by, port_due_once};
 ghost use Rattle.swd_port.specs.declared.call.Call.{Call};
-ghost use Rattle.swd_port.specs.Laws.Calls.{with_asked};
-ghost use Rattle.swd_trace.specs.Listed.{AreLegal};
+ghost use Rattle.swd_port.specs.Laws.Calls.{port_with_asked};
+ghost use Rattle.swd_trace.specs.Listed.{AreLegalItems};
 ghost use Rattle.swd_trace.specs.Reading.{reading_of};
 ghost use Rattle.swd_trace.specs.Texts.{bits_of_items};
-ghost use Rattle.swd_recorder.specs.Items.{in_hand_by, items_by, items_of, CutOff};
-ghost use Rattle.swd_recorder.specs.Kept.{Adds, nothing_kept};
-ghost use Rattle.swd_recorder.specs.Steps.{transactions, pending, EndsUnacknowledged};
+ghost use Rattle.swd_recorder.specs.Items.{recorded_in_hand_by, recorded_items_by, recorded_items_of, RecordingCutOff};
+ghost use Rattle.swd_recorder.specs.Kept.{RecorderAdds, recorder_nothing_kept};
+ghost use Rattle.swd_recorder.specs.Steps.{recorded_transactions, recorded_due_count, RecordedEndsUnacknowledged};
 
 use crate::recording::Recording;
 use std::alloc::{Allocator, Global};
@@ -29,20 +29,21 @@ use swd_trace::Item;
 pub struct Recorder<W: Wire, A: Allocator = Global> {
     wire: W,
     recording: Recording<A>,
-    ghost tracked: { (W.port wire).link.due ≡ due_by recording.noted.calls },
+    ghost tracked: { (W.port wire).link.due ≡ port_due_by recording.noted.calls },
 }
 
 impl<W: Wire, A: Allocator> Recorder<W, A> {
-    ghost use Rattle.swd_recorder.specs.Recorders.{calls_by, kept_by, port_by, plan_by, wire_under};
+    ghost use Rattle.swd_recorder.specs.Recorders.{recorder_calls, recorder_kept, recorder_port, recorder_plan};
+    ghost use Rattle.swd_recorder.specs.Recorders.{recorder_wire_under};
 
     /// Returns a recorder over this wire, without items, and with its own count of requests.
     pub fn new(alloc: A, wire: W) -> Recorder<W, A>
         requires { (W.port wire).link.due ≡ Nothing }
-        ensures port { port_by result ≡ with_asked 0 (W.port wire) }
-        ensures plan { plan_by result ≡ W.plan wire }
-        ensures kept { kept_by result ≡ nothing_kept }
-        ensures calls { calls_by result ≡ [] }
-        ensures wire { wire_under result ≡ wire }
+        ensures port { recorder_port result ≡ port_with_asked 0 (W.port wire) }
+        ensures plan { recorder_plan result ≡ W.plan wire }
+        ensures kept { recorder_kept result ≡ recorder_nothing_kept }
+        ensures calls { recorder_calls result ≡ [] }
+        ensures wire { recorder_wire_under result ≡ wire }
     {
         Recorder {
             wire,
@@ -58,32 +59,35 @@ impl<W: Wire, A: Allocator> Recorder<W, A> {
     /// isn't complete yet. Their last item is then a transaction without acknowledgement exactly if the wire
     /// is lost.
     pub fn items(&self) -> &[Item]
-        ensures items { result.now ≡ (kept_by self.now).items }
-        ensures whole { (kept_by self.now).is_cut ≡ false → result.now ≡ items_by (calls_by self.now) }
-        ensures cut { (kept_by self.now).is_cut ≡ true → ∥ CutOff result.now (calls_by self.now) ∥₁ }
-        ensures legal { AreLegal result.now }
+        ensures items { result.now ≡ (recorder_kept self.now).items }
+        ensures whole { (recorder_kept self.now).is_cut ≡ false
+            → result.now ≡ recorded_items_by (recorder_calls self.now) }
+        ensures cut { (recorder_kept self.now).is_cut ≡ true
+            → ∥ RecordingCutOff result.now (recorder_calls self.now) ∥₁ }
+        ensures legal { AreLegalItems result.now }
         ensures read { reading_of (bits_of_items result.now) ≡ result.now }
-        ensures most { transactions result.now ≤ (port_by self.now).tally.asked }
-        ensures counted { (kept_by self.now).is_cut ≡ false
-            → transactions result.now + pending (port_by self.now).link.due ≡ (port_by self.now).tally.asked }
-        ensures lost { (kept_by self.now).is_cut ≡ false
-            → EndsUnacknowledged result.now ↔ ((port_by self.now).link.due ≡ Lost) }
+        ensures most { recorded_transactions result.now ≤ (recorder_port self.now).tally.asked }
+        ensures counted { (recorder_kept self.now).is_cut ≡ false
+            → recorded_transactions result.now + recorded_due_count (recorder_port self.now).link.due
+            ≡ (recorder_port self.now).tally.asked }
+        ensures lost { (recorder_kept self.now).is_cut ≡ false
+            → RecordedEndsUnacknowledged result.now ↔ ((recorder_port self.now).link.due ≡ Lost) }
     {
         self.recording.items.list.as_slice()
     }
 
     /// Returns whether the items are truncated.
     pub fn is_cut(&self) -> bool
-        ensures { result ≡ (kept_by self.now).is_cut }
+        ensures { result ≡ (recorder_kept self.now).is_cut }
     {
         self.recording.items.is_cut
     }
 
     /// Returns the wire that it forwards to.
     pub fn into_wire(self) -> W
-        ensures wire { wire_under self ≡ result }
-        ensures port { port_by self ≡ with_asked (port_by self).tally.asked (W.port result) }
-        ensures plan { plan_by self ≡ W.plan result }
+        ensures wire { recorder_wire_under self ≡ result }
+        ensures port { recorder_port self ≡ port_with_asked (recorder_port self).tally.asked (W.port result) }
+        ensures plan { recorder_plan self ≡ W.plan result }
     {
         let Recorder { wire, .. } = self;
         wire
@@ -91,32 +95,34 @@ impl<W: Wire, A: Allocator> Recorder<W, A> {
 }
 
 impl<W: Wire, A: Allocator> Wire for Recorder<W, A> {
-    ghost use Rattle.swd_recorder.specs.Recorders.{calls_by, kept_by, port_by, plan_by, lawful_by, notes_by};
+    ghost use Rattle.swd_recorder.specs.Recorders.{recorder_calls, recorder_kept, recorder_port, recorder_plan};
+    ghost use Rattle.swd_recorder.specs.Recorders.{recorder_lawful, recorder_notes};
 
-    ghost port = { port_by };
+    ghost port = { recorder_port };
 
-    ghost plan = { plan_by };
+    ghost plan = { recorder_plan };
 
-    ghost lawful = { lawful_by };
+    ghost lawful = { recorder_lawful };
 
-    ghost notes = { notes_by };
+    ghost notes = { recorder_notes };
 
     fn due(&self) -> Due {
         self.wire.due()
     }
 
     fn step(&mut self, cue: Cue) -> u64
-        requires { MayStep (port_by self.old).link.due cue }
-        ensures seen { IsSeen cue result }
-        ensures due { (port_by self.new).link.due ≡ due_once cue result }
-        ensures step { lawful_by self.new → lawful_by self.old
-            × IsStep cue result (port_by self.old) (port_by self.new) }
-        ensures plan { plan_by self.new ≡ plan_by self.old }
-        ensures notes { (calls : List Call) → notes_by calls self.old
-            → notes_by (record { cue = cue; seen = result } ∷ calls) self.new }
-        ensures calls { calls_by self.new ≡ record { cue = cue; seen = result } ∷ calls_by self.old }
-        ensures adds { Adds (items_of (in_hand_by (calls_by self.old)) cue result) (kept_by self.old) (kept_by self.new) }
-        ensures stays { (kept_by self.old).is_cut ≡ true → kept_by self.new ≡ kept_by self.old }
+        requires { PortMayStep (recorder_port self.old).link.due cue }
+        ensures seen { IsPortSeen cue result }
+        ensures due { (recorder_port self.new).link.due ≡ port_due_once cue result }
+        ensures step { recorder_lawful self.new → recorder_lawful self.old
+            × IsPortStep cue result (recorder_port self.old) (recorder_port self.new) }
+        ensures plan { recorder_plan self.new ≡ recorder_plan self.old }
+        ensures notes { (calls : List Call) → recorder_notes calls self.old
+            → recorder_notes (record { cue = cue; seen = result } ∷ calls) self.new }
+        ensures calls { recorder_calls self.new ≡ record { cue = cue; seen = result } ∷ recorder_calls self.old }
+        ensures adds { RecorderAdds (recorded_items_of (recorded_in_hand_by (recorder_calls self.old)) cue result)
+            (recorder_kept self.old) (recorder_kept self.new) }
+        ensures stays { (recorder_kept self.old).is_cut ≡ true → recorder_kept self.new ≡ recorder_kept self.old }
     {
         let seen = self.wire.step(cue);
         self.recording.record(cue, seen);

@@ -2,52 +2,52 @@
 use Rattle.std.specs.Prelude.{ℕ, ◌≡◌, true, List, [], ◌∷◌, ◌++◌, Option, None, Result}
 use Rattle.std.specs.Io.KnownBytes.{Appends, Consumes}
 use Rattle.swd_sequences.specs.declared.character.Character.TheVariants.{Quits}
-use Rattle.swd_sequences.specs.Alphabet.{byte_of}
+use Rattle.swd_sequences.specs.Alphabet.{alphabet_byte}
 use Rattle.swd_port.specs.declared.outside.Disconnected.{Disconnected}
-use Rattle.swd_port.specs.Transports.{Attempt}
-use Rattle.swd_remote.specs.declared.kept.Line.{Line}
+use Rattle.swd_port.specs.Transports.{PortAttempt}
+use Rattle.swd_remote.specs.declared.kept.RemoteStreams.{RemoteStreams}
 use Rattle.swd_remote.specs.declared.remote.Remote.{Remote}
 use Rattle.swd_remote.specs.declared.probe_transport.ProbeTransport.{ProbeTransport}
-use Rattle.swd_remote.specs.Remotes.{QuitsAt}
-use Rattle.swd_remote.specs.Runs.{AreMade, ExactUpTo, text_of, all_levels}
-use Rattle.swd_remote.specs.Ways.{IsOnItsWay}
+use Rattle.swd_remote.specs.Remotes.{RemoteQuitsAt}
+use Rattle.swd_remote.specs.Runs.{AreRemoteCallsMade, RemoteExactUpTo, remote_characters_of, remote_all_levels}
+use Rattle.swd_remote.specs.Ways.{IsOnRemoteWay}
 
 -- nothing was sent or read yet, and the host drives SWDIO
-pub record IsFresh {R W : Type 0} (remaining : R → Option (List ℕ)) (contents : W → Option (List ℕ))
+pub record IsFreshRemote {R W : Type 0} (remaining : R → Option (List ℕ)) (contents : W → Option (List ℕ))
     (sent left : Option (List ℕ)) (start : Remote R W) : Type 0 where
   pub well : start.fault ≡ None
   pub asked : start.asked ≡ 0
   pub drives : start.drives ≡ true
-  pub writer : IsOnItsWay contents sent start.outgoing []
+  pub writer : IsOnRemoteWay contents sent start.outgoing []
   pub reader : remaining start.reader ≡ left
 
 -- exactly these calls were made since the beginning, in order
-pub record IsTold {R W : Type 0} (remaining : R → Option (List ℕ)) (contents : W → Option (List ℕ))
-    (sent left : Option (List ℕ)) (calls : List Attempt) (t : ProbeTransport (Remote R W)) : Type 0 where
+pub record AreRemoteCallsSent {R W : Type 0} (remaining : R → Option (List ℕ)) (contents : W → Option (List ℕ))
+    (sent left : Option (List ℕ)) (calls : List PortAttempt) (t : ProbeTransport (Remote R W)) : Type 0 where
   pub start : Remote R W
-  pub fresh : IsFresh remaining contents sent left start
-  pub made : AreMade remaining contents calls start t.probe
+  pub fresh : IsFreshRemote remaining contents sent left start
+  pub made : AreRemoteCallsMade remaining contents calls start t.probe
 
 -- A connection that ended without an error: exactly the characters of the calls and Q were sent, and exactly
 -- the levels that the calls returned were read.
-pub record WentWell {R W : Type 0} (remaining : R → Option (List ℕ)) (contents : W → Option (List ℕ))
-    (sent left : Option (List ℕ)) (calls : List Attempt) (line : Line R W) : Type 0 where
-  pub out : Appends sent (contents line.writer) (text_of true calls ++ byte_of Quits ∷ [])
-  pub reads : Consumes left (remaining line.reader) (all_levels calls)
+pub record RemoteWentWell {R W : Type 0} (remaining : R → Option (List ℕ)) (contents : W → Option (List ℕ))
+    (sent left : Option (List ℕ)) (calls : List PortAttempt) (line : RemoteStreams R W) : Type 0 where
+  pub out : Appends sent (contents line.writer) (remote_characters_of true calls ++ alphabet_byte Quits ∷ [])
+  pub reads : Consumes left (remaining line.reader) (remote_all_levels calls)
 
 -- These calls were made up to the end of a connection. Up to the first error they are exact; without an
 -- error, all of them and Q are.
-pub record HangsUp {R W : Type 0} (remaining : R → Option (List ℕ)) (contents : W → Option (List ℕ))
-    (sent left : Option (List ℕ)) (calls : List Attempt) (line : Line R W) : Type 0 where
+pub record RemoteHangsUp {R W : Type 0} (remaining : R → Option (List ℕ)) (contents : W → Option (List ℕ))
+    (sent left : Option (List ℕ)) (calls : List PortAttempt) (line : RemoteStreams R W) : Type 0 where
   pub start : Remote R W
-  pub fresh : IsFresh remaining contents sent left start
+  pub fresh : IsFreshRemote remaining contents sent left start
   pub last : Remote R W
-  pub made : AreMade remaining contents calls start last
-  pub exact : ExactUpTo remaining contents last.fault calls start last
+  pub made : AreRemoteCallsMade remaining contents calls start last
+  pub exact : RemoteExactUpTo remaining contents last.fault calls start last
   pub done : Result (Unit {0}) Disconnected
   pub end : Remote R W
-  pub quits : QuitsAt last.fault contents done last end
+  pub quits : RemoteQuitsAt last.fault contents done last end
   pub reader : line.reader ≡ end.reader
   pub writer : line.writer ≡ end.outgoing.writer
   pub fault : line.fault ≡ end.fault
-  pub well : line.fault ≡ None → WentWell remaining contents sent left calls line
+  pub well : line.fault ≡ None → RemoteWentWell remaining contents sent left calls line

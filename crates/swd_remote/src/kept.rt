@@ -1,7 +1,7 @@
 //! A transport over remote_bitbang characters whose contract has its calls, so that contracts can speak of a
 //! whole run.
 ghost use Rattle.std.specs.Prelude.{◌≡◌, ℕ, List, [], Option, None};
-ghost use Rattle.swd_port.specs.Transports.{Attempt};
+ghost use Rattle.swd_port.specs.Transports.{PortAttempt};
 
 use crate::probe_transport::ProbeTransport;
 use crate::remote::{Fault, Remote};
@@ -11,13 +11,13 @@ use swd_port::{Cue, Disconnected, Transport};
 
 /// What the writer holds and the reader has at the beginning of a connection. It is for contracts alone: a
 /// caller passes [`Brand`], and its proof gives the values.
-pub trait Beginning {
+pub trait InitialStreams {
     ghost sent: { Option (List ℕ) };
 
     ghost left: { Option (List ℕ) };
 }
 
-impl Beginning for Brand {
+impl InitialStreams for Brand {
     ghost sent = { None };
 
     ghost left = { None };
@@ -26,28 +26,28 @@ impl Beginning for Brand {
 /// A transport over remote_bitbang characters whose contract has its calls: up to the first error, exactly
 /// their characters were sent since the beginning, and exactly their levels were read.
 #[derive(Drop)]
-pub struct Kept<R: Read, W: Write, B: Beginning> {
+pub struct RemoteTransport<R: Read, W: Write, B: InitialStreams> {
     pub transport: ProbeTransport<Remote<R, W>>,
     beginning: PhantomData<B>,
 }
 
 /// A connection after its use.
 #[derive(Drop)]
-pub struct Line<R, W> {
+pub struct RemoteStreams<R, W> {
     pub reader: R,
     pub writer: W,
     /// The error that ended the connection, if any.
     pub fault: Option<Fault>,
 }
 
-impl<R, W> Line<R, W> {
+impl<R, W> RemoteStreams<R, W> {
     /// Returns a connection that wasn't used.
-    pub fn unused(reader: R, writer: W) -> Line<R, W>
+    pub fn unused(reader: R, writer: W) -> RemoteStreams<R, W>
         ensures reader { result.reader ≡ reader }
         ensures writer { result.writer ≡ writer }
         ensures fault { result.fault ≡ None }
     {
-        Line {
+        RemoteStreams {
             reader,
             writer,
             fault: None,
@@ -55,33 +55,34 @@ impl<R, W> Line<R, W> {
     }
 }
 
-impl<R: Read, W: Write, B: Beginning> Kept<R, W, B> {
-    ghost use Rattle.swd_remote.specs.Kept.{IsTold, HangsUp};
+impl<R: Read, W: Write, B: InitialStreams> RemoteTransport<R, W, B> {
+    ghost use Rattle.swd_remote.specs.Kept.{AreRemoteCallsSent, RemoteHangsUp};
 
     /// Returns a transport over which nothing was sent yet.
-    pub fn new(reader: R, writer: W) -> Kept<R, W, B>
+    pub fn new(reader: R, writer: W) -> RemoteTransport<R, W, B>
         requires sent { B.sent ≡ W.contents writer }
         requires left { B.left ≡ R.remaining reader }
-        ensures { ∥ IsTold R.remaining W.contents B.sent B.left [] result.transport ∥₁ }
+        ensures { ∥ AreRemoteCallsSent R.remaining W.contents B.sent B.left [] result.transport ∥₁ }
     {
         let transport = ProbeTransport::new(Remote::new(reader, writer));
-        Kept {
+        RemoteTransport {
             transport,
             beginning: PhantomData,
         }
     }
 
     /// Sends what is queued and `Q`, unless an error came before, and returns the connection.
-    pub fn hang_up(self) -> Line<R, W>
-        ensures { (calls : List Attempt) → ∥ IsTold R.remaining W.contents B.sent B.left calls self.transport ∥₁
-            → ∥ HangsUp R.remaining W.contents B.sent B.left calls result ∥₁ }
+    pub fn hang_up(self) -> RemoteStreams<R, W>
+        ensures { (calls : List PortAttempt)
+            → ∥ AreRemoteCallsSent R.remaining W.contents B.sent B.left calls self.transport ∥₁
+            → ∥ RemoteHangsUp R.remaining W.contents B.sent B.left calls result ∥₁ }
     {
-        let Kept { transport, .. } = self;
+        let RemoteTransport { transport, .. } = self;
         let mut remote = transport.into_probe();
         let _ = remote.quit();
         let fault = remote.fault();
         let (reader, writer) = remote.into_parts();
-        Line {
+        RemoteStreams {
             reader,
             writer,
             fault,
@@ -89,10 +90,10 @@ impl<R: Read, W: Write, B: Beginning> Kept<R, W, B> {
     }
 }
 
-impl<R: Read, W: Write, B: Beginning> Transport for Kept<R, W, B> {
-    ghost use Rattle.swd_remote.specs.Kept.{IsTold};
+impl<R: Read, W: Write, B: InitialStreams> Transport for RemoteTransport<R, W, B> {
+    ghost use Rattle.swd_remote.specs.Kept.{AreRemoteCallsSent};
 
-    ghost tells = { λ calls kept. ∥ IsTold R.remaining W.contents B.sent B.left calls kept.transport ∥₁ };
+    ghost tells = { λ calls kept. ∥ AreRemoteCallsSent R.remaining W.contents B.sent B.left calls kept.transport ∥₁ };
 
     fn step(&mut self, cue: Cue) -> Result<u64, Disconnected> {
         self.transport.step(cue)

@@ -1,5 +1,5 @@
 //! Laws of whole runs. The functions do nothing: their contracts are the laws.
-ghost use Rattle.swd_remote.specs.Runs.{RunsExactly, QuitsExactly};
+ghost use Rattle.swd_remote.specs.Runs.{RemoteRunsExactly, RemoteQuitsExactly};
 
 use std::io::{Read, Write};
 
@@ -7,6 +7,6 @@ use std::io::{Read, Write};
 /// exactly their characters are queued, in order, and exactly the levels that they ask for are read. After a
 /// successful `quit` exactly these characters and `Q` were sent.
 pub fn runs_exactly<R: Read, W: Write>()
-    ensures runs { RunsExactly R.remaining W.contents }
-    ensures quits { QuitsExactly R.remaining W.contents }
+    ensures runs { RemoteRunsExactly R.remaining W.contents }
+    ensures quits { RemoteQuitsExactly R.remaining W.contents }
 {}

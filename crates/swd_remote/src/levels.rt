@@ -1,8 +1,8 @@
 //! Reads the levels that the server returns.
 ghost use Rattle.std.specs.Prelude.{◌≡◌, ◌<◌, ◌≤◌, ◌^◌, length, OnOk, IfOk, IfErr};
 ghost use Rattle.std.specs.Io.KnownBytes.{Consumes};
-ghost use Rattle.swd_sequences.specs.Clocks.{levels};
-ghost use Rattle.swd_remote.specs.Remotes.{ReadsLevels, IsNoLevel, Stops};
+ghost use Rattle.swd_sequences.specs.Clocks.{sequence_levels};
+ghost use Rattle.swd_remote.specs.Remotes.{RemoteReadsLevels, IsNoRemoteLevel, RemoteStopsReading};
 
 use crate::remote::Fault;
 use std::io::Read;
@@ -14,7 +14,7 @@ pub(crate) const MOST: usize = 64;
 // Fills the buffer. A read that fails isn't retried.
 fn fill<R: Read>(reader: &mut R, buffer: &mut [u8]) -> Result<(), Fault>
     ensures ok { OnOk result (Consumes (R.remaining reader.old) (R.remaining reader.new) buffer.new) }
-    ensures err { IfErr result (λ fault. Stops fault (length buffer.old) (R.remaining reader.old)
+    ensures err { IfErr result (λ fault. RemoteStopsReading fault (length buffer.old) (R.remaining reader.old)
         (R.remaining reader.new)) }
 {
     let mut at = 0;
@@ -36,8 +36,9 @@ fn fill<R: Read>(reader: &mut R, buffer: &mut [u8]) -> Result<(), Fault>
 // level.
 fn number_of(text: &[u8]) -> Result<u64, u8>
     requires { length text.now ≤ 64 }
-    ensures ok { IfOk result (λ number. (levels (length text.now) number ≡ text.now) × (number < 2 ^ length text.now)) }
-    ensures err { IfErr result (λ byte. IsNoLevel byte text.now) }
+    ensures ok { IfOk result (λ number. (sequence_levels (length text.now) number ≡ text.now)
+        × (number < 2 ^ length text.now)) }
+    ensures err { IfErr result (λ byte. IsNoRemoteLevel byte text.now) }
 {
     let mut number = 0u64;
     for place in 0..text.len() {
@@ -53,7 +54,7 @@ fn number_of(text: &[u8]) -> Result<u64, u8>
 /// Reads `count` levels, and no byte more.
 pub(crate) fn read_levels<R: Read>(reader: &mut R, count: usize) -> Result<u64, Fault>
     requires { count ≤ 64 }
-    ensures { ReadsLevels count result (R.remaining reader.old) (R.remaining reader.new) }
+    ensures { RemoteReadsLevels count result (R.remaining reader.old) (R.remaining reader.new) }
 {
     let mut buffer = [0u8; MOST];
     match fill(reader, &mut buffer[..count]) {

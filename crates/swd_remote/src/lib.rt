@@ -11,7 +11,7 @@ mod probe_transport;
 mod remote;
 mod whole_run;
 
-pub use kept::{Beginning, Kept, Line};
+pub use kept::{InitialStreams, RemoteStreams, RemoteTransport};
 pub use probe::Probe;
 pub use probe_transport::ProbeTransport;
 pub use remote::{Fault, Remote};

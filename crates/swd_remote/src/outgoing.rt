@@ -1,7 +1,7 @@
 //! Buffered characters for a writer.
 ghost use Rattle.std.specs.Prelude.{◌≡◌, ◌+◌, ◌≤◌, ℕ, List, Option, [], length, true, false};
 ghost use Rattle.std.specs.Io.KnownBytes.{Appends};
-ghost use Rattle.swd_remote.specs.Ways.{IsOnItsWay, Lengthens, Delivers, has_broken};
+ghost use Rattle.swd_remote.specs.Ways.{IsOnRemoteWay, RemoteLengthens, RemoteDelivers, remote_has_broken};
 
 use arrayvec::ArrayVec;
 use std::io::Write;
@@ -23,7 +23,7 @@ impl<W: Write> Outgoing<W> {
     /// Returns an empty buffer.
     pub(crate) fn new(writer: W) -> Outgoing<W>
         ensures { (start : Option (List ℕ)) (text : List ℕ) → Appends start (W.contents writer) text
-            → IsOnItsWay W.contents start result text }
+            → IsOnRemoteWay W.contents start result text }
     {
         Outgoing {
             writer,
@@ -34,10 +34,10 @@ impl<W: Write> Outgoing<W> {
 
     /// Writes the buffered characters, and returns whether all characters so far were written.
     pub(crate) fn flush(&mut self) -> bool
-        ensures whole { result ≡ true → Delivers W.contents self.old self.new }
-        ensures broken { result ≡ false → has_broken self.new ≡ true }
-        ensures keeps { Lengthens W.contents [] self.old self.new }
-        ensures empty { result ≡ true → (self.new.held.items ≡ []) × (has_broken self.new ≡ false) }
+        ensures whole { result ≡ true → RemoteDelivers W.contents self.old self.new }
+        ensures broken { result ≡ false → remote_has_broken self.new ≡ true }
+        ensures keeps { RemoteLengthens W.contents [] self.old self.new }
+        ensures empty { result ≡ true → (self.new.held.items ≡ []) × (remote_has_broken self.new ≡ false) }
     {
         if self.failed {
             return false;
@@ -57,9 +57,10 @@ impl<W: Write> Outgoing<W> {
     // Makes room for `len` characters, and returns whether there is room.
     fn make_room(&mut self, len: usize) -> bool
         requires { len ≤ 16 }
-        ensures keeps { Lengthens W.contents [] self.old self.new }
-        ensures room { result ≡ true → (length self.new.held.items + len ≤ 4096) × (has_broken self.new ≡ false) }
-        ensures broken { result ≡ false → has_broken self.new ≡ true }
+        ensures keeps { RemoteLengthens W.contents [] self.old self.new }
+        ensures room { result ≡ true → (length self.new.held.items + len ≤ 4096)
+            × (remote_has_broken self.new ≡ false) }
+        ensures broken { result ≡ false → remote_has_broken self.new ≡ true }
     {
         if self.failed {
             return false;
@@ -73,7 +74,7 @@ impl<W: Write> Outgoing<W> {
     /// Appends these characters.
     pub(crate) fn put(&mut self, piece: &[u8])
         requires { length piece.now ≤ 16 }
-        ensures { Lengthens W.contents piece.now self.old self.new }
+        ensures { RemoteLengthens W.contents piece.now self.old self.new }
     {
         if self.make_room(piece.len()) {
             match self.held.try_extend_from_slice(piece) {

@@ -2,7 +2,8 @@
 ghost use Rattle.std.specs.Prelude.{◌≡◌, ℕ, Result};
 ghost use Rattle.swd_port.specs.declared.cue.Cue.TheVariants.{Lead, Ask};
 ghost use Rattle.swd_port.specs.declared.outside.Disconnected.{Disconnected as IsDisconnected};
-ghost use Rattle.swd_remote.specs.Packets.{sequences, has_clocks, QueuesBy, Queues, Performs, IsDoneAs};
+ghost use Rattle.swd_remote.specs.Packets.{probe_sequences, probe_has_clocks, ProbeQueuesBy, ProbeQueues};
+ghost use Rattle.swd_remote.specs.Packets.{ProbePerforms, IsProbeDoneAs};
 
 use crate::probe::Probe;
 use swd_bits::{Request, SWITCH, SWITCH_BITS};
@@ -31,7 +32,7 @@ impl<P: Probe> ProbeTransport<P> {
     /// `Disconnected` if the exchange with the probe fails.
     pub fn finish(&mut self) -> Result<(), Disconnected>
         ensures { (seen : Result ℕ IsDisconnected) × P.exchanges seen self.old.probe self.new.probe
-            × IsDoneAs seen result }
+            × IsProbeDoneAs seen result }
     {
         match self.probe.exchange() {
             Ok(_) => Ok(()),
@@ -49,7 +50,7 @@ impl<P: Probe> ProbeTransport<P> {
 
     // Queues a sequence if it has clocks.
     fn queue(&mut self, sequence: Sequence)
-        ensures { QueuesBy (has_clocks sequence) P.queues sequence self.old.probe self.new.probe }
+        ensures { ProbeQueuesBy (probe_has_clocks sequence) P.queues sequence self.old.probe self.new.probe }
     {
         if has_clocks(sequence) {
             self.probe.queue(sequence);
@@ -58,7 +59,7 @@ impl<P: Probe> ProbeTransport<P> {
 
     // Queues the sequences that have clocks, in order.
     fn queue_all(&mut self, sequences: &[Sequence])
-        ensures { Queues P.queues sequences.now self.old.probe self.new.probe }
+        ensures { ProbeQueues P.queues sequences.now self.old.probe self.new.probe }
     {
         for sequence in sequences {
             self.queue(*sequence);
@@ -67,7 +68,7 @@ impl<P: Probe> ProbeTransport<P> {
 
     // Queues the sequences of a cue, up to its answer.
     fn queue_cue(&mut self, cue: Cue)
-        ensures { Queues P.queues (sequences cue) self.old.probe self.new.probe }
+        ensures { ProbeQueues P.queues (probe_sequences cue) self.old.probe self.new.probe }
     {
         match cue {
             Cue::Lead {
@@ -89,7 +90,7 @@ impl<P: Probe> ProbeTransport<P> {
 
 // Returns whether a sequence has clocks.
 fn has_clocks(sequence: Sequence) -> bool
-    ensures { result ≡ has_clocks sequence }
+    ensures { result ≡ probe_has_clocks sequence }
 {
     match sequence {
         Sequence::Drive { bits: _, count } | Sequence::Sample { count } => count > 0,
@@ -99,7 +100,7 @@ fn has_clocks(sequence: Sequence) -> bool
 
 // Returns the sequences of a lead: ones, with `switch` the switch and the ones again, and zeros.
 fn led(ones: u32, undriven: u32, switch: bool, zeros: u32) -> [Sequence; 5]
-    ensures { result ≡ sequences (Lead ones undriven switch zeros) }
+    ensures { result ≡ probe_sequences (Lead ones undriven switch zeros) }
 {
     let undriven = undriven.min(ones);
     [
@@ -125,7 +126,7 @@ fn led(ones: u32, undriven: u32, switch: bool, zeros: u32) -> [Sequence; 5]
 
 // Returns the sequences of a request and its acknowledgement.
 fn asked(request: Request) -> [Sequence; 3]
-    ensures { result ≡ sequences (Ask request) }
+    ensures { result ≡ probe_sequences (Ask request) }
 {
     [
         Sequence::Drive {
@@ -139,7 +140,7 @@ fn asked(request: Request) -> [Sequence; 3]
 
 impl<P: Probe> Transport for ProbeTransport<P> {
     fn step(&mut self, cue: Cue) -> Result<u64, Disconnected>
-        ensures { Performs P.queues P.exchanges cue result self.old.probe self.new.probe }
+        ensures { ProbePerforms P.queues P.exchanges cue result self.old.probe self.new.probe }
     {
         self.queue_cue(cue);
         match cue {

@@ -2,9 +2,10 @@
 ghost use Rattle.std.specs.Prelude.{◌≡◌, ◌<◌, ◌≤◌, ℕ, List, Option, None, true, length, map, replicate};
 ghost use Rattle.std.specs.Io.KnownBytes.{Appends};
 ghost use Rattle.swd_bits.specs.Bits.{low_bits};
-ghost use Rattle.swd_sequences.specs.Clocks.{characters, clocks, turned, driven_clock, seen_clock, joined};
-ghost use Rattle.swd_sequences.specs.Clocks.{looks, is_driven};
-ghost use Rattle.swd_remote.specs.Ways.{IsOnItsWay, Lengthens};
+ghost use Rattle.swd_sequences.specs.Clocks.{sequence_characters, sequence_clocks, sequence_turn};
+ghost use Rattle.swd_sequences.specs.Clocks.{sequence_driven_clock, sequence_sampled_clock, sequence_joined};
+ghost use Rattle.swd_sequences.specs.Clocks.{sequence_looks, is_driven_sequence};
+ghost use Rattle.swd_remote.specs.Ways.{IsOnRemoteWay, RemoteLengthens};
 
 use crate::levels::{MOST, read_levels};
 use crate::outgoing::Outgoing;
@@ -37,8 +38,8 @@ pub enum Fault {
 ///
 /// ```ignore
 /// let remote = Remote::new(rt.stdin(), rt.stdout());
-/// let mut wire = Outside::<_, Untold>::new(ProbeTransport::new(remote));
-/// let report = run_outside(alloc, &mut wire, &accesses, 8)?;
+/// let mut wire = TransportWire::<_, Untold>::new(ProbeTransport::new(remote));
+/// let report = run_over_transport(alloc, &mut wire, &accesses, 8)?;
 /// let mut remote = wire.into_transport().into_probe();
 /// let gone = remote.quit().is_err();
 /// ```
@@ -55,13 +56,13 @@ pub struct Remote<R, W> {
 }
 
 impl<R: Read, W: Write> Remote<R, W> {
-    ghost use Rattle.swd_remote.specs.Remotes.{QuitsAt};
+    ghost use Rattle.swd_remote.specs.Remotes.{RemoteQuitsAt};
 
     /// Returns a connection over which nothing was sent yet. SWCLK is low, and the host drives SWDIO.
     pub fn new(reader: R, writer: W) -> Remote<R, W>
         ensures reader { result.reader ≡ reader }
         ensures out { (start : Option (List ℕ)) (text : List ℕ) → Appends start (W.contents writer) text
-            → IsOnItsWay W.contents start result.outgoing text }
+            → IsOnRemoteWay W.contents start result.outgoing text }
         ensures drives { result.drives ≡ true }
         ensures asked { result.asked ≡ 0 }
         ensures fault { result.fault ≡ None }
@@ -81,7 +82,7 @@ impl<R: Read, W: Write> Remote<R, W> {
     ///
     /// `Disconnected` if the connection ended before, or the writer fails now.
     pub fn quit(&mut self) -> Result<(), Disconnected>
-        ensures { QuitsAt self.old.fault W.contents result self.old self.new }
+        ensures { RemoteQuitsAt self.old.fault W.contents result self.old self.new }
     {
         if self.fault.is_some() {
             return Err(Disconnected);
@@ -118,11 +119,11 @@ impl<R: Read, W: Write> Remote<R, W> {
 }
 
 impl<R: Read, W: Write> Probe for Remote<R, W> {
-    ghost use Rattle.swd_remote.specs.Remotes.{QueuesAt, ExchangesAt};
+    ghost use Rattle.swd_remote.specs.Remotes.{RemoteQueuesAt, RemoteExchangesAt};
 
-    ghost queues = { λ sequence s t. QueuesAt s.fault W.contents sequence s t };
+    ghost queues = { λ sequence s t. RemoteQueuesAt s.fault W.contents sequence s t };
 
-    ghost exchanges = { λ result s t. ExchangesAt s.fault R.remaining W.contents result s t };
+    ghost exchanges = { λ result s t. RemoteExchangesAt s.fault R.remaining W.contents result s t };
 
     fn queue(&mut self, sequence: Sequence) {
         if self.fault.is_some() {
@@ -161,7 +162,7 @@ impl<R: Read, W: Write> Probe for Remote<R, W> {
 
 // Returns how many levels a sequence asks for.
 fn looks(sequence: Sequence) -> usize
-    ensures value { result ≡ looks sequence }
+    ensures value { result ≡ sequence_looks sequence }
     ensures few { result < 256 }
 {
     match sequence {
@@ -172,14 +173,14 @@ fn looks(sequence: Sequence) -> usize
 
 // Returns whether the host drives in a sequence.
 fn is_driven(sequence: Sequence) -> bool
-    ensures { result ≡ is_driven sequence }
+    ensures { result ≡ is_driven_sequence sequence }
 {
     matches!(&sequence, Sequence::Drive { .. } | Sequence::Hold { .. })
 }
 
 // Appends the characters of a sequence. `drives` is whether the host drove before it.
 fn put_sequence<W: Write>(outgoing: &mut Outgoing<W>, drives: bool, sequence: Sequence)
-    ensures { Lengthens W.contents (characters drives sequence) outgoing.old outgoing.new }
+    ensures { RemoteLengthens W.contents (sequence_characters drives sequence) outgoing.old outgoing.new }
 {
     put_turn(outgoing, drives, is_driven(sequence));
     put_clocks(outgoing, sequence);
@@ -187,7 +188,7 @@ fn put_sequence<W: Write>(outgoing: &mut Outgoing<W>, drives: bool, sequence: Se
 
 // Appends the character that makes the host drive or release SWDIO, if that changes.
 fn put_turn<W: Write>(outgoing: &mut Outgoing<W>, drives: bool, wanted: bool)
-    ensures { Lengthens W.contents (turned drives wanted) outgoing.old outgoing.new }
+    ensures { RemoteLengthens W.contents (sequence_turn drives wanted) outgoing.old outgoing.new }
 {
     if drives == wanted {
         outgoing.put(b"");
@@ -198,7 +199,7 @@ fn put_turn<W: Write>(outgoing: &mut Outgoing<W>, drives: bool, wanted: bool)
 
 // Appends the clocks of a sequence.
 fn put_clocks<W: Write>(outgoing: &mut Outgoing<W>, sequence: Sequence)
-    ensures { Lengthens W.contents (clocks sequence) outgoing.old outgoing.new }
+    ensures { RemoteLengthens W.contents (sequence_clocks sequence) outgoing.old outgoing.new }
 {
     match sequence {
         Sequence::Drive { bits, count } => put_bits(outgoing, bits, count),
@@ -211,7 +212,7 @@ fn put_clocks<W: Write>(outgoing: &mut Outgoing<W>, sequence: Sequence)
 // Returns a clock in which the host drives a bit, or which isn't sampled.
 #[inline(always)]
 fn driven_clock(bit: bool) -> [u8; 2]
-    ensures { result ≡ driven_clock bit }
+    ensures { result ≡ sequence_driven_clock bit }
 {
     [
         Character::Moves(false, bit).byte(),
@@ -222,7 +223,7 @@ fn driven_clock(bit: bool) -> [u8; 2]
 // Returns a clock whose level is sampled.
 #[inline(always)]
 fn seen_clock() -> [u8; 3]
-    ensures { result ≡ seen_clock }
+    ensures { result ≡ sequence_sampled_clock }
 {
     [
         Character::Moves(false, false).byte(),
@@ -233,7 +234,8 @@ fn seen_clock() -> [u8; 3]
 
 // Appends clocks in which the host drives the low bits of a number.
 fn put_bits<W: Write>(outgoing: &mut Outgoing<W>, bits: u64, count: u8)
-    ensures { Lengthens W.contents (joined (map driven_clock (low_bits count bits))) outgoing.old outgoing.new }
+    ensures { RemoteLengthens W.contents (sequence_joined (map sequence_driven_clock (low_bits count bits)))
+        outgoing.old outgoing.new }
 {
     let mut rest = bits;
     for place in 0..count {
@@ -245,7 +247,7 @@ fn put_bits<W: Write>(outgoing: &mut Outgoing<W>, bits: u64, count: u8)
 // Appends equal clocks.
 fn put_times<W: Write>(outgoing: &mut Outgoing<W>, clock: &[u8], count: u32)
     requires { length clock.now ≤ 16 }
-    ensures { Lengthens W.contents (joined (replicate count clock.now)) outgoing.old outgoing.new }
+    ensures { RemoteLengthens W.contents (sequence_joined (replicate count clock.now)) outgoing.old outgoing.new }
 {
     for place in 0..count {
         outgoing.put(clock);

@@ -2,12 +2,12 @@
 ghost use Rattle.std.specs.Prelude.{◌≡◌};
 ghost use Rattle.swd_remote.specs.WholeRuns.{RanOver};
 
-use crate::kept::{Beginning, Kept, Line};
+use crate::kept::{InitialStreams, RemoteStreams, RemoteTransport};
 use std::alloc::Allocator;
 use std::io::{Read, Write};
 use std::marker::Brand;
 use swd_host::{Refused, Report, run};
-use swd_port::{Access, Outside, Story, Tied};
+use swd_port::{Access, Story, Tied, TransportWire};
 
 /// Performs the accesses in order over a remote_bitbang connection, and then sends `Q`.
 ///
@@ -28,25 +28,27 @@ pub fn run_over_line<S: Story, R: Read, W: Write, A: Allocator>(
     writer: W,
     accesses: &[Access],
     tries: u32,
-) -> (Result<Report<A>, Refused>, Line<R, W>)
+) -> (Result<Report<A>, Refused>, RemoteStreams<R, W>)
     ensures { ∥ RanOver S.at accesses.now tries R.remaining W.contents (W.contents writer) (R.remaining reader)
         result.0 result.1 ∥₁ }
 {
     run_begun::<S, Brand, R, W, A>(alloc, reader, writer, accesses, tries)
 }
 
-fn run_begun<S: Story, B: Beginning, R: Read, W: Write, A: Allocator>(
+fn run_begun<S: Story, B: InitialStreams, R: Read, W: Write, A: Allocator>(
     alloc: A,
     reader: R,
     writer: W,
     accesses: &[Access],
     tries: u32,
-) -> (Result<Report<A>, Refused>, Line<R, W>)
+) -> (Result<Report<A>, Refused>, RemoteStreams<R, W>)
     requires sent { B.sent ≡ W.contents writer }
     requires left { B.left ≡ R.remaining reader }
     ensures { ∥ RanOver S.at accesses.now tries R.remaining W.contents B.sent B.left result.0 result.1 ∥₁ }
 {
-    let mut wire: Outside<Kept<R, W, B>, S, Tied> = Outside::begun(Kept::new(reader, writer));
+    let mut wire: TransportWire<RemoteTransport<R, W, B>, S, Tied> = TransportWire::begun(
+        RemoteTransport::new(reader, writer),
+    );
     let ran = run(alloc, &mut wire, accesses, tries);
     (ran, wire.into_transport().hang_up())
 }

@@ -8,14 +8,14 @@ use Rattle.swd_bits.specs.Bits.{low_bits}
 use Rattle.swd_bits.proofs.BitsLemmas.{length-low_bits}
 use Rattle.swd_resync.specs.declared.queue.Queue.{Queue}
 use Rattle.swd_resync.specs.Parts.{past_zeros}
-use Rattle.swd_resync.specs.Queues.{queued, IsHeld}
-use Rattle.swd_resync.specs.Holding.{IsNear}
-use Rattle.swd_resync.proofs.QueueLemmas.{past_run, past_alone}
+use Rattle.swd_resync.specs.Queues.{resync_queued, IsResyncHeld}
+use Rattle.swd_resync.specs.Holding.{IsResyncNear}
+use Rattle.swd_resync.proofs.QueueLemmas.{resync_past_run, resync_past_alone}
 
 -- a fact that holds where a result is None may be replaced by one that follows from it
-pub none_more : {A : Type 0} (r : Option A) (P Q : Type 0) → (P → Q) → IfNone r P → IfNone r Q
-none_more (Some a) P Q f h = h
-none_more None P Q f h = f h
+pub resync_if_none_weaker : {A : Type 0} (r : Option A) (P Q : Type 0) → (P → Q) → IfNone r P → IfNone r Q
+resync_if_none_weaker (Some a) P Q f h = h
+resync_if_none_weaker None P Q f h = f h
 
 past_longer : (x y : List Bool) → length (past_zeros y) ≤ length (past_zeros (x ++ y))
 past_longer [] y = omega arith
@@ -31,8 +31,8 @@ past_longer (true ∷ x) y =
     shorter (true ∷ y) = omega arith
 
 -- where fewer than fifty bits come after at most 92 bits and zeros, fewer than fifty are held behind the run
-pub near_room : (q : Queue) → IsHeld q → IsNear 92 (queued q) → q.back_len < 50
-near_room q held near = elim (cases_lt 0 q.back_len) [
+pub resync_held_back_room : (q : Queue) → IsResyncHeld q → IsResyncNear 92 (resync_queued q) → q.back_len < 50
+resync_held_back_room q held near = elim (cases_lt 0 q.back_len) [
   | inr none ↦ omega arith
   | inl some ↦
       let front : List Bool = low_bits q.front_len q.front in
@@ -42,25 +42,26 @@ near_room q held near = elim (cases_lt 0 q.back_len) [
       let within : near.place ≤ 92 = near.within in
       let l : length front ≡ q.front_len = length-low_bits q.front_len q.front in
       let m : length back ≡ q.back_len = length-low_bits q.back_len q.back in
-      let split : drop near.place (queued q) ≡ drop near.place front ++ others =
+      let split : drop near.place (resync_queued q) ≡ drop near.place front ++ others =
       drop-append-le near.place front others (omega arith) in
       let few : length (past_zeros (drop near.place front ++ others)) < 50 =
       subst (λ x. length (past_zeros x) < 50) split near.few in
       let more : length (past_zeros others) ≤ length (past_zeros (drop near.place front ++ others)) =
       past_longer (drop near.place front) others in
-      let same : past_zeros others ≡ back = past_run q.zeros back ∙ past_alone q.back_len q.back held.ends some in
+      let same : past_zeros others ≡ back =
+      resync_past_run q.zeros back ∙ resync_past_alone q.back_len q.back held.ends some in
       let all : length (past_zeros others) ≡ length back = ap length same in
       omega arith
 ]
 
 -- where no bits are held, none stand before the run of zeros or behind it
-pub nothing_held : (q : Queue) → queued q ≡ [] → q.front_len + q.back_len ≡ 0
-nothing_held q h =
+pub resync_held_empty : (q : Queue) → resync_queued q ≡ [] → q.front_len + q.back_len ≡ 0
+resync_held_empty q h =
     let front : List Bool = low_bits q.front_len q.front in
     let back : List Bool = low_bits q.back_len q.back in
     let others : List Bool = replicate q.zeros false ++ back in
-    let none : length (queued q) ≡ 0 = ap length h in
-    let whole : length (queued q) ≡ length front + length others = length-append front others in
+    let none : length (resync_queued q) ≡ 0 = ap length h in
+    let whole : length (resync_queued q) ≡ length front + length others = length-append front others in
     let behind : length others ≡ length (replicate q.zeros false) + length back =
     length-append (replicate q.zeros false) back in
     let l : length front ≡ q.front_len = length-low_bits q.front_len q.front in

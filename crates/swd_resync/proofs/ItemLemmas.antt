@@ -6,20 +6,20 @@ use Rattle.swd_trace.specs.declared.item.Item.{Item}
 use Rattle.swd_trace.specs.declared.item.Item.TheVariants.{Reset, Switch, Idle, Tx, Junk, Cut}
 use Rattle.swd_trace.specs.Held.{idle_items}
 use Rattle.swd_trace.specs.Texts.{item_bits, bits_of_items}
-use Rattle.swd_trace.proofs.SizeLemmas.{bits_more}
-use Rattle.swd_trace.proofs.SpellingLemmas.{length_spelling}
+use Rattle.swd_trace.proofs.SizeLemmas.{item_bits_append}
+use Rattle.swd_trace.proofs.SpellingLemmas.{trace_spelling_length}
 use Rattle.swd_resync.specs.declared.part.Part.{Part}
 use Rattle.swd_resync.specs.declared.part.Part.TheVariants.{Item as Told, Skip}
-use Rattle.swd_resync.specs.Divisions.{Divides, IsOf, phase_behind}
-use Rattle.swd_resync.specs.AsItems.{phase_after, items_of_part, items_of}
+use Rattle.swd_resync.specs.Divisions.{PartsDivide, ResyncPartHasBits, resync_phase_behind}
+use Rattle.swd_resync.specs.AsItems.{resync_phase_after, resync_part_items, resync_items}
 
 -- the items of one part more
-pub items_more : (over : Bool) (parts : List Part) (part : Part)
-    → items_of over (parts ++ part ∷ []) ≡ items_of over parts ++ items_of_part over part
-items_more over [] part = append-nil (items_of_part over part)
-items_more over (p ∷ parts) part =
-    ap (λ x. items_of_part over p ++ x) (items_more over parts part)
-    ∙ sym (append_assoc (items_of_part over p) (items_of over parts) (items_of_part over part))
+pub resync_items_part_more : (over : Bool) (parts : List Part) (part : Part)
+    → resync_items over (parts ++ part ∷ []) ≡ resync_items over parts ++ resync_part_items over part
+resync_items_part_more over [] part = append-nil (resync_part_items over part)
+resync_items_part_more over (p ∷ parts) part =
+    ap (λ x. resync_part_items over p ++ x) (resync_items_part_more over parts part)
+    ∙ sym (append_assoc (resync_part_items over p) (resync_items over parts) (resync_part_items over part))
 
 -- how many bits idle cycles have, as an item or none
 length_idle : (n : ℕ) → length (bits_of_items (idle_items n)) ≡ n
@@ -32,22 +32,23 @@ length_junk zero = refl
 length_junk (suc n) = ap suc (length_junk n)
 
 -- how many bits an item has with what follows it
-pub length_part : (over : Bool) (item : Item)
-    → length (bits_of_items (items_of_part over (Told item))) ≡ length (item_bits item) + phase_after over item
-length_part over item =
-    length-append (item_bits item) (bits_of_items (idle_items (phase_after over item)))
-    ∙ ap (λ n. length (item_bits item) + n) (length_idle (phase_after over item))
+pub resync_part_items_length : (over : Bool) (item : Item)
+    → length (bits_of_items (resync_part_items over (Told item))) ≡ length (item_bits item)
+    + resync_phase_after over item
+resync_part_items_length over item =
+    length-append (item_bits item) (bits_of_items (idle_items (resync_phase_after over item)))
+    ∙ ap (λ n. length (item_bits item) + n) (length_idle (resync_phase_after over item))
 
 -- how many bits a skip has
-pub length_skip : (over : Bool) (n : ℕ) → length (bits_of_items (items_of_part over (Skip n))) ≡ n
-length_skip over n = length_junk n
+pub resync_skip_items_length : (over : Bool) (n : ℕ) → length (bits_of_items (resync_part_items over (Skip n))) ≡ n
+resync_skip_items_length over n = length_junk n
 
 plain : (item : Item) (bits : List Bool) → length (item_bits item) ≡ length bits
     → length (bits_of_items (item ∷ [])) ≡ length bits
 plain item bits e = let l = length-append (item_bits item) [] in omega arith
 
-part_bits : (over : Bool) (part : Part) (bits : List Bool) → IsOf over part bits
-    → length (bits_of_items (items_of_part over part)) ≡ length bits
+part_bits : (over : Bool) (part : Part) (bits : List Bool) → ResyncPartHasBits over part bits
+    → length (bits_of_items (resync_part_items over part)) ≡ length bits
 part_bits over (Skip n) bits h = length_junk n ∙ sym h.1
 part_bits over (Told (Reset n)) bits h = plain (Reset n) bits (ap length (sym h.1))
 part_bits over (Told Switch) bits h = plain Switch bits (ap length (sym h))
@@ -57,20 +58,20 @@ part_bits over (Told (Cut cut)) bits h = plain (Cut cut) bits (ap length (sym h.
 part_bits over (Told (Tx tx)) bits h =
     let spells = h.3 in
     let same : length (item_bits (Tx tx)) ≡ length h.0 =
-    length_spelling tx true true ∙ sym (ap length spells.3 ∙ length_spelling tx spells.1 spells.2) in
-    let phase : length h.1 ≡ phase_behind over tx.result = h.4 in
+    trace_spelling_length tx true true ∙ sym (ap length spells.3 ∙ trace_spelling_length tx spells.1 spells.2) in
+    let phase : length h.1 ≡ resync_phase_behind over tx.result = h.4 in
     let whole : length bits ≡ length h.0 + length h.1 = ap length h.2 ∙ length-append h.0 h.1 in
-    length_part over (Tx tx) ∙ ap (λ n. n + phase_behind over tx.result) same
+    resync_part_items_length over (Tx tx) ∙ ap (λ n. n + resync_phase_behind over tx.result) same
     ∙ ap (λ n. length h.0 + n) (sym phase) ∙ sym whole
 
 -- the items of parts have as many bits as these
-pub items_have_bits : (over : Bool) (parts : List Part) (bits : List Bool) → Divides over parts bits
-    → length (bits_of_items (items_of over parts)) ≡ length bits
-items_have_bits over [] bits h = ap length (sym h)
-items_have_bits over (part ∷ parts) bits h =
+pub resync_parts_items_length : (over : Bool) (parts : List Part) (bits : List Bool) → PartsDivide over parts bits
+    → length (bits_of_items (resync_items over parts)) ≡ length bits
+resync_parts_items_length over [] bits h = ap length (sym h)
+resync_parts_items_length over (part ∷ parts) bits h =
     let first = part_bits over part h.0 h.3 in
-    let others = items_have_bits over parts h.1 h.4 in
+    let others = resync_parts_items_length over parts h.1 h.4 in
     let whole : length bits ≡ length h.0 + length h.1 = ap length h.2 ∙ length-append h.0 h.1 in
-    ap length (bits_more (items_of_part over part) (items_of over parts))
-    ∙ length-append (bits_of_items (items_of_part over part)) (bits_of_items (items_of over parts))
-    ∙ ap (λ n. n + length (bits_of_items (items_of over parts))) first ∙ ap (λ n. length h.0 + n) others ∙ sym whole
+    ap length (item_bits_append (resync_part_items over part) (resync_items over parts))
+    ∙ length-append (bits_of_items (resync_part_items over part)) (bits_of_items (resync_items over parts))
+    ∙ ap (λ n. n + length (bits_of_items (resync_items over parts))) first ∙ ap (λ n. length h.0 + n) others ∙ sym whole

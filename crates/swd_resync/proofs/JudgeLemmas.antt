@@ -5,23 +5,23 @@ use Rattle.std.specs.Prelude.{nat_lt, ◌&&◌, ◌||◌, ◌==◌, if◌then◌
 use Rattle.std.proofs.lemmas.List.{append_assoc, append-nil, drop-append-le, drop-drop}
 use Rattle.std.proofs.lemmas.Bool.{leb-true, le-leb, ne_eqb}
 use Rattle.swd_trace.specs.declared.item.Item.{Item}
-use Rattle.swd_trace.specs.declared.item.Item.TheVariants.{Reset, Switch, Idle, Tx as TxItem, Junk as JunkItem, Cut as CutItem}
-use Rattle.swd_trace.specs.declared.mode.Mode.TheVariants.{Synced}
-use Rattle.swd_trace.specs.Reading.{ones, whole, cut, junk, First}
-use Rattle.swd_trace.specs.declared.mode.Mode.TheVariants.{AfterReset}
-use Rattle.swd_trace.proofs.ReadingLemmas.{bool_cases}
-use Rattle.swd_trace.proofs.LawLemmas.{stand_fifty}
+use Rattle.swd_trace.specs.declared.item.Item.TheVariants.{Reset, Switch, Idle, Tx as TxItem, Junk as JunkItem}
+use Rattle.swd_trace.specs.declared.item.Item.TheVariants.{Cut as CutItem}
+use Rattle.swd_trace.specs.declared.mode.Mode.TheVariants.{Synced, AfterReset}
+use Rattle.swd_trace.specs.Reading.{trace_ones, whole_tx_item, cut_first_item, junk_first_item, FirstItem}
+use Rattle.swd_trace.proofs.ReadingLemmas.{trace_bit_cases}
+use Rattle.swd_trace.proofs.LawLemmas.{trace_reset_test_complete}
 use Rattle.swd_resync.specs.declared.sight.Sight.{Sight}
 use Rattle.swd_resync.specs.declared.sight.Sight.TheVariants.{Wait, End, Zero, Ones, Tx, Junk, Cut}
-use Rattle.swd_resync.specs.Parts.{first_at, past_zeros, sound, sound_bits, sound_next, pair, begins, is_junk}
-use Rattle.swd_resync.specs.Parts.{ended_or_reset, before_pair, followed_by, in_stretch, told, told_or_withdrawn}
-use Rattle.swd_resync.specs.Parts.{skipped}
+use Rattle.swd_resync.specs.Parts.{resync_first, past_zeros, resync_sound, resync_sound_bits, resync_sound_next, pair}
+use Rattle.swd_resync.specs.Parts.{begins_stretch, resync_is_junk, stretch_ended_or_reset, before_pair}
+use Rattle.swd_resync.specs.Parts.{stretch_after_tx, in_stretch, stretch_item, item_or_withdrawn, skip_bits}
 use Rattle.swd_bits.specs.declared.tx.Tx.{Tx as Transaction}
-use Rattle.swd_resync.specs.Holding.{IsNear}
-use Rattle.swd_resync.specs.Sights.{May, IsSeen}
-use Rattle.swd_resync.specs.Seen.{sound_seen, junk_seen, ones_seen, end_seen}
-use Rattle.swd_resync.specs.Judged.{Judges, IsClear, tx_step}
-use Rattle.swd_resync.proofs.StepLemmas.{reset_at}
+use Rattle.swd_resync.specs.Holding.{IsResyncNear}
+use Rattle.swd_resync.specs.Sights.{SightMore, IsSight}
+use Rattle.swd_resync.specs.Seen.{sight_sound_bits, sight_junk_bit, sight_fifty_ones, sight_end_or_reset}
+use Rattle.swd_resync.specs.Judged.{Judges, IsJudgedClear, stretch_tx_step}
+use Rattle.swd_resync.proofs.StepLemmas.{resync_reset_first}
 
 -- ---- few bits
 
@@ -31,16 +31,16 @@ past_le (false ∷ bits) = let h = past_le bits in omega arith
 past_le (true ∷ bits) = omega arith
 
 -- of fewer than fifty bits, fewer than fifty come after the zeros at the front
-pub near_of : (bits : List Bool) → length bits < 50 → IsNear 0 bits
-near_of bits h = let l = past_le bits in record { place = 0; within = omega arith; few = omega arith }
+pub judged_near_of_few : (bits : List Bool) → length bits < 50 → IsResyncNear 0 bits
+judged_near_of_few bits h = let l = past_le bits in record { place = 0; within = omega arith; few = omega arith }
 
 -- where fewer than fifty bits come after at most m bits and zeros, m may be replaced by any greater number
-pub near_more : (m n : ℕ) (bits : List Bool) → m ≤ n → IsNear m bits → IsNear n bits
-near_more m n bits h i = let w : i.place ≤ m = i.within in record { place = i.place; within = omega arith; few = i.few }
+pub judged_near_widened : (m n : ℕ) (bits : List Bool) → m ≤ n → IsResyncNear m bits → IsResyncNear n bits
+judged_near_widened m n bits h i = let w : i.place ≤ m = i.within in record { place = i.place; within = omega arith; few = i.few }
 
 -- behind some of the bits
-pub near_behind : (k m n : ℕ) (bits : List Bool) → k + m ≤ n → IsNear m (drop k bits) → IsNear n bits
-near_behind k m n bits h i =
+pub judged_near_behind : (k m n : ℕ) (bits : List Bool) → k + m ≤ n → IsResyncNear m (drop k bits) → IsResyncNear n bits
+judged_near_behind k m n bits h i =
     let w : i.place ≤ m = i.within in
     record {
       place = k + i.place;
@@ -51,114 +51,121 @@ near_behind k m n bits h i =
 -- ---- what is read first, from what is seen
 
 -- nothing follows the end
-pub nothing : (bits more : List Bool) → more ≡ [] → bits ++ more ≡ bits
-nothing bits more e = ap (λ x. bits ++ x) e ∙ append-nil bits
+pub judged_no_more : (bits more : List Bool) → more ≡ [] → bits ++ more ≡ bits
+judged_no_more bits more e = ap (λ x. bits ++ x) e ∙ append-nil bits
 
-abbrev pub Shown : Sight → First → Type 0
-Shown Wait f = Unit {0}
-Shown End f = f ≡ cut []
-Shown Zero f = (n : ℕ) × (f ≡ record { item = Idle n; after = Synced; taken = n })
-Shown Ones f = (n : ℕ) × (f ≡ record { item = Reset n; after = AfterReset; taken = n })
-Shown (Tx tx len) f = f ≡ whole tx len
-Shown Junk f = f ≡ junk true
-Shown (Cut bits) f = (all : List Bool) × (f ≡ cut all)
+abbrev pub SightShows : Sight → FirstItem → Type 0
+SightShows Wait f = Unit {0}
+SightShows End f = f ≡ cut_first_item []
+SightShows Zero f = (n : ℕ) × (f ≡ record { item = Idle n; after = Synced; taken = n })
+SightShows Ones f = (n : ℕ) × (f ≡ record { item = Reset n; after = AfterReset; taken = n })
+SightShows (Tx tx len) f = f ≡ whole_tx_item tx len
+SightShows Junk f = f ≡ junk_first_item true
+SightShows (Cut bits) f = (all : List Bool) × (f ≡ cut_first_item all)
 
 idle_first : (over : Bool) (bits : List Bool) → (n : ℕ)
-    × (first_at over Synced (false ∷ bits) ≡ record { item = Idle n; after = Synced; taken = n })
+    × (resync_first over Synced (false ∷ bits) ≡ record { item = Idle n; after = Synced; taken = n })
 idle_first false bits = (_, refl)
 idle_first true bits = (_, refl)
 
-fifty_more : (bits back more : List Bool) → bits ≡ replicate 50 true ++ back → nat_le 50 (ones (bits ++ more)) ≡ true
-fifty_more bits back more e = stand_fifty (bits ++ more)
+fifty_more : (bits back more : List Bool) → bits ≡ replicate 50 true ++ back
+    → nat_le 50 (trace_ones (bits ++ more)) ≡ true
+fifty_more bits back more e = trace_reset_test_complete (bits ++ more)
     (back ++ more, ap (λ x. x ++ more) e ∙ append_assoc (replicate 50 true) back more)
 
-fifty_first : (over : Bool) (bits : List Bool) → nat_le 50 (ones bits) ≡ true → (n : ℕ)
-    × (first_at over Synced bits ≡ record { item = Reset n; after = AfterReset; taken = n })
+fifty_first : (over : Bool) (bits : List Bool) → nat_le 50 (trace_ones bits) ≡ true → (n : ℕ)
+    × (resync_first over Synced bits ≡ record { item = Reset n; after = AfterReset; taken = n })
 fifty_first over [] e = absurd cc
-fifty_first over (b ∷ bits) e = (_, reset_at over Synced b bits (leb-true 50 (ones (b ∷ bits)) e))
+fifty_first over (b ∷ bits) e = (_, resync_reset_first over Synced b bits (leb-true 50 (trace_ones (b ∷ bits)) e))
 
 -- what is seen at the front of held bits is what is read first in mode synced, whatever may follow
-pub seen_first : (over ended : Bool) (s : Sight) (bits : List Bool) → IsSeen over ended s bits → (more : List Bool)
-    → May ended more → Shown s (first_at over Synced (bits ++ more))
-seen_first over ended Wait bits h more may = tt
-seen_first over ended End bits h more may =
-    ap (first_at over Synced) (ap (λ x. x ++ more) h.1 ∙ may h.0)
-seen_first over ended Zero bits h more may =
+pub sight_first : (over ended : Bool) (s : Sight) (bits : List Bool) → IsSight over ended s bits → (more : List Bool)
+    → SightMore ended more → SightShows s (resync_first over Synced (bits ++ more))
+sight_first over ended Wait bits h more may = tt
+sight_first over ended End bits h more may =
+    ap (resync_first over Synced) (ap (λ x. x ++ more) h.1 ∙ may h.0)
+sight_first over ended Zero bits h more may =
     let i = idle_first over (h.0 ++ more) in
-    (i.0, ap (λ x. first_at over Synced (x ++ more)) h.1 ∙ i.1)
-seen_first over ended Ones bits h more may = fifty_first over (bits ++ more) (fifty_more bits h.0 more h.1)
-seen_first over ended (Tx tx len) bits h more may = h.first more
-seen_first over ended Junk bits h more may = h.1 more
-seen_first over ended (Cut seen) bits h more may =
-    (bits, ap (first_at over Synced) (nothing bits more (may h.0)) ∙ h.3.first)
+    (i.0, ap (λ x. resync_first over Synced (x ++ more)) h.1 ∙ i.1)
+sight_first over ended Ones bits h more may = fifty_first over (bits ++ more) (fifty_more bits h.0 more h.1)
+sight_first over ended (Tx tx len) bits h more may = h.first more
+sight_first over ended Junk bits h more may = h.1 more
+sight_first over ended (Cut seen) bits h more may =
+    (bits, ap (resync_first over Synced) (judged_no_more bits more (may h.0)) ∙ h.3.first)
 
 -- ---- what a sight says
 
 -- what is seen decides how many bits a sound transaction at the front has (0 without one), or asks for more
-pub seen_sound : (over ended : Bool) (s : Sight) (bits : List Bool) → IsSeen over ended s bits
-    → Judges ended 0 (λ bits. sound over bits) bits (sound_seen s)
-seen_sound over ended Wait bits h = (h.0, near_of bits h.1)
-seen_sound over ended End bits h = λ more may.
-    ap (λ f. sound_bits f.item f.taken) (seen_first over ended End bits h more may)
-seen_sound over ended Zero bits h = λ more may.
-    ap (λ f. sound_bits f.item f.taken) (seen_first over ended Zero bits h more may).1
-seen_sound over ended Ones bits h = λ more may.
-    ap (λ f. sound_bits f.item f.taken) (seen_first over ended Ones bits h more may).1
-seen_sound over ended (Tx tx len) bits h = λ more may.
-    ap (λ f. sound_bits f.item f.taken) (seen_first over ended (Tx tx len) bits h more may)
-seen_sound over ended Junk bits h = λ more may.
-    ap (λ f. sound_bits f.item f.taken) (seen_first over ended Junk bits h more may)
-seen_sound over ended (Cut seen) bits h = λ more may.
-    ap (λ f. sound_bits f.item f.taken) (seen_first over ended (Cut seen) bits h more may).1
+pub sight_judges_sound : (over ended : Bool) (s : Sight) (bits : List Bool) → IsSight over ended s bits
+    → Judges ended 0 (λ bits. resync_sound over bits) bits (sight_sound_bits s)
+sight_judges_sound over ended Wait bits h = (h.0, judged_near_of_few bits h.1)
+sight_judges_sound over ended End bits h = λ more may.
+    ap (λ f. resync_sound_bits f.item f.taken) (sight_first over ended End bits h more may)
+sight_judges_sound over ended Zero bits h = λ more may.
+    ap (λ f. resync_sound_bits f.item f.taken) (sight_first over ended Zero bits h more may).1
+sight_judges_sound over ended Ones bits h = λ more may.
+    ap (λ f. resync_sound_bits f.item f.taken) (sight_first over ended Ones bits h more may).1
+sight_judges_sound over ended (Tx tx len) bits h = λ more may.
+    ap (λ f. resync_sound_bits f.item f.taken) (sight_first over ended (Tx tx len) bits h more may)
+sight_judges_sound over ended Junk bits h = λ more may.
+    ap (λ f. resync_sound_bits f.item f.taken) (sight_first over ended Junk bits h more may)
+sight_judges_sound over ended (Cut seen) bits h = λ more may.
+    ap (λ f. resync_sound_bits f.item f.taken) (sight_first over ended (Cut seen) bits h more may).1
 
-pub seen_junk : (over ended : Bool) (s : Sight) (bits : List Bool) → IsSeen over ended s bits
-    → Judges ended 0 (λ bits. is_junk (first_at over Synced bits).item) bits (junk_seen s)
-seen_junk over ended Wait bits h = (h.0, near_of bits h.1)
-seen_junk over ended End bits h = λ more may. ap (λ f. is_junk f.item) (seen_first over ended End bits h more may)
-seen_junk over ended Zero bits h = λ more may. ap (λ f. is_junk f.item) (seen_first over ended Zero bits h more may).1
-seen_junk over ended Ones bits h = λ more may. ap (λ f. is_junk f.item) (seen_first over ended Ones bits h more may).1
-seen_junk over ended (Tx tx len) bits h = λ more may.
-    ap (λ f. is_junk f.item) (seen_first over ended (Tx tx len) bits h more may)
-seen_junk over ended Junk bits h = λ more may. ap (λ f. is_junk f.item) (seen_first over ended Junk bits h more may)
-seen_junk over ended (Cut seen) bits h = λ more may.
-    ap (λ f. is_junk f.item) (seen_first over ended (Cut seen) bits h more may).1
+pub sight_judges_junk : (over ended : Bool) (s : Sight) (bits : List Bool) → IsSight over ended s bits
+    → Judges ended 0 (λ bits. resync_is_junk (resync_first over Synced bits).item) bits (sight_junk_bit s)
+sight_judges_junk over ended Wait bits h = (h.0, judged_near_of_few bits h.1)
+sight_judges_junk over ended End bits h = λ more may. ap (λ f. resync_is_junk f.item)
+    (sight_first over ended End bits h more may)
+sight_judges_junk over ended Zero bits h =
+    λ more may. ap (λ f. resync_is_junk f.item) (sight_first over ended Zero bits h more may).1
+sight_judges_junk over ended Ones bits h =
+    λ more may. ap (λ f. resync_is_junk f.item) (sight_first over ended Ones bits h more may).1
+sight_judges_junk over ended (Tx tx len) bits h = λ more may.
+    ap (λ f. resync_is_junk f.item) (sight_first over ended (Tx tx len) bits h more may)
+sight_judges_junk over ended Junk bits h =
+    λ more may. ap (λ f. resync_is_junk f.item) (sight_first over ended Junk bits h more may)
+sight_judges_junk over ended (Cut seen) bits h = λ more may.
+    ap (λ f. resync_is_junk f.item) (sight_first over ended (Cut seen) bits h more may).1
 
 -- whether an item is a line reset
-abbrev pub is_reset_item : Item → Bool
-is_reset_item (Reset n) = true
-is_reset_item Switch = false
-is_reset_item (Idle n) = false
-is_reset_item (TxItem tx) = false
-is_reset_item (JunkItem b) = false
-is_reset_item (CutItem bits) = false
+abbrev pub judged_reset : Item → Bool
+judged_reset (Reset n) = true
+judged_reset Switch = false
+judged_reset (Idle n) = false
+judged_reset (TxItem tx) = false
+judged_reset (JunkItem b) = false
+judged_reset (CutItem bits) = false
 
 -- where what is read first in mode synced isn't a line reset, fewer than fifty ones are at the front
-pub not_fifty : (over : Bool) (bits : List Bool) → is_reset_item (first_at over Synced bits).item ≡ false
-    → nat_le 50 (ones bits) ≡ false
-not_fifty over bits e = elim (bool_cases (nat_le 50 (ones bits))) [
-  | inl f ↦ (let r : is_reset_item (first_at over Synced bits).item ≡ true = ap (λ g. is_reset_item g.item)
+pub sight_not_fifty : (over : Bool) (bits : List Bool) → judged_reset (resync_first over Synced bits).item ≡ false
+    → nat_le 50 (trace_ones bits) ≡ false
+sight_not_fifty over bits e = elim (trace_bit_cases (nat_le 50 (trace_ones bits))) [
+  | inl f ↦ (let r : judged_reset (resync_first over Synced bits).item ≡ true = ap (λ g. judged_reset g.item)
       (fifty_first over bits f).1 in absurd cc)
   | inr f ↦ f
 ]
 
-pub seen_ones : (over ended : Bool) (s : Sight) (bits : List Bool) → IsSeen over ended s bits
-    → Judges ended 0 (λ bits. nat_le 50 (ones bits)) bits (ones_seen s)
-seen_ones over ended Wait bits h = (h.0, near_of bits h.1)
-seen_ones over ended End bits h = λ more may.
-    not_fifty over (bits ++ more) (ap (λ f. is_reset_item f.item) (seen_first over ended End bits h more may))
-seen_ones over ended Zero bits h = λ more may.
-    not_fifty over (bits ++ more) (ap (λ f. is_reset_item f.item) (seen_first over ended Zero bits h more may).1)
-seen_ones over ended Ones bits h = λ more may. fifty_more bits h.0 more h.1
-seen_ones over ended (Tx tx len) bits h = λ more may.
-    not_fifty over (bits ++ more) (ap (λ f. is_reset_item f.item) (seen_first over ended (Tx tx len) bits h more may))
-seen_ones over ended Junk bits h = λ more may.
-    not_fifty over (bits ++ more) (ap (λ f. is_reset_item f.item) (seen_first over ended Junk bits h more may))
-seen_ones over ended (Cut seen) bits h = λ more may.
-    not_fifty over (bits ++ more) (ap (λ f. is_reset_item f.item) (seen_first over ended (Cut seen) bits h more may).1)
+pub sight_judges_ones : (over ended : Bool) (s : Sight) (bits : List Bool) → IsSight over ended s bits
+    → Judges ended 0 (λ bits. nat_le 50 (trace_ones bits)) bits (sight_fifty_ones s)
+sight_judges_ones over ended Wait bits h = (h.0, judged_near_of_few bits h.1)
+sight_judges_ones over ended End bits h = λ more may.
+    sight_not_fifty over (bits ++ more) (ap (λ f. judged_reset f.item) (sight_first over ended End bits h more may))
+sight_judges_ones over ended Zero bits h = λ more may.
+    sight_not_fifty over (bits ++ more) (ap (λ f. judged_reset f.item) (sight_first over ended Zero bits h more may).1)
+sight_judges_ones over ended Ones bits h = λ more may. fifty_more bits h.0 more h.1
+sight_judges_ones over ended (Tx tx len) bits h = λ more may.
+    sight_not_fifty over (bits ++ more) (ap (λ f. judged_reset f.item)
+    (sight_first over ended (Tx tx len) bits h more may))
+sight_judges_ones over ended Junk bits h = λ more may.
+    sight_not_fifty over (bits ++ more) (ap (λ f. judged_reset f.item) (sight_first over ended Junk bits h more may))
+sight_judges_ones over ended (Cut seen) bits h = λ more may.
+    sight_not_fifty over (bits ++ more) (ap (λ f. judged_reset f.item)
+    (sight_first over ended (Cut seen) bits h more may).1)
 
 -- behind a bit that is there, the end is decided by the ones
-ends_by_ones : (bits more : List Bool) (t : Bool) → bits ≢ [] → nat_le 50 (ones (bits ++ more)) ≡ t
-    → ended_or_reset (bits ++ more) ≡ t
+ends_by_ones : (bits more : List Bool) (t : Bool) → bits ≢ [] → nat_le 50 (trace_ones (bits ++ more)) ≡ t
+    → stretch_ended_or_reset (bits ++ more) ≡ t
 ends_by_ones [] more t n e = absurd (n refl)
 ends_by_ones (b ∷ bits) more t n e = e
 
@@ -167,35 +174,37 @@ some_cut [] h = absurd (omega arith)
 some_cut (b ∷ bits) h = λ e. cc
 
 -- what is seen decides whether there are no bits or fifty ones, or asks for more bits
-pub seen_end : (over ended : Bool) (s : Sight) (bits : List Bool) → IsSeen over ended s bits
-    → Judges ended 0 (λ bits. ended_or_reset bits) bits (end_seen s)
-seen_end over ended Wait bits h = (h.0, near_of bits h.1)
-seen_end over ended End bits h = λ more may. ap ended_or_reset (ap (λ x. x ++ more) h.1 ∙ may h.0)
-seen_end over ended Zero bits h = λ more may. ap (λ x. ended_or_reset (x ++ more)) h.1
-seen_end over ended Ones bits h = λ more may.
-    ends_by_ones bits more true (subst (λ x. x ≢ []) (sym h.1) (λ e. cc)) (seen_ones over ended Ones bits h more may)
-seen_end over ended (Tx tx len) bits h = λ more may.
+pub sight_judges_end : (over ended : Bool) (s : Sight) (bits : List Bool) → IsSight over ended s bits
+    → Judges ended 0 (λ bits. stretch_ended_or_reset bits) bits (sight_end_or_reset s)
+sight_judges_end over ended Wait bits h = (h.0, judged_near_of_few bits h.1)
+sight_judges_end over ended End bits h = λ more may. ap stretch_ended_or_reset (ap (λ x. x ++ more) h.1 ∙ may h.0)
+sight_judges_end over ended Zero bits h = λ more may. ap (λ x. stretch_ended_or_reset (x ++ more)) h.1
+sight_judges_end over ended Ones bits h = λ more may.
+    ends_by_ones bits more true (subst (λ x. x ≢ []) (sym h.1) (λ e. cc))
+    (sight_judges_ones over ended Ones bits h more may)
+sight_judges_end over ended (Tx tx len) bits h = λ more may.
     let some : 12 ≤ len = h.some in
     let fits : len ≤ length bits = h.fits in
-    ends_by_ones bits more false (some_cut bits (omega arith)) (seen_ones over ended (Tx tx len) bits h more may)
-seen_end over ended Junk bits h = λ more may.
-    ends_by_ones bits more false h.0 (seen_ones over ended Junk bits h more may)
-seen_end over ended (Cut seen) bits h = λ more may.
-    ends_by_ones bits more false (some_cut bits h.3.some) (seen_ones over ended (Cut seen) bits h more may)
+    ends_by_ones bits more false (some_cut bits (omega arith))
+    (sight_judges_ones over ended (Tx tx len) bits h more may)
+sight_judges_end over ended Junk bits h = λ more may.
+    ends_by_ones bits more false h.0 (sight_judges_ones over ended Junk bits h more may)
+sight_judges_end over ended (Cut seen) bits h = λ more may.
+    ends_by_ones bits more false (some_cut bits h.3.some) (sight_judges_ones over ended (Cut seen) bits h more may)
 
-pub seen_clear : (over ended : Bool) (s : Sight) (bits : List Bool) → IsSeen over ended s bits
-    → IsClear ended bits (junk_seen s)
-seen_clear over ended Wait bits h = tt
-seen_clear over ended End bits h = λ e. h.0
-seen_clear over ended Zero bits h = λ e. (let f : [] ≡ false ∷ h.0 = sym e ∙ h.1 in absurd cc)
-seen_clear over ended Ones bits h = λ e. (let f : [] ≡ replicate 50 true ++ h.0 = sym e ∙ h.1 in absurd cc)
-seen_clear over ended (Tx tx len) bits h = λ e.
+pub sight_junk_clear : (over ended : Bool) (s : Sight) (bits : List Bool) → IsSight over ended s bits
+    → IsJudgedClear ended bits (sight_junk_bit s)
+sight_junk_clear over ended Wait bits h = tt
+sight_junk_clear over ended End bits h = λ e. h.0
+sight_junk_clear over ended Zero bits h = λ e. (let f : [] ≡ false ∷ h.0 = sym e ∙ h.1 in absurd cc)
+sight_junk_clear over ended Ones bits h = λ e. (let f : [] ≡ replicate 50 true ++ h.0 = sym e ∙ h.1 in absurd cc)
+sight_junk_clear over ended (Tx tx len) bits h = λ e.
     let some : 12 ≤ len = h.some in
     let fits : len ≤ length bits = h.fits in
     let none : length bits ≡ 0 = ap length e in
     absurd (omega arith)
-seen_clear over ended Junk bits h = λ e. absurd (h.0 e)
-seen_clear over ended (Cut seen) bits h = λ e. h.0
+sight_junk_clear over ended Junk bits h = λ e. absurd (h.0 e)
+sight_junk_clear over ended (Cut seen) bits h = λ e. h.0
 
 -- ---- behind zeros
 
@@ -209,13 +218,13 @@ past_append [] more n = absurd (n refl)
 past_append (false ∷ bits) more n = past_append bits more n
 past_append (true ∷ bits) more n = refl
 
-past_more : (ended : Bool) (bits more : List Bool) → (past_zeros bits ≡ [] → ended ≡ true) → May ended more
+past_more : (ended : Bool) (bits more : List Bool) → (past_zeros bits ≡ [] → ended ≡ true) → SightMore ended more
     → past_zeros (bits ++ more) ≡ past_zeros bits ++ more
 past_more true bits more clear may =
-    ap past_zeros (nothing bits more (may refl)) ∙ sym (nothing (past_zeros bits) more (may refl))
+    ap past_zeros (judged_no_more bits more (may refl)) ∙ sym (judged_no_more (past_zeros bits) more (may refl))
 past_more false bits more clear may = past_append bits more (λ e. let f : false ≡ true = clear e in cc)
 
-near_past : (bits : List Bool) → IsNear 0 (past_zeros bits) → IsNear 0 bits
+near_past : (bits : List Bool) → IsResyncNear 0 (past_zeros bits) → IsResyncNear 0 bits
 near_past bits i =
     let w : i.place ≤ 0 = i.within in
     let z : i.place ≡ 0 = omega arith in
@@ -225,45 +234,48 @@ near_past bits i =
       few = subst (λ x. length x < 50) (ap (λ n. past_zeros (drop n (past_zeros bits))) z ∙ past_twice bits) i.few;
     }
 
-pub judges_past : {A : Type 0} (ended : Bool) (value : List Bool → A) (bits : List Bool) (r : Option A)
-    → Judges ended 0 value (past_zeros bits) r → IsClear ended (past_zeros bits) r
+pub judged_value_past_zeros : {A : Type 0} (ended : Bool) (value : List Bool → A) (bits : List Bool) (r : Option A)
+    → Judges ended 0 value (past_zeros bits) r → IsJudgedClear ended (past_zeros bits) r
     → Judges ended 0 (λ bits. value (past_zeros bits)) bits r
-judges_past ended value bits (Some a) j clear = λ more may. ap value (past_more ended bits more clear may) ∙ j more may
-judges_past ended value bits None j clear = (j.0, near_past bits j.1)
+judged_value_past_zeros ended value bits (Some a) j clear =
+    λ more may. ap value (past_more ended bits more clear may) ∙ j more may
+judged_value_past_zeros ended value bits None j clear = (j.0, near_past bits j.1)
 
 -- ---- a pair, and a stretch
 
 -- the tests for more than 0 and for at least 1 agree
-pub one_or_more : (n : ℕ) → nat_lt 0 n ≡ nat_le 1 n
-one_or_more zero = refl
-one_or_more (suc n) = refl
+pub judged_one_or_more : (n : ℕ) → nat_lt 0 n ≡ nat_le 1 n
+judged_one_or_more zero = refl
+judged_one_or_more (suc n) = refl
 
 -- behind a sound transaction, whether another one comes after any zeros decides whether there is a pair
 pub pair_judged : (over ended : Bool) (bits : List Bool) (n : ℕ) (r : Option Bool)
-    → ((more : List Bool) → May ended more → sound over (bits ++ more) ≡ n) → 0 < n → n ≤ length bits → n ≤ 46
-    → Judges ended 0 (λ bits. sound_next over bits) (drop n bits) r → Judges ended 46 (λ bits. pair over bits) bits r
+    → ((more : List Bool) → SightMore ended more → resync_sound over (bits ++ more) ≡ n) → 0 < n → n ≤ length bits
+    → n ≤ 46
+    → Judges ended 0 (λ bits. resync_sound_next over bits) (drop n bits) r
+    → Judges ended 46 (λ bits. pair over bits) bits r
 pair_judged over ended bits n (Some t) here some fits short j = λ more may.
-    ap (λ m. nat_le 1 m && sound_next over (drop m (bits ++ more))) (here more may)
-    ∙ ap (λ t. t && sound_next over (drop n (bits ++ more))) (le-leb 1 n some)
-    ∙ ap (sound_next over) (drop-append-le n bits more fits) ∙ j more may
-pair_judged over ended bits n None here some fits short j = (j.0, near_behind n 0 46 bits (omega arith) j.1)
+    ap (λ m. nat_le 1 m && resync_sound_next over (drop m (bits ++ more))) (here more may)
+    ∙ ap (λ t. t && resync_sound_next over (drop n (bits ++ more))) (le-leb 1 n some)
+    ∙ ap (resync_sound_next over) (drop-append-le n bits more fits) ∙ j more may
+pair_judged over ended bits n None here some fits short j = (j.0, judged_near_behind n 0 46 bits (omega arith) j.1)
 
 -- where fifty ones aren't at the front, whether there is a pair decides whether a stretch begins
-pub begins_judged : (over ended : Bool) (bits : List Bool) (r : Option Bool)
-    → ((more : List Bool) → May ended more → nat_le 50 (ones (bits ++ more)) ≡ false)
-    → Judges ended 46 (λ bits. pair over bits) bits r → Judges ended 46 (λ bits. begins over bits) bits r
-begins_judged over ended bits (Some t) none j = λ more may.
+pub stretch_begin_judged : (over ended : Bool) (bits : List Bool) (r : Option Bool)
+    → ((more : List Bool) → SightMore ended more → nat_le 50 (trace_ones (bits ++ more)) ≡ false)
+    → Judges ended 46 (λ bits. pair over bits) bits r → Judges ended 46 (λ bits. begins_stretch over bits) bits r
+stretch_begin_judged over ended bits (Some t) none j = λ more may.
     ap (λ t. t || pair over (bits ++ more)) (none more may) ∙ j more may
-begins_judged over ended bits None none j = j
+stretch_begin_judged over ended bits None none j = j
 
 -- ---- the bits before a pair
 
 -- how many of n bits, at least one, come before a pair: 0 where it is at the front, else one more than of the
 -- n - 1 after the first
-pub before_some : (over : Bool) (n : ℕ) (bits : List Bool) (t : Bool) → 0 < n → pair over bits ≡ t
+pub judged_before_pair_next : (over : Bool) (n : ℕ) (bits : List Bool) (t : Bool) → 0 < n → pair over bits ≡ t
     → before_pair over n bits ≡ (if t then 0 else suc (before_pair over (n - 1) (drop 1 bits)))
-before_some over zero bits t h e = absurd (omega arith)
-before_some over (suc n) bits t h e =
+judged_before_pair_next over zero bits t h e = absurd (omega arith)
+judged_before_pair_next over (suc n) bits t h e =
     let m : suc n - 1 ≡ n = omega arith in
     ap (λ t. if t then 0 else suc (before_pair over n (drop 1 bits))) e
     ∙ ap (λ k. if t then 0 else suc (before_pair over k (drop 1 bits))) (sym m)
@@ -271,45 +283,47 @@ before_some over (suc n) bits t h e =
 -- ---- as the functions ask
 
 -- what is seen decides whether fifty ones are at the front, or asks for more bits
-pub ones_judged : (over ended : Bool) (bits : List Bool) (s : Sight) (r : Option Bool) → IsSeen over ended s bits
-    → r ≡ ones_seen s → Judges ended 0 (λ bits. nat_le 50 (ones bits)) bits r
-ones_judged over ended bits s r h e = subst (Judges ended 0 (λ bits. nat_le 50 (ones bits)) bits) (sym e)
-    (seen_ones over ended s bits h)
+pub judged_ones_by_sight : (over ended : Bool) (bits : List Bool) (s : Sight) (r : Option Bool)
+    → IsSight over ended s bits → r ≡ sight_fifty_ones s → Judges ended 0 (λ bits. nat_le 50 (trace_ones bits)) bits r
+judged_ones_by_sight over ended bits s r h e = subst (Judges ended 0 (λ bits. nat_le 50 (trace_ones bits)) bits) (sym e)
+    (sight_judges_ones over ended s bits h)
 
 -- what is seen behind the zeros at the front decides whether a junk bit is there, or asks for more bits
-pub junk_behind : (over ended : Bool) (bits behind : List Bool) (s : Sight) (r : Option Bool) → behind ≡ past_zeros bits
-    → IsSeen over ended s behind → r ≡ junk_seen s
-    → Judges ended 0 (λ bits. is_junk (first_at over Synced (past_zeros bits)).item) bits r
-junk_behind over ended bits behind s r b h e =
-    let seen : IsSeen over ended s (past_zeros bits) = subst (IsSeen over ended s) b h in
-    subst (Judges ended 0 (λ bits. is_junk (first_at over Synced (past_zeros bits)).item) bits) (sym e)
-    (judges_past ended (λ bits. is_junk (first_at over Synced bits).item) bits (junk_seen s)
-    (seen_junk over ended s (past_zeros bits) seen) (seen_clear over ended s (past_zeros bits) seen))
+pub judged_junk_past_zeros : (over ended : Bool) (bits behind : List Bool) (s : Sight) (r : Option Bool)
+    → behind ≡ past_zeros bits → IsSight over ended s behind → r ≡ sight_junk_bit s
+    → Judges ended 0 (λ bits. resync_is_junk (resync_first over Synced (past_zeros bits)).item) bits r
+judged_junk_past_zeros over ended bits behind s r b h e =
+    let seen : IsSight over ended s (past_zeros bits) = subst (IsSight over ended s) b h in
+    subst (Judges ended 0 (λ bits. resync_is_junk (resync_first over Synced (past_zeros bits)).item) bits) (sym e)
+    (judged_value_past_zeros ended (λ bits. resync_is_junk (resync_first over Synced bits).item) bits (sight_junk_bit s)
+    (sight_judges_junk over ended s (past_zeros bits) seen) (sight_junk_clear over ended s (past_zeros bits) seen))
 
 -- what is decided of a sound transaction by the bits behind the zeros at the front is decided by all the bits
-pub sound_behind : (over ended : Bool) (bits behind : List Bool) (r : Option ℕ) → behind ≡ past_zeros bits
-    → Judges ended 0 (λ bits. sound over bits) behind r → IsClear ended behind r
-    → Judges ended 0 (λ bits. sound over (past_zeros bits)) bits r
-sound_behind over ended bits behind r b j clear =
-    judges_past ended (λ bits. sound over bits) bits r (subst (λ x. Judges ended 0 (λ bits. sound over bits) x r) b j)
-    (subst (λ x. IsClear ended x r) b clear)
+pub judged_sound_past_zeros : (over ended : Bool) (bits behind : List Bool) (r : Option ℕ) → behind ≡ past_zeros bits
+    → Judges ended 0 (λ bits. resync_sound over bits) behind r → IsJudgedClear ended behind r
+    → Judges ended 0 (λ bits. resync_sound over (past_zeros bits)) bits r
+judged_sound_past_zeros over ended bits behind r b j clear =
+    judged_value_past_zeros ended (λ bits. resync_sound over bits) bits r
+    (subst (λ x. Judges ended 0 (λ bits. resync_sound over bits) x r) b j)
+    (subst (λ x. IsJudgedClear ended x r) b clear)
 
 -- ---- a transaction in a stretch
 
 -- in a stretch, a transaction after which it continues is reported
-pub followed_told : (over : Bool) (tx : Transaction) (len : ℕ) (bits : List Bool)
-    → followed_by over tx.result (drop len bits) ≡ true → in_stretch over (whole tx len) bits ≡ told (whole tx len)
-followed_told over tx len bits e =
-    ap (λ t. if t then told (whole tx len) else told_or_withdrawn over (whole tx len) bits) e
+pub stretch_reports_followed_tx : (over : Bool) (tx : Transaction) (len : ℕ) (bits : List Bool)
+    → stretch_after_tx over tx.result (drop len bits) ≡ true
+    → in_stretch over (whole_tx_item tx len) bits ≡ stretch_item (whole_tx_item tx len)
+stretch_reports_followed_tx over tx len bits e =
+    ap (λ t. if t then stretch_item (whole_tx_item tx len) else item_or_withdrawn over (whole_tx_item tx len) bits) e
 
 -- in a stretch, a transaction after which it doesn't continue, and in which a pair begins, is withdrawn: the
 -- bits before that pair are skipped
-pub pair_skipped : (over : Bool) (tx : Transaction) (len before : ℕ) (bits : List Bool)
-    → followed_by over tx.result (drop len bits) ≡ false → before_pair over (len - 1) (drop 1 bits) ≡ before
-    → (before ≡ len - 1 → ⊥) → in_stretch over (whole tx len) bits ≡ tx_step tx len (before + 1)
-pair_skipped over tx len before bits e f n =
+pub stretch_withdraws_to_pair : (over : Bool) (tx : Transaction) (len before : ℕ) (bits : List Bool)
+    → stretch_after_tx over tx.result (drop len bits) ≡ false → before_pair over (len - 1) (drop 1 bits) ≡ before
+    → (before ≡ len - 1 → ⊥) → in_stretch over (whole_tx_item tx len) bits ≡ stretch_tx_step tx len (before + 1)
+stretch_withdraws_to_pair over tx len before bits e f n =
     let one : suc before ≡ before + 1 = omega arith in
-    ap (λ t. if t then told (whole tx len) else told_or_withdrawn over (whole tx len) bits) e
-    ∙ ap (λ m. if m == len - 1 then told (whole tx len) else skipped (suc m)) f
-    ∙ ap (λ t. if t then told (whole tx len) else skipped (suc before)) (ne_eqb before (len - 1) n)
-    ∙ ap (tx_step tx len) one
+    ap (λ t. if t then stretch_item (whole_tx_item tx len) else item_or_withdrawn over (whole_tx_item tx len) bits) e
+    ∙ ap (λ m. if m == len - 1 then stretch_item (whole_tx_item tx len) else skip_bits (suc m)) f
+    ∙ ap (λ t. if t then stretch_item (whole_tx_item tx len) else skip_bits (suc before)) (ne_eqb before (len - 1) n)
+    ∙ ap (stretch_tx_step tx len) one

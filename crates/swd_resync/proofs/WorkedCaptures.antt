@@ -8,7 +8,7 @@ use Rattle.swd_bits.specs.declared.tx.TxEnd.TheVariants.{Moved, Wait, Fault, NoA
 use Rattle.swd_trace.specs.declared.item.Item.TheVariants.{Reset, Switch, Idle, Tx, Cut}
 use Rattle.swd_resync.specs.declared.part.Part.{Part}
 use Rattle.swd_resync.specs.declared.part.Part.TheVariants.{Item as Told, Skip}
-use Rattle.swd_resync.specs.Parts.{parts_of, parts_after}
+use Rattle.swd_resync.specs.Parts.{resync_parts_of, parts_after}
 
 -- the bits that are written so
 abbrev bits : List ℕ → List Bool
@@ -26,12 +26,12 @@ ap_read reg end = Told (Tx (record { request = record { ap = true; read = true; 
 abbrev ap_write : Reg4 → TxEnd → Part
 ap_write reg end = Told (Tx (record { request = record { ap = true; read = false; addr = reg }; result = end }))
 
-nothing : parts_of false (bits []) ≡
+nothing : resync_parts_of false (bits []) ≡
     []
 unfolding parts_after
 nothing = refl
 
-cut_at_three_hundred_bits : parts_of false (bits (
+cut_at_three_hundred_bits : resync_parts_of false (bits (
     codes "0000000000001111010000000010001101110010000000000000000000000000000000001100010111001010"
     ++ codes "0101000000000000000001100010000000000011010001110010000000000000000000000000000010011111"
     ++ codes "100111001111011101111101101101010111101101000")) ≡
@@ -46,7 +46,7 @@ cut_at_three_hundred_bits : parts_of false (bits (
 unfolding parts_after
 cut_at_three_hundred_bits = refl
 
-a_bit_dropped_inside_of_data : parts_of false (bits (
+a_bit_dropped_inside_of_data : resync_parts_of false (bits (
     codes "1010010111001110111000101000000001011101010001101100011100000000100000000000000000000111"
     ++ codes "1111010010111001110111000101000000001011101010001000001111100111000001111001101010001011"
     ++ codes "000100100011")) ≡
@@ -59,7 +59,7 @@ a_bit_dropped_inside_of_data : parts_of false (bits (
 unfolding parts_after
 a_bit_dropped_inside_of_data = refl
 
-a_bit_dropped_inside_of_a_request : parts_of false (bits (
+a_bit_dropped_inside_of_a_request : resync_parts_of false (bits (
     codes "1010010111001110111000101000000001011101010001101000111000000001000000000000000000000111"
     ++ codes "1111010010111001110111000101000000001011101010001000001111100111000001111001101010001011"
     ++ codes "000100100011")) ≡
@@ -71,7 +71,7 @@ a_bit_dropped_inside_of_a_request : parts_of false (bits (
 unfolding parts_after
 a_bit_dropped_inside_of_a_request = refl
 
-a_bit_dropped_at_the_last_turnaround : parts_of false (bits (
+a_bit_dropped_at_the_last_turnaround : resync_parts_of false (bits (
     codes "1010010111001110111000101000000001011101010001101001011100100000000000000000000000000000"
     ++ codes "0011001010111001101000000000000000000000000000000101001011100111011100010100000000101110"
     ++ codes "1010001")) ≡
@@ -83,7 +83,7 @@ a_bit_dropped_at_the_last_turnaround : parts_of false (bits (
 unfolding parts_after
 a_bit_dropped_at_the_last_turnaround = refl
 
-a_bit_doubled_inside_of_data : parts_of false (bits (
+a_bit_doubled_inside_of_data : resync_parts_of false (bits (
     codes "1010010111001110111000101000000001011101010001101100011100000000100000000000000000000001"
     ++ codes "1111110100101110011101110001010000000010111010100010000011111001110000011110011010100010"
     ++ codes "11000100100011")) ≡
@@ -97,7 +97,7 @@ a_bit_doubled_inside_of_data : parts_of false (bits (
 unfolding parts_after
 a_bit_doubled_inside_of_data = refl
 
-a_bit_doubled_inside_of_an_acknowledgement : parts_of false (bits (
+a_bit_doubled_inside_of_an_acknowledgement : resync_parts_of false (bits (
     codes "1010010111001110111000101000000001011101010001101100011110000000010000000000000000000001"
     ++ codes "1111110100101110011101110001010000000010111010100010000011111001110000011110011010100010"
     ++ codes "11000100100011")) ≡
@@ -111,7 +111,7 @@ a_bit_doubled_inside_of_an_acknowledgement : parts_of false (bits (
 unfolding parts_after
 a_bit_doubled_inside_of_an_acknowledgement = refl
 
-a_bit_changed_inside_of_data : parts_of false (bits (
+a_bit_changed_inside_of_data : resync_parts_of false (bits (
     codes "1010010111001110111000101000000001011101010001101100011100000000100000000000100000000011"
     ++ codes "1111101001011100111011100010100000000101110101000100000111110011100000111100110101000101"
     ++ codes "1000100100011")) ≡
@@ -124,7 +124,7 @@ a_bit_changed_inside_of_data : parts_of false (bits (
 unfolding parts_after
 a_bit_changed_inside_of_data = refl
 
-a_bit_changed_inside_of_an_acknowledgement : parts_of false (bits (
+a_bit_changed_inside_of_an_acknowledgement : resync_parts_of false (bits (
     codes "1010010111001110111000101000000001011101010001101100011000000000100000000000000000000011"
     ++ codes "1111101001011100111011100010100000000101110101000100000111110011100000111100110101000101"
     ++ codes "1000100100011")) ≡
@@ -138,7 +138,7 @@ a_bit_changed_inside_of_an_acknowledgement : parts_of false (bits (
 unfolding parts_after
 a_bit_changed_inside_of_an_acknowledgement = refl
 
-a_bit_changed_inside_of_a_request : parts_of false (bits (
+a_bit_changed_inside_of_a_request : resync_parts_of false (bits (
     codes "1010010111001110111000101000000001011101010001101100111100000000100000000000000000000011"
     ++ codes "1111101001011100111011100010100000000101110101000100000111110011100000111100110101000101"
     ++ codes "1000100100011")) ≡
@@ -150,7 +150,7 @@ a_bit_changed_inside_of_a_request : parts_of false (bits (
 unfolding parts_after
 a_bit_changed_inside_of_a_request = refl
 
-seven_and_a_reset : parts_of false (bits (
+seven_and_a_reset : resync_parts_of false (bits (
     codes "1010010111001110111000101000000001011101010001101001011100111011100010100000000101110101"
     ++ codes "0001101001011111111111111111111111111111111111111111111111111111111111111111001010010111"
     ++ codes "001110111000101000000001011101010001")) ≡
@@ -164,7 +164,7 @@ seven_and_a_reset : parts_of false (bits (
 unfolding parts_after
 seven_and_a_reset = refl
 
-seven_and_a_pair : parts_of false (bits (
+seven_and_a_pair : resync_parts_of false (bits (
     codes "1010010111001110111000101000000001011101010001101001011100111011100010100000000101110101"
     ++ codes "0001101001011111111111111111111111111111111111111010100101110011101110001010000000010111"
     ++ codes "010100011001010111001100000000000000000000000000000001")) ≡
@@ -178,7 +178,7 @@ seven_and_a_pair : parts_of false (bits (
 unfolding parts_after
 seven_and_a_pair = refl
 
-seven_at_the_end : parts_of false (bits (
+seven_at_the_end : resync_parts_of false (bits (
     codes "1010010111001110111000101000000001011101010001101001011100111011100010100000000101110101"
     ++ codes "0001101001011111")) ≡
     dp_read R0 (Moved 731911287 true)
@@ -188,7 +188,7 @@ seven_at_the_end : parts_of false (bits (
 unfolding parts_after
 seven_at_the_end = refl
 
-fifty_ones_inside_of_a_phase : parts_of false (bits (
+fifty_ones_inside_of_a_phase : resync_parts_of false (bits (
     codes "1010010111001110111000101000000001011101010001101001011100111011100010100000000101110101"
     ++ codes "0001101001011100111011101111111111111111111111111111111111111111111111111111111010100101"
     ++ codes "11001110111000101000000001011101010001")) ≡
@@ -200,8 +200,8 @@ fifty_ones_inside_of_a_phase : parts_of false (bits (
 unfolding parts_after
 fifty_ones_inside_of_a_phase = refl
 
-waits_from_bit_five : parts_of false (bits (codes "001101011111100110101111110011010111111001101011111100110101")) ≡
-    Skip 8
+waits_from_bit_five : resync_parts_of false
+    (bits (codes "001101011111100110101111110011010111111001101011111100110101")) ≡ Skip 8
     ∷ ap_read RC Wait
     ∷ ap_read RC Wait
     ∷ ap_read RC Wait
@@ -210,7 +210,7 @@ waits_from_bit_five : parts_of false (bits (codes "00110101111110011010111111001
 unfolding parts_after
 waits_from_bit_five = refl
 
-two_reads_from_bit_five : parts_of false (bits (
+two_reads_from_bit_five : resync_parts_of false (bits (
     codes "0011100111111001110000000000010101010001111111001110011111100111000000000001010101000111"
     ++ codes "1111001110011111100111000000000001010101000111111100111001111110011100000000000101010100"
     ++ codes "011")) ≡
@@ -223,44 +223,44 @@ two_reads_from_bit_five : parts_of false (bits (
 unfolding parts_after
 two_reads_from_bit_five = refl
 
-zeros : parts_of false (bits (codes "0000000000000000000000000000000000000000000000000000000000000000000000")) ≡
+zeros : resync_parts_of false (bits (codes "0000000000000000000000000000000000000000000000000000000000000000000000")) ≡
     Told (Idle 70)
     ∷ []
 unfolding parts_after
 zeros = refl
 
-forty_nine_ones_and_a_zero : parts_of false (bits (codes "11111111111111111111111111111111111111111111111110")) ≡
+forty_nine_ones_and_a_zero : resync_parts_of false (bits (codes "11111111111111111111111111111111111111111111111110")) ≡
     Skip 50
     ∷ []
 unfolding parts_after
 forty_nine_ones_and_a_zero = refl
 
-fifty_ones_and_a_zero : parts_of false (bits (codes "111111111111111111111111111111111111111111111111110")) ≡
+fifty_ones_and_a_zero : resync_parts_of false (bits (codes "111111111111111111111111111111111111111111111111110")) ≡
     Told (Reset 50)
     ∷ Told (Idle 1)
     ∷ []
 unfolding parts_after
 fifty_ones_and_a_zero = refl
 
-one_transaction : parts_of false (bits (codes "1010010111001110111000101000000001011101010001")) ≡
+one_transaction : resync_parts_of false (bits (codes "1010010111001110111000101000000001011101010001")) ≡
     dp_read R0 (Moved 731911287 true)
     ∷ []
 unfolding parts_after
 one_transaction = refl
 
-one_transaction_and_what_is_none : parts_of false (bits (codes "101001011100111011100010100000000101110101000111111110")) ≡
-    Skip 54
+one_transaction_and_what_is_none : resync_parts_of false
+    (bits (codes "101001011100111011100010100000000101110101000111111110")) ≡ Skip 54
     ∷ []
 unfolding parts_after
 one_transaction_and_what_is_none = refl
 
-one_transaction_behind_the_gap : parts_of false (bits (codes "11010100101110011101110001010000000010111010100011111111")) ≡
-    Skip 56
+one_transaction_behind_the_gap : resync_parts_of false
+    (bits (codes "11010100101110011101110001010000000010111010100011111111")) ≡ Skip 56
     ∷ []
 unfolding parts_after
 one_transaction_behind_the_gap = refl
 
-a_pair_behind_the_gap : parts_of false (bits (
+a_pair_behind_the_gap : resync_parts_of false (bits (
     codes "1010100101110011101110001010000000010111010100010000000000000000000000000000000000000000"
     ++ codes "0000000000000000000010010101101010000")) ≡
     Skip 2
@@ -272,7 +272,7 @@ a_pair_behind_the_gap : parts_of false (bits (
 unfolding parts_after
 a_pair_behind_the_gap = refl
 
-parity_that_is_wrong_makes_no_pair : parts_of false (bits (
+parity_that_is_wrong_makes_no_pair : resync_parts_of false (bits (
     codes "1010100101110011101110001010000000010111010100011010010111001010000000000000000000000000"
     ++ codes "000011110")) ≡
     Skip 97
@@ -280,7 +280,7 @@ parity_that_is_wrong_makes_no_pair : parts_of false (bits (
 unfolding parts_after
 parity_that_is_wrong_makes_no_pair = refl
 
-a_pair_behind_the_switch : parts_of false (bits (
+a_pair_behind_the_switch : resync_parts_of false (bits (
     codes "1111111111111111111111111111111111111111111111111101111001111001111010010111001110111000"
     ++ codes "1010000000010111010100011010010111001110111000101000000001011101010001")) ≡
     Told (Reset 50)
@@ -291,7 +291,7 @@ a_pair_behind_the_switch : parts_of false (bits (
 unfolding parts_after
 a_pair_behind_the_switch = refl
 
-two_losses : parts_of false (bits (
+two_losses : resync_parts_of false (bits (
     codes "1010010111001110111000101000000001011101010001101001011100111011100010100000000101110101"
     ++ codes "0001111111101010010111001110111000101000000001011101010001101001011100111011100010100000"
     ++ codes "0001011101010001111111101010010111001110111000101000000001011101010001100101011100111000"
@@ -308,7 +308,7 @@ two_losses : parts_of false (bits (
 unfolding parts_after
 two_losses = refl
 
-withdrawn_for_the_pair_inside : parts_of false (bits (
+withdrawn_for_the_pair_inside : resync_parts_of false (bits (
     codes "1010010111001110111000101000000001011101010001101001011100111011100010100000000101110101"
     ++ codes "0001101001011100101001011100111011100010100000000101110101000110100101110011101110001010"
     ++ codes "00000001011101010001")) ≡
@@ -321,7 +321,7 @@ withdrawn_for_the_pair_inside : parts_of false (bits (
 unfolding parts_after
 withdrawn_for_the_pair_inside = refl
 
-a_session_that_is_whole : parts_of false (bits (
+a_session_that_is_whole : resync_parts_of false (bits (
     codes "1111111111111111111111111111111111111111111111111110111100111100111111111111111111111111"
     ++ codes "1111111111111111111111111111110000000010100101110011101110001010000000010111010100010000"
     ++ codes "0000100011011100100000000000000000000000000000000010010101110010000000000000000000000000"
@@ -348,7 +348,7 @@ a_session_that_is_whole : parts_of false (bits (
 unfolding parts_after
 a_session_that_is_whole = refl
 
-data_phases_behind_a_refusal : parts_of true (bits (
+data_phases_behind_a_refusal : resync_parts_of true (bits (
     codes "1010010111001110111000101000000001011101010001111110011010111111111111111111111111111111"
     ++ codes "1111100000011001110101010101010101010101010101010110100101110011101110001010000000010111"
     ++ codes "01010001")) ≡
@@ -360,7 +360,7 @@ data_phases_behind_a_refusal : parts_of true (bits (
 unfolding parts_after
 data_phases_behind_a_refusal = refl
 
-data_phases_without_the_option : parts_of false (bits (
+data_phases_without_the_option : resync_parts_of false (bits (
     codes "1010010111001110111000101000000001011101010001111110011010111111111111111111111111111111"
     ++ codes "1111101001011100111011100010100000000101110101000110100101110011101110001010000000010111"
     ++ codes "01010001")) ≡
@@ -373,9 +373,9 @@ data_phases_without_the_option : parts_of false (bits (
 unfolding parts_after
 data_phases_without_the_option = refl
 
-a_data_phase_that_is_cut_off : parts_of true (bits (codes "1010010111001110111000101000000001011101010001111110011010111111111111111111111")) ≡
-    dp_read R0 (Moved 731911287 true)
-    ∷ Told (Cut (record { len = 33; bits = 8589931935 }))
+a_data_phase_that_is_cut_off : resync_parts_of true
+    (bits (codes "1010010111001110111000101000000001011101010001111110011010111111111111111111111"))
+    ≡ dp_read R0 (Moved 731911287 true) ∷ Told (Cut (record { len = 33; bits = 8589931935 }))
     ∷ []
 unfolding parts_after
 a_data_phase_that_is_cut_off = refl

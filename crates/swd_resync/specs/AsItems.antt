@@ -5,23 +5,23 @@ use Rattle.swd_trace.specs.declared.item.Item.TheVariants.{Reset, Switch, Idle, 
 use Rattle.swd_trace.specs.Held.{idle_items}
 use Rattle.swd_resync.specs.declared.part.Part.{Part}
 use Rattle.swd_resync.specs.declared.part.Part.TheVariants.{Item as Told, Skip}
-use Rattle.swd_resync.specs.Divisions.{phase_behind}
+use Rattle.swd_resync.specs.Divisions.{resync_phase_behind}
 
 -- how many bits follow an item as a data phase that says nothing
-abbrev pub phase_after : Bool → Item → ℕ
-phase_after over (Tx tx) = phase_behind over tx.result
-phase_after over (Reset n) = 0
-phase_after over Switch = 0
-phase_after over (Idle n) = 0
-phase_after over (Junk b) = 0
-phase_after over (Cut bits) = 0
+abbrev pub resync_phase_after : Bool → Item → ℕ
+resync_phase_after over (Tx tx) = resync_phase_behind over tx.result
+resync_phase_after over (Reset n) = 0
+resync_phase_after over Switch = 0
+resync_phase_after over (Idle n) = 0
+resync_phase_after over (Junk b) = 0
+resync_phase_after over (Cut bits) = 0
 
 -- Each bit of a skip belongs to nothing, and the data phase behind WAIT and FAULT is as many idle cycles: so nothing is
 -- known of the target behind a skip, and each part has its number of bits.
-abbrev pub items_of_part : Bool → Part → List Item
-items_of_part over (Told item) = item ∷ idle_items (phase_after over item)
-items_of_part over (Skip n) = replicate n (Junk false)
+abbrev pub resync_part_items : Bool → Part → List Item
+resync_part_items over (Told item) = item ∷ idle_items (resync_phase_after over item)
+resync_part_items over (Skip n) = replicate n (Junk false)
 
-abbrev pub items_of : Bool → List Part → List Item
-items_of over [] = []
-items_of over (part ∷ parts) = items_of_part over part ++ items_of over parts
+abbrev pub resync_items : Bool → List Part → List Item
+resync_items over [] = []
+resync_items over (part ∷ parts) = resync_part_items over part ++ resync_items over parts

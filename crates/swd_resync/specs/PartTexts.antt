@@ -6,6 +6,6 @@ use Rattle.swd_resync.specs.declared.part.Part.{Part}
 use Rattle.swd_resync.specs.declared.part.Part.TheVariants.{Item as Told, Skip}
 
 -- without its line feed
-abbrev pub part_line : Part → List ℕ
-part_line (Told item) = item_line item
-part_line (Skip n) = codes "skip " ++ decimal n
+abbrev pub resync_part_line : Part → List ℕ
+resync_part_line (Told item) = item_line item
+resync_part_line (Skip n) = codes "skip " ++ decimal n

@@ -1,5 +1,5 @@
 //! The bits that a decoder of captures holds.
-ghost use Rattle.swd_resync.specs.Queues.{IsHeld};
+ghost use Rattle.swd_resync.specs.Queues.{IsResyncHeld};
 
 use crate::queue::{BACK_BITS, FRONT_BITS, Queue};
 use swd_bits::TxBits;
@@ -9,35 +9,35 @@ pub(crate) const WINDOW_BITS: u8 = 50;
 
 /// Bits in time order.
 #[derive(Clone, Copy, Debug)]
-pub(crate) struct Held {
+pub(crate) struct HeldBits {
     queue: Queue,
-    ghost holds: { IsHeld queue },
+    ghost holds: { IsResyncHeld queue },
 }
 
-impl Held {
-    ghost use Rattle.std.specs.Prelude.{◌≡◌, ◌⊎◌, ◌+◌, ◌-◌, ◌^◌, ◌<◌, ◌≤◌, List, Bool, [], ◌∷◌, ◌++◌, length, drop, replicate};
-    ghost use Rattle.std.specs.Prelude.{IfSome, IfNone};
+impl HeldBits {
+    ghost use Rattle.std.specs.Prelude.{◌≡◌, ◌⊎◌, ◌+◌, ◌-◌, ◌^◌, ◌<◌, ◌≤◌, List, Bool, [], ◌∷◌, ◌++◌, length, drop};
+    ghost use Rattle.std.specs.Prelude.{replicate, IfSome, IfNone};
     ghost use Rattle.swd_bits.specs.Bits.{low_bits};
-    ghost use Rattle.swd_bits.specs.BitLists.{bits_of, IsSpelled};
+    ghost use Rattle.swd_bits.specs.BitLists.{tx_bits_of, IsWellFormedTxBits};
     ghost use Rattle.swd_resync.specs.Parts.{past_zeros};
-    ghost use Rattle.swd_resync.specs.Holding.{held_bits, behind_run, TakesMany};
+    ghost use Rattle.swd_resync.specs.Holding.{resync_held, resync_behind_run, ResyncTakesMany};
 
     /// Returns an empty list.
-    pub(crate) fn new() -> Held
-        ensures bits { held_bits result ≡ [] }
-        ensures room { behind_run result ≡ 0 }
+    pub(crate) fn new() -> HeldBits
+        ensures bits { resync_held result ≡ [] }
+        ensures room { resync_behind_run result ≡ 0 }
     {
-        Held {
+        HeldBits {
             queue: Queue::new(),
         }
     }
 
     /// Appends a bit.
     pub(crate) fn push(&mut self, bit: bool)
-        requires room { behind_run self.old < 63 }
-        requires count { length (held_bits self.old) < 2 ^ 64 - 1 }
-        ensures bits { held_bits self.new ≡ held_bits self.old ++ bit ∷ [] }
-        ensures room { behind_run self.new ≤ behind_run self.old + 1 }
+        requires room { resync_behind_run self.old < 63 }
+        requires count { length (resync_held self.old) < 2 ^ 64 - 1 }
+        ensures bits { resync_held self.new ≡ resync_held self.old ++ bit ∷ [] }
+        ensures room { resync_behind_run self.new ≤ resync_behind_run self.old + 1 }
     {
         self.queue = self.queue.with(bit);
     }
@@ -45,15 +45,15 @@ impl Held {
     /// Appends one or more of the lowest `count` bits, the least significant first, and returns how many: as many as
     /// there is room for before the run of zeros, in it, or behind it.
     pub(crate) fn push_many(&mut self, bits: u64, count: u8) -> u8
-        requires room { behind_run self.old ≤ 50 }
+        requires room { resync_behind_run self.old ≤ 50 }
         requires some { 0 < count }
         requires within { count ≤ 64 }
-        requires counted { length (held_bits self.old) + count < 2 ^ 64 }
-        ensures bits { held_bits self.new ≡ held_bits self.old ++ low_bits result bits }
+        requires counted { length (resync_held self.old) + count < 2 ^ 64 }
+        ensures bits { resync_held self.new ≡ resync_held self.old ++ low_bits result bits }
         ensures some { 0 < result }
         ensures most { result ≤ count }
-        ensures many { TakesMany (self.old.queue.front_len + self.old.queue.back_len) bits count result }
-        ensures room { behind_run self.new ≤ 63 }
+        ensures many { ResyncTakesMany (self.old.queue.front_len + self.old.queue.back_len) bits count result }
+        ensures room { resync_behind_run self.new ≤ 63 }
     {
         let queue = self.queue;
         if queue.front_len < FRONT_BITS {
@@ -74,8 +74,8 @@ impl Held {
     /// Returns how many bits at the front equal `bit`, at most fifty.
     pub(crate) fn run_of(&self, bit: bool) -> u8
         ensures most { result ≤ 50 }
-        ensures run { (back : List Bool) × (held_bits self.now ≡ replicate result bit ++ back) }
-        ensures some { (back : List Bool) → held_bits self.now ≡ bit ∷ back → 0 < result }
+        ensures run { (back : List Bool) × (resync_held self.now ≡ replicate result bit ++ back) }
+        ensures some { (back : List Bool) → resync_held self.now ≡ bit ∷ back → 0 < result }
     {
         let window = self.window();
         let others = if bit { !window.bits } else { window.bits };
@@ -84,9 +84,9 @@ impl Held {
 
     /// Returns the first bits, at most fifty.
     pub(crate) fn window(&self) -> TxBits
-        ensures spelled { IsSpelled result }
+        ensures spelled { IsWellFormedTxBits result }
         ensures most { result.len ≤ 50 }
-        ensures first { (back : List Bool) × (held_bits self.now ≡ bits_of result ++ back)
+        ensures first { (back : List Bool) × (resync_held self.now ≡ tx_bits_of result ++ back)
             × (result.len < 50 → back ≡ []) }
     {
         let len = self.queue.front_len.min(WINDOW_BITS);
@@ -98,8 +98,8 @@ impl Held {
 
     /// Returns the first bit.
     pub(crate) fn first(&self) -> Option<bool>
-        ensures some { IfSome result (λ bit. (back : List Bool) × (held_bits self.now ≡ bit ∷ back)) }
-        ensures none { IfNone result (held_bits self.now ≡ []) }
+        ensures some { IfSome result (λ bit. (back : List Bool) × (resync_held self.now ≡ bit ∷ back)) }
+        ensures none { IfNone result (resync_held self.now ≡ []) }
     {
         if self.queue.front_len == 0 {
             return None;
@@ -108,20 +108,20 @@ impl Held {
     }
 
     /// Returns the bits after the first `count` ones.
-    pub(crate) fn without(&self, count: u8) -> Held
+    pub(crate) fn without(&self, count: u8) -> HeldBits
         requires most { count ≤ 50 }
-        requires held { count ≤ length (held_bits self.now) }
-        ensures bits { held_bits result ≡ drop count (held_bits self.now) }
-        ensures room { behind_run result ≤ behind_run self.now }
+        requires held { count ≤ length (resync_held self.now) }
+        ensures bits { resync_held result ≡ drop count (resync_held self.now) }
+        ensures room { resync_behind_run result ≤ resync_behind_run self.now }
     {
-        Held {
+        HeldBits {
             queue: self.queue.shifted(count),
         }
     }
 
     /// Returns the bits after the zeros at the front.
-    pub(crate) fn behind_zeros(&self) -> Held
-        ensures { held_bits result ≡ past_zeros (held_bits self.now) }
+    pub(crate) fn behind_zeros(&self) -> HeldBits
+        ensures { resync_held result ≡ past_zeros (resync_held self.now) }
     {
         if self.queue.front == 0 {
             let behind = Queue {
@@ -131,9 +131,9 @@ impl Held {
                 back: 0,
                 back_len: 0,
             };
-            return Held { queue: behind };
+            return HeldBits { queue: behind };
         }
-        Held {
+        HeldBits {
             queue: self.queue.shifted(self.queue.front.trailing_zeros() as u8),
         }
     }

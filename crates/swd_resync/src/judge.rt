@@ -4,15 +4,16 @@ ghost use Rattle.std.specs.Prelude.{◌≡◌, ℕ, ◌+◌, ◌-◌, ◌/◌, �
 ghost use Rattle.std.specs.Prelude.{IfSome, IfNone};
 ghost use Rattle.std.specs.Int.{bit_at};
 ghost use Rattle.swd_bits.specs.Bits.{low_bits};
-ghost use Rattle.swd_bits.specs.BitLists.{bits_of, IsSpelled};
-ghost use Rattle.swd_trace.specs.Reading.{whole};
-ghost use Rattle.swd_resync.specs.Parts.{sound, sound_next, pair, begins, goes_on, ended_or_reset, followed_by};
-ghost use Rattle.swd_resync.specs.Parts.{before_pair, gap, in_stretch};
-ghost use Rattle.swd_resync.specs.Holding.{held_bits, IsNear};
-ghost use Rattle.swd_resync.specs.Sights.{IsTxSeen, May};
-ghost use Rattle.swd_resync.specs.Judged.{Judges, IsClear, IsMost, tx_step};
+ghost use Rattle.swd_bits.specs.BitLists.{tx_bits_of, IsWellFormedTxBits};
+ghost use Rattle.swd_trace.specs.Reading.{whole_tx_item};
+ghost use Rattle.swd_resync.specs.Parts.{resync_sound, resync_sound_next, pair, begins_stretch, stretch_continues};
+ghost use Rattle.swd_resync.specs.Parts.{stretch_ended_or_reset, stretch_after_tx};
+ghost use Rattle.swd_resync.specs.Parts.{before_pair, stretch_gap, in_stretch};
+ghost use Rattle.swd_resync.specs.Holding.{resync_held, IsResyncNear};
+ghost use Rattle.swd_resync.specs.Sights.{IsTxSight, SightMore};
+ghost use Rattle.swd_resync.specs.Judged.{Judges, IsJudgedClear, IsJudgedMost, stretch_tx_step};
 
-use crate::held::Held;
+use crate::held::HeldBits;
 use crate::look::{is_ones, look};
 use swd_bits::{Ack, Request, Tx, TxBits, TxEnd};
 
@@ -21,18 +22,18 @@ const REQUEST_BITS: u8 = 8;
 
 // Returns the number of bits of the sound transaction at the front, or 0 if there is no such transaction. A
 // transaction is sound if it was acknowledged, and its word, if one was moved, has right parity.
-fn sound_bits(over: bool, ended: bool, held: &Held) -> Option<u8>
-    ensures judges { Judges ended 0 (λ bits. sound over bits) (held_bits held.now) result }
-    ensures clear { IsClear ended (held_bits held.now) result }
-    ensures short { IsMost 46 result }
-    ensures fits { IsMost (length (held_bits held.now)) result }
+fn sound_bits(over: bool, ended: bool, held: &HeldBits) -> Option<u8>
+    ensures judges { Judges ended 0 (λ bits. resync_sound over bits) (resync_held held.now) result }
+    ensures clear { IsJudgedClear ended (resync_held held.now) result }
+    ensures short { IsJudgedMost 46 result }
+    ensures fits { IsJudgedMost (length (resync_held held.now)) result }
 {
     look(over, ended, held).sound_bits()
 }
 
 // Returns whether a sound transaction follows after any zeros.
-fn sound_follows(over: bool, ended: bool, held: &Held) -> Option<bool>
-    ensures { Judges ended 0 (λ bits. sound_next over bits) (held_bits held.now) result }
+fn sound_follows(over: bool, ended: bool, held: &HeldBits) -> Option<bool>
+    ensures { Judges ended 0 (λ bits. resync_sound_next over bits) (resync_held held.now) result }
 {
     match sound_bits(over, ended, &held.behind_zeros()) {
         None => None,
@@ -43,10 +44,10 @@ fn sound_follows(over: bool, ended: bool, held: &Held) -> Option<bool>
 /// Returns a number of bits at the front that come before the next stretch, whatever follows. The last seven are never
 /// among them, since a transaction can begin only with the eight bits of a request.
 pub(crate) fn bits_before_start(window: TxBits) -> u8
-    requires spelled { IsSpelled window }
+    requires spelled { IsWellFormedTxBits window }
     requires most { window.len ≤ 50 }
     ensures within { result ≤ window.len }
-    ensures before { (over : Bool) (back : List Bool) → result ≤ gap over (bits_of window ++ back) }
+    ensures before { (over : Bool) (back : List Bool) → result ≤ stretch_gap over (tx_bits_of window ++ back) }
 {
     let mut rest = from_first_place(window);
     while rest.len >= REQUEST_BITS && begins_nothing(rest) {
@@ -62,12 +63,13 @@ pub(crate) fn bits_before_start(window: TxBits) -> u8
 // is no such place.
 #[inline(always)]
 fn from_first_place(window: TxBits) -> TxBits
-    requires spelled { IsSpelled window }
+    requires spelled { IsWellFormedTxBits window }
     requires most { window.len ≤ 50 }
-    ensures spelled { IsSpelled result }
+    ensures spelled { IsWellFormedTxBits result }
     ensures within { result.len ≤ window.len }
     ensures before { (over : Bool) (back : List Bool)
-        → gap over (bits_of window ++ back) ≡ (window.len - result.len) + gap over (bits_of result ++ back) }
+        → stretch_gap over (tx_bits_of window ++ back) ≡ (window.len - result.len)
+        + stretch_gap over (tx_bits_of result ++ back) }
 {
     // With eight ones here this is such a place, as many in a row may be: no others are looked for.
     if window.bits % 256 == 255 {
@@ -85,7 +87,7 @@ fn from_first_place(window: TxBits) -> TxBits
 #[inline(always)]
 fn places_of(bits: u64) -> u64
     ensures { (over : Bool) (len place : ℕ) (back : List Bool) → 8 ≤ len → place + len ≤ 64 → bits / 2 ^ place < 2 ^ len
-        → bit_at result place ≡ 0 → begins over (low_bits len (bits / 2 ^ place) ++ back) ≡ false }
+        → bit_at result place ≡ 0 → begins_stretch over (low_bits len (bits / 2 ^ place) ++ back) ≡ false }
 {
     let ones = bits >> 1 & bits >> 2 & bits >> 3 & bits >> 4 & bits >> 5 & bits >> 6;
     let odd = bits >> 1 ^ bits >> 2 ^ bits >> 3 ^ bits >> 4 ^ bits >> 5;
@@ -96,10 +98,11 @@ fn places_of(bits: u64) -> u64
 // Returns whether neither a transaction nor fifty ones begin with these bits.
 #[inline(always)]
 fn begins_nothing(window: TxBits) -> bool
-    requires spelled { IsSpelled window }
+    requires spelled { IsWellFormedTxBits window }
     requires some { 8 ≤ window.len }
     requires most { window.len ≤ 50 }
-    ensures { result ≡ true → (over : Bool) (back : List Bool) → begins over (bits_of window ++ back) ≡ false }
+    ensures { result ≡ true → (over : Bool) (back : List Bool)
+        → begins_stretch over (tx_bits_of window ++ back) ≡ false }
 {
     !is_ones(window) && (lacks_request(window) || lacks_ack(window))
 }
@@ -108,7 +111,7 @@ fn begins_nothing(window: TxBits) -> bool
 #[inline(always)]
 fn lacks_request(window: TxBits) -> bool
     requires some { 8 ≤ window.len }
-    ensures { result ≡ true → (over : Bool) (back : List Bool) → pair over (bits_of window ++ back) ≡ false }
+    ensures { result ≡ true → (over : Bool) (back : List Bool) → pair over (tx_bits_of window ++ back) ≡ false }
 {
     Request::of((window.bits % 256) as u8).is_none()
 }
@@ -117,14 +120,14 @@ fn lacks_request(window: TxBits) -> bool
 // after eight bits and a turnaround, are not OK, WAIT or FAULT.
 #[inline(always)]
 fn lacks_ack(window: TxBits) -> bool
-    ensures { result ≡ true → (over : Bool) (back : List Bool) → pair over (bits_of window ++ back) ≡ false }
+    ensures { result ≡ true → (over : Bool) (back : List Bool) → pair over (tx_bits_of window ++ back) ≡ false }
 {
     window.len >= 12 && Ack::of(((window.bits >> 9) % 8) as u8).is_none()
 }
 
 // Returns whether two sound transactions are at the front, with at most zeros between them.
-fn pair_stands(over: bool, ended: bool, held: &Held) -> Option<bool>
-    ensures { Judges ended 46 (λ bits. pair over bits) (held_bits held.now) result }
+fn pair_stands(over: bool, ended: bool, held: &HeldBits) -> Option<bool>
+    ensures { Judges ended 46 (λ bits. pair over bits) (resync_held held.now) result }
 {
     match sound_bits(over, ended, held) {
         None => None,
@@ -134,8 +137,8 @@ fn pair_stands(over: bool, ended: bool, held: &Held) -> Option<bool>
 }
 
 /// Returns whether a stretch begins here: with fifty ones, or with a pair.
-pub(crate) fn stretch_begins(over: bool, ended: bool, held: &Held) -> Option<bool>
-    ensures { Judges ended 46 (λ bits. begins over bits) (held_bits held.now) result }
+pub(crate) fn stretch_begins(over: bool, ended: bool, held: &HeldBits) -> Option<bool>
+    ensures { Judges ended 46 (λ bits. begins_stretch over bits) (resync_held held.now) result }
 {
     match look(over, ended, held).is_reset() {
         None => None,
@@ -145,8 +148,8 @@ pub(crate) fn stretch_begins(over: bool, ended: bool, held: &Held) -> Option<boo
 }
 
 // Returns whether the bits after any zeros don't begin with a junk bit.
-fn reading_goes_on(over: bool, ended: bool, held: &Held) -> Option<bool>
-    ensures { Judges ended 0 (λ bits. goes_on over bits) (held_bits held.now) result }
+fn reading_goes_on(over: bool, ended: bool, held: &HeldBits) -> Option<bool>
+    ensures { Judges ended 0 (λ bits. stretch_continues over bits) (resync_held held.now) result }
 {
     match look(over, ended, &held.behind_zeros()).is_junk() {
         None => None,
@@ -155,15 +158,15 @@ fn reading_goes_on(over: bool, ended: bool, held: &Held) -> Option<bool>
 }
 
 // Returns whether no bit or fifty ones follow.
-fn ends_or_resets(over: bool, ended: bool, held: &Held) -> Option<bool>
-    ensures { Judges ended 0 (λ bits. ended_or_reset bits) (held_bits held.now) result }
+fn ends_or_resets(over: bool, ended: bool, held: &HeldBits) -> Option<bool>
+    ensures { Judges ended 0 (λ bits. stretch_ended_or_reset bits) (resync_held held.now) result }
 {
     look(over, ended, held).is_end_or_reset()
 }
 
 /// Returns whether a stretch continues after a transaction that these bits follow.
-pub(crate) fn stretch_goes_on(over: bool, ended: bool, tx: &Tx, behind: &Held) -> Option<bool>
-    ensures { Judges ended 0 (λ bits. followed_by over tx.now.result bits) (held_bits behind.now) result }
+pub(crate) fn stretch_goes_on(over: bool, ended: bool, tx: &Tx, behind: &HeldBits) -> Option<bool>
+    ensures { Judges ended 0 (λ bits. stretch_after_tx over tx.now.result bits) (resync_held behind.now) result }
 {
     match tx.result {
         TxEnd::NoAck(_) => ends_or_resets(over, ended, behind),
@@ -172,11 +175,11 @@ pub(crate) fn stretch_goes_on(over: bool, ended: bool, tx: &Tx, behind: &Held) -
 }
 
 // Returns how many of the first `count` bits come before a pair: all if no pair begins among them.
-fn bits_before_pair(over: bool, ended: bool, held: &Held, count: u8) -> Option<u8>
+fn bits_before_pair(over: bool, ended: bool, held: &HeldBits, count: u8) -> Option<u8>
     requires short { count ≤ 45 }
-    requires held { count ≤ length (held_bits held.now) }
-    ensures judges { Judges ended (46 + count) (λ bits. before_pair over count bits) (held_bits held.now) result }
-    ensures most { IsMost count result }
+    requires held { count ≤ length (resync_held held.now) }
+    ensures judges { Judges ended (46 + count) (λ bits. before_pair over count bits) (resync_held held.now) result }
+    ensures most { IsJudgedMost count result }
 {
     if count == 0 {
         return Some(0);
@@ -193,12 +196,18 @@ fn bits_before_pair(over: bool, ended: bool, held: &Held, count: u8) -> Option<u
 
 /// Returns how many bits of the transaction at the front, which has `len` bits, are skipped since a stretch
 /// begins inside it. Returns 0 if the transaction is reported.
-pub(crate) fn bits_withdrawn(over: bool, ended: bool, held: &Held, tx: &Tx, len: u8) -> Option<u8>
-    requires { IsTxSeen over tx.now len (held_bits held.now) }
-    ensures most { IsMost len result }
-    ensures told { IfSome result (λ n. (more : List Bool) → May ended more
-        → in_stretch over (whole tx.now len) (held_bits held.now ++ more) ≡ tx_step tx.now len n) }
-    ensures waits { IfNone result ((ended ≡ false) × IsNear 92 (held_bits held.now)) }
+pub(crate) fn bits_withdrawn(
+    over: bool,
+    ended: bool,
+    held: &HeldBits,
+    tx: &Tx,
+    len: u8,
+) -> Option<u8>
+    requires { IsTxSight over tx.now len (resync_held held.now) }
+    ensures most { IsJudgedMost len result }
+    ensures told { IfSome result (λ n. (more : List Bool) → SightMore ended more
+        → in_stretch over (whole_tx_item tx.now len) (resync_held held.now ++ more) ≡ stretch_tx_step tx.now len n) }
+    ensures waits { IfNone result ((ended ≡ false) × IsResyncNear 92 (resync_held held.now)) }
 {
     match stretch_goes_on(over, ended, tx, &held.without(len)) {
         None => None,

@@ -1,20 +1,20 @@
 //! What held bits begin with.
 ghost use Rattle.std.specs.Prelude.{◌≡◌, ◌%◌, ◌<◌, ◌≤◌, true, false, List, Bool, [], ◌++◌, ◌&&◌, replicate};
-ghost use Rattle.swd_bits.specs.BitLists.{bits_of, IsSpelled};
-ghost use Rattle.swd_trace.specs.Reading.{all_ones};
-ghost use Rattle.swd_resync.specs.Parts.{is_refusal};
-ghost use Rattle.swd_resync.specs.Holding.{held_bits};
-ghost use Rattle.swd_resync.specs.Sights.{IsSeen};
+ghost use Rattle.swd_bits.specs.BitLists.{tx_bits_of, IsWellFormedTxBits};
+ghost use Rattle.swd_trace.specs.Reading.{trace_all_ones};
+ghost use Rattle.swd_resync.specs.Parts.{resync_is_refusal};
+ghost use Rattle.swd_resync.specs.Holding.{resync_held};
+ghost use Rattle.swd_resync.specs.Sights.{IsSight};
 
-use crate::held::{Held, WINDOW_BITS};
+use crate::held::{HeldBits, WINDOW_BITS};
 use crate::sight::Sight;
 use swd_bits::{MOVED_BITS, Tx, TxBits, TxEnd};
 use swd_trace::{Front, front_of};
 
 /// Returns what is at the front of the held bits. `over` means overrun detection; `ended` means that no bits
 /// follow.
-pub(crate) fn look(over: bool, ended: bool, held: &Held) -> Sight
-    ensures { IsSeen over ended result (held_bits held.now) }
+pub(crate) fn look(over: bool, ended: bool, held: &HeldBits) -> Sight
+    ensures { IsSight over ended result (resync_held held.now) }
 {
     let window = held.window();
     if window.len == 0 {
@@ -34,13 +34,13 @@ pub(crate) fn look(over: bool, ended: bool, held: &Held) -> Sight
 
 // Returns what is at the front, where the first bit is a one and not all bits are ones.
 fn seen(over: bool, ended: bool, window: TxBits) -> Sight
-    requires spelled { IsSpelled window }
+    requires spelled { IsWellFormedTxBits window }
     requires most { window.len ≤ 50 }
     requires one { window.bits % 2 ≡ 1 }
     requires some { 0 < window.len }
-    requires zero { all_ones (bits_of window) ≡ false }
+    requires zero { trace_all_ones (tx_bits_of window) ≡ false }
     ensures { (back : List Bool) → (window.len < 50 → back ≡ [])
-        → IsSeen over ended result (bits_of window ++ back) }
+        → IsSight over ended result (tx_bits_of window ++ back) }
 {
     match front_of(window.bits, window.len) {
         Front::Begun(_) => begun(ended, window),
@@ -71,17 +71,17 @@ fn begun(ended: bool, window: TxBits) -> Sight
 
 /// Returns whether all bits are ones.
 pub(crate) fn is_ones(window: TxBits) -> bool
-    requires spelled { IsSpelled window }
+    requires spelled { IsWellFormedTxBits window }
     requires most { window.len ≤ 50 }
-    ensures ones { result ≡ true → bits_of window ≡ replicate window.len true }
-    ensures zero { result ≡ false → all_ones (bits_of window) ≡ false }
+    ensures ones { result ≡ true → tx_bits_of window ≡ replicate window.len true }
+    ensures zero { result ≡ false → trace_all_ones (tx_bits_of window) ≡ false }
 {
     window.bits == (1 << window.len) - 1
 }
 
 // Returns whether a data phase follows WAIT or FAULT.
 fn has_phase(over: bool, tx: &Tx) -> bool
-    ensures { result ≡ (over && is_refusal tx.now.result) }
+    ensures { result ≡ (over && resync_is_refusal tx.now.result) }
 {
     over && matches!(tx.result, TxEnd::Wait | TxEnd::Fault)
 }

@@ -1,7 +1,7 @@
 //! The parts of a capture.
 ghost use Rattle.std.specs.Prelude.{◌≡◌, ◌+◌, ◌≤◌, ◌++◌};
 ghost use Rattle.arrayvec.specs.ArrayString.{array_string_len};
-ghost use Rattle.swd_resync.specs.AsItems.{phase_after};
+ghost use Rattle.swd_resync.specs.AsItems.{resync_phase_after};
 
 use arrayvec::ArrayString;
 use swd_bits::{Tx, TxEnd};
@@ -17,12 +17,12 @@ pub enum Part {
 }
 
 impl Part {
-    ghost use Rattle.swd_resync.specs.PartTexts.{part_line};
+    ghost use Rattle.swd_resync.specs.PartTexts.{resync_part_line};
 
     /// Appends the part's line without its line feed: an item's line, or as in `skip 26`.
     pub fn push_line<const N: usize>(&self, text: &mut ArrayString<N>)
         requires { array_string_len text.old + LONGEST_LINE ≤ N }
-        ensures bytes { text.new.bytes ≡ text.old.bytes ++ part_line self.now }
+        ensures bytes { text.new.bytes ≡ text.old.bytes ++ resync_part_line self.now }
         ensures len { array_string_len text.new ≤ array_string_len text.old + LONGEST_LINE }
     {
         match self {
@@ -39,7 +39,7 @@ impl Part {
 /// How many bits follow an item of a stretch as a data phase that says nothing: 33 behind WAIT and FAULT where the host
 /// uses overrun detection (`over`; IHI 0031, B4), 0 behind any other item.
 pub fn phase_len(item: &Item, over: bool) -> u8
-    ensures value { result ≡ phase_after over item.now }
+    ensures value { result ≡ resync_phase_after over item.now }
     ensures most { result ≤ 33 }
 {
     let refused = matches!(

@@ -1,7 +1,8 @@
 //! A queue of bits that counts one run of zeros.
 ghost use Rattle.std.specs.Prelude.{◌≡◌, ◌+◌, ◌-◌, ◌%◌, ◌^◌, ◌<◌, ◌≤◌, [], ◌∷◌, ◌++◌, drop, replicate, false};
 ghost use Rattle.swd_bits.specs.Bits.{low_bits};
-ghost use Rattle.swd_resync.specs.Queues.{queued, IsQueue, IsFull, EndsRun, IsHeld};
+ghost use Rattle.swd_resync.specs.Queues.{resync_queued, IsResyncQueue, IsResyncQueueFull, ResyncQueueEndsRun};
+ghost use Rattle.swd_resync.specs.Queues.{IsResyncHeld};
 
 /// How many bits are held one by one before a run of zeros is counted: those of a transaction, and of another
 /// one that begins inside it.
@@ -24,8 +25,8 @@ pub(crate) struct Queue {
 impl Queue {
     /// Returns an empty queue.
     pub(crate) fn new() -> Queue
-        ensures bits { queued result ≡ [] }
-        ensures held { IsHeld result }
+        ensures bits { resync_queued result ≡ [] }
+        ensures held { IsResyncHeld result }
         ensures room { result.back_len ≡ 0 }
     {
         Queue {
@@ -39,11 +40,11 @@ impl Queue {
 
     /// Returns the queue with one more bit at its end.
     pub(crate) fn with(self, bit: bool) -> Queue
-        requires held { IsHeld self }
+        requires held { IsResyncHeld self }
         requires room { self.back_len < 63 }
         requires count { self.zeros < 2 ^ 64 - 1 }
-        ensures bits { queued result ≡ queued self ++ bit ∷ [] }
-        ensures held { IsHeld result }
+        ensures bits { resync_queued result ≡ resync_queued self ++ bit ∷ [] }
+        ensures held { IsResyncHeld result }
         ensures room { result.back_len ≤ self.back_len + 1 }
     {
         if self.front_len < FRONT_BITS {
@@ -68,11 +69,11 @@ impl Queue {
 
     /// Returns the queue with the lowest `count` bits at the end of the front. Nothing may be behind the front.
     pub(crate) fn with_front(self, bits: u128, count: u8) -> Queue
-        requires held { IsHeld self }
+        requires held { IsResyncHeld self }
         requires alone { self.zeros + self.back_len ≡ 0 }
         requires room { self.front_len + count ≤ 92 }
-        ensures bits { queued result ≡ queued self ++ low_bits count bits }
-        ensures held { IsHeld result }
+        ensures bits { resync_queued result ≡ resync_queued self ++ low_bits count bits }
+        ensures held { IsResyncHeld result }
         ensures room { result.back_len ≡ self.back_len }
     {
         let taken = bits & ((1 << count) - 1);
@@ -85,12 +86,12 @@ impl Queue {
 
     /// Returns the queue with `count` more zeros in the run. No bits may be behind the run.
     pub(crate) fn with_more_zeros(self, count: u8) -> Queue
-        requires held { IsHeld self }
+        requires held { IsResyncHeld self }
         requires full { self.front_len ≡ 92 }
         requires alone { self.back_len ≡ 0 }
         requires count { self.zeros + count < 2 ^ 64 }
-        ensures bits { queued result ≡ queued self ++ replicate count false }
-        ensures held { IsHeld result }
+        ensures bits { resync_queued result ≡ resync_queued self ++ replicate count false }
+        ensures held { IsResyncHeld result }
         ensures room { result.back_len ≡ self.back_len }
     {
         Queue {
@@ -101,12 +102,12 @@ impl Queue {
 
     /// Returns the queue with the lowest `count` bits behind the run. The first bit behind it is a one.
     pub(crate) fn with_back(self, bits: u64, count: u8) -> Queue
-        requires held { IsHeld self }
+        requires held { IsResyncHeld self }
         requires full { self.front_len ≡ 92 }
         requires room { self.back_len + count ≤ 63 }
         requires one { self.back_len ≡ 0 → bits % 2 ≡ 1 }
-        ensures bits { queued result ≡ queued self ++ low_bits count bits }
-        ensures held { IsHeld result }
+        ensures bits { resync_queued result ≡ resync_queued self ++ low_bits count bits }
+        ensures held { IsResyncHeld result }
         ensures room { result.back_len ≡ self.back_len + count }
     {
         let taken = bits & ((1 << count) - 1);
@@ -119,10 +120,10 @@ impl Queue {
 
     /// Returns the bits after the first `count` ones.
     pub(crate) fn shifted(self, count: u8) -> Queue
-        requires held { IsHeld self }
+        requires held { IsResyncHeld self }
         requires within { count ≤ self.front_len }
-        ensures bits { queued result ≡ drop count (queued self) }
-        ensures held { IsHeld result }
+        ensures bits { resync_queued result ≡ drop count (resync_queued self) }
+        ensures held { IsResyncHeld result }
         ensures room { result.back_len ≤ self.back_len }
     {
         let others = Queue {
@@ -135,9 +136,9 @@ impl Queue {
 
     // Fills the front with zeros of the run.
     fn with_zeros(self) -> Queue
-        requires { IsQueue self }
-        ensures queue { IsQueue result }
-        ensures bits { queued result ≡ queued self }
+        requires { IsResyncQueue self }
+        ensures queue { IsResyncQueue result }
+        ensures bits { resync_queued result ≡ resync_queued self }
         ensures full { 0 < result.zeros → result.front_len ≡ 92 }
         ensures back { result.back ≡ self.back }
         ensures back_len { result.back_len ≡ self.back_len }
@@ -152,13 +153,13 @@ impl Queue {
 
     // Fills the front with the bits after the run, if the run is empty.
     fn with_bits(self) -> Queue
-        requires queue { IsQueue self }
+        requires queue { IsResyncQueue self }
         requires full { 0 < self.zeros → self.front_len ≡ 92 }
-        requires ends { EndsRun self }
-        ensures queue { IsQueue result }
-        ensures bits { queued result ≡ queued self }
-        ensures full { IsFull result }
-        ensures ends { 0 < result.zeros → EndsRun result }
+        requires ends { ResyncQueueEndsRun self }
+        ensures queue { IsResyncQueue result }
+        ensures bits { resync_queued result ≡ resync_queued self }
+        ensures full { IsResyncQueueFull result }
+        ensures ends { 0 < result.zeros → ResyncQueueEndsRun result }
         ensures room { result.back_len ≤ self.back_len }
     {
         if self.zeros > 0 {
@@ -177,11 +178,11 @@ impl Queue {
 
     // Counts the zeros at the front of the bits after the run, if the run is empty.
     fn with_run(self) -> Queue
-        requires queue { IsQueue self }
-        requires full { IsFull self }
-        requires ends { 0 < self.zeros → EndsRun self }
-        ensures bits { queued result ≡ queued self }
-        ensures held { IsHeld result }
+        requires queue { IsResyncQueue self }
+        requires full { IsResyncQueueFull self }
+        requires ends { 0 < self.zeros → ResyncQueueEndsRun self }
+        ensures bits { resync_queued result ≡ resync_queued self }
+        ensures held { IsResyncHeld result }
         ensures room { result.back_len ≤ self.back_len }
     {
         if self.zeros > 0 {

@@ -1,7 +1,7 @@
 //! A summary of what held bits begin with.
 
 ghost use Rattle.std.specs.Prelude.{◌≡◌};
-ghost use Rattle.swd_resync.specs.Parts.{is_sound};
+ghost use Rattle.swd_resync.specs.Parts.{resync_is_sound};
 
 use swd_bits::{Tx, TxBits, TxEnd};
 
@@ -26,7 +26,7 @@ pub(crate) enum Sight {
 
 // Returns whether the result is WAIT, FAULT, or OK with a word of right parity.
 fn is_sound_end(tx: &Tx) -> bool
-    ensures { result ≡ is_sound tx.now.result }
+    ensures { result ≡ resync_is_sound tx.now.result }
 {
     match tx.result {
         TxEnd::Moved { parity_ok, .. } => parity_ok,
@@ -36,12 +36,12 @@ fn is_sound_end(tx: &Tx) -> bool
 }
 
 impl Sight {
-    ghost use Rattle.swd_resync.specs.Seen.{sound_seen, junk_seen, ones_seen, end_seen};
+    ghost use Rattle.swd_resync.specs.Seen.{sight_sound_bits, sight_junk_bit, sight_fifty_ones, sight_end_or_reset};
 
     /// Returns the number of bits of the sound transaction at the front: 0 if there is no such transaction,
     /// `None` if more bits are needed.
     pub(crate) fn sound_bits(&self) -> Option<u8>
-        ensures { result ≡ sound_seen self.now }
+        ensures { result ≡ sight_sound_bits self.now }
     {
         match self {
             Sight::Wait => None,
@@ -52,7 +52,7 @@ impl Sight {
 
     /// Returns whether a junk bit is at the front. Returns `None` if more bits are needed.
     pub(crate) fn is_junk(&self) -> Option<bool>
-        ensures { result ≡ junk_seen self.now }
+        ensures { result ≡ sight_junk_bit self.now }
     {
         match self {
             Sight::Wait => None,
@@ -63,7 +63,7 @@ impl Sight {
 
     /// Returns whether fifty ones are at the front. Returns `None` if more bits are needed.
     pub(crate) fn is_reset(&self) -> Option<bool>
-        ensures { result ≡ ones_seen self.now }
+        ensures { result ≡ sight_fifty_ones self.now }
     {
         match self {
             Sight::Wait => None,
@@ -74,7 +74,7 @@ impl Sight {
 
     /// Returns whether no bit or fifty ones are at the front. Returns `None` if more bits are needed.
     pub(crate) fn is_end_or_reset(&self) -> Option<bool>
-        ensures { result ≡ end_seen self.now }
+        ensures { result ≡ sight_end_or_reset self.now }
     {
         match self {
             Sight::Wait => None,

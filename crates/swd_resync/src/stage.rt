@@ -4,7 +4,7 @@ use crate::part::Part;
 
 /// What the removed bits imply.
 #[derive(Clone, Copy, Debug)]
-pub(crate) enum Stage {
+pub(crate) enum RemovalStage {
     /// The number of zeros so far, before it is known whether a stretch begins with the capture.
     Start(u64),
     /// In a stretch, with this number of idle cycles not reported yet.
@@ -23,6 +23,6 @@ pub(crate) enum Stage {
 #[derive(Clone, Copy, Debug)]
 pub(crate) struct Move {
     pub(crate) count: u8,
-    pub(crate) stage: Stage,
+    pub(crate) stage: RemovalStage,
     pub(crate) part: Option<Part>,
 }

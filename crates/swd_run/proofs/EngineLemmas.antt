@@ -1,6 +1,6 @@
 -- The engine's answers, from one account of what ran to another.
-use Rattle.std.proofs.Common.{◌≡◌, ℕ, List, [], Option, None, Some, Result, Ok, Err, Bool, true, false, inl, inr, refl, sym, ap, ap₂, ◌∙◌}
-use Rattle.std.proofs.Common.{subst}
+use Rattle.std.proofs.Common.{◌≡◌, ℕ, List, [], Option, None, Some, Result, Ok, Err, Bool, true, false, inl, inr, refl}
+use Rattle.std.proofs.Common.{sym, ap, ap₂, ◌∙◌, subst}
 use Rattle.std.proofs.KnownBytes.{Appends-nil}
 use Rattle.std.proofs.Math.Logic.{∥∥₁_map}
 use Rattle.std.specs.Prelude.{◌≤◌, ◌||◌, is_some, take, length}
@@ -8,183 +8,195 @@ use Rattle.std.specs.Io.KnownBytes.{Appends}
 use Rattle.swd_trace.specs.declared.item.Item.{Item}
 use Rattle.swd_port.specs.declared.access.Access.{Access}
 use Rattle.swd_port.specs.declared.mark.Mark.{Mark}
-use Rattle.swd_port.specs.Choices.{disturbed_among, lost_among}
+use Rattle.swd_port.specs.Choices.{port_disturbed_among, port_lost_among}
 use Rattle.swd_port.specs.PlainMemory.{PlainMemory}
-use Rattle.swd_port.specs.Port.{Port, made}
-use Rattle.swd_port.specs.Laws.Calls.{with_asked}
+use Rattle.swd_port.specs.Port.{Port, port_made}
+use Rattle.swd_port.specs.Laws.Calls.{port_with_asked}
 use Rattle.swd_port.specs.declared.wire.Wire.{Ghosts}
 use Rattle.swd_recorder.specs.declared.recorder.Recorder.{Recorder}
-use Rattle.swd_recorder.specs.Recorders.{lawful_by, plan_by, port_by, wire_under}
+use Rattle.swd_recorder.specs.Recorders.{recorder_lawful, recorder_plan, recorder_port, recorder_wire_under}
 use Rattle.swd_recorder.specs.Chains.{Clear}
-use Rattle.swd_recorder.proofs.ChainLemmas.{chained_read}
-use Rattle.swd_host.specs.Reports.{IsAtRest, Told}
-use Rattle.swd_script.specs.Scripts.{Listed, Meaning}
+use Rattle.swd_recorder.proofs.ChainLemmas.{recorded_chain_reads_back}
+use Rattle.swd_host.specs.Reports.{IsAtRest, HostReport}
+use Rattle.swd_script.specs.Scripts.{ScriptListed, ScriptMeaning}
 use Rattle.swd_run.specs.declared.engine.Finished.{Finished}
 use Rattle.swd_run.specs.declared.fault.EngineFault.{EngineFault}
 use Rattle.swd_run.specs.declared.fault.EngineFault.TheVariants.{Memory, Write, WriteAccesses, TraceCut}
 use Rattle.swd_run.specs.declared.going_on.Stop.{Stop}
-use Rattle.swd_run.specs.Engine.{Answers, AnswersAt, AnswersOver, AreItems, IsFinished, IsOfTraceOver, IsTraceOver}
-use Rattle.swd_run.specs.Engine.{IsOfTrace, Ran, RanShort, TellsRecords, port_seen, whole, short}
-use Rattle.swd_run.specs.Engine.{trace_stops, accesses_stop}
-use Rattle.swd_run.specs.GoingOn.{Went, ran, resumed}
+use Rattle.swd_run.specs.Engine.{Answers, BatchAnswersAt, BatchAnswers, AreRunTraceItems, IsScriptFinished}
+use Rattle.swd_run.specs.Engine.{IsOfTraceOver, IsTraceOver, IsPartOfRunTrace, RanBatches, RanBatchesShort}
+use Rattle.swd_run.specs.Engine.{RunFilesOutcome, run_port_seen, whole, short, trace_stops, accesses_stop}
+use Rattle.swd_run.specs.GoingOn.{ScriptCalls, ran, resumed}
 use Rattle.swd_run.specs.Reports.{session_text}
 use Rattle.swd_run.specs.declared.records.Records.{Records}
-use Rattle.swd_run.specs.Records.{AreBegun, AreLeft, Files, ForFile, IfRecorded, IsBegun, IsLeft, files_of, held, is_recorded, no_files}
-use Rattle.swd_observer.specs.Explained.{Explains}
-use Rattle.swd_observer.specs.Traces.{from_made, told_in}
-use Rattle.swd_run.specs.Running.{AnswersScript, IsTraceIn, RunsScript, full_room, memory_of, with_full}
-use Rattle.swd_run.specs.Sessions.{Done, GoesOn, IsRefused, Runs, most_begun, none, requests_of, then}
-use Rattle.swd_run.specs.Sessions.{unresumed, unsent}
-use Rattle.swd_run.specs.Unfoldings.{AreDone, BatchRuns, IsCutShort, Unfolds, again, calls_of, runs_of}
-use Rattle.swd_run.proofs.RunLemmas.{made_rests}
+use Rattle.swd_run.specs.Records.{AreRunFilesStarted, AreRunFilesLeft, RunFiles, ForRunFile, IfRunFiles}
+use Rattle.swd_run.specs.Records.{IsRunFileStarted, IsRunFileLeft, run_files_of, run_file_held, wants_run_files}
+use Rattle.swd_run.specs.Records.{no_run_files}
+use Rattle.swd_observer.specs.Explained.{ObservedLog}
+use Rattle.swd_observer.specs.Traces.{trace_observer_made, observed_in_trace}
+use Rattle.swd_run.specs.Running.{ScriptRunAnswers, IsTraceIn, RunsScript, full_room, script_memory, with_full_room}
+use Rattle.swd_run.specs.Sessions.{ScriptRun, RunsBatch, IsBatchRefused, RunsBatches, batch_limit, none}
+use Rattle.swd_run.specs.Sessions.{script_requests, then, unresumed, unsent}
+use Rattle.swd_run.specs.Unfoldings.{AreBatchesDone, BatchRuns, IsCutShort, Unfolds, batch_again, calls_of, runs_of}
+use Rattle.swd_run.proofs.RunLemmas.{script_target_at_rest}
 use Rattle.swd_run.proofs.SessionLemmas.{script_runs}
 use Rattle.swd_run.proofs.WentLemmas.{law_before}
 
 -- what follows of items
-pub recorded_as : (flag : Bool) (P R : List Item → Type 0) (Q : Type 0) → ((items : List Item) → P items → R items)
-    → IfRecorded flag P Q → IfRecorded flag R Q
-recorded_as true P R Q f h = (h.0, f h.0 h.1)
-recorded_as false P R Q f h = h
+pub if_run_files_map : (flag : Bool) (P R : List Item → Type 0) (Q : Type 0) → ((items : List Item) → P items → R items)
+    → IfRunFiles flag P Q → IfRunFiles flag R Q
+if_run_files_map true P R Q f h = (h.0, f h.0 h.1)
+if_run_files_map false P R Q f h = h
 
 once_recorded : (flag : Bool) (P : List Item → Type 0) (Q : Type 0) → flag ≡ true → (items : List Item) → P items
-    → IfRecorded flag P Q
+    → IfRunFiles flag P Q
 once_recorded true P Q is items h = (items, h)
 once_recorded false P Q is items h = absurd cc
 
-once_unrecorded : (flag : Bool) (P : List Item → Type 0) (Q : Type 0) → flag ≡ false → Q → IfRecorded flag P Q
+once_unrecorded : (flag : Bool) (P : List Item → Type 0) (Q : Type 0) → flag ≡ false → Q → IfRunFiles flag P Q
 once_unrecorded true P Q is h = absurd cc
 once_unrecorded false P Q is h = h
 
 -- a file to which nothing is written
-pub left_alone : (file : Option (Option (List ℕ))) → ForFile IsLeft file file
-left_alone None = refl
-left_alone (Some held) = (held, refl, Appends-nil held)
+pub run_file_unchanged : (file : Option (Option (List ℕ))) → ForRunFile IsRunFileLeft file file
+run_file_unchanged None = refl
+run_file_unchanged (Some held) = (held, refl, Appends-nil held)
 
 -- a writer is there where its contents are
-pub held_is : {T : Type 0} (contents : T → Option (List ℕ)) (file : Option T)
-    → is_some (held contents file) ≡ is_some file
-held_is contents None = refl
-held_is contents (Some writer) = refl
+pub run_file_is_some : {T : Type 0} (contents : T → Option (List ℕ)) (file : Option T)
+    → is_some (run_file_held contents file) ≡ is_some file
+run_file_is_some contents None = refl
+run_file_is_some contents (Some writer) = refl
 
 -- where there is a writer, there are its contents
-pub held_some : {T : Type 0} (contents : T → Option (List ℕ)) (file : Option T) → is_some file ≡ true
-    → is_some (held contents file) ≡ true
-held_some contents file is = held_is contents file ∙ is
+pub run_file_some : {T : Type 0} (contents : T → Option (List ℕ)) (file : Option T) → is_some file ≡ true
+    → is_some (run_file_held contents file) ≡ true
+run_file_some contents file is = run_file_is_some contents file ∙ is
 
 -- a file is to be written where there is a writer
-pub recorded_is : {T : Type 0} (contents : T → Option (List ℕ)) (records : Records T)
-    → is_recorded (files_of contents records) ≡ (is_some records.trace || is_some records.accesses)
-recorded_is contents records = ap₂ ◌||◌ (held_is contents records.trace) (held_is contents records.accesses)
+pub wants_files_by_records : {T : Type 0} (contents : T → Option (List ℕ)) (records : Records T)
+    → wants_run_files (run_files_of contents records) ≡ (is_some records.trace || is_some records.accesses)
+wants_files_by_records contents records = ap₂ ◌||◌ (run_file_is_some contents records.trace)
+    (run_file_is_some contents records.accesses)
 
 -- files that are the same before and after are left: nothing was written to them
-pub left_files : (files : Files) → AreLeft files files
-left_files files = record { trace = left_alone files.trace; accesses = left_alone files.accesses }
+pub run_files_unchanged : (files : RunFiles) → AreRunFilesLeft files files
+run_files_unchanged files = record {
+  trace = run_file_unchanged files.trace;
+  accesses = run_file_unchanged files.accesses;
+}
 
 -- nothing of the trace of no items was written, nor of the accesses
-nothing_begun : (files : Files) → AreBegun [] files files
-nothing_begun files = record { trace = none files.trace; accesses = left_alone files.accesses }
+nothing_begun : (files : RunFiles) → AreRunFilesStarted [] files files
+nothing_begun files = record { trace = none files.trace; accesses = run_file_unchanged files.accesses }
   where
-    none : (file : Option (Option (List ℕ))) → ForFile (IsBegun []) file file
+    none : (file : Option (Option (List ℕ))) → ForRunFile (IsRunFileStarted []) file file
     none None = refl
     none (Some held) = (held, refl, ∣ inl (Appends-nil held) ∣₁)
 
 -- the files of a run that made no call
-pub none_begun : (files : Files)
-    → IfRecorded (is_recorded files) (λ items. AreItems items × AreBegun items files files) (AreLeft files files)
-none_begun files = by (is_recorded files)
+pub no_call_run_files : (files : RunFiles)
+    → IfRunFiles (wants_run_files files) (λ items. AreRunTraceItems items × AreRunFilesStarted items files files)
+    (AreRunFilesLeft files files)
+no_call_run_files files = by (wants_run_files files)
   where
-    by : (flag : Bool) → IfRecorded flag (λ items. AreItems items × AreBegun items files files) (AreLeft files files)
-    by true = ([], (chained_read Clear [] refl, nothing_begun files))
-    by false = left_files files
+    by : (flag : Bool) → IfRunFiles flag (λ items. AreRunTraceItems items × AreRunFilesStarted items files files)
+        (AreRunFilesLeft files files)
+    by true = ([], (recorded_chain_reads_back Clear [] refl, nothing_begun files))
+    by false = run_files_unchanged files
 
 -- each account of what ran is one of another kind, with the same runs and the same traces
-pub answers_as : {X U Y V : Type 0} (batches : List Listed) (used : Option ℕ) (runs : Y → List BatchRuns)
+pub script_answers_map : {X U Y V : Type 0} (batches : List ScriptListed) (used : Option ℕ) (runs : Y → List BatchRuns)
     (before : V → List BatchRuns) (IsWhole IsPart : X → List Item → Type 0)
     (IsWholeToo IsPartToo : Y → List Item → Type 0) (f : X → Y) (e : U → V)
     → ((x : X) (items : List Item) → IsWhole x items → IsWholeToo (f x) items)
     → ((x : X) (items : List Item) → IsPart x items → IsPartToo (f x) items)
-    → (answer : Result Finished EngineFault) (old new : Option (List ℕ)) (held now : Files)
-    → Answers {Came = X} {Short = U} batches used (λ x. runs (f x)) (λ u. before (e u)) IsWhole IsPart answer old new held now
+    → (answer : Result Finished EngineFault) (old new : Option (List ℕ)) (held now : RunFiles)
+    → Answers {Came = X} {Short = U} batches used (λ x. runs (f x)) (λ u. before (e u)) IsWhole IsPart answer old new
+    held now
     → Answers {Came = Y} {Short = V} batches used runs before IsWholeToo IsPartToo answer old new held now
-answers_as batches used runs before IsWhole IsPart IsWholeToo IsPartToo f e w p (Ok finished) old new held now h = (
-  f h.0,
-  h.1,
-  h.2,
-  h.3,
-  recorded_as (is_recorded held) _ _ _ (λ items t. (w h.0 items t.0, t.1)) h.4,
-)
-answers_as batches used runs before IsWhole IsPart IsWholeToo IsPartToo f e w p (Err Memory) old new held now h =
+script_answers_map batches used runs before IsWhole IsPart IsWholeToo IsPartToo f e w p (Ok finished) old new held now
+    h = (
+      f h.0,
+      h.1,
+      h.2,
+      h.3,
+      if_run_files_map (wants_run_files held) _ _ _ (λ items t. (w h.0 items t.0, t.1)) h.4,
+    )
+script_answers_map batches used runs before IsWhole IsPart IsWholeToo IsPartToo f e w p (Err Memory) old new held now h
+    =
     (e h.0, h.1, h.2)
-answers_as batches used runs before IsWhole IsPart IsWholeToo IsPartToo f e w p (Err (Write written)) old new held now
-    (x, inl stop) =
-    (f x, inl (stop.0, recorded_as (is_recorded held) _ _ _ (λ items t. (p x items t.0, t.1)) stop.1))
-answers_as batches used runs before IsWhole IsPart IsWholeToo IsPartToo f e w p (Err (Write written)) old new held now
-    (x, inr stop) = (f x, inr (stop.0, stop.1, stop.2, p x stop.0 stop.3, stop.4))
-answers_as batches used runs before IsWhole IsPart IsWholeToo IsPartToo f e w p (Err (WriteAccesses written)) old new
-    held now h = (f h.0, h.1, h.2, h.3, p h.0 h.1 h.4, h.5)
-answers_as batches used runs before IsWhole IsPart IsWholeToo IsPartToo f e w p (Err TraceCut) old new held now h =
+script_answers_map batches used runs before IsWhole IsPart IsWholeToo IsPartToo f e w p (Err (Write written)) old new
+    held now (x, inl stop) =
+    (f x, inl (stop.0, if_run_files_map (wants_run_files held) _ _ _ (λ items t. (p x items t.0, t.1)) stop.1))
+script_answers_map batches used runs before IsWhole IsPart IsWholeToo IsPartToo f e w p (Err (Write written)) old new
+    held now (x, inr stop) = (f x, inr (stop.0, stop.1, stop.2, p x stop.0 stop.3, stop.4))
+script_answers_map batches used runs before IsWhole IsPart IsWholeToo IsPartToo f e w p (Err (WriteAccesses written))
+    old new held now h = (f h.0, h.1, h.2, h.3, p h.0 h.1 h.4, h.5)
+script_answers_map batches used runs before IsWhole IsPart IsWholeToo IsPartToo f e w p (Err TraceCut) old new held now
+    h =
     (f h.0, h.1, h.2, h.3, p h.0 h.1 h.4, h.5, h.6)
 
 -- runs over wires are runs over all that the wires are known by
 module _ {W V : Type 0} (by : W → V) (port : V → Port) (plan : V → List Mark) (lawful : V → Type 0) (tries resumes : ℕ)
   where
-    went_by : (limit : ℕ) (list : List Access) (s : W) (stops : List Stop) (told : Told) (t : W)
-        → Went (λ w. port (by w)) (λ w. plan (by w)) (λ w. lawful (by w)) limit list tries s stops told t
-        → Went port plan lawful limit list tries (by s) stops told (by t)
+    went_by : (limit : ℕ) (list : List Access) (s : W) (stops : List Stop) (told : HostReport) (t : W)
+        → ScriptCalls (λ w. port (by w)) (λ w. plan (by w)) (λ w. lawful (by w)) limit list tries s stops told t
+        → ScriptCalls port plan lawful limit list tries (by s) stops told (by t)
     went_by limit list s stops told t (ran same closes over) = ran same closes over
     went_by limit list s stops told t (resumed {stops = before} {earlier = e} {t = u} went lost same goes over) =
         resumed (went_by limit list s before e u went) lost same goes over
 
     -- one run is
-    pub goes_by : (batch : Listed) (s : W) (run : Done) (t : W)
-        → GoesOn (λ w. port (by w)) (λ w. plan (by w)) (λ w. lawful (by w)) (most_begun batch) tries resumes batch s run t
-        → GoesOn port plan lawful (most_begun batch) tries resumes batch (by s) run (by t)
+    pub goes_by : (batch : ScriptListed) (s : W) (run : ScriptRun) (t : W)
+        → RunsBatch (λ w. port (by w)) (λ w. plan (by w)) (λ w. lawful (by w)) (batch_limit batch) tries resumes batch s
+        run t → RunsBatch port plan lawful (batch_limit batch) tries resumes batch (by s) run (by t)
     goes_by batch s run t goes = record {
-      went = went_by (most_begun batch) batch.accesses s run.stops run.told t goes.went;
+      went = went_by (batch_limit batch) batch.accesses s run.stops run.told t goes.went;
       few = goes.few;
       lost = goes.lost;
     }
 
-    pub runs_by : (s : W) (batches : List Listed) (runs : List Done) (t : W)
-        → Runs (λ w. port (by w)) (λ w. plan (by w)) (λ w. lawful (by w)) most_begun tries resumes s batches runs t
-        → Runs port plan lawful most_begun tries resumes (by s) batches runs (by t)
+    pub runs_by : (s : W) (batches : List ScriptListed) (runs : List ScriptRun) (t : W)
+        → RunsBatches (λ w. port (by w)) (λ w. plan (by w)) (λ w. lawful (by w)) batch_limit tries resumes s batches
+        runs t → RunsBatches port plan lawful batch_limit tries resumes (by s) batches runs (by t)
     runs_by s batches runs t none = none
     runs_by s batches runs t
         (then {batches = before} {runs = earlier} {t = u} {u = v} {batch = batch} {run = run} prior all goes) =
         then (runs_by s before earlier u prior) all (goes_by batch u run v goes)
 
-    refused_by : (limit : ℕ) (batch : Listed) (s t : W)
-        → IsRefused (λ w. port (by w)) (λ w. plan (by w)) (λ w. lawful (by w)) limit tries resumes batch s t
-        → IsRefused port plan lawful limit tries resumes batch (by s) (by t)
+    refused_by : (limit : ℕ) (batch : ScriptListed) (s t : W)
+        → IsBatchRefused (λ w. port (by w)) (λ w. plan (by w)) (λ w. lawful (by w)) limit tries resumes batch s t
+        → IsBatchRefused port plan lawful limit tries resumes batch (by s) (by t)
     refused_by limit batch s t (unsent same) = unsent (ap by same)
     refused_by limit batch s t (unresumed {stops = stops} {told = told} went lost few) =
         unresumed (went_by limit batch.accesses s stops told t went) lost few
 
     -- what ran of a script over wires is what ran of it over what these are known by
-    abbrev pub ran_by : (batches : List Listed) (s t : W)
-        → Ran (λ w. port (by w)) (λ w. plan (by w)) (λ w. lawful (by w)) tries resumes batches s t
-        → Ran port plan lawful tries resumes batches (by s) (by t)
+    abbrev pub ran_by : (batches : List ScriptListed) (s t : W)
+        → RanBatches (λ w. port (by w)) (λ w. plan (by w)) (λ w. lawful (by w)) tries resumes batches s t
+        → RanBatches port plan lawful tries resumes batches (by s) (by t)
     ran_by batches s t over = record {
       made = over.made;
       unfolds = over.unfolds;
       are = runs_by s (calls_of batches over.made) (runs_of over.made) t over.are;
     }
 
-    cut_by : (batch : Listed) (s t : W)
+    cut_by : (batch : ScriptListed) (s t : W)
         → IsCutShort (λ w. port (by w)) (λ w. plan (by w)) (λ w. lawful (by w)) tries resumes batch s t
         → IsCutShort port plan lawful tries resumes batch (by s) (by t)
     cut_by batch s t over = record {
       runs = over.runs;
       are = over.are;
       between = by over.between;
-      earlier = runs_by s (again batch over.runs) over.runs over.between over.earlier;
-      refused = refused_by (most_begun batch) batch over.between t over.refused;
+      earlier = runs_by s (batch_again batch over.runs) over.runs over.between over.earlier;
+      refused = refused_by (batch_limit batch) batch over.between t over.refused;
       unsent = λ plain. ap by (over.unsent plain);
     }
 
-    abbrev short_by : (batches : List Listed) (s t : W)
-        → RanShort (λ w. port (by w)) (λ w. plan (by w)) (λ w. lawful (by w)) tries resumes batches s t
-        → RanShort port plan lawful tries resumes batches (by s) (by t)
+    abbrev short_by : (batches : List ScriptListed) (s t : W)
+        → RanBatchesShort (λ w. port (by w)) (λ w. plan (by w)) (λ w. lawful (by w)) tries resumes batches s t
+        → RanBatchesShort port plan lawful tries resumes batches (by s) (by t)
     short_by batches s t over = record {
       between = by over.between;
       before = ran_by batches s over.between over.before;
@@ -197,15 +209,15 @@ module _ {W V : Type 0} (by : W → V) (port : V → Port) (plan : V → List Ma
     }
 
     -- and so are the answers
-    pub answers_by : (batches : List Listed) (s t : W) (start end : V) → by s ≡ start → by t ≡ end
-        → (answer : Result Finished EngineFault) (old new : Option (List ℕ)) (before after : Files)
-        → AnswersOver (λ w. port (by w)) (λ w. plan (by w)) (λ w. lawful (by w)) tries resumes batches s t answer old new
-        before after → AnswersOver port plan lawful tries resumes batches start end answer old new before after
+    pub answers_by : (batches : List ScriptListed) (s t : W) (start end : V) → by s ≡ start → by t ≡ end
+        → (answer : Result Finished EngineFault) (old new : Option (List ℕ)) (before after : RunFiles)
+        → BatchAnswers (λ w. port (by w)) (λ w. plan (by w)) (λ w. lawful (by w)) tries resumes batches s t answer old
+        new before after → BatchAnswers port plan lawful tries resumes batches start end answer old new before after
     answers_by batches s t start end begins ends answer old new before after h =
-        subst (λ x. AnswersOver port plan lawful tries resumes batches x end answer old new before after) begins
-        (subst (λ x. AnswersOver port plan lawful tries resumes batches (by s) x answer old new before after) ends
-        (answers_as batches None (λ over. over.made) (λ over. over.before.made) IsTraceOver IsOfTraceOver IsTraceOver
-        IsOfTraceOver (ran_by batches s t) (short_by batches s t)
+        subst (λ x. BatchAnswers port plan lawful tries resumes batches x end answer old new before after) begins
+        (subst (λ x. BatchAnswers port plan lawful tries resumes batches (by s) x answer old new before after) ends
+        (script_answers_map batches None (λ over. over.made) (λ over. over.before.made) IsTraceOver IsOfTraceOver
+        IsTraceOver IsOfTraceOver (ran_by batches s t) (short_by batches s t)
         (λ over items is. record {
           read = is.read;
           whole = is.whole;
@@ -218,46 +230,48 @@ module _ {W V : Type 0} (by : W → V) (port : V → Port) (plan : V → List Ma
 
 -- also beside a count
 seen_by : {W V : Type 0} (flag : Bool) (by : W → V) (port : V → Port) (plan : V → List Mark) (lawful : V → Type 0)
-    (tries resumes : ℕ) (batches : List Listed) (counted : ℕ) (s t : W) (start : V) → by s ≡ start
-    → (answer : Result Finished EngineFault) (old new : Option (List ℕ)) (before after : Files)
-    → AnswersOver (port_seen flag (λ w. port (by w))) (λ seen. plan (by seen.1)) (λ seen. lawful (by seen.1)) tries
+    (tries resumes : ℕ) (batches : List ScriptListed) (counted : ℕ) (s t : W) (start : V) → by s ≡ start
+    → (answer : Result Finished EngineFault) (old new : Option (List ℕ)) (before after : RunFiles)
+    → BatchAnswers (run_port_seen flag (λ w. port (by w))) (λ seen. plan (by seen.1)) (λ seen. lawful (by seen.1)) tries
     resumes batches (0, s) (counted, t) answer old new before after
-    → AnswersOver (port_seen flag port) (λ seen. plan seen.1) (λ seen. lawful seen.1) tries resumes batches (0, start)
-    (counted, by t) answer old new before after
+    → BatchAnswers (run_port_seen flag port) (λ seen. plan seen.1) (λ seen. lawful seen.1) tries resumes batches
+    (0, start) (counted, by t) answer old new before after
 seen_by false by port plan lawful tries resumes batches counted s t start begins answer old new before after h =
-    answers_by (λ seen. (seen.0, by seen.1)) (port_seen false port) (λ seen. plan seen.1) (λ seen. lawful seen.1) tries
-    resumes batches (0, s) (counted, t) (0, start) (counted, by t) (ap (λ v. (0, v)) begins) refl answer old new before
-    after h
+    answers_by (λ seen. (seen.0, by seen.1)) (run_port_seen false port) (λ seen. plan seen.1) (λ seen. lawful seen.1)
+    tries resumes batches (0, s) (counted, t) (0, start) (counted, by t) (ap (λ v. (0, v)) begins) refl answer old new
+    before after h
 seen_by true by port plan lawful tries resumes batches counted s t start begins answer old new before after h =
-    answers_by (λ seen. (seen.0, by seen.1)) (port_seen true port) (λ seen. plan seen.1) (λ seen. lawful seen.1) tries
-    resumes batches (0, s) (counted, t) (0, start) (counted, by t) (ap (λ v. (0, v)) begins) refl answer old new before
-    after h
+    answers_by (λ seen. (seen.0, by seen.1)) (run_port_seen true port) (λ seen. plan seen.1) (λ seen. lawful seen.1)
+    tries resumes batches (0, s) (counted, t) (0, start) (counted, by t) (ap (λ v. (0, v)) begins) refl answer old new
+    before after h
 
 -- what an answer states over wires it states over what these are known by, also where the run is recorded
-pub answers_at_by : {W V : Type 0} (by : W → V) (port : V → Port) (plan : V → List Mark) (lawful : V → Type 0)
-    (tries resumes : ℕ) (batches : List Listed) (s t : W) (start : V) → by s ≡ start
-    → (answer : Result Finished EngineFault) (old new : Option (List ℕ)) (before after : Files)
-    → AnswersAt (λ w. port (by w)) (λ w. plan (by w)) (λ w. lawful (by w)) tries resumes batches s t answer old new
-    before after → AnswersAt port plan lawful tries resumes batches start (by t) answer old new before after
-answers_at_by by port plan lawful tries resumes batches s t start begins answer old new before after h = (
+pub batch_answers_at_by : {W V : Type 0} (by : W → V) (port : V → Port) (plan : V → List Mark) (lawful : V → Type 0)
+    (tries resumes : ℕ) (batches : List ScriptListed) (s t : W) (start : V) → by s ≡ start
+    → (answer : Result Finished EngineFault) (old new : Option (List ℕ)) (before after : RunFiles)
+    → BatchAnswersAt (λ w. port (by w)) (λ w. plan (by w)) (λ w. lawful (by w)) tries resumes batches s t answer old new
+    before after → BatchAnswersAt port plan lawful tries resumes batches start (by t) answer old new before after
+batch_answers_at_by by port plan lawful tries resumes batches s t start begins answer old new before after h = (
   h.0,
-  seen_by (is_recorded before) by port plan lawful tries resumes batches h.0 s t start begins answer old new before after
-      h.1,
+  seen_by (wants_run_files before) by port plan lawful tries resumes batches h.0 s t start begins answer old new before
+      after h.1,
 )
 
 -- ---- the files after the report
 
 module _ {W : Type 0} (port : W → Port) (plan : W → List Mark) (lawful : W → Type 0) (tries resumes : ℕ)
-    (batches : List Listed) (start end : W) (old new : Option (List ℕ)) where
+    (batches : List ScriptListed) (start end : W) (old new : Option (List ℕ)) where
   -- they were written
-  pub recorded_in : (finished : Finished) (cut : Bool) (items : List Item) (over : Ran port plan lawful tries resumes
-      batches start end) → AreDone batches over.made → IsFinished batches over.made None finished
-      → Appends old new (session_text batches over.made) → (cut ≡ false → IsTraceOver over items) → IsOfTraceOver over items
-      → (before after : Files) → is_recorded before ≡ true → (answer : Result Finished EngineFault)
-      → TellsRecords finished cut items before after answer
-      → AnswersOver port plan lawful tries resumes batches start end answer old new before after
+  pub recorded_in : (finished : Finished) (cut : Bool) (items : List Item)
+      (over : RanBatches port plan lawful tries resumes batches start end) → AreBatchesDone batches over.made
+      → IsScriptFinished batches over.made None finished
+      → Appends old new (session_text batches over.made) → (cut ≡ false → IsTraceOver over items)
+      → IsOfTraceOver over items
+      → (before after : RunFiles) → wants_run_files before ≡ true → (answer : Result Finished EngineFault)
+      → RunFilesOutcome finished cut items before after answer
+      → BatchAnswers port plan lawful tries resumes batches start end answer old new before after
   recorded_in finished cut items over done is gone of part before after wanted answer (whole uncut all) =
-      (over, done, is, gone, once_recorded (is_recorded before) _ _ wanted items (of uncut, all))
+      (over, done, is, gone, once_recorded (wants_run_files before) _ _ wanted items (of uncut, all))
   recorded_in finished cut items over done is gone of part before after wanted answer (short is_cut all) =
       (over, items, done, gone, part, wanted, all)
   recorded_in finished cut items over done is gone of part before after wanted answer (trace_stops stop) =
@@ -266,101 +280,104 @@ module _ {W : Type 0} (port : W → Port) (plan : W → List Mark) (lawful : W �
       (over, items, done, gone, part, stop)
 
   -- if a report couldn't be written, or memory ran out, the trace was begun
-  pub begun_in : (fault : EngineFault) (items : List Item) → AreItems items
-      → ((over : Ran port plan lawful tries resumes batches start end) → IsOfTraceOver over items)
-      → (before after : Files) → is_recorded before ≡ true → AreBegun items before after
-      → AnswersOver port plan lawful tries resumes batches start end (Err fault) old new no_files no_files
-      → AnswersOver port plan lawful tries resumes batches start end (Err fault) old new before after
+  pub begun_in : (fault : EngineFault) (items : List Item) → AreRunTraceItems items
+      → ((over : RanBatches port plan lawful tries resumes batches start end) → IsOfTraceOver over items)
+      → (before after : RunFiles) → wants_run_files before ≡ true → AreRunFilesStarted items before after
+      → BatchAnswers port plan lawful tries resumes batches start end (Err fault) old new no_run_files no_run_files
+      → BatchAnswers port plan lawful tries resumes batches start end (Err fault) old new before after
   begun_in Memory items read part before after wanted begun h =
-      (h.0, h.1, once_recorded (is_recorded before) _ _ wanted items (read, begun))
+      (h.0, h.1, once_recorded (wants_run_files before) _ _ wanted items (read, begun))
   begun_in (Write written) items read part before after wanted begun (over, inl stop) =
-      (over, inl (stop.0, once_recorded (is_recorded before) _ _ wanted items (part over, begun)))
+      (over, inl (stop.0, once_recorded (wants_run_files before) _ _ wanted items (part over, begun)))
   begun_in (Write written) items read part before after wanted begun (over, inr stop) =
       let never = stop.4.wanted in absurd cc
   begun_in (WriteAccesses written) items read part before after wanted begun h = let never = h.5.wanted in absurd cc
   begun_in TraceCut items read part before after wanted begun h = let never = h.5 in absurd cc
 
   -- without files nothing is written
-  untold : (fault : EngineFault) (held : Files) → is_recorded held ≡ false
-      → AnswersOver port plan lawful tries resumes batches start end (Err fault) old new no_files no_files
-      → AnswersOver port plan lawful tries resumes batches start end (Err fault) old new held held
-  untold Memory held empty h = (h.0, h.1, once_unrecorded (is_recorded held) _ _ empty (left_files held))
+  untold : (fault : EngineFault) (held : RunFiles) → wants_run_files held ≡ false
+      → BatchAnswers port plan lawful tries resumes batches start end (Err fault) old new no_run_files no_run_files
+      → BatchAnswers port plan lawful tries resumes batches start end (Err fault) old new held held
+  untold Memory held empty h = (h.0, h.1, once_unrecorded (wants_run_files held) _ _ empty (run_files_unchanged held))
   untold (Write written) held empty (over, inl stop) =
-      (over, inl (stop.0, once_unrecorded (is_recorded held) _ _ empty (left_files held)))
+      (over, inl (stop.0, once_unrecorded (wants_run_files held) _ _ empty (run_files_unchanged held)))
   untold (Write written) held empty (over, inr stop) = let never = stop.4.wanted in absurd cc
   untold (WriteAccesses written) held empty h = let never = h.5.wanted in absurd cc
   untold TraceCut held empty h = let never = h.5 in absurd cc
 
   -- nor is it if the calls ended
-  pub unwanted : (held : Files) → is_recorded held ≡ false → (answer : Result Finished EngineFault)
-      → AnswersOver port plan lawful tries resumes batches start end answer old new no_files no_files
-      → AnswersOver port plan lawful tries resumes batches start end answer old new held held
+  pub unwanted : (held : RunFiles) → wants_run_files held ≡ false → (answer : Result Finished EngineFault)
+      → BatchAnswers port plan lawful tries resumes batches start end answer old new no_run_files no_run_files
+      → BatchAnswers port plan lawful tries resumes batches start end answer old new held held
   unwanted held empty (Ok finished) h =
-      (h.0, h.1, h.2, h.3, once_unrecorded (is_recorded held) _ _ empty (left_files held))
+      (h.0, h.1, h.2, h.3, once_unrecorded (wants_run_files held) _ _ empty (run_files_unchanged held))
   unwanted held empty (Err fault) h = untold fault held empty h
 
 -- where the wire was recorded from its start
-pub recorded_by : {W A : Type 0} {g : Ghosts W} (tries resumes : ℕ) (batches : List Listed) (s t : Recorder W A g)
-    (start end : W) → wire_under s ≡ start → (port_by s).tally.asked ≡ 0 → wire_under t ≡ end
-    → (answer : Result Finished EngineFault) (old new : Option (List ℕ)) (before after : Files)
-    → AnswersOver port_by plan_by lawful_by tries resumes batches s t answer old new before after
+pub batch_answers_recorded : {W A : Type 0} {g : Ghosts W} (tries resumes : ℕ) (batches : List ScriptListed)
+    (s t : Recorder W A g) (start end : W) → recorder_wire_under s ≡ start → (recorder_port s).tally.asked ≡ 0
+    → recorder_wire_under t ≡ end
+    → (answer : Result Finished EngineFault) (old new : Option (List ℕ)) (before after : RunFiles)
+    → BatchAnswers recorder_port recorder_plan recorder_lawful tries resumes batches s t answer old new before after
     → (counted : ℕ)
-    × AnswersOver (port_seen true g.port) (λ seen. g.plan seen.1) (λ seen. g.lawful seen.1) tries resumes batches
+    × BatchAnswers (run_port_seen true g.port) (λ seen. g.plan seen.1) (λ seen. g.lawful seen.1) tries resumes batches
     (0, start) (counted, end) answer old new before after
-recorded_by {g} tries resumes batches s t start end begins no_request ends answer old new before after h = (
-  (port_by t).tally.asked,
-  answers_by (λ r. ((port_by r).tally.asked, wire_under r)) (port_seen true g.port) (λ seen. g.plan seen.1)
-      (λ seen. g.lawful seen.1) tries resumes batches s t (0, start) ((port_by t).tally.asked, end)
-      (ap₂ (λ n w. (n, w)) no_request begins) (ap (λ w. ((port_by t).tally.asked, w)) ends) answer old new before after h,
+batch_answers_recorded {g} tries resumes batches s t start end begins no_request ends answer old new before after h = (
+  (recorder_port t).tally.asked,
+  answers_by (λ r. ((recorder_port r).tally.asked, recorder_wire_under r)) (run_port_seen true g.port)
+      (λ seen. g.plan seen.1) (λ seen. g.lawful seen.1) tries resumes batches s t (0, start)
+      ((recorder_port t).tally.asked, end) (ap₂ (λ n w. (n, w)) no_request begins)
+      (ap (λ w. ((recorder_port t).tally.asked, w)) ends) answer old new before after h,
 )
 
 -- ---- over a target that was just made
 
 law_refused : {W : Type 0} (port : W → Port) (plan : W → List Mark) (lawful : W → Type 0) (tries resumes : ℕ)
-    (batch : Listed) (s t : W) → IsRefused port plan lawful (most_begun batch) tries resumes batch s t → lawful t
-    → lawful s
+    (batch : ScriptListed) (s t : W) → IsBatchRefused port plan lawful (batch_limit batch) tries resumes batch s t
+    → lawful t → lawful s
 law_refused port plan lawful tries resumes batch s t (unsent same) law = subst lawful same law
 law_refused port plan lawful tries resumes batch s t (unresumed {stops = stops} {told = told} went lost few) law =
-    law_before port plan lawful (most_begun batch) batch.accesses tries s stops told t went law
+    law_before port plan lawful (batch_limit batch) batch.accesses tries s stops told t went law
 
 law_runs : {W : Type 0} (port : W → Port) (plan : W → List Mark) (lawful : W → Type 0) (tries resumes : ℕ)
-    (s t : W) (batches : List Listed) (runs : List Done)
-    → Runs port plan lawful most_begun tries resumes s batches runs t → lawful t → lawful s
+    (s t : W) (batches : List ScriptListed) (runs : List ScriptRun)
+    → RunsBatches port plan lawful batch_limit tries resumes s batches runs t → lawful t → lawful s
 law_runs port plan lawful tries resumes s t batches runs none law = law
 law_runs port plan lawful tries resumes s t batches runs
     (then {batches = before} {runs = earlier} {t = u} {u = v} {batch = batch} {run = run} prior all goes) law =
     law_runs port plan lawful tries resumes s u before earlier prior
-    (law_before port plan lawful (most_begun batch) batch.accesses tries u run.stops run.told v goes.went law)
+    (law_before port plan lawful (batch_limit batch) batch.accesses tries u run.stops run.told v goes.went law)
 
 law_cut : {W : Type 0} (port : W → Port) (plan : W → List Mark) (lawful : W → Type 0) (tries resumes : ℕ)
-    (batch : Listed) (s t : W) → IsCutShort port plan lawful tries resumes batch s t → lawful t → lawful s
+    (batch : ScriptListed) (s t : W) → IsCutShort port plan lawful tries resumes batch s t → lawful t → lawful s
 law_cut port plan lawful tries resumes batch s t over law =
-    law_runs port plan lawful tries resumes s over.between (again batch over.runs) over.runs over.earlier
+    law_runs port plan lawful tries resumes s over.between (batch_again batch over.runs) over.runs over.earlier
     (law_refused port plan lawful tries resumes batch over.between t over.refused law)
 
-made_seen : {W : Type 0} (traced : Bool) (port : W → Port) (m : PlainMemory) (w : W) → port w ≡ made 731911287 m
-    → port_seen traced port (0, w) ≡ made 731911287 m
+made_seen : {W : Type 0} (traced : Bool) (port : W → Port) (m : PlainMemory) (w : W) → port w ≡ port_made 731911287 m
+    → run_port_seen traced port (0, w) ≡ port_made 731911287 m
 made_seen false port m w is_made = is_made
-made_seen true port m w is_made = ap (with_asked 0) is_made
+made_seen true port m w is_made = ap (port_with_asked 0) is_made
 
 memory_seen : {W : Type 0} (traced : Bool) (port : W → Port) (n : ℕ) (w : W)
-    → (port_seen traced port (n, w)).target.memory ≡ (port w).target.memory
+    → (run_port_seen traced port (n, w)).target.memory ≡ (port w).target.memory
 memory_seen false port n w = refl
 memory_seen true port n w = refl
 
 marks_seen : {W : Type 0} (traced : Bool) (port : W → Port) (disturbed lost n : ℕ) (w : W)
     → ((port w).tally.disturbed ≤ disturbed) × ((port w).tally.lost ≤ lost)
-    → ((port_seen traced port (n, w)).tally.disturbed ≤ disturbed) × ((port_seen traced port (n, w)).tally.lost ≤ lost)
+    → ((run_port_seen traced port (n, w)).tally.disturbed ≤ disturbed)
+    × ((run_port_seen traced port (n, w)).tally.lost ≤ lost)
 marks_seen false port disturbed lost n w h = h
 marks_seen true port disturbed lost n w h = h
 
 -- what an answer says with the room that is used up
-full_answers : {Came Short : Type 0} (batches : List Listed) (used : Option ℕ) (runs : Came → List BatchRuns)
+full_answers : {Came Short : Type 0} (batches : List ScriptListed) (used : Option ℕ) (runs : Came → List BatchRuns)
     (before : Short → List BatchRuns) (IsWhole IsPart : Came → List Item → Type 0)
-    (answer : Result Finished EngineFault) (old new : Option (List ℕ)) (held now : Files)
+    (answer : Result Finished EngineFault) (old new : Option (List ℕ)) (held now : RunFiles)
     → Answers {Came = Came} {Short = Short} batches None runs before IsWhole IsPart answer old new held now
-    → Answers {Came = Came} {Short = Short} batches used runs before IsWhole IsPart (with_full used answer) old new held
-    now
+    → Answers {Came = Came} {Short = Short} batches used runs before IsWhole IsPart (with_full_room used answer) old new
+    held now
 full_answers batches used runs before IsWhole IsPart (Ok finished) old new held now h = (
   h.0,
   h.1,
@@ -381,35 +398,38 @@ full_answers batches used runs before IsWhole IsPart (Err TraceCut) old new held
 
 -- over a lawful wire to a target that was just made, where a plan bounds what is disturbed and lost, an answer states
 -- what the theorem of the host says for the script's memory, and whether its log is full
-pub script_answers : {W : Type 0} (port : W → Port) (plan : W → List Mark) (lawful : W → Type 0) (tries resumes : ℕ)
-    (script : Meaning) (marks : List Mark) (s t : W) → port s ≡ made 731911287 (memory_of script) → plan s ≡ marks
-    → ((w : W) → plan w ≡ marks
-    → ((port w).tally.disturbed ≤ disturbed_among marks) × ((port w).tally.lost ≤ lost_among marks)) → lawful t
+pub script_run_answers : {W : Type 0} (port : W → Port) (plan : W → List Mark) (lawful : W → Type 0) (tries resumes : ℕ)
+    (script : ScriptMeaning) (marks : List Mark) (s t : W) → port s ≡ port_made 731911287 (script_memory script)
+    → plan s ≡ marks → ((w : W) → plan w ≡ marks
+    → ((port w).tally.disturbed ≤ port_disturbed_among marks) × ((port w).tally.lost ≤ port_lost_among marks))
+    → lawful t
     → (memory : PlainMemory) → memory ≡ (port t).target.memory → (answer : Result Finished EngineFault)
-    (old new : Option (List ℕ)) (before after : Files)
-    → AnswersAt port plan lawful tries resumes script.batches s t answer old new before after
-    → AnswersScript tries resumes script marks (with_full (full_room script.room memory) answer) old new before after
-script_answers port plan lawful tries resumes script marks s t is_made planned marked law memory left answer old new
+    (old new : Option (List ℕ)) (before after : RunFiles)
+    → BatchAnswersAt port plan lawful tries resumes script.batches s t answer old new before after
+    → ScriptRunAnswers tries resumes script marks (with_full_room (full_room script.room memory) answer) old new before
+    after
+script_run_answers port plan lawful tries resumes script marks s t is_made planned marked law memory left answer old new
     before after h =
-    let traced : Bool = is_recorded before in
-    let seen = port_seen traced port in
-    let begins : seen (0, s) ≡ made 731911287 (memory_of script) = made_seen traced port (memory_of script) s is_made in
-    let rest : IsAtRest (seen (0, s)) = made_rests (memory_of script) (seen (0, s)) begins in
+    let traced : Bool = wants_run_files before in
+    let seen = run_port_seen traced port in
+    let begins : seen (0, s) ≡ port_made 731911287 (script_memory script) =
+    made_seen traced port (script_memory script) s is_made in
+    let rest : IsAtRest (seen (0, s)) = script_target_at_rest (script_memory script) (seen (0, s)) begins in
     let runs_at = λ (runs : List BatchRuns) (end : ℕ × _) (law : lawful end.1)
     (unfolds : Unfolds (take (length runs) script.batches) runs)
-    (are : Runs seen (λ x. plan x.1) (λ x. lawful x.1) most_begun tries resumes (0, s)
+    (are : RunsBatches seen (λ x. plan x.1) (λ x. lawful x.1) batch_limit tries resumes (0, s)
     (calls_of script.batches runs) (runs_of runs) end).
     script_runs seen (λ x. plan x.1) (λ x. lawful x.1) tries resumes script marks runs (0, s) end begins planned
-    (λ x same. marks_seen traced port (disturbed_among marks) (lost_among marks) x.0 x.1 (marked x.1 same)) law unfolds
-    are in
+    (λ x same. marks_seen traced port (port_disturbed_among marks) (port_lost_among marks) x.0 x.1 (marked x.1 same))
+    law unfolds are in
     let left_seen : (seen (h.0, t)).target.memory ≡ memory = memory_seen traced port h.0 t ∙ sym left in (
       memory,
       full_answers script.batches (full_room script.room memory) (λ over. over.made) (λ over. over.made)
           (λ ran items. IsTraceIn memory (calls_of script.batches ran.made) (runs_of ran.made) items)
-          (λ ran items. IsOfTrace (requests_of (runs_of ran.made)) items) answer old new before after
-          (answers_as script.batches None (λ over. over.made) (λ over. over.made) IsTraceOver IsOfTraceOver
+          (λ ran items. IsPartOfRunTrace (script_requests (runs_of ran.made)) items) answer old new before after
+          (script_answers_map script.batches None (λ over. over.made) (λ over. over.made) IsTraceOver IsOfTraceOver
           (λ ran items. IsTraceIn memory (calls_of script.batches ran.made) (runs_of ran.made) items)
-          (λ ran items. IsOfTrace (requests_of (runs_of ran.made)) items)
+          (λ ran items. IsPartOfRunTrace (script_requests (runs_of ran.made)) items)
           (λ over. record {
             made = over.made;
             are = subst (RunsScript tries resumes script marks over.made) left_seen
@@ -426,9 +446,10 @@ script_answers port plan lawful tries resumes script marks s t is_made planned m
           })
           (λ over items is. record {
             is = is.whole law rest;
-            explained = ∥∥₁_map (is.explained law rest 731911287 (memory_of script) begins)
-                (λ told. subst (λ (m : PlainMemory). Explains (told_in items from_made) m.log) left_seen
-                (subst (Explains (told_in items from_made)) (sym told.now.is) told.now.explains));
-            reported = λ whole. is.reported law rest whole 731911287 (memory_of script) begins;
+            explained = ∥∥₁_map (is.explained law rest 731911287 (script_memory script) begins)
+                (λ told. subst (λ (m : PlainMemory). ObservedLog (observed_in_trace items trace_observer_made) m.log)
+                left_seen (subst (ObservedLog (observed_in_trace items trace_observer_made)) (sym told.now.is)
+                told.now.explains));
+            reported = λ whole. is.reported law rest whole 731911287 (script_memory script) begins;
           }) (λ over items is. is.part law rest) answer old new before after h.1),
     )

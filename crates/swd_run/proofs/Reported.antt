@@ -1,54 +1,57 @@
 -- The runs of a script so far, and the report of them that was written.
-use Rattle.std.proofs.Common.{◌≡◌, ℕ, ◌+◌, ◌-◌, ◌<◌, ◌≤◌, ◌^◌, ◌∙◌, List, [], ◌∷◌, ◌++◌, length, take, drop, Option, None}
-use Rattle.std.proofs.Common.{Ok, Err, inl, min, false, refl, sym, ap, subst, arith}
+use Rattle.std.proofs.Common.{◌≡◌, ℕ, ◌+◌, ◌-◌, ◌<◌, ◌≤◌, ◌^◌, ◌∙◌, List, [], ◌∷◌, ◌++◌, length, take, drop, Option}
+use Rattle.std.proofs.Common.{None, Ok, Err, inl, min, false, refl, sym, ap, subst, arith}
 use Rattle.std.proofs.KnownBytes.{Appends-nil, Appends-trans}
 use Rattle.std.proofs.Math.Seq.{take-append-add}
 use Rattle.std.proofs.lemmas.List.{length-append, length-take}
 use Rattle.std.specs.Prelude.{◌||◌}
 use Rattle.std.specs.Io.KnownBytes.{Appends}
-use Rattle.swd_io.specs.Blocks.{Stopped}
+use Rattle.swd_io.specs.Blocks.{OutputStopped}
 use Rattle.swd_port.specs.declared.mark.Mark.{Mark}
 use Rattle.swd_port.specs.Port.{Port}
 use Rattle.swd_host.specs.declared.outcome.End.TheVariants.{All}
-use Rattle.swd_host.specs.Reports.{Told}
-use Rattle.swd_script.specs.Laws.{IsBatch}
-use Rattle.swd_script.specs.Scripts.{Listed}
+use Rattle.swd_host.specs.Reports.{HostReport}
+use Rattle.swd_script.specs.Laws.{IsScriptBatch}
+use Rattle.swd_script.specs.Scripts.{ScriptListed}
 use Rattle.swd_run.specs.declared.engine.Finished.{Finished}
 use Rattle.swd_run.specs.declared.fault.EngineFault.TheVariants.{Memory, Write}
-use Rattle.swd_run.specs.Engine.{AnswersOver, IsFinished, Ran}
-use Rattle.swd_run.specs.Records.{AreLeft, no_files}
-use Rattle.swd_run.specs.Reports.{HasWritten, batch_report, session_text}
-use Rattle.swd_run.specs.Sessions.{Done, Runs, most_begun, none, then}
-use Rattle.swd_run.specs.Unfoldings.{AreOf, BatchRuns, IsCutShort, Performs, Unfolds, again, calls_of, ends_until}
-use Rattle.swd_run.specs.Unfoldings.{never_came, no_batch, runs_of}
-use Rattle.swd_run.specs.Unfoldings.{one_more as batch_more}
-use Rattle.swd_run.specs.Verified.{difference_in, first_difference, has_bus_fault, or_else}
-use Rattle.swd_run.proofs.ReportLemmas.{pairs_front, pairs_last}
-use Rattle.swd_run.proofs.UnfoldingLemmas.{calls_front, calls_last, ended_earlier, made_differs, made_ended}
-use Rattle.swd_run.proofs.UnfoldingLemmas.{made_faults, made_many, runs_append, runs_last, until_front, until_last}
+use Rattle.swd_run.specs.Engine.{BatchAnswers, IsScriptFinished, RanBatches}
+use Rattle.swd_run.specs.Records.{AreRunFilesLeft, no_run_files}
+use Rattle.swd_run.specs.Reports.{HasReportWritten, batch_report, session_text}
+use Rattle.swd_run.specs.Sessions.{ScriptRun, RunsBatches, batch_limit, none, then}
+use Rattle.swd_run.specs.Unfoldings.{AreRunsOfBatch, BatchRuns, IsCutShort, Performs, Unfolds, batch_again, calls_of}
+use Rattle.swd_run.specs.Unfoldings.{ends_until, until_never_came, no_batch, runs_of, one_more as batch_more}
+use Rattle.swd_run.specs.Verified.{verify_difference_in, first_difference, report_has_bus_fault, verify_or_else}
+use Rattle.swd_run.proofs.ReportLemmas.{report_pairs_front, report_pairs_append}
+use Rattle.swd_run.proofs.UnfoldingLemmas.{unfolded_calls_front, unfolded_calls_last, earlier_reads_ended_all}
+use Rattle.swd_run.proofs.UnfoldingLemmas.{unfolded_difference_last, unfolded_runs_ended, unfolded_bus_fault_last}
+use Rattle.swd_run.proofs.UnfoldingLemmas.{unfolded_batch_count, runs_append, unfolded_runs_last, unfolded_until_front}
+use Rattle.swd_run.proofs.UnfoldingLemmas.{unfolded_until_last}
 
 -- how runs came out, and those of one batch more
-pub finished_and : (finished next : Finished) (batch : Listed) (runs : BatchRuns) → IsBatch batch → AreOf batch runs
-    → next.ended ≡ runs.last.told.ended → next.never_came ≡ never_came batch.until runs.last.told
-    → next.differs ≡ or_else finished.differs (difference_in batch.expected runs.last.told.answers)
-    → next.bus_fault ≡ (finished.bus_fault || has_bus_fault runs.last.told.answers) → next.full ≡ finished.full
-    → (batches : List Listed) (made : List BatchRuns) → Unfolds batches made → IsFinished batches made None finished
-    → IsFinished (batches ++ batch ∷ []) (made ++ runs ∷ []) None next
-finished_and finished next batch runs fits are ended came differs bus_fault full batches made unfolds is =
-    let same = made_many batches made unfolds in
+pub script_finished_next_batch : (finished next : Finished) (batch : ScriptListed) (runs : BatchRuns)
+    → IsScriptBatch batch → AreRunsOfBatch batch runs
+    → next.ended ≡ runs.last.told.ended → next.never_came ≡ until_never_came batch.until runs.last.told
+    → next.differs ≡ verify_or_else finished.differs (verify_difference_in batch.expected runs.last.told.answers)
+    → next.bus_fault ≡ (finished.bus_fault || report_has_bus_fault runs.last.told.answers) → next.full ≡ finished.full
+    → (batches : List ScriptListed) (made : List BatchRuns) → Unfolds batches made
+    → IsScriptFinished batches made None finished
+    → IsScriptFinished (batches ++ batch ∷ []) (made ++ runs ∷ []) None next
+script_finished_next_batch finished next batch runs fits are ended came differs bus_fault full batches made unfolds is =
+    let same = unfolded_batch_count batches made unfolds in
     let reads = runs.last.told.answers in
     record {
-      ended = ended ∙ sym (made_ended made runs);
-      never_came = came ∙ sym (until_last batches made batch runs same);
-      differs = differs ∙ ap (λ d. or_else d (difference_in batch.expected reads)) is.differs
-          ∙ sym (made_differs batches made batch runs same fits are);
-      bus_fault = bus_fault ∙ ap (λ b. b || has_bus_fault reads) is.bus_fault
-          ∙ sym (made_faults made batch.until runs are.earlier);
+      ended = ended ∙ sym (unfolded_runs_ended made runs);
+      never_came = came ∙ sym (unfolded_until_last batches made batch runs same);
+      differs = differs ∙ ap (λ d. verify_or_else d (verify_difference_in batch.expected reads)) is.differs
+          ∙ sym (unfolded_difference_last batches made batch runs same fits are);
+      bus_fault = bus_fault ∙ ap (λ b. b || report_has_bus_fault reads) is.bus_fault
+          ∙ sym (unfolded_bus_fault_last made batch.until runs are.earlier);
       full = full ∙ is.full;
     }
 
 -- without files nothing is written to one
-untouched : AreLeft no_files no_files
+untouched : AreRunFilesLeft no_run_files no_run_files
 untouched = record { trace = refl; accesses = refl }
 
 -- a count of bytes, and more of them
@@ -60,8 +63,10 @@ counts : (total before more a b : ℕ) → Sums total before more → before ≡
 counts total before more a b sum x y = omega (arith, sum, x, y)
 
 -- a text that stops in its second part
-abbrev stopped_after : (total before more : ℕ) (old mid new : Option (List ℕ)) (a b text : List ℕ) → Sums total before more
-    → HasWritten old mid a before → Stopped more mid new b → a ++ b ≡ text → Stopped total old new text
+abbrev stopped_after : (total before more : ℕ) (old mid new : Option (List ℕ)) (a b text : List ℕ)
+    → Sums total before more
+    → HasReportWritten old mid a before → OutputStopped more mid new b → a ++ b ≡ text
+    → OutputStopped total old new text
 stopped_after total before more old mid new a b text sum gone stop whole =
     let len = length-append a b in
     let same = ap length whole in
@@ -75,18 +80,18 @@ stopped_after total before more old mid new a b text sum gone stop whole =
     }
 
 module _ {W : Type 0} (port : W → Port) (plan : W → List Mark) (lawful : W → Type 0) (tries resumes : ℕ)
-    (batches : List Listed) (s : W) (old : Option (List ℕ)) where
+    (batches : List ScriptListed) (s : W) (old : Option (List ℕ)) where
   -- The runs of the first i batches, to this state of the wire, with what they come to. The report's writer has their
   -- report, and so many bytes are counted.
   pub record SoFar (i : ℕ) (t : W) (now : Option (List ℕ)) (finished : Finished) (written : ℕ) : Type 0 where
     pub made : List BatchRuns
     pub unfolds : Unfolds (take i batches) made
-    pub are : Runs port plan lawful most_begun tries resumes s (calls_of (take i batches) made) (runs_of made) t
-    pub is : IsFinished (take i batches) made None finished
-    pub gone : HasWritten old now (session_text (take i batches) made) written
+    pub are : RunsBatches port plan lawful batch_limit tries resumes s (calls_of (take i batches) made) (runs_of made) t
+    pub is : IsScriptFinished (take i batches) made None finished
+    pub gone : HasReportWritten old now (session_text (take i batches) made) written
 
   -- before the first batch there is no run, and nothing was written
-  pub none_yet : (finished : Finished) → IsFinished [] [] None finished → SoFar 0 s old finished 0
+  pub none_yet : (finished : Finished) → IsScriptFinished [] [] None finished → SoFar 0 s old finished 0
   none_yet finished is = record {
     made = [];
     unfolds = no_batch;
@@ -98,7 +103,7 @@ module _ {W : Type 0} (port : W → Port) (plan : W → List Mark) (lawful : W �
   module _ (i : ℕ) (t : W) (now : Option (List ℕ)) (finished : Finished) (written : ℕ)
       (so_far : SoFar i t now finished written) where
     as_batches : length so_far.made ≡ length (take i batches)
-    as_batches = made_many (take i batches) so_far.made so_far.unfolds
+    as_batches = unfolded_batch_count (take i batches) so_far.made so_far.unfolds
 
     counted : i ≤ length batches → length so_far.made ≡ i
     counted low =
@@ -107,36 +112,36 @@ module _ {W : Type 0} (port : W → Port) (plan : W → List Mark) (lawful : W �
         omega (arith, few, same, low)
 
     -- what is said of the batches that were run is said of all batches
-    front : {X : Type 0} (f : List Listed → List BatchRuns → X)
-        → ((batches : List Listed) (made : List BatchRuns) → f (take (length made) batches) made ≡ f batches made)
+    front : {X : Type 0} (f : List ScriptListed → List BatchRuns → X)
+        → ((batches : List ScriptListed) (made : List BatchRuns) → f (take (length made) batches) made ≡ f batches made)
         → i ≤ length batches → f (take i batches) so_far.made ≡ f batches so_far.made
     front f same low =
         ap (λ n. f (take n batches) so_far.made) (sym (counted low)) ∙ same batches so_far.made
 
     front_text : i ≤ length batches
         → session_text (take i batches) so_far.made ≡ session_text batches so_far.made
-    front_text low = front session_text (pairs_front batch_report) low
+    front_text low = front session_text (report_pairs_front batch_report) low
 
-    abbrev ran : i ≤ length batches → Ran port plan lawful tries resumes batches s t
+    abbrev ran : i ≤ length batches → RanBatches port plan lawful tries resumes batches s t
     ran low = record {
       made = so_far.made;
       unfolds = subst (λ n. Unfolds (take n batches) so_far.made) (sym (counted low)) so_far.unfolds;
-      are = subst (λ calls. Runs port plan lawful most_begun tries resumes s calls (runs_of so_far.made) t)
-          (front calls_of calls_front low) so_far.are;
+      are = subst (λ calls. RunsBatches port plan lawful batch_limit tries resumes s calls (runs_of so_far.made) t)
+          (front calls_of unfolded_calls_front low) so_far.are;
     }
 
     -- no run is left, or the last one did not end all, or its word never came
     pub all_told : i ≤ length batches → (finished.ended ≡ All → finished.never_came ≡ false → i ≡ length batches)
-        → AnswersOver port plan lawful tries resumes batches s t (Ok finished) old now no_files no_files
+        → BatchAnswers port plan lawful tries resumes batches s t (Ok finished) old now no_run_files no_run_files
     all_told low whole = (
       ran low,
       λ all came. counted low
-          ∙ whole (so_far.is.ended ∙ all) (so_far.is.never_came ∙ front ends_until until_front low ∙ came),
+          ∙ whole (so_far.is.ended ∙ all) (so_far.is.never_came ∙ front ends_until unfolded_until_front low ∙ came),
       record {
         ended = so_far.is.ended;
-        never_came = so_far.is.never_came ∙ front ends_until until_front low;
+        never_came = so_far.is.never_came ∙ front ends_until unfolded_until_front low;
         differs = so_far.is.differs
-            ∙ ap (λ calls. first_difference calls (runs_of so_far.made)) (front calls_of calls_front low);
+            ∙ ap (λ calls. first_difference calls (runs_of so_far.made)) (front calls_of unfolded_calls_front low);
         bus_fault = so_far.is.bus_fault;
         full = so_far.is.full;
       },
@@ -145,16 +150,16 @@ module _ {W : Type 0} (port : W → Port) (plan : W → List Mark) (lawful : W �
     )
 
     -- memory was refused for the next one
-    pub refused_next : finished.ended ≡ All → finished.never_came ≡ false → i ≤ length batches → (batch : Listed)
-        (later : List Listed) → drop i batches ≡ batch ∷ later → (u : W)
+    pub refused_next : finished.ended ≡ All → finished.never_came ≡ false → i ≤ length batches → (batch : ScriptListed)
+        (later : List ScriptListed) → drop i batches ≡ batch ∷ later → (u : W)
         → IsCutShort port plan lawful tries resumes batch t u
-        → AnswersOver port plan lawful tries resumes batches s u (Err Memory) old now no_files no_files
+        → BatchAnswers port plan lawful tries resumes batches s u (Err Memory) old now no_run_files no_run_files
     refused_next all came low batch later next u refused = (
       record {
         between = t;
         before = ran low;
         all = sym so_far.is.ended ∙ all;
-        came = sym (so_far.is.never_came ∙ front ends_until until_front low) ∙ came;
+        came = sym (so_far.is.never_came ∙ front ends_until unfolded_until_front low) ∙ came;
         batch = batch;
         later = later;
         next = ap (λ n. drop n batches) (counted low) ∙ next;
@@ -165,42 +170,44 @@ module _ {W : Type 0} (port : W → Port) (plan : W → List Mark) (lawful : W �
     )
 
     -- the runs of the next batch
-    module _ (all : finished.ended ≡ All) (came : finished.never_came ≡ false) (batch : Listed)
+    module _ (all : finished.ended ≡ All) (came : finished.never_came ≡ false) (batch : ScriptListed)
         (split : take (i + 1) batches ≡ take i batches ++ batch ∷ []) (runs : BatchRuns) (u : W)
-        (performs : Performs port plan lawful tries resumes batch t runs u) (told : Told)
+        (performs : Performs port plan lawful tries resumes batch t runs u) (told : HostReport)
         (last_is : runs.last.told ≡ told) (new : Option (List ℕ)) where
       unfolds_next : Unfolds (take (i + 1) batches) (so_far.made ++ runs ∷ [])
       unfolds_next = subst (λ z. Unfolds z (so_far.made ++ runs ∷ [])) (sym split)
           (batch_more so_far.unfolds (sym so_far.is.never_came ∙ came) performs.are)
 
-      runs_next : Runs port plan lawful most_begun tries resumes s (calls_of (take (i + 1) batches)
+      runs_next : RunsBatches port plan lawful batch_limit tries resumes s (calls_of (take (i + 1) batches)
           (so_far.made ++ runs ∷ [])) (runs_of (so_far.made ++ runs ∷ [])) u
       runs_next =
           let before = calls_of (take i batches) so_far.made in
-          let next : List Listed = again batch runs.earlier ++ batch ∷ [] in
-          let ended : List Done = runs.earlier ++ runs.last ∷ [] in
+          let next : List ScriptListed = batch_again batch runs.earlier ++ batch ∷ [] in
+          let ended : List ScriptRun = runs.earlier ++ runs.last ∷ [] in
           let calls : before ++ next ≡ calls_of (take (i + 1) batches) (so_far.made ++ runs ∷ []) =
-          sym (calls_last (take i batches) so_far.made batch runs as_batches)
+          sym (unfolded_calls_last (take i batches) so_far.made batch runs as_batches)
           ∙ ap (λ z. calls_of z (so_far.made ++ runs ∷ [])) (sym split) in
-          subst (λ z. Runs port plan lawful most_begun tries resumes s z (runs_of (so_far.made ++ runs ∷ [])) u) calls
-          (subst (λ z. Runs port plan lawful most_begun tries resumes s (before ++ next) z u)
-          (sym (runs_last so_far.made runs))
-          (runs_append port plan lawful most_begun tries resumes s t u before next (runs_of so_far.made) ended
+          subst (λ z. RunsBatches port plan lawful batch_limit tries resumes s z (runs_of (so_far.made ++ runs ∷ [])) u)
+          calls (subst (λ z. RunsBatches port plan lawful batch_limit tries resumes s (before ++ next) z u)
+          (sym (unfolded_runs_last so_far.made runs))
+          (runs_append port plan lawful batch_limit tries resumes s t u before next (runs_of so_far.made) ended
           so_far.are (sym so_far.is.ended ∙ all)
-          (then performs.earlier (ended_earlier batch.until runs.earlier performs.are.earlier) performs.last)))
+          (then performs.earlier (earlier_reads_ended_all batch.until runs.earlier performs.are.earlier)
+          performs.last)))
 
       text_next : session_text (take i batches) so_far.made ++ batch_report batch runs
           ≡ session_text (take (i + 1) batches) (so_far.made ++ runs ∷ [])
       text_next =
-          sym (pairs_last batch_report (take i batches) so_far.made batch runs as_batches)
+          sym (report_pairs_append batch_report (take i batches) so_far.made batch runs as_batches)
           ∙ ap (λ z. session_text z (so_far.made ++ runs ∷ [])) (sym split)
 
       -- the runs of the next batch, and their report, which was written whole, come after those so far
-      pub one_more : (written_next total : ℕ) → HasWritten now new (batch_report batch runs) written_next
-          → Sums total written written_next → IsBatch batch → (finished_next : Finished)
-          → ((batches : List Listed) (made : List BatchRuns) (runs : BatchRuns) → Unfolds batches made → IsBatch batch
-          → AreOf batch runs → runs.last.told ≡ told → IsFinished batches made None finished
-          → IsFinished (batches ++ batch ∷ []) (made ++ runs ∷ []) None finished_next)
+      pub one_more : (written_next total : ℕ) → HasReportWritten now new (batch_report batch runs) written_next
+          → Sums total written written_next → IsScriptBatch batch → (finished_next : Finished)
+          → ((batches : List ScriptListed) (made : List BatchRuns) (runs : BatchRuns) → Unfolds batches made
+          → IsScriptBatch batch
+          → AreRunsOfBatch batch runs → runs.last.told ≡ told → IsScriptFinished batches made None finished
+          → IsScriptFinished (batches ++ batch ∷ []) (made ++ runs ∷ []) None finished_next)
           → SoFar (i + 1) u new finished_next total
       one_more written_next total wrote sum fits finished_next and =
           let front = session_text (take i batches) so_far.made in
@@ -210,7 +217,7 @@ module _ {W : Type 0} (port : W → Port) (plan : W → List Mark) (lawful : W �
             made = so_far.made ++ runs ∷ [];
             unfolds = unfolds_next;
             are = runs_next;
-            is = subst (λ z. IsFinished z (so_far.made ++ runs ∷ []) None finished_next) (sym split)
+            is = subst (λ z. IsScriptFinished z (so_far.made ++ runs ∷ []) None finished_next) (sym split)
                 (and (take i batches) so_far.made runs so_far.unfolds fits performs.are last_is so_far.is);
             gone = record {
               gone = subst (Appends old new) text_next
@@ -223,8 +230,9 @@ module _ {W : Type 0} (port : W → Port) (plan : W → List Mark) (lawful : W �
       -- the runs of the next batch, of whose report not all was written, are the last: the engine's answer is
       -- `Write`, with the number of all bytes written
       pub stopped_in : (written_next total : ℕ) → i < length batches
-          → Stopped written_next now new (batch_report batch runs) → Sums total written written_next
-          → AnswersOver port plan lawful tries resumes batches s u (Err (Write total)) old new no_files no_files
+          → OutputStopped written_next now new (batch_report batch runs) → Sums total written written_next
+          → BatchAnswers port plan lawful tries resumes batches s u (Err (Write total)) old new no_run_files
+          no_run_files
       stopped_in written_next total low stop sum =
           let front = session_text (take i batches) so_far.made in
           let made : List BatchRuns = so_far.made ++ runs ∷ [] in
@@ -232,14 +240,16 @@ module _ {W : Type 0} (port : W → Port) (plan : W → List Mark) (lawful : W �
           let longer = length-append so_far.made (runs ∷ []) in
           let many : i + 1 ≡ length made = omega (arith, same, longer) in
           let whole : front ++ batch_report batch runs ≡ session_text batches made =
-          text_next ∙ ap (λ n. session_text (take n batches) made) many ∙ pairs_front batch_report batches made in
+          text_next ∙ ap (λ n. session_text (take n batches) made) many ∙ report_pairs_front batch_report batches made
+          in
           let calls : calls_of (take (i + 1) batches) made ≡ calls_of batches made =
-          ap (λ n. calls_of (take n batches) made) many ∙ calls_front batches made in
+          ap (λ n. calls_of (take n batches) made) many ∙ unfolded_calls_front batches made in
           let before = ap length (front_text (omega (arith, low))) in (
             record {
               made = made;
               unfolds = subst (λ n. Unfolds (take n batches) made) many unfolds_next;
-              are = subst (λ z. Runs port plan lawful most_begun tries resumes s z (runs_of made) u) calls runs_next;
+              are = subst (λ z. RunsBatches port plan lawful batch_limit tries resumes s z (runs_of made) u) calls
+                  runs_next;
             },
             inl (
               record {

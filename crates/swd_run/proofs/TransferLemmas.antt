@@ -1,6 +1,6 @@
 -- The report of a run states the transfers that the memory logged, and so do the accesses that an observer reports.
-use Rattle.std.proofs.Common.{◌≡◌, ℕ, ◌∙◌, Bool, true, false, List, [], ◌∷◌, ◌++◌, length, take}
-use Rattle.std.proofs.Common.{refl, sym, ap, ap₂, subst, arith}
+use Rattle.std.proofs.Common.{◌≡◌, ℕ, ◌∙◌, Bool, true, false, List, [], ◌∷◌, ◌++◌, length, take, refl, sym, ap, ap₂}
+use Rattle.std.proofs.Common.{subst, arith}
 use Rattle.std.proofs.lemmas.List.{append-nil, append_assoc, append_cancel_left, length-append, take_all}
 use Rattle.std.specs.Prelude.{◌≢◌, IfSome, None, Option, Some, if◌then◌else◌, is_some, map, unwrap_or}
 use Rattle.swd_port.specs.declared.access.Access.{Access}
@@ -9,31 +9,32 @@ use Rattle.swd_port.specs.declared.access.Answer.{Answer}
 use Rattle.swd_port.specs.declared.access.Answer.TheVariants.{BusFault}
 use Rattle.swd_port.specs.declared.access.Transfer.{Transfer}
 use Rattle.swd_port.specs.declared.mark.Mark.{Mark}
-use Rattle.swd_port.specs.PlainMemory.{PlainMemory, address, answer_of, done, plain_after, plain_answer, succeeds_at}
+use Rattle.swd_port.specs.PlainMemory.{PlainMemory, plain_address, plain_done_answer, plain_done, plain_after}
+use Rattle.swd_port.specs.PlainMemory.{plain_answer, succeeds_at}
 use Rattle.swd_port.specs.Port.{Port}
-use Rattle.swd_observer.specs.declared.told.Told.{Told as Shown}
+use Rattle.swd_observer.specs.declared.told.ObservedAccess.{ObservedAccess as Shown}
 use Rattle.swd_observer.specs.declared.told.How.{How}
 use Rattle.swd_observer.specs.declared.told.How.TheVariants.{Took, May, Not}
-use Rattle.swd_observer.specs.Explained.{ByHow, Explains, ExplainsSince}
+use Rattle.swd_observer.specs.Explained.{ObservedByHow, ObservedLog, ObservedSince}
 use Rattle.swd_observer.specs.Runs.{Accounted}
 use Rattle.swd_host.specs.declared.outcome.End.TheVariants.{All}
 use Rattle.swd_host.specs.Plain.{answers_of, memory_after}
-use Rattle.swd_host.specs.Reports.{EndsAt, IsAtRest, RunFits, Told}
-use Rattle.swd_host.specs.Sessions.{Session}
-use Rattle.swd_host.specs.Sessions.{none as no_call, then as one_call}
-use Rattle.swd_script.specs.Scripts.{Listed}
-use Rattle.swd_run.specs.Sessions.{Done, Runs, most_begun}
-use Rattle.swd_run.specs.Sessions.{none as no_run, then as one_run}
-use Rattle.swd_run.specs.Transfers.{AreKnown, AreThese, AreWhole, KnownIsExact, SessionIsReported, SureIsExact}
-use Rattle.swd_run.specs.Transfers.{is_took, taken_in, transfer_by, transfer_told, transfers_by, transfers_in}
-use Rattle.swd_run.specs.Transfers.{accesses_in, answers_in}
+use Rattle.swd_host.specs.Reports.{HostEndsAt, IsAtRest, RunFits, HostReport}
+use Rattle.swd_host.specs.Sessions.{HostSession, none as no_call, then as one_call}
+use Rattle.swd_script.specs.Scripts.{ScriptListed}
+use Rattle.swd_run.specs.Sessions.{ScriptRun, RunsBatches, batch_limit, none as no_run, then as one_run}
+use Rattle.swd_run.specs.Transfers.{AreReportAccessesKnown, AreReportTransfers, AreWholeRuns, ReportKnownIsExact}
+use Rattle.swd_run.specs.Transfers.{ReportExplainsSession, ReportSureIsExact, report_is_took, report_taken_in}
+use Rattle.swd_run.specs.Transfers.{report_transfer_by, report_known_transfer, report_transfers_by, report_transfers_in}
+use Rattle.swd_run.specs.Transfers.{report_accesses_in, report_answers_in}
 use Rattle.swd_run.proofs.SessionLemmas.{ends}
-use Rattle.swd_run.proofs.WentLemmas.{alone, answers_many, law_before}
+use Rattle.swd_run.proofs.WentLemmas.{alone, script_calls_answer_count, law_before}
 
 -- ---- a list over the plain memory
 
 logged_by : (a : Access) (m : PlainMemory) (well : Bool)
-    → (if well then done a m else m).log ≡ m.log ++ transfer_by a (if well then answer_of a m else BusFault)
+    → (if well then plain_done a m else m).log ≡ m.log
+    ++ report_transfer_by a (if well then plain_done_answer a m else BusFault)
 logged_by (Read at) m true = refl
 logged_by (Write at word) m true = refl
 logged_by (Read at) m false = sym (append-nil m.log)
@@ -41,16 +42,16 @@ logged_by (Write at word) m false = sym (append-nil m.log)
 
 -- the log after a list has the transfers of its answers
 logged_after : (list : List Access) (m : PlainMemory)
-    → (memory_after list m).log ≡ m.log ++ transfers_by list (answers_of list m)
+    → (memory_after list m).log ≡ m.log ++ report_transfers_by list (answers_of list m)
 logged_after [] m = sym (append-nil m.log)
 logged_after (a ∷ list) m =
-    let rest = transfers_by list (answers_of list (plain_after a m)) in
-    logged_after list (plain_after a m) ∙ ap (λ log. log ++ rest) (logged_by a m (succeeds_at (address a) m))
-    ∙ append_assoc m.log (transfer_by a (plain_answer a m)) rest
+    let rest = report_transfers_by list (answers_of list (plain_after a m)) in
+    logged_after list (plain_after a m) ∙ ap (λ log. log ++ rest) (logged_by a m (succeeds_at (plain_address a) m))
+    ∙ append_assoc m.log (report_transfer_by a (plain_answer a m)) rest
 
 -- ---- a call that ended whole
 
-module _ (limit tries : ℕ) (list : List Access) (told : Told) (s t : Port)
+module _ (limit tries : ℕ) (list : List Access) (told : HostReport) (s t : Port)
     (fits : RunFits limit list tries s.target.memory told s t) (all : told.ended ≡ All) where
   whole_list : take fits.now.0 list ≡ list
   whole_list = ap (λ n. take n list) (fits.now.1.all all) ∙ take_all (length list) list (omega arith)
@@ -62,31 +63,32 @@ module _ (limit tries : ℕ) (list : List Access) (told : Told) (s t : Port)
   whole_memory = let fit = fits.now.1 in grind (arith, unbegun, fit, whole_list)
 
   rests_whole : IsAtRest t
-  rests_whole = (subst (λ end. EndsAt end tries s t) all fits.ends).0
+  rests_whole = (subst (λ end. HostEndsAt end tries s t) all fits.ends).0
 
   answers_whole : told.answers ≡ answers_of list s.target.memory
   answers_whole = fits.now.1.answers ∙ ap (λ l. answers_of l s.target.memory) whole_list
 
   answered_all : length list ≡ length told.answers
-  answered_all = sym (ap length answers_whole ∙ answers_many list s.target.memory)
+  answered_all = sym (ap length answers_whole ∙ script_calls_answer_count list s.target.memory)
 
-  logged_call : t.target.memory.log ≡ s.target.memory.log ++ transfers_by list told.answers
+  logged_call : t.target.memory.log ≡ s.target.memory.log ++ report_transfers_by list told.answers
   logged_call =
       ap (λ (m : PlainMemory). m.log) whole_memory ∙ logged_after list s.target.memory
-      ∙ ap (λ answers. s.target.memory.log ++ transfers_by list answers)
+      ∙ ap (λ answers. s.target.memory.log ++ report_transfers_by list answers)
       (sym answers_whole)
 
 -- ---- successive lists
 
 transfers_more : (list : List Access) (answers : List Answer) (more : List Access) (others : List Answer)
-    → length list ≡ length answers → transfers_by (list ++ more) (answers ++ others)
-    ≡ transfers_by list answers ++ transfers_by more others
+    → length list ≡ length answers → report_transfers_by (list ++ more) (answers ++ others)
+    ≡ report_transfers_by list answers ++ report_transfers_by more others
 transfers_more [] [] more others same = refl
 transfers_more [] (answer ∷ answers) more others same = absurd (omega arith)
 transfers_more (a ∷ list) [] more others same = absurd (omega arith)
 transfers_more (a ∷ list) (answer ∷ answers) more others same =
-    ap (λ l. transfer_by a answer ++ l) (transfers_more list answers more others (omega (arith, same)))
-    ∙ sym (append_assoc (transfer_by a answer) (transfers_by list answers) (transfers_by more others))
+    ap (λ l. report_transfer_by a answer ++ l) (transfers_more list answers more others (omega (arith, same)))
+    ∙ sym (append_assoc (report_transfer_by a answer) (report_transfers_by list answers)
+    (report_transfers_by more others))
 
 -- transfers after others
 joined : (start middle end first second : List Transfer) → middle ≡ start ++ first → end ≡ middle ++ second
@@ -97,10 +99,10 @@ joined start middle end first second a b =
 record SessionLogged (s : Port) (list : List Access) (answers : List Answer) (t : Port) : Type 0 where
   rests : IsAtRest t
   same : length list ≡ length answers
-  log : t.target.memory.log ≡ s.target.memory.log ++ transfers_by list answers
+  log : t.target.memory.log ≡ s.target.memory.log ++ report_transfers_by list answers
 
 session_logged : (s : Port) (list : List Access) (answers : List Answer) (t : Port) → IsAtRest s
-    → Session s list answers t → SessionLogged s list answers t
+    → HostSession s list answers t → SessionLogged s list answers t
 session_logged s list answers t rest no_call =
     record { rests = rest; same = refl; log = sym (append-nil s.target.memory.log) }
 session_logged s list answers t rest
@@ -112,89 +114,91 @@ session_logged s list answers t rest
       rests = rests_whole limit tries more told u v fits all;
       same = (let a = length-append before more in let b = length-append old told.answers in
           let c = h.same in omega (arith, a, b, c, count));
-      log = joined s.target.memory.log u.target.memory.log v.target.memory.log (transfers_by before old)
-          (transfers_by more told.answers) h.log (logged_call limit tries more told u v fits all)
+      log = joined s.target.memory.log u.target.memory.log v.target.memory.log (report_transfers_by before old)
+          (report_transfers_by more told.answers) h.log (logged_call limit tries more told u v fits all)
           ∙ ap (λ l. s.target.memory.log ++ l) (sym (transfers_more before old more told.answers h.same));
     }
 
 -- what explains the log since then explains these transfers
 explained_since : (told : List Shown) (before now more : List Transfer) → now ≡ before ++ more
-    → ExplainsSince before told now → Explains told more
+    → ObservedSince before told now → ObservedLog told more
 explained_since told before now more is since =
-    subst (Explains told) (append_cancel_left before since.more more (sym since.is ∙ is)) since.explains
+    subst (ObservedLog told) (append_cancel_left before since.more more (sym since.is ∙ is)) since.explains
 
 -- so it explains the transfers of the answers
-pub session_reported : SessionIsReported
-session_reported s list answers t told rest session accounted =
-    explained_since told s.target.memory.log t.target.memory.log (transfers_by list answers)
+pub report_session_explained : ReportExplainsSession
+report_session_explained s list answers t told rest session accounted =
+    explained_since told s.target.memory.log t.target.memory.log (report_transfers_by list answers)
     (session_logged s list answers t rest session).log accounted.now
 
 -- ---- successive calls of a script
 
-whole_last : (runs : List Done) (run : Done) → AreWhole (runs ++ run ∷ [])
-    → AreWhole runs × (run.stops ≡ []) × (run.told.ended ≡ All)
+whole_last : (runs : List ScriptRun) (run : ScriptRun) → AreWholeRuns (runs ++ run ∷ [])
+    → AreWholeRuns runs × (run.stops ≡ []) × (run.told.ended ≡ All)
 whole_last [] run h = (tt, h.0, h.1)
 whole_last (first ∷ runs) run h =
     let rest = whole_last runs run h.2 in ((h.0, h.1, rest.0), rest.1, rest.2)
 
-accesses_last : (batches : List Listed) (batch : Listed)
-    → accesses_in (batches ++ batch ∷ []) ≡ accesses_in batches ++ batch.accesses
+accesses_last : (batches : List ScriptListed) (batch : ScriptListed)
+    → report_accesses_in (batches ++ batch ∷ []) ≡ report_accesses_in batches ++ batch.accesses
 accesses_last [] batch = append-nil batch.accesses
 accesses_last (first ∷ batches) batch =
     ap (λ l. first.accesses ++ l) (accesses_last batches batch)
-    ∙ sym (append_assoc first.accesses (accesses_in batches) batch.accesses)
+    ∙ sym (append_assoc first.accesses (report_accesses_in batches) batch.accesses)
 
-answers_last : (runs : List Done) (run : Done) → answers_in (runs ++ run ∷ []) ≡ answers_in runs ++ run.told.answers
+answers_last : (runs : List ScriptRun) (run : ScriptRun)
+    → report_answers_in (runs ++ run ∷ []) ≡ report_answers_in runs ++ run.told.answers
 answers_last [] run = append-nil run.told.answers
 answers_last (first ∷ runs) run =
     ap (λ l. first.told.answers ++ l) (answers_last runs run)
-    ∙ sym (append_assoc first.told.answers (answers_in runs) run.told.answers)
+    ∙ sym (append_assoc first.told.answers (report_answers_in runs) run.told.answers)
 
 module _ {W : Type 0} (port : W → Port) (plan : W → List Mark) (lawful : W → Type 0) (tries resumes : ℕ) (s : W)
     (rest : IsAtRest (port s)) where
   -- calls that each ended `All`, none resumed, are a session of the host
-  session_of : (batches : List Listed) (runs : List Done) (t : W)
-      → Runs port plan lawful most_begun tries resumes s batches runs t → lawful t → AreWhole runs
-      → Session (port s) (accesses_in batches) (answers_in runs) (port t)
+  session_of : (batches : List ScriptListed) (runs : List ScriptRun) (t : W)
+      → RunsBatches port plan lawful batch_limit tries resumes s batches runs t → lawful t → AreWholeRuns runs
+      → HostSession (port s) (report_accesses_in batches) (report_answers_in runs) (port t)
   session_of batches runs t no_run law whole = no_call
   session_of batches runs t (one_run {batches = before} {runs = earlier} {t = u} {u = v} {batch = batch} {run = run}
       prior all goes) law whole =
-      let n : ℕ = most_begun batch in
+      let n : ℕ = batch_limit batch in
       let (early, unstopped, ended) = whole_last earlier run whole in
       let back : lawful u = law_before port plan lawful n batch.accesses tries u run.stops run.told v goes.went law in
       let r : IsAtRest (port u) =
       (ends port plan lawful tries resumes s rest before earlier u prior back).at_rest all in
       let over = (alone port plan lawful n batch.accesses tries u r run.stops run.told v goes.went law unstopped).1 in
-      subst (λ list. Session (port s) list (answers_in (earlier ++ run ∷ [])) (port v))
+      subst (λ list. HostSession (port s) list (report_answers_in (earlier ++ run ∷ [])) (port v))
       (sym (accesses_last before batch))
-      (subst (λ answers. Session (port s) (accesses_in before ++ batch.accesses) answers (port v))
+      (subst (λ answers. HostSession (port s) (report_accesses_in before ++ batch.accesses) answers (port v))
       (sym (answers_last earlier run))
       (one_call (session_of before earlier u prior back early) n tries batch.accesses run.told over ended))
 
   -- what explains the log explains the transfers that their reports state
-  pub reported : (batches : List Listed) (runs : List Done) (t : W) (told : List Shown)
-      → Runs port plan lawful most_begun tries resumes s batches runs t → lawful t → AreWhole runs
-      → Accounted (port s).target.memory.log told (port t) → Explains told (transfers_in batches runs)
+  pub reported : (batches : List ScriptListed) (runs : List ScriptRun) (t : W) (told : List Shown)
+      → RunsBatches port plan lawful batch_limit tries resumes s batches runs t → lawful t → AreWholeRuns runs
+      → Accounted (port s).target.memory.log told (port t) → ObservedLog told (report_transfers_in batches runs)
   reported batches runs t told all law whole accounted =
-      session_reported (port s) (accesses_in batches) (answers_in runs) (port t) told rest
+      report_session_explained (port s) (report_accesses_in batches) (report_answers_in runs) (port t) told rest
       (session_of batches runs t all law whole) accounted
 
 -- ---- where nothing is doubtful
 
 exact_by : (t : Shown) (told : List Shown) (log : List Transfer) (how : How) → t.how ≢ May → t.how ≡ how
-    → ((xs : List Transfer) → Explains told xs → AreThese (taken_in told) xs) → ByHow how t (λ xs. Explains told xs) log
-    → AreThese (if is_took how then t ∷ taken_in told else taken_in told) log
+    → ((xs : List Transfer) → ObservedLog told xs → AreReportTransfers (report_taken_in told) xs)
+    → ObservedByHow how t (λ xs. ObservedLog told xs) log
+    → AreReportTransfers (if report_is_took how then t ∷ report_taken_in told else report_taken_in told) log
 exact_by t told log Took sure is exact (x, xs, same, matches, rest) =
-    subst (AreThese (t ∷ taken_in told)) (sym same) (matches, exact xs rest)
+    subst (AreReportTransfers (t ∷ report_taken_in told)) (sym same) (matches, exact xs rest)
 exact_by t told log May sure is exact h = absurd (sure is)
 exact_by t told log Not sure is exact h = exact log h
 
 -- those that took effect are the transfers
-pub sure_exact : SureIsExact
-sure_exact [] [] sure h = tt
-sure_exact [] (x ∷ log) sure h = absurd cc
-sure_exact (t ∷ told) log sure h =
-    exact_by t told log t.how sure.0 refl (λ xs explains. sure_exact told xs sure.1 explains) h
+pub report_sure_is_exact : ReportSureIsExact
+report_sure_is_exact [] [] sure h = tt
+report_sure_is_exact [] (x ∷ log) sure h = absurd cc
+report_sure_is_exact (t ∷ told) log sure h =
+    exact_by t told log t.how sure.0 refl (λ xs explains. report_sure_is_exact told xs sure.1 explains) h
 
 abbrev transfer : Bool → ℕ → ℕ → Transfer
 transfer read at word = record { read = read; addr = at; word = word }
@@ -206,8 +210,8 @@ told_value : (o : Option ℕ) (n : ℕ) → IfSome o (λ a. n ≡ a) → is_some
 told_value None n h e = absurd cc
 told_value (Some a) n h e = sym h
 
-these_known : (told : List Shown) (log : List Transfer) → AreThese told log → AreKnown told
-    → map transfer_told told ≡ log
+these_known : (told : List Shown) (log : List Transfer) → AreReportTransfers told log → AreReportAccessesKnown told
+    → map report_known_transfer told ≡ log
 these_known [] [] these known = refl
 these_known [] (x ∷ log) these known = absurd these
 these_known (t ∷ told) [] these known = absurd these
@@ -217,5 +221,6 @@ these_known (t ∷ told) (x ∷ log) these known =
     (these_known told log these.1 known.2)
 
 -- and equal where all is known
-pub known_exact : KnownIsExact
-known_exact told log sure known explains = these_known (taken_in told) log (sure_exact told log sure explains) known
+pub report_known_is_exact : ReportKnownIsExact
+report_known_is_exact told log sure known explains =
+    these_known (report_taken_in told) log (report_sure_is_exact told log sure explains) known

@@ -1,8 +1,6 @@
 -- What a run tells that was resumed at lost acknowledgements.
-use Rattle.std.proofs.Common.{◌≡◌, ℕ, zero, suc, ◌+◌, ◌-◌, ◌*◌, ◌<◌, ◌≤◌, ◌∙◌, List, [], ◌∷◌, ◌++◌}
-use Rattle.std.proofs.Common.{length, take, drop}
-use Rattle.std.proofs.Common.{min, false, refl, sym, ap}
-use Rattle.std.proofs.Common.{subst, arith}
+use Rattle.std.proofs.Common.{◌≡◌, ℕ, zero, suc, ◌+◌, ◌-◌, ◌*◌, ◌<◌, ◌≤◌, ◌∙◌, List, [], ◌∷◌, ◌++◌, length, take, drop}
+use Rattle.std.proofs.Common.{min, false, refl, sym, ap, subst, arith}
 use Rattle.std.proofs.lemmas.List.{length-append, length-drop, length-take-le, take-append-le, take_all}
 use Rattle.std.specs.Prelude.{◌↔◌, ◌≢◌, max, if◌then◌else◌}
 use Rattle.swd_port.specs.declared.access.Access.{Access}
@@ -11,27 +9,29 @@ use Rattle.swd_port.specs.declared.mark.Mark.{Mark}
 use Rattle.swd_port.specs.declared.wire.Due.TheVariants.{Lost as DueLost}
 use Rattle.swd_port.specs.PlainMemory.{PlainMemory, plain_after}
 use Rattle.swd_port.specs.Port.{Port}
-use Rattle.swd_port.specs.Choices.{Choice, IsChoice, disturbed_among, lost_among}
-use Rattle.swd_port.specs.Completion.{completed}
-use Rattle.swd_port.proofs.CompletionLaws.{may_become_of_none}
-use Rattle.swd_recorder.specs.Steps.{pending}
+use Rattle.swd_port.specs.Choices.{Choice, IsPortChoice, port_disturbed_among, port_lost_among}
+use Rattle.swd_port.specs.Completion.{port_completed}
+use Rattle.swd_port.proofs.CompletionLaws.{port_may_become_of_none}
+use Rattle.swd_recorder.specs.Steps.{recorded_due_count}
 use Rattle.swd_host.specs.declared.outcome.End.{End}
 use Rattle.swd_host.specs.declared.outcome.End.TheVariants.{All, Lost, TriesOut, WrongId, Confused}
 use Rattle.swd_host.specs.Plain.{memory_after, answers_of}
-use Rattle.swd_host.specs.Reports.{Told, Closes, EndsAt, due_at, Fits, IsAtRest, IsKnown, RunsWithin, most_requests}
-use Rattle.swd_host.specs.Again.{Continues, ResumeFits, added_in}
-use Rattle.swd_host.specs.Resuming.{is_all}
-use Rattle.swd_host.specs.Chains.{Calls, AreReads, ran as first_call, resumed as next_call, begun_first as first_begun}
-use Rattle.swd_host.proofs.Chains.{known_at, chained, chain_repeats}
-use Rattle.swd_host.proofs.ReadChains.{chain_reads}
-use Rattle.swd_script.specs.Scripts.{Listed}
+use Rattle.swd_host.specs.Reports.{HostReport, Closes, HostEndsAt, host_due_at_end, Fits, IsAtRest, HostKnowsTarget}
+use Rattle.swd_host.specs.Reports.{RunsWithin, host_most_requests}
+use Rattle.swd_host.specs.Again.{ResumeCloses, ResumeFits, resume_added}
+use Rattle.swd_host.specs.Resuming.{host_end_is_all}
+use Rattle.swd_host.specs.Chains.{ResumedCalls, AreBlockReads, ran as first_call, resumed as next_call}
+use Rattle.swd_host.specs.Chains.{resume_chain_first_begun as first_begun}
+use Rattle.swd_host.proofs.Chains.{resume_target_known, chained, resume_chain_repeats}
+use Rattle.swd_host.proofs.ReadChains.{resume_chain_reads}
+use Rattle.swd_script.specs.Scripts.{ScriptListed}
 use Rattle.swd_run.specs.declared.going_on.Stop.{Stop}
-use Rattle.swd_run.specs.GoingOn.{Went, ran, resumed, stop_of, stops_of, requests_before, IsCall, AreCalls}
-use Rattle.swd_run.specs.GoingOn.{answered_first, begun_first, ToldInTurn, ToldAgain, ToldReads, TellOf}
-use Rattle.swd_run.specs.Running.{IsExcused, RunsOn}
-use Rattle.swd_run.specs.Sessions.{most_begun}
-use Rattle.swd_run.specs.Sessions.{Done, GoesOn}
-use Rattle.swd_run.proofs.RunLemmas.{ends_at, excused, run_as}
+use Rattle.swd_run.specs.GoingOn.{ScriptCalls, ran, resumed, script_stop_of, script_stops_of, script_requests_before}
+use Rattle.swd_run.specs.GoingOn.{IsScriptCall, AreScriptCalls, script_answered_first, script_begun_first}
+use Rattle.swd_run.specs.GoingOn.{ScriptCallsInTurn, ScriptCallsAgain, ScriptCallsOfReads, ScriptCallsReport}
+use Rattle.swd_run.specs.Running.{IsRunExcused, RunsOn}
+use Rattle.swd_run.specs.Sessions.{batch_limit, ScriptRun, RunsBatch}
+use Rattle.swd_run.proofs.RunLemmas.{script_run_end_due, script_run_end_excused, batch_run_under_plan}
 
 -- ---- lists
 
@@ -39,34 +39,35 @@ one_more : {X : Type 0} (xs : List X) (x : X) → length (xs ++ x ∷ []) ≡ le
 one_more xs x = length-append xs (x ∷ [])
 
 -- a list has as many answers of the plain memory as it has accesses
-pub answers_many : (list : List Access) (m : PlainMemory) → length (answers_of list m) ≡ length list
-answers_many [] m = refl
-answers_many (a ∷ list) m = ap (λ n. suc n) (answers_many list (plain_after a m))
+pub script_calls_answer_count : (list : List Access) (m : PlainMemory) → length (answers_of list m) ≡ length list
+script_calls_answer_count [] m = refl
+script_calls_answer_count (a ∷ list) m = ap (λ n. suc n) (script_calls_answer_count list (plain_after a m))
 
 requests_more : (stops : List Stop) (stop : Stop)
-    → requests_before (stops ++ stop ∷ []) ≡ requests_before stops + stop.requests
+    → script_requests_before (stops ++ stop ∷ []) ≡ script_requests_before stops + stop.requests
 requests_more [] stop = omega arith
 requests_more (first ∷ stops) stop = let h = requests_more stops stop in omega (arith, h)
 
 -- ---- one call
 
-lost_at : (ended : End) (tries : ℕ) (s t : Port) → ended ≡ Lost → EndsAt ended tries s t → s.tally.lost < t.tally.lost
-lost_at ended tries s t is e = (subst (λ x. EndsAt x tries s t) is e).1
+lost_at : (ended : End) (tries : ℕ) (s t : Port) → ended ≡ Lost → HostEndsAt ended tries s t
+    → s.tally.lost < t.tally.lost
+lost_at ended tries s t is e = (subst (λ x. HostEndsAt x tries s t) is e).1
 
-rests_at : (ended : End) (tries : ℕ) (s t : Port) → ended ≡ All → EndsAt ended tries s t → IsAtRest t
-rests_at ended tries s t is e = (subst (λ x. EndsAt x tries s t) is e).0
+rests_at : (ended : End) (tries : ℕ) (s t : Port) → ended ≡ All → HostEndsAt ended tries s t → IsAtRest t
+rests_at ended tries s t is e = (subst (λ x. HostEndsAt x tries s t) is e).0
 
-spends_first : (n a r tries : ℕ) → r ≤ 0 + most_requests tries (min n (a + 1))
-    → r ≤ 0 + most_requests tries (min (n - 0) (a - 0 + 1))
+spends_first : (n a r tries : ℕ) → r ≤ 0 + host_most_requests tries (min n (a + 1))
+    → r ≤ 0 + host_most_requests tries (min (n - 0) (a - 0 + 1))
 spends_first n a r tries h =
     let e : n ≡ n - 0 = omega arith in
     let f : a ≡ a - 0 = omega arith in
-    subst (λ x. r ≤ 0 + most_requests tries (min x (a - 0 + 1))) e
-    (subst (λ y. r ≤ 0 + most_requests tries (min n (y + 1))) f h)
+    subst (λ x. r ≤ 0 + host_most_requests tries (min x (a - 0 + 1))) e
+    (subst (λ y. r ≤ 0 + host_most_requests tries (min n (y + 1))) f h)
 
 -- what a run tells as begun, it began itself
 open_first : (ended : End) (begun answered : ℕ) → (begun ≢ 0 → ended ≢ All)
-    → begun ≡ if is_all ended then 0 else max begun (0 - (answered - 0))
+    → begun ≡ if host_end_is_all ended then 0 else max begun (0 - (answered - 0))
 open_first All zero answered never = refl
 open_first All (suc n) answered never = absurd (never (λ none. absurd (omega (arith, none))) refl)
 open_first Lost begun answered never = omega arith
@@ -75,12 +76,12 @@ open_first (WrongId word) begun answered never = omega arith
 open_first Confused begun answered never = omega arith
 
 -- a run
-call_ran : (limit tries : ℕ) (list : List Access) (m : PlainMemory) (told : Told) (now : PlainMemory) (due : _)
+call_ran : (limit tries : ℕ) (list : List Access) (m : PlainMemory) (told : HostReport) (now : PlainMemory) (due : _)
     → Closes 0 limit list tries told due → Fits limit list m told now
-    → IsCall 0 limit tries (length list) 0 0 (length told.answers) told.begun told.requests told.ended
+    → IsScriptCall 0 limit tries (length list) 0 0 (length told.answers) told.begun told.requests told.ended
 call_ran limit tries list m told now due closes (k, fit) =
     let many : length told.answers ≡ k =
-    ap length fit.answers ∙ answers_many (take k list) m ∙ length-take-le k list fit.reported in
+    ap length fit.answers ∙ script_calls_answer_count (take k list) m ∙ length-take-le k list fit.reported in
     record {
       grows = omega arith;
       number = closes.number;
@@ -95,27 +96,27 @@ call_ran limit tries list m told now due closes (k, fit) =
 abbrev any : Choice
 any = record { address = 0; wraps = false; filler = 0 }
 
-is_any : IsChoice any
+is_any : IsPortChoice any
 is_any = record { address = omega arith; filler = omega arith }
 
 -- going on
-call_resumed : (tries : ℕ) (list : List Access) (earlier told : Told) (due : _) (s t : Port)
-    → Continues list tries earlier told due → ResumeFits list tries earlier told s t
-    → IsCall 5 1 tries (length list) (length earlier.answers) earlier.begun (length told.answers) told.begun
+call_resumed : (tries : ℕ) (list : List Access) (earlier told : HostReport) (due : _) (s t : Port)
+    → ResumeCloses list tries earlier told due → ResumeFits list tries earlier told s t
+    → IsScriptCall 5 1 tries (length list) (length earlier.answers) earlier.begun (length told.answers) told.begun
     told.requests told.ended
 call_resumed tries list earlier told due s t goes fits =
-    let added : List Answer = added_in earlier told in
+    let added : List Answer = resume_added earlier told in
     let many : length told.answers ≡ length earlier.answers + length added =
     ap length goes.kept ∙ length-append earlier.answers added in
     let rest : length (drop (length earlier.answers) list) ≡ length list - length earlier.answers =
     length-drop (length earlier.answers) list in
     let number = goes.number in
     let new : length added ≡ length told.answers - length earlier.answers = omega (arith, many) in
-    let from = fits.goes (completed any t).target.memory (any, is_any, refl) in
+    let from = fits.goes (port_completed any t).target.memory (any, is_any, refl) in
     let fit = from.fits.1 in
     let told_many : length added ≡ from.fits.0 =
-    ap length fit.answers ∙ answers_many (take from.fits.0 (drop (length earlier.answers) list)) from.before
-    ∙ length-take-le from.fits.0 (drop (length earlier.answers) list) fit.reported in
+    ap length fit.answers ∙ script_calls_answer_count (take from.fits.0 (drop (length earlier.answers) list))
+    from.before ∙ length-take-le from.fits.0 (drop (length earlier.answers) list) fit.reported in
     record {
       grows = omega (arith, many);
       number = goes.number;
@@ -124,27 +125,27 @@ call_resumed tries list earlier told due s t goes fits =
       few = fit.few;
       unanswered = fits.begun;
       begins = λ some. let h = (fit.begun some).2 in omega (arith, h, told_many, new);
-      spends = subst (λ x. told.requests ≤ 5 + most_requests tries
+      spends = subst (λ x. told.requests ≤ 5 + host_most_requests tries
           (min x (length told.answers - length earlier.answers + 1))) rest
-          (subst (λ y. told.requests ≤ 5 + most_requests tries
+          (subst (λ y. told.requests ≤ 5 + host_most_requests tries
           (min (length (drop (length earlier.answers) list)) (y + 1))) new goes.closes.spends);
     }
 
-calls_more : (spare limit tries n from left : ℕ) (stops : List Stop) (earlier told : Told) → earlier.ended ≡ Lost
-    → AreCalls spare limit tries n from left stops earlier
-    → IsCall 5 1 tries n (length earlier.answers) earlier.begun (length told.answers) told.begun told.requests
+calls_more : (spare limit tries n from left : ℕ) (stops : List Stop) (earlier told : HostReport) → earlier.ended ≡ Lost
+    → AreScriptCalls spare limit tries n from left stops earlier
+    → IsScriptCall 5 1 tries n (length earlier.answers) earlier.begun (length told.answers) told.begun told.requests
     told.ended
-    → AreCalls spare limit tries n from left (stops ++ stop_of earlier ∷ []) told
+    → AreScriptCalls spare limit tries n from left (stops ++ script_stop_of earlier ∷ []) told
 calls_more spare limit tries n from left [] earlier told lost calls call = (
-  subst (λ x. IsCall spare limit tries n from left (length earlier.answers) earlier.begun earlier.requests x) lost
+  subst (λ x. IsScriptCall spare limit tries n from left (length earlier.answers) earlier.begun earlier.requests x) lost
       calls,
   call,
 )
 calls_more spare limit tries n from left (stop ∷ stops) earlier told lost calls call =
     (calls.0, calls_more 5 1 tries n stop.answered stop.begun stops earlier told lost calls.1 call)
 
-answered_same : (stops : List Stop) (earlier told : Told)
-    → answered_first (stops ++ stop_of earlier ∷ []) told ≡ answered_first stops earlier
+answered_same : (stops : List Stop) (earlier told : HostReport)
+    → script_answered_first (stops ++ script_stop_of earlier ∷ []) told ≡ script_answered_first stops earlier
 answered_same [] earlier told = refl
 answered_same (stop ∷ stops) earlier told = refl
 
@@ -158,64 +159,67 @@ module _ {W : Type 0} (port : W → Port) (plan : W → List Mark) (lawful : W �
     (tries : ℕ) (s : W)
   where
     -- what is due after a run is what its end says
-    pub due_after : (stops : List Stop) (told : Told) (t : W) → Went port plan lawful limit list tries s stops told t
-        → (port t).link.due ≡ due_at told.ended
+    pub due_after : (stops : List Stop) (told : HostReport) (t : W)
+        → ScriptCalls port plan lawful limit list tries s stops told t → (port t).link.due ≡ host_due_at_end told.ended
     due_after stops told t (ran same closes over) = closes.due
     due_after stops told t (resumed went lost same goes over) = goes.closes.due
 
     -- so it was lawful from the start
-    pub law_before : (stops : List Stop) (told : Told) (t : W) → Went port plan lawful limit list tries s stops told t
-        → lawful t → lawful s
+    pub law_before : (stops : List Stop) (told : HostReport) (t : W)
+        → ScriptCalls port plan lawful limit list tries s stops told t → lawful t → lawful s
     law_before stops told t (ran same closes over) law = (over law).0
     law_before stops told t (resumed {stops = before} {earlier = e} {t = u} went lost same goes over) law =
         law_before before e u went (over law).0
 
     -- a run and its resumed calls don't change the plan
-    pub plan_kept : (stops : List Stop) (told : Told) (t : W) → Went port plan lawful limit list tries s stops told t
-        → plan t ≡ plan s
+    pub plan_kept : (stops : List Stop) (told : HostReport) (t : W)
+        → ScriptCalls port plan lawful limit list tries s stops told t → plan t ≡ plan s
     plan_kept stops told t (ran same closes over) = same
     plan_kept stops told t (resumed went lost same goes over) = same
 
 -- the calls, and what each of them told
-record InTurn (limit : ℕ) (list : List Access) (s : Port) (stops : List Stop) (told : Told) (t : Port) : Type 0 where
-  calls : List Told
-  are : stops ≡ stops_of calls
-  went : Calls limit list s calls told t
+record InTurn (limit : ℕ) (list : List Access) (s : Port) (stops : List Stop) (told : HostReport) (t : Port) : Type 0
+  where
+    calls : List HostReport
+    are : stops ≡ script_stops_of calls
+    went : ResumedCalls limit list s calls told t
 
-stops_more : (calls : List Told) (told : Told) → stops_of (calls ++ told ∷ []) ≡ stops_of calls ++ stop_of told ∷ []
+stops_more : (calls : List HostReport) (told : HostReport)
+    → script_stops_of (calls ++ told ∷ []) ≡ script_stops_of calls ++ script_stop_of told ∷ []
 stops_more [] told = refl
-stops_more (call ∷ calls) told = ap (λ l. stop_of call ∷ l) (stops_more calls told)
+stops_more (call ∷ calls) told = ap (λ l. script_stop_of call ∷ l) (stops_more calls told)
 
-stops_many : (calls : List Told) → length (stops_of calls) ≡ length calls
+stops_many : (calls : List HostReport) → length (script_stops_of calls) ≡ length calls
 stops_many [] = refl
 stops_many (call ∷ calls) = ap suc (stops_many calls)
 
-begun_there : (calls : List Told) (told : Told) → begun_first (stops_of calls) told ≡ first_begun calls told
+begun_there : (calls : List HostReport) (told : HostReport)
+    → script_begun_first (script_stops_of calls) told ≡ first_begun calls told
 begun_there [] told = refl
 begun_there (call ∷ calls) told = refl
 
 -- the memory that the last call leaves: where it ended whole, the one that is there
-in_turn_at : (limit : ℕ) (list : List Access) (s : Port) (stops : List Stop) (told : Told) (t : Port) (ended : End)
-    → told.ended ≡ ended → IsAtRest s → (told.ended ≡ All → IsAtRest t) → InTurn limit list s stops told t
-    → ToldInTurn limit stops list s.target.memory told t.target.memory
+in_turn_at : (limit : ℕ) (list : List Access) (s : Port) (stops : List Stop) (told : HostReport) (t : Port)
+    (ended : End) → told.ended ≡ ended → IsAtRest s → (told.ended ≡ All → IsAtRest t) → InTurn limit list s stops told t
+    → ScriptCallsInTurn limit stops list s.target.memory told t.target.memory
 in_turn_at limit list s stops told t ended is rest at_rest h = by ended is
   where
-    early : (told.ended ≡ All → ⊥) → ToldInTurn limit stops list s.target.memory told t.target.memory
+    early : (told.ended ≡ All → ⊥) → ScriptCallsInTurn limit stops list s.target.memory told t.target.memory
     early never = record {
       calls = h.calls;
       are = h.are;
-      memory = (completed any t).target.memory;
-      chain = chained limit list s rest h.calls told t h.went (completed any t).target.memory (any, is_any, refl);
+      memory = (port_completed any t).target.memory;
+      chain = chained limit list s rest h.calls told t h.went (port_completed any t).target.memory (any, is_any, refl);
       left = λ all. absurd (never all);
     }
 
-    by : (x : End) → told.ended ≡ x → ToldInTurn limit stops list s.target.memory told t.target.memory
+    by : (x : End) → told.ended ≡ x → ScriptCallsInTurn limit stops list s.target.memory told t.target.memory
     by All all = record {
       calls = h.calls;
       are = h.are;
       memory = t.target.memory;
       chain = chained limit list s rest h.calls told t h.went t.target.memory
-          (may_become_of_none.same t (at_rest all).settled);
+          (port_may_become_of_none.same t (at_rest all).settled);
       left = λ all. refl;
     }
     by Lost x = early (λ all. absurd cc)
@@ -223,16 +227,16 @@ in_turn_at limit list s stops told t ended is rest at_rest h = by ended is
     by (WrongId word) x = early (λ all. absurd cc)
     by Confused x = early (λ all. absurd cc)
 
-again_in_turn : (limit : ℕ) (list : List Access) (m : PlainMemory) (stops : List Stop) (told : Told)
+again_in_turn : (limit : ℕ) (list : List Access) (m : PlainMemory) (stops : List Stop) (told : HostReport)
     (after : PlainMemory)
-    → ToldInTurn limit stops list m told after → begun_first stops told ≤ 1
-    → length (memory_after list m).log + length stops ≤ m.room → ToldAgain stops list m told after
+    → ScriptCallsInTurn limit stops list m told after → script_begun_first stops told ≤ 1
+    → length (memory_after list m).log + length stops ≤ m.room → ScriptCallsAgain stops list m told after
 again_in_turn limit list m stops told after h few room =
     let many : length stops ≡ length h.calls = ap length h.are ∙ stops_many h.calls in
-    let begun : begun_first stops told ≡ first_begun h.calls told =
-    ap (λ l. begun_first l told) h.are ∙ begun_there h.calls told in
-    let r = chain_repeats limit list m h.calls told h.memory (omega (arith, few, begun)) (omega (arith, room, many))
-    h.chain in
+    let begun : script_begun_first stops told ≡ first_begun h.calls told =
+    ap (λ l. script_begun_first l told) h.are ∙ begun_there h.calls told in
+    let r = resume_chain_repeats limit list m h.calls told h.memory (omega (arith, few, begun))
+    (omega (arith, room, many)) h.chain in
     let r_few = r.few in
     record {
       places = r.places;
@@ -243,12 +247,13 @@ again_in_turn limit list m stops told after h few room =
       words = λ all. ap (λ x. x.words) (sym (h.left all)) ∙ r.words all;
     }
 
-reads_in_turn : (limit : ℕ) (list : List Access) (m : PlainMemory) (stops : List Stop) (told : Told)
+reads_in_turn : (limit : ℕ) (list : List Access) (m : PlainMemory) (stops : List Stop) (told : HostReport)
     (after : PlainMemory)
-    → ToldInTurn limit stops list m told after → 1 ≤ limit → AreReads list → ToldReads limit stops list m told after
+    → ScriptCallsInTurn limit stops list m told after → 1 ≤ limit → AreBlockReads list
+    → ScriptCallsOfReads limit stops list m told after
 reads_in_turn limit list m stops told after h some reads =
     let many : length stops ≡ length h.calls = ap length h.are ∙ stops_many h.calls in
-    let r = chain_reads limit list m h.calls told h.memory some reads h.chain in
+    let r = resume_chain_reads limit list m h.calls told h.memory some reads h.chain in
     record {
       answers = λ room. r.answers (omega (arith, room, many));
       words = λ all. ap (λ x. x.words) (sym (h.left all)) ∙ r.words;
@@ -257,37 +262,37 @@ reads_in_turn limit list m stops told after h some reads =
 module _ {W : Type 0} (port : W → Port) (plan : W → List Mark) (lawful : W → Type 0) (limit : ℕ) (list : List Access)
     (tries : ℕ) (s : W)
     (rest : IsAtRest (port s)) where
-  known : (stops : List Stop) (told : Told) (t : W) → Went port plan lawful limit list tries s stops told t → lawful t
-      → IsKnown (port t).target
+  known : (stops : List Stop) (told : HostReport) (t : W) → ScriptCalls port plan lawful limit list tries s stops told t
+      → lawful t → HostKnowsTarget (port t).target
   known stops told t (ran {told = a} {t = u} same closes over) law =
-      known_at a.ended tries (port s) (port u) ((over law).1 rest).ends
+      resume_target_known a.ended tries (port s) (port u) ((over law).1 rest).ends
   known stops told t (resumed {stops = before} {earlier = e} {told = a} {t = u} {u = v} went lost same goes over) law =
-      known_at a.ended tries (port u) (port v) ((over law).1 (known before e u went (over law).0)).ends
+      resume_target_known a.ended tries (port u) (port v) ((over law).1 (known before e u went (over law).0)).ends
 
   -- over a lawful wire, from a target at rest, the count of requests grows by the requests of all calls
-  pub asked : (stops : List Stop) (told : Told) (t : W) → Went port plan lawful limit list tries s stops told t
-      → lawful t
-      → (port t).tally.asked ≡ (port s).tally.asked + (requests_before stops + told.requests)
+  pub asked : (stops : List Stop) (told : HostReport) (t : W)
+      → ScriptCalls port plan lawful limit list tries s stops told t → lawful t
+      → (port t).tally.asked ≡ (port s).tally.asked + (script_requests_before stops + told.requests)
   asked stops told t (ran {told = a} {t = u} same closes over) law = let h = ((over law).1 rest).counted in omega
       (arith, h)
   asked stops told t (resumed {stops = before} {earlier = e} {told = a} {t = u} {u = v} went lost same goes over) law =
       let h = asked before e u went (over law).0 in
       let c = ((over law).1 (known before e u went (over law).0)).counted in
-      let r = requests_more before (stop_of e) in
+      let r = requests_more before (script_stop_of e) in
       omega (arith, h, c, r)
 
   -- over a lawful wire, from a target at rest, no transaction is incomplete after all calls, and a line reset is due
   -- exactly if the last one ended `Lost`
-  pub ending : (stops : List Stop) (told : Told) (t : W) → Went port plan lawful limit list tries s stops told t
-      → lawful t
-      → (pending (port t).link.due ≡ 0) × (((port t).link.due ≡ DueLost) ↔ (told.ended ≡ Lost))
-  ending stops told t (ran {told = a} {t = u} same closes over) law = ends_at a.ended tries (port s) (port u)
+  pub ending : (stops : List Stop) (told : HostReport) (t : W)
+      → ScriptCalls port plan lawful limit list tries s stops told t → lawful t
+      → (recorded_due_count (port t).link.due ≡ 0) × (((port t).link.due ≡ DueLost) ↔ (told.ended ≡ Lost))
+  ending stops told t (ran {told = a} {t = u} same closes over) law = script_run_end_due a.ended tries (port s) (port u)
       ((over law).1 rest).ends
   ending stops told t (resumed {stops = before} {earlier = e} {told = a} {t = u} {u = v} went lost same goes over) law =
-      ends_at a.ended tries (port u) (port v) ((over law).1 (known before e u went (over law).0)).ends
+      script_run_end_due a.ended tries (port u) (port v) ((over law).1 (known before e u went (over law).0)).ends
 
-  lost_more : (stops : List Stop) (told : Told) (t : W) → Went port plan lawful limit list tries s stops told t
-      → lawful t → told.ended ≡ Lost
+  lost_more : (stops : List Stop) (told : HostReport) (t : W)
+      → ScriptCalls port plan lawful limit list tries s stops told t → lawful t → told.ended ≡ Lost
       → (port s).tally.lost + length stops < (port t).tally.lost
   lost_more stops told t (ran {told = a} {t = u} same closes over) law is =
       let h = lost_at a.ended tries (port s) (port u) is ((over law).1 rest).ends in omega (arith, h)
@@ -295,30 +300,31 @@ module _ {W : Type 0} (port : W → Port) (plan : W → List Mark) (lawful : W �
       law is =
       let h = lost_more before e u went (over law).0 lost in
       let g = lost_at a.ended tries (port u) (port v) is ((over law).1 (known before e u went (over law).0)).ends in
-      let l = one_more before (stop_of e) in
+      let l = one_more before (script_stop_of e) in
       omega (arith, h, g, l)
 
-  calls : (stops : List Stop) (told : Told) (t : W) → Went port plan lawful limit list tries s stops told t → lawful t
-      → AreCalls 0 limit tries (length list) 0 0 stops told
+  calls : (stops : List Stop) (told : HostReport) (t : W) → ScriptCalls port plan lawful limit list tries s stops told t
+      → lawful t → AreScriptCalls 0 limit tries (length list) 0 0 stops told
   calls stops told t (ran {told = a} {t = u} same closes over) law =
       call_ran limit tries list (port s).target.memory a (port u).target.memory _ closes ((over law).1 rest).now
   calls stops told t (resumed {stops = before} {earlier = e} {told = a} {t = u} {u = v} went lost same goes over) law =
       calls_more 0 limit tries (length list) 0 0 before e a lost (calls before e u went (over law).0)
       (call_resumed tries list e a _ (port u) (port v) goes ((over law).1 (known before e u went (over law).0)))
 
-  first_within : (stops : List Stop) (told : Told) (t : W) → Went port plan lawful limit list tries s stops told t
-      → answered_first stops told ≤ length told.answers
+  first_within : (stops : List Stop) (told : HostReport) (t : W)
+      → ScriptCalls port plan lawful limit list tries s stops told t
+      → script_answered_first stops told ≤ length told.answers
   first_within stops told t (ran same closes over) = omega arith
   first_within stops told t
       (resumed {stops = before} {earlier = e} {told = a} {t = u} {u = v} went lost same goes over) =
       let h = first_within before e u went in
       let f = answered_same before e a in
-      let l = ap length goes.kept ∙ length-append e.answers (added_in e a) in
+      let l = ap length goes.kept ∙ length-append e.answers (resume_added e a) in
       omega (arith, h, f, l)
 
-  first_answers : (stops : List Stop) (told : Told) (t : W) → Went port plan lawful limit list tries s stops told t
-      → lawful t
-      → take (answered_first stops told) told.answers ≡ answers_of (take (answered_first stops told) list)
+  first_answers : (stops : List Stop) (told : HostReport) (t : W)
+      → ScriptCalls port plan lawful limit list tries s stops told t → lawful t
+      → take (script_answered_first stops told) told.answers ≡ answers_of (take (script_answered_first stops told) list)
       (port s).target.memory
   first_answers stops told t (ran {told = a} {t = u} same closes over) law = whole ((over law).1 rest).now
     where
@@ -328,7 +334,7 @@ module _ {W : Type 0} (port : W → Port) (plan : W → List Mark) (lawful : W �
       whole : Fits limit list m a (port u).target.memory
           → take (length a.answers) a.answers ≡ answers_of (take (length a.answers) list) m
       whole (k, fit) =
-          let many : length a.answers ≡ k = ap length fit.answers ∙ answers_many (take k list) m
+          let many : length a.answers ≡ k = ap length fit.answers ∙ script_calls_answer_count (take k list) m
           ∙ length-take-le k list fit.reported in
           take_all (length a.answers) a.answers (omega arith) ∙ fit.answers
           ∙ ap (λ n. answers_of (take n list) m) (sym many)
@@ -336,25 +342,27 @@ module _ {W : Type 0} (port : W → Port) (plan : W → List Mark) (lawful : W �
       (resumed {stops = before} {earlier = e} {told = a} {t = u} {u = v} went lost same goes over) law =
       let m : PlainMemory = (port s).target.memory in
       let f = answered_same before e a in
-      ap (λ n. take n a.answers) f ∙ ap (λ l. take (answered_first before e) l) goes.kept
-      ∙ take-append-le (answered_first before e) e.answers (added_in e a) (first_within before e u went)
+      ap (λ n. take n a.answers) f ∙ ap (λ l. take (script_answered_first before e) l) goes.kept
+      ∙ take-append-le (script_answered_first before e) e.answers (resume_added e a) (first_within before e u went)
       ∙ first_answers before e u went (over law).0 ∙ ap (λ n. answers_of (take n list) m) (sym f)
 
-  in_turn : (stops : List Stop) (told : Told) (t : W) → Went port plan lawful limit list tries s stops told t → lawful t
+  in_turn : (stops : List Stop) (told : HostReport) (t : W)
+      → ScriptCalls port plan lawful limit list tries s stops told t → lawful t
       → InTurn limit list (port s) stops told (port t)
   in_turn stops told t (ran {told = a} {t = u} same closes over) law =
       record { calls = []; are = refl; went = first_call tries (over law).1 }
-  in_turn stops told t (resumed {stops = before} {earlier = e} {told = a} {t = u} {u = v} went lost same goes over) law =
+  in_turn stops told t (resumed {stops = before} {earlier = e} {told = a} {t = u} {u = v} went lost same goes over) law
+      =
       let h = in_turn before e u went (over law).0 in
       record {
         calls = h.calls ++ e ∷ [];
-        are = ap (λ l. l ++ stop_of e ∷ []) h.are ∙ sym (stops_more h.calls e);
+        are = ap (λ l. l ++ script_stop_of e ∷ []) h.are ∙ sym (stops_more h.calls e);
         went = next_call h.went tries goes.kept (over law).1;
       }
 
   -- a run that ended all leaves a target at rest
-  pub rests : (stops : List Stop) (told : Told) (t : W) → Went port plan lawful limit list tries s stops told t
-      → lawful t
+  pub rests : (stops : List Stop) (told : HostReport) (t : W)
+      → ScriptCalls port plan lawful limit list tries s stops told t → lawful t
       → told.ended ≡ All → IsAtRest (port t)
   rests stops told t (ran {told = a} {t = u} same closes over) law all =
       rests_at a.ended tries (port s) (port u) all ((over law).1 rest).ends
@@ -362,16 +370,17 @@ module _ {W : Type 0} (port : W → Port) (plan : W → List Mark) (lawful : W �
       all =
       rests_at a.ended tries (port u) (port v) all ((over law).1 (known before e u went (over law).0)).ends
 
-  told_in_turn : (stops : List Stop) (told : Told) (t : W) → Went port plan lawful limit list tries s stops told t
-      → lawful t → ToldInTurn limit stops list (port s).target.memory told (port t).target.memory
+  told_in_turn : (stops : List Stop) (told : HostReport) (t : W)
+      → ScriptCalls port plan lawful limit list tries s stops told t
+      → lawful t → ScriptCallsInTurn limit stops list (port s).target.memory told (port t).target.memory
   told_in_turn stops told t went law =
       in_turn_at limit list (port s) stops told (port t) told.ended refl rest (rests stops told t went law)
       (in_turn stops told t went law)
 
-  -- over a lawful wire, from a target at rest, the reports of the calls state what `TellOf` says of the plain memory
-  pub tell_of : (stops : List Stop) (told : Told) (t : W) → Went port plan lawful limit list tries s stops told t
-      → lawful t
-      → TellOf limit tries list (port s).target.memory stops told (port t).target.memory
+  -- over a lawful wire, from a target at rest, the reports of the calls state what `ScriptCallsReport` says of the plain memory
+  pub tell_of : (stops : List Stop) (told : HostReport) (t : W)
+      → ScriptCalls port plan lawful limit list tries s stops told t → lawful t
+      → ScriptCallsReport limit tries list (port s).target.memory stops told (port t).target.memory
   tell_of stops told t went law = record {
     calls = calls stops told t went law;
     first = first_answers stops told t went law;
@@ -383,73 +392,75 @@ module _ {W : Type 0} (port : W → Port) (plan : W → List Mark) (lawful : W �
   }
 
   -- it was never resumed
-  pub alone : (stops : List Stop) (told : Told) (t : W) → Went port plan lawful limit list tries s stops told t
-      → lawful t → stops ≡ []
+  pub alone : (stops : List Stop) (told : HostReport) (t : W)
+      → ScriptCalls port plan lawful limit list tries s stops told t → lawful t → stops ≡ []
       → Closes 0 limit list tries told (port t).link.due × RunsWithin limit list tries told (port s) (port t)
   alone stops told t (ran same closes over) law none = (closes, (over law).1)
   alone stops told t (resumed {stops = before} {earlier = e} went lost same goes over) law none =
-      let l = one_more before (stop_of e) in let z = ap length none in absurd (omega (arith, l, z))
+      let l = one_more before (script_stop_of e) in let z = ap length none in absurd (omega (arith, l, z))
 
   -- under a plan of so many marks that disturb and lose
   module _ (marks : List Mark)
-      (bounded : (w : W) → plan w ≡ plan s → ((port w).tally.disturbed ≤ disturbed_among marks)
-      × ((port w).tally.lost ≤ lost_among marks)) where
-    pub excused_by : (stops : List Stop) (told : Told) (t : W) → Went port plan lawful limit list tries s stops told t
-        → lawful t
-        → IsExcused told.ended tries marks
+      (bounded : (w : W) → plan w ≡ plan s → ((port w).tally.disturbed ≤ port_disturbed_among marks)
+      × ((port w).tally.lost ≤ port_lost_among marks)) where
+    pub excused_by : (stops : List Stop) (told : HostReport) (t : W)
+        → ScriptCalls port plan lawful limit list tries s stops told t → lawful t
+        → IsRunExcused told.ended tries marks
     excused_by stops told t (ran {told = a} {t = u} same closes over) law =
-        excused a.ended tries marks (port s) (port u) (bounded u same).0 (bounded u same).1 ((over law).1 rest).ends
+        script_run_end_excused a.ended tries marks (port s) (port u) (bounded u same).0 (bounded u same).1
+        ((over law).1 rest).ends
     excused_by stops told t (resumed {stops = before} {earlier = e} {told = a} {t = u} {u = v} went lost same goes over)
         law =
-        excused a.ended tries marks (port u) (port v) (bounded v same).0 (bounded v same).1
+        script_run_end_excused a.ended tries marks (port u) (port v) (bounded v same).0 (bounded v same).1
         ((over law).1 (known before e u went (over law).0)).ends
 
-    pub stops_lost : (stops : List Stop) (told : Told) (t : W) → Went port plan lawful limit list tries s stops told t
-        → lawful t
-        → length stops ≤ lost_among marks
+    pub stops_lost : (stops : List Stop) (told : HostReport) (t : W)
+        → ScriptCalls port plan lawful limit list tries s stops told t → lawful t
+        → length stops ≤ port_lost_among marks
     stops_lost stops told t (ran same closes over) law = omega arith
     stops_lost stops told t (resumed {stops = before} {earlier = e} {told = a} {t = u} {u = v} went lost same goes over)
         law =
         let h = lost_more before e u went (over law).0 lost in
         let b = (bounded u (plan_kept port plan lawful limit list tries s before e u went)).1 in
-        let l = one_more before (stop_of e) in
+        let l = one_more before (script_stop_of e) in
         omega (arith, h, b, l)
 
-    pub last_lost : (stops : List Stop) (told : Told) (t : W) → Went port plan lawful limit list tries s stops told t
-        → lawful t
-        → told.ended ≡ Lost → length stops < lost_among marks
+    pub last_lost : (stops : List Stop) (told : HostReport) (t : W)
+        → ScriptCalls port plan lawful limit list tries s stops told t → lawful t
+        → told.ended ≡ Lost → length stops < port_lost_among marks
     last_lost stops told t went law is =
         let h = lost_more stops told t went law is in
         let b = (bounded t (plan_kept port plan lawful limit list tries s stops told t went)).1 in
         omega (arith, h, b)
 
-    pub sends_most : (stops : List Stop) (told : Told) (t : W) → Went port plan lawful limit list tries s stops told t
-        → lawful t
-        → requests_before stops + told.requests ≤ 9 + 6 * length list + 5 * disturbed_among marks
-        + length stops * (14 + 6 * length list + 5 * disturbed_among marks)
+    pub sends_most : (stops : List Stop) (told : HostReport) (t : W)
+        → ScriptCalls port plan lawful limit list tries s stops told t → lawful t
+        → script_requests_before stops + told.requests ≤ 9 + 6 * length list + 5 * port_disturbed_among marks
+        + length stops * (14 + 6 * length list + 5 * port_disturbed_among marks)
     sends_most stops told t (ran {told = a} {t = u} same closes over) law =
         let h = ((over law).1 rest).most in let b = (bounded u same).0 in omega (arith, h, b)
     sends_most stops told t (resumed {stops = before} {earlier = e} {told = a} {t = u} {u = v} went lost same goes over)
         law =
-        let x : ℕ = 14 + 6 * length list + 5 * disturbed_among marks in
-        let base : ℕ = 9 + 6 * length list + 5 * disturbed_among marks in
+        let x : ℕ = 14 + 6 * length list + 5 * port_disturbed_among marks in
+        let base : ℕ = 9 + 6 * length list + 5 * port_disturbed_among marks in
         let h = sends_most before e u went (over law).0 in
         let g = ((over law).1 (known before e u went (over law).0)).most in
         let b = (bounded v same).0 in
         let few : a.requests ≤ x = omega (arith, g, b) in
-        let r = requests_more before (stop_of e) in
-        let sum : requests_before (before ++ stop_of e ∷ []) + a.requests ≤ base + (length before + 1) * x =
+        let r = requests_more before (script_stop_of e) in
+        let sum : script_requests_before (before ++ script_stop_of e ∷ []) + a.requests ≤ base
+        + (length before + 1) * x =
         subst (λ n. n + a.requests ≤ base + (length before + 1) * x) (sym r)
-        (most_more base (requests_before before + e.requests) a.requests (length before) x h few) in
-        subst (λ n. requests_before (before ++ stop_of e ∷ []) + a.requests ≤ base + n * x)
-        (sym (one_more before (stop_of e))) sum
+        (most_more base (script_requests_before before + e.requests) a.requests (length before) x h few) in
+        subst (λ n. script_requests_before (before ++ script_stop_of e ∷ []) + a.requests ≤ base + n * x)
+        (sym (one_more before (script_stop_of e))) sum
 
 -- ---- a run of a script
 
 -- it ends all, where the plan loses no more than it may be resumed, and disturbs no more than the tries allow
-whole_by : (ended : End) (tries resumes : ℕ) (marks : List Mark) → IsExcused ended tries marks
-    → (ended ≡ Lost → resumes < lost_among marks) → lost_among marks ≤ resumes → disturbed_among marks ≤ tries
-    → ended ≡ All
+whole_by : (ended : End) (tries resumes : ℕ) (marks : List Mark) → IsRunExcused ended tries marks
+    → (ended ≡ Lost → resumes < port_lost_among marks) → port_lost_among marks ≤ resumes
+    → port_disturbed_among marks ≤ tries → ended ≡ All
 whole_by All tries resumes marks e last lost few = refl
 whole_by Lost tries resumes marks e last lost few = let h = last refl in absurd (omega (arith, h, lost))
 whole_by TriesOut tries resumes marks e last lost few = absurd (omega (arith, e, few))
@@ -458,35 +469,36 @@ whole_by Confused tries resumes marks e last lost few = absurd e
 
 -- a run over a target at rest, under a plan of these marks
 module _ {W : Type 0} (port : W → Port) (plan : W → List Mark) (lawful : W → Type 0) (tries resumes : ℕ)
-    (batch : Listed)
-    (marks : List Mark) (run : Done) (s t : W) (rest : IsAtRest (port s)) (law : lawful t)
-    (goes : GoesOn port plan lawful (most_begun batch) tries resumes batch s run t) where
+    (batch : ScriptListed) (marks : List Mark) (run : ScriptRun) (s t : W) (rest : IsAtRest (port s)) (law : lawful t)
+    (goes : RunsBatch port plan lawful (batch_limit batch) tries resumes batch s run t) where
   -- over a lawful wire, from a target at rest and under a plan, a run that may be resumed states what `RunsOn` says
   -- of the plain memory
   pub runs_on : plan s ≡ marks
-      → ((w : W) → plan w ≡ marks → ((port w).tally.disturbed ≤ disturbed_among marks)
-      × ((port w).tally.lost ≤ lost_among marks))
+      → ((w : W) → plan w ≡ marks → ((port w).tally.disturbed ≤ port_disturbed_among marks)
+      × ((port w).tally.lost ≤ port_lost_among marks))
       → RunsOn tries resumes batch (port s).target.memory marks run.stops run.told (port t).target.memory
   runs_on planned marked =
       let stops : List Stop = run.stops in
-      let told : Told = run.told in
-      let n : ℕ = most_begun batch in
+      let told : HostReport = run.told in
+      let n : ℕ = batch_limit batch in
       let list : List Access = batch.accesses in
-      let went : Went port plan lawful (most_begun batch) batch.accesses tries s run.stops run.told t = goes.went in
-      let bounded : (w : W) → plan w ≡ plan s → ((port w).tally.disturbed ≤ disturbed_among marks)
-      × ((port w).tally.lost ≤ lost_among marks) =
+      let went : ScriptCalls port plan lawful (batch_limit batch) batch.accesses tries s run.stops run.told t =
+      goes.went in
+      let bounded : (w : W) → plan w ≡ plan s → ((port w).tally.disturbed ≤ port_disturbed_among marks)
+      × ((port w).tally.lost ≤ port_lost_among marks) =
       λ w same. marked w (same ∙ planned) in
       let planned_at : plan t ≡ marks = plan_kept port plan lawful n list tries s stops told t went ∙ planned in
       let at_end = marked t planned_at in
       let at_start = marked s planned in
-      let excused : IsExcused told.ended tries marks = excused_by port plan lawful n list tries s rest marks bounded
+      let excused : IsRunExcused told.ended tries marks = excused_by port plan lawful n list tries s rest marks bounded
       stops told t went law in
-      let lost : told.ended ≡ Lost → resumes < lost_among marks =
+      let lost : told.ended ≡ Lost → resumes < port_lost_among marks =
       λ is. (let h = last_lost port plan lawful n list tries s rest marks bounded stops told t went law is in let e =
       goes.lost is in omega (arith, h, e)) in
       record {
         alone = λ none. (let (closes, over) = alone port plan lawful n list tries s rest stops told t went law none in
-            run_as tries batch marks told (port s) (port t) _ rest at_start.1 at_end.0 at_end.1 closes over);
+            batch_run_under_plan tries batch marks told (port s) (port t) _ rest at_start.1 at_end.0 at_end.1 closes
+            over);
         tells = tell_of port plan lawful n list tries s rest stops told t went law;
         few = goes.few;
         lost = stops_lost port plan lawful n list tries s rest marks bounded stops told t went law;

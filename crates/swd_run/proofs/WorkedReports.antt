@@ -6,7 +6,7 @@ use Rattle.swd_bits.specs.Listing.{hex2, hex8}
 use Rattle.swd_port.specs.declared.access.Access.TheVariants.{Read, Write}
 use Rattle.swd_port.specs.declared.access.Answer.TheVariants.{Value, Written, BusFault}
 use Rattle.swd_host.specs.declared.outcome.End.TheVariants.{All, WrongId}
-use Rattle.swd_run.specs.Reports.{lines_from, report_text}
+use Rattle.swd_run.specs.Reports.{report_lines_from, report_text}
 
 -- a line and its line feed
 fed : List ℕ → List ℕ
@@ -28,7 +28,7 @@ report = refl
 again : List ℕ
 again = codes "resume " ++ (decimal 1 ++ codes " begun " ++ decimal 1)
 
-resumed : lines_from None 0 (record { answered = 1; begun = 1; requests = 14 } ∷
+resumed : report_lines_from None 0 (record { answered = 1; begun = 1; requests = 14 } ∷
     record { answered = 1; begun = 1; requests = 1 } ∷ [])
     (Write 536870912 3735928559 ∷ Read 536870912 ∷ Read 805306368 ∷ []) (Written ∷ Value 3735928559 ∷ BusFault ∷ []) ≡
     fed (codes "w 20000000 written")

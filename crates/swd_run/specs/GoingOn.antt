@@ -7,49 +7,49 @@ use Rattle.swd_port.specs.Port.{Port}
 use Rattle.swd_host.specs.declared.outcome.End.{End}
 use Rattle.swd_host.specs.declared.outcome.End.TheVariants.{All, Lost}
 use Rattle.swd_host.specs.Plain.{memory_after, answers_of}
-use Rattle.swd_host.specs.Reports.{Told, Closes, RunsWithin, most_requests}
-use Rattle.swd_host.specs.Again.{Again, Continues, ResumesOver}
-use Rattle.swd_host.specs.Resuming.{is_all}
-use Rattle.swd_host.specs.Chains.{Chain, AreReads}
+use Rattle.swd_host.specs.Reports.{HostReport, Closes, RunsWithin, host_most_requests}
+use Rattle.swd_host.specs.Again.{Again, ResumeCloses, ResumesOver}
+use Rattle.swd_host.specs.Resuming.{host_end_is_all}
+use Rattle.swd_host.specs.Chains.{ResumeChain, AreBlockReads}
 use Rattle.swd_run.specs.declared.going_on.Stop.{Stop}
 
 -- the place where a call with this report ended
-abbrev pub stop_of : Told → Stop
-stop_of told = record { answered = length told.answers; begun = told.begun; requests = told.requests }
+abbrev pub script_stop_of : HostReport → Stop
+script_stop_of told = record { answered = length told.answers; begun = told.begun; requests = told.requests }
 
-abbrev pub stops_of : List Told → List Stop
-stops_of [] = []
-stops_of (told ∷ calls) = stop_of told ∷ stops_of calls
+abbrev pub script_stops_of : List HostReport → List Stop
+script_stops_of [] = []
+script_stops_of (told ∷ calls) = script_stop_of told ∷ script_stops_of calls
 
 -- the number of requests of the calls before the last one
-abbrev pub requests_before : List Stop → ℕ
-requests_before [] = 0
-requests_before (stop ∷ stops) = stop.requests + requests_before stops
+abbrev pub script_requests_before : List Stop → ℕ
+script_requests_before [] = 0
+script_requests_before (stop ∷ stops) = stop.requests + script_requests_before stops
 
 -- the last call's report, with the requests of all calls
-abbrev pub in_all : List Stop → Told → Told
-in_all stops told = record told { requests = requests_before stops + told.requests }
+abbrev pub script_calls_in_all : List Stop → HostReport → HostReport
+script_calls_in_all stops told = record told { requests = script_requests_before stops + told.requests }
 
 -- THE CALLS
 -- A run over a wire from s to t, and the calls of `resume` after it, each after a lost acknowledgement. Its arguments
--- are the places where it was resumed, and the report of the last call. Whatever came back, `Closes` or `Continues`
+-- are the places where it was resumed, and the report of the last call. Whatever came back, `Closes` or `ResumeCloses`
 -- holds of each call. Where the wire is lawful, the theorem of `run` or `resume` holds too.
-pub data Went {W : Type 0} (port : W → Port) (plan : W → List Mark) (lawful : W → Type 0) (limit : ℕ)
+pub data ScriptCalls {W : Type 0} (port : W → Port) (plan : W → List Mark) (lawful : W → Type 0) (limit : ℕ)
     (list : List Access)
-    (tries : ℕ) (s : W) : List Stop → Told → W → Type 0 where
-  ran : {told : Told} {t : W} → plan t ≡ plan s → Closes 0 limit list tries told (port t).link.due
+    (tries : ℕ) (s : W) : List Stop → HostReport → W → Type 0 where
+  ran : {told : HostReport} {t : W} → plan t ≡ plan s → Closes 0 limit list tries told (port t).link.due
       → (lawful t → lawful s × RunsWithin limit list tries told (port s) (port t))
-      → Went port plan lawful limit list tries s [] told t
-  resumed : {stops : List Stop} {earlier told : Told} {t u : W}
-      → Went port plan lawful limit list tries s stops earlier t
-      → earlier.ended ≡ Lost → plan u ≡ plan s → Continues list tries earlier told (port u).link.due
+      → ScriptCalls port plan lawful limit list tries s [] told t
+  resumed : {stops : List Stop} {earlier told : HostReport} {t u : W}
+      → ScriptCalls port plan lawful limit list tries s stops earlier t
+      → earlier.ended ≡ Lost → plan u ≡ plan s → ResumeCloses list tries earlier told (port u).link.due
       → (lawful u → lawful t × ResumesOver list tries earlier told (port t) (port u))
-      → Went port plan lawful limit list tries s (stops ++ stop_of earlier ∷ []) told u
+      → ScriptCalls port plan lawful limit list tries s (stops ++ script_stop_of earlier ∷ []) told u
 
 -- WHAT THEY REPORT
 -- One call of a run over n accesses. The calls before it gave `from` answers, and left `left` accesses begun. After it
 -- there are `answered` answers in all, and `begun` accesses begun. It sent `requests` requests.
-pub record IsCall (spare limit tries n from left answered begun requests : ℕ) (ended : End) : Type 0 where
+pub record IsScriptCall (spare limit tries n from left answered begun requests : ℕ) (ended : End) : Type 0 where
   pub grows : from ≤ answered
   pub number : answered ≤ n
   pub whole : ended ≡ All → answered ≡ n
@@ -57,44 +57,44 @@ pub record IsCall (spare limit tries n from left answered begun requests : ℕ) 
   pub own : ℕ
   pub few : own ≤ limit
   -- accesses that earlier calls began stay begun until they are answered
-  pub unanswered : begun ≡ if is_all ended then 0 else max own (left - (answered - from))
+  pub unanswered : begun ≡ if host_end_is_all ended then 0 else max own (left - (answered - from))
   -- if it began unanswered accesses: at least ten requests, and one for each access that it answered or began
   pub begins : own ≢ 0 → 10 + (answered - from) + own ≤ requests
   -- at most what the tries allow for the opening, for the accesses that it answered, and for one more
-  pub spends : requests ≤ spare + most_requests tries (min (n - from) (answered - from + 1))
+  pub spends : requests ≤ spare + host_most_requests tries (min (n - from) (answered - from + 1))
 
 -- The successive calls. A call that resumes may take five more requests than a run. It begins at most one access that
 -- it doesn't answer.
-abbrev pub AreCalls : (spare limit tries n from left : ℕ) → List Stop → Told → Type 0
-AreCalls spare limit tries n from left [] told =
-    IsCall spare limit tries n from left (length told.answers) told.begun told.requests told.ended
-AreCalls spare limit tries n from left (stop ∷ stops) told =
-    IsCall spare limit tries n from left stop.answered stop.begun stop.requests Lost
-    × AreCalls 5 1 tries n stop.answered stop.begun stops told
+abbrev pub AreScriptCalls : (spare limit tries n from left : ℕ) → List Stop → HostReport → Type 0
+AreScriptCalls spare limit tries n from left [] told =
+    IsScriptCall spare limit tries n from left (length told.answers) told.begun told.requests told.ended
+AreScriptCalls spare limit tries n from left (stop ∷ stops) told =
+    IsScriptCall spare limit tries n from left stop.answered stop.begun stop.requests Lost
+    × AreScriptCalls 5 1 tries n stop.answered stop.begun stops told
 
 -- the first call's number of answers, and of accesses begun after these
-abbrev pub answered_first : List Stop → Told → ℕ
-answered_first [] told = length told.answers
-answered_first (stop ∷ stops) told = stop.answered
+abbrev pub script_answered_first : List Stop → HostReport → ℕ
+script_answered_first [] told = length told.answers
+script_answered_first (stop ∷ stops) told = stop.answered
 
-abbrev pub begun_first : List Stop → Told → ℕ
-begun_first [] told = told.begun
-begun_first (stop ∷ stops) told = stop.begun
+abbrev pub script_begun_first : List Stop → HostReport → ℕ
+script_begun_first [] told = told.begun
+script_begun_first (stop ∷ stops) told = stop.begun
 
 -- The reports of the calls, where each call is a run over the rest of the list from the memory that the one before
 -- left. The last call left `memory`, which is `after` if the list is whole.
-pub record ToldInTurn (limit : ℕ) (stops : List Stop) (list : List Access) (m : PlainMemory) (told : Told)
+pub record ScriptCallsInTurn (limit : ℕ) (stops : List Stop) (list : List Access) (m : PlainMemory) (told : HostReport)
     (after : PlainMemory) : Type 0 where
-  pub calls : List Told
-  pub are : stops ≡ stops_of calls
+  pub calls : List HostReport
+  pub are : stops ≡ script_stops_of calls
   pub memory : PlainMemory
-  pub chain : Chain limit list m calls told memory
+  pub chain : ResumeChain limit list m calls told memory
   pub left : told.ended ≡ All → memory ≡ after
 
 -- The report is that of `Again`: the accesses at some places were repeated, at most one for each time that the run was
 -- resumed. A whole list leaves the memory `after`, which has the same words as without repetitions.
-pub record ToldAgain (stops : List Stop) (list : List Access) (m : PlainMemory) (told : Told) (after : PlainMemory)
-    : Type 0 where
+pub record ScriptCallsAgain (stops : List Stop) (list : List Access) (m : PlainMemory) (told : HostReport)
+    (after : PlainMemory) : Type 0 where
   pub places : List ℕ
   pub few : length places ≤ length stops
   pub memory : PlainMemory
@@ -104,7 +104,7 @@ pub record ToldAgain (stops : List Stop) (list : List Access) (m : PlainMemory) 
 
 -- A list of reads, such as a block. The answers are the plain memory's, if the log has room for the reads that may have
 -- been repeated. A whole list changes no word.
-pub record ToldReads (limit : ℕ) (stops : List Stop) (list : List Access) (m : PlainMemory) (told : Told)
+pub record ScriptCallsOfReads (limit : ℕ) (stops : List Stop) (list : List Access) (m : PlainMemory) (told : HostReport)
     (after : PlainMemory) : Type 0 where
   pub answers : length (memory_after list m).log + limit + (length stops - 1) ≤ m.room
       → told.answers ≡ answers_of (take (length told.answers) list) m
@@ -113,11 +113,12 @@ pub record ToldReads (limit : ℕ) (stops : List Stop) (list : List Access) (m :
 -- What the reports of the calls state about the plain memory. The first call's answers are the plain memory's. So are
 -- all answers of a list of reads, if the log has room for the repeated reads. And so are those of any list of which the
 -- first call left at most one access begun, if the log has room for the repeated accesses.
-pub record TellOf (limit tries : ℕ) (list : List Access) (m : PlainMemory) (stops : List Stop) (told : Told)
-    (after : PlainMemory) : Type 0 where
-  pub calls : AreCalls 0 limit tries (length list) 0 0 stops told
-  pub first : take (answered_first stops told) told.answers ≡ answers_of (take (answered_first stops told) list) m
-  pub turns : ToldInTurn limit stops list m told after
-  pub again : begun_first stops told ≤ 1 → length (memory_after list m).log + length stops ≤ m.room
-      → ToldAgain stops list m told after
-  pub reads : 1 ≤ limit → AreReads list → ToldReads limit stops list m told after
+pub record ScriptCallsReport (limit tries : ℕ) (list : List Access) (m : PlainMemory) (stops : List Stop)
+    (told : HostReport) (after : PlainMemory) : Type 0 where
+  pub calls : AreScriptCalls 0 limit tries (length list) 0 0 stops told
+  pub first : take (script_answered_first stops told) told.answers
+      ≡ answers_of (take (script_answered_first stops told) list) m
+  pub turns : ScriptCallsInTurn limit stops list m told after
+  pub again : script_begun_first stops told ≤ 1 → length (memory_after list m).log + length stops ≤ m.room
+      → ScriptCallsAgain stops list m told after
+  pub reads : 1 ≤ limit → AreBlockReads list → ScriptCallsOfReads limit stops list m told after

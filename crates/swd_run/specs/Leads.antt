@@ -2,15 +2,15 @@
 use Rattle.std.proofs.Common.{◌≡◌, ◌∙◌, List, [], ◌++◌, refl, sym, ap, subst, append_assoc}
 use Rattle.std.proofs.lemmas.List.{append-nil}
 
-pub still : {X : Type 0} (xs : List X) → xs ≡ xs
-still xs = refl
+pub run_sink_unchanged : {X : Type 0} (xs : List X) → xs ≡ xs
+run_sink_unchanged xs = refl
 
-pub no_more : {X : Type 0} (xs ys : List X) → ys ≡ xs → ys ≡ xs ++ []
-no_more xs ys e = e ∙ sym (append-nil xs)
+pub run_sink_no_more : {X : Type 0} (xs ys : List X) → ys ≡ xs → ys ≡ xs ++ []
+run_sink_no_more xs ys e = e ∙ sym (append-nil xs)
 
-pub more_and_more : {X : Type 0} (xs ys zs first next : List X) → ys ≡ xs ++ first → zs ≡ ys ++ next
+pub run_sink_grows_twice : {X : Type 0} (xs ys zs first next : List X) → ys ≡ xs ++ first → zs ≡ ys ++ next
     → zs ≡ xs ++ (first ++ next)
-more_and_more xs ys zs first next e f = f ∙ ap (λ l. l ++ next) e ∙ append_assoc xs first next
+run_sink_grows_twice xs ys zs first next e f = f ∙ ap (λ l. l ++ next) e ∙ append_assoc xs first next
 
 module _ {X S : Type 0} (P : List X → S → Type 0) where
   -- what holds of a list and a state holds of a longer one and a later state

@@ -1,23 +1,24 @@
 -- A report that is written while its run goes on.
 use Rattle.std.specs.Prelude.{ℕ, ◌≡◌, ◌≤◌, List, [], ◌∷◌, ◌++◌, length, Option, None}
-use Rattle.swd_io.specs.Blocks.{Sends}
+use Rattle.swd_io.specs.Blocks.{BlockBufferSends}
 use Rattle.swd_port.specs.declared.access.Answer.{Answer}
 use Rattle.swd_run.specs.declared.going_on.Stop.{Stop}
 use Rattle.swd_run.specs.declared.reporting.Reporting.{Reporting}
-use Rattle.swd_run.specs.Reports.{lines_from}
+use Rattle.swd_run.specs.Reports.{report_lines_from}
 
 -- at each of these places at most so many answers had come
-abbrev pub AreWithin : ℕ → List Stop → Type 0
-AreWithin answered [] = Unit {0}
-AreWithin answered (stop ∷ stops) = (stop.answered ≤ answered) × AreWithin answered stops
+abbrev pub AreResumesWithin : ℕ → List Stop → Type 0
+AreResumesWithin answered [] = Unit {0}
+AreResumesWithin answered (stop ∷ stops) = (stop.answered ≤ answered) × AreResumesWithin answered stops
 
 module _ {W K : Type 0} (contents : W → Option (List ℕ)) (taken : K → List Answer) where
   -- A writer that began with `start` was handed the lines of the answers so far, with a line for each of these places
   -- where the run was resumed. Of these bytes it lacks those that are buffered, or it failed.
   pub record Has (start : Option (List ℕ)) (stops : List Stop) (state : Reporting W K) : Type 0 where
     pub few : length (taken state.answers.now) ≤ length state.accesses.now
-    pub within : AreWithin (length (taken state.answers.now)) stops
-    pub sends : Sends contents start state.block.now (lines_from None 0 stops state.accesses.now (taken state.answers.now))
+    pub within : AreResumesWithin (length (taken state.answers.now)) stops
+    pub sends : BlockBufferSends contents start state.block.now
+        (report_lines_from None 0 stops state.accesses.now (taken state.answers.now))
 
   -- Later, after these further places, it has the lines of the answers and places until then, for the same block,
   -- writer and sink.

@@ -1,23 +1,22 @@
 -- What the result for a script and a plan states: the theorem of the host, for files.
 use Rattle.std.specs.Prelude.{◌≡◌, ℕ, ◌+◌, ◌*◌, ◌<◌, ◌≤◌, List, [], ◌∷◌, ◌++◌, length, take, Option, Result, Ok, Err}
-use Rattle.std.specs.Prelude.{IfSome}
-use Rattle.std.specs.Prelude.{◌==◌, IsOk, None, Some, false, if◌then◌else◌, min}
-use Rattle.swd_io.specs.Pieces.{IsText}
+use Rattle.std.specs.Prelude.{IfSome, ◌==◌, IsOk, None, Some, false, if◌then◌else◌, min}
+use Rattle.swd_io.specs.Pieces.{IsReaderText}
 use Rattle.swd_io.specs.declared.pieces.Unread.{Unread}
 use Rattle.swd_io.specs.declared.pieces.Unread.TheVariants.{Reader, Consumer}
 use Rattle.swd_trace.specs.declared.item.Item.{Item}
-use Rattle.swd_observer.specs.Explained.{Explains}
-use Rattle.swd_observer.specs.Traces.{from_made, told_in}
+use Rattle.swd_observer.specs.Explained.{ObservedLog}
+use Rattle.swd_observer.specs.Traces.{trace_observer_made, observed_in_trace}
 use Rattle.swd_port.specs.declared.mark.Mark.{Mark}
-use Rattle.swd_port.specs.Choices.{disturbed_among, lost_among}
+use Rattle.swd_port.specs.Choices.{port_disturbed_among, port_lost_among}
 use Rattle.swd_port.specs.PlainMemory.{PlainMemory}
-use Rattle.swd_target.specs.MemoryWords.{zero_memory}
+use Rattle.swd_target.specs.MemoryWords.{target_zero_memory}
 use Rattle.swd_host.specs.declared.outcome.End.{End}
 use Rattle.swd_host.specs.declared.outcome.End.TheVariants.{All, Lost, TriesOut, WrongId, Confused}
-use Rattle.swd_host.specs.Reports.{Told, Fits, most_requests}
-use Rattle.swd_script.specs.Scripts.{Listed, Meaning, script_of}
+use Rattle.swd_host.specs.Reports.{HostReport, Fits, host_most_requests}
+use Rattle.swd_script.specs.Scripts.{ScriptListed, ScriptMeaning, script_of}
 use Rattle.swd_script.specs.Plans.{plan_of}
-use Rattle.swd_script.specs.Readers.{IsScriptFault, IsPlanFault}
+use Rattle.swd_script.specs.Readers.{IsScriptFault, IsPlanFileFault}
 use Rattle.swd_script.specs.declared.fault.ScriptFault.{ScriptFault}
 use Rattle.swd_run.specs.declared.going_on.Stop.{Stop}
 use Rattle.swd_run.specs.declared.engine.Finished.{Finished}
@@ -26,159 +25,163 @@ use Rattle.swd_run.specs.declared.fault.RunFault.{RunFault}
 use Rattle.swd_run.specs.declared.fault.RunFault.TheVariants.{Texts, Engine}
 use Rattle.swd_run.specs.declared.fault.TextsFault.{TextsFault}
 use Rattle.swd_run.specs.declared.fault.TextsFault.TheVariants.{Script, Plan, Read}
-use Rattle.swd_run.specs.Engine.{Answers, IsOfTrace, IsTraceOf}
-use Rattle.swd_run.specs.GoingOn.{TellOf, in_all}
-use Rattle.swd_run.specs.Records.{AreLeft, Files, IsLeft}
-use Rattle.swd_run.specs.Sessions.{Done, ended_of, most_begun, requests_of}
-use Rattle.swd_run.specs.Transfers.{AreWhole, transfers_in}
+use Rattle.swd_run.specs.Engine.{Answers, IsPartOfRunTrace, IsRunTraceOf}
+use Rattle.swd_run.specs.GoingOn.{ScriptCallsReport, script_calls_in_all}
+use Rattle.swd_run.specs.Records.{AreRunFilesLeft, RunFiles, IsRunFileLeft}
+use Rattle.swd_run.specs.Sessions.{ScriptRun, script_ended, batch_limit, script_requests}
+use Rattle.swd_run.specs.Transfers.{AreWholeRuns, report_transfers_in}
 use Rattle.swd_run.specs.Unfoldings.{BatchRuns, Unfolds, calls_of, ends_until, runs_of}
 
 -- the memory of a script before its run
-abbrev pub memory_of : Meaning → PlainMemory
-memory_of script = zero_memory script.base script.words script.room
+abbrev pub script_memory : ScriptMeaning → PlainMemory
+script_memory script = target_zero_memory script.base script.words script.room
 
 -- a run stops early only if a mark of the plan loses a request, or more marks disturb requests than the tries allow
-abbrev pub IsExcused : End → ℕ → List Mark → Type 0
-IsExcused All tries marks = Unit {0}
-IsExcused Lost tries marks = 0 < lost_among marks
-IsExcused TriesOut tries marks = tries < disturbed_among marks
-IsExcused (WrongId word) tries marks = ⊥
-IsExcused Confused tries marks = ⊥
+abbrev pub IsRunExcused : End → ℕ → List Mark → Type 0
+IsRunExcused All tries marks = Unit {0}
+IsRunExcused Lost tries marks = 0 < port_lost_among marks
+IsRunExcused TriesOut tries marks = tries < port_disturbed_among marks
+IsRunExcused (WrongId word) tries marks = ⊥
+IsRunExcused Confused tries marks = ⊥
 
 -- The result of a run over a memory with the marks of a plan. The report fits the memories before and after it.
-pub record RunsAs (tries : ℕ) (batch : Listed) (before : PlainMemory) (marks : List Mark) (told : Told)
+pub record RunsAs (tries : ℕ) (batch : ScriptListed) (before : PlainMemory) (marks : List Mark) (told : HostReport)
     (after : PlainMemory)
     : Type 0 where
-  pub fits : Fits (most_begun batch) batch.accesses before told after
-  pub excused : IsExcused told.ended tries marks
-  pub whole : lost_among marks ≡ 0 → disturbed_among marks ≤ tries → told.ended ≡ All
+  pub fits : Fits (batch_limit batch) batch.accesses before told after
+  pub excused : IsRunExcused told.ended tries marks
+  pub whole : port_lost_among marks ≡ 0 → port_disturbed_among marks ≤ tries → told.ended ≡ All
   pub least : told.ended ≡ All → 9 + length batch.accesses ≤ told.requests
-  pub most : told.requests ≤ 9 + 6 * length batch.accesses + 5 * disturbed_among marks
+  pub most : told.requests ≤ 9 + 6 * length batch.accesses + 5 * port_disturbed_among marks
   -- at most what the tries allow for the opening, for the answered accesses, and for one more
-  pub spends : told.requests ≤ most_requests tries (min (length batch.accesses) (length told.answers + 1))
+  pub spends : told.requests ≤ host_most_requests tries (min (length batch.accesses) (length told.answers + 1))
 
--- The result of a run that may be resumed `resumes` times. If it wasn't resumed, `RunsAs` holds of it. `TellOf` holds
+-- The result of a run that may be resumed `resumes` times. If it wasn't resumed, `RunsAs` holds of it. `ScriptCallsReport` holds
 -- of its calls in any case. It was resumed at most as often as marks of the plan lose a request. It ends at a lost
 -- acknowledgement only if more than `resumes` marks lose a request.
-pub record RunsOn (tries resumes : ℕ) (batch : Listed) (before : PlainMemory) (marks : List Mark) (stops : List Stop)
-    (told : Told) (after : PlainMemory) : Type 0 where
+pub record RunsOn (tries resumes : ℕ) (batch : ScriptListed) (before : PlainMemory) (marks : List Mark)
+    (stops : List Stop) (told : HostReport) (after : PlainMemory) : Type 0 where
   pub alone : stops ≡ [] → RunsAs tries batch before marks told after
-  pub tells : TellOf (most_begun batch) tries batch.accesses before stops told after
+  pub tells : ScriptCallsReport (batch_limit batch) tries batch.accesses before stops told after
   pub few : length stops ≤ resumes
-  pub lost : length stops ≤ lost_among marks
-  pub excused : IsExcused told.ended tries marks
-  pub last : told.ended ≡ Lost → (length stops ≡ resumes) × (resumes < lost_among marks)
-  pub whole : lost_among marks ≤ resumes → disturbed_among marks ≤ tries → told.ended ≡ All
+  pub lost : length stops ≤ port_lost_among marks
+  pub excused : IsRunExcused told.ended tries marks
+  pub last : told.ended ≡ Lost → (length stops ≡ resumes) × (resumes < port_lost_among marks)
+  pub whole : port_lost_among marks ≤ resumes → port_disturbed_among marks ≤ tries → told.ended ≡ All
   -- the requests of all calls
-  pub most : (in_all stops told).requests ≤ 9 + 6 * length batch.accesses + 5 * disturbed_among marks
-      + length stops * (14 + 6 * length batch.accesses + 5 * disturbed_among marks)
+  pub most : (script_calls_in_all stops told).requests ≤ 9 + 6 * length batch.accesses + 5 * port_disturbed_among marks
+      + length stops * (14 + 6 * length batch.accesses + 5 * port_disturbed_among marks)
 
 -- The successive runs of a script over the plain memory. `RunsOn` holds of each run, from the memory that the one
 -- before left. A run starts only if the one before ended `All`.
-pub data Session (tries resumes : ℕ) (marks : List Mark) (m : PlainMemory) : List Listed → List Done → PlainMemory
-    → Type 0 where
-  none : Session tries resumes marks m [] [] m
-  then : {batches : List Listed} {runs : List Done} {before after : PlainMemory} {batch : Listed} {run : Done}
-      → Session tries resumes marks m batches runs before → ended_of runs ≡ All
+pub data ScriptSession (tries resumes : ℕ) (marks : List Mark) (m : PlainMemory) : List ScriptListed → List ScriptRun
+    → PlainMemory → Type 0 where
+  none : ScriptSession tries resumes marks m [] [] m
+  then : {batches : List ScriptListed} {runs : List ScriptRun} {before after : PlainMemory} {batch : ScriptListed}
+      {run : ScriptRun} → ScriptSession tries resumes marks m batches runs before → script_ended runs ≡ All
       → RunsOn tries resumes batch before marks run.stops run.told after
-      → Session tries resumes marks m (batches ++ batch ∷ []) (runs ++ run ∷ []) after
+      → ScriptSession tries resumes marks m (batches ++ batch ∷ []) (runs ++ run ∷ []) after
 
 -- The runs of a script's first batches from its initial memory, and the memory that they left: the session of the calls
 -- that these batches unfold to.
-pub record RunsScript (tries resumes : ℕ) (script : Meaning) (marks : List Mark) (made : List BatchRuns)
+pub record RunsScript (tries resumes : ℕ) (script : ScriptMeaning) (marks : List Mark) (made : List BatchRuns)
     (memory : PlainMemory) : Type 0 where
   pub unfolds : Unfolds (take (length made) script.batches) made
-  pub session : Session tries resumes marks (memory_of script) (calls_of script.batches made) (runs_of made) memory
+  pub session : ScriptSession tries resumes marks (script_memory script) (calls_of script.batches made) (runs_of made)
+      memory
 
 -- the capacity of a memory's log, if the log is full: each later transfer is a bus error
 abbrev pub full_room : ℕ → PlainMemory → Option ℕ
 full_room room memory = if length memory.log == room then Some room else None
 
 -- a result with the capacity of the full log
-abbrev pub with_full : Option ℕ → Result Finished EngineFault → Result Finished EngineFault
-with_full used (Ok finished) = Ok (record finished { full = used })
-with_full used (Err fault) = Err fault
+abbrev pub with_full_room : Option ℕ → Result Finished EngineFault → Result Finished EngineFault
+with_full_room used (Ok finished) = Ok (record finished { full = used })
+with_full_room used (Err fault) = Err fault
 
 -- the inputs are a script with this meaning, and a plan with these marks
-pub record AreRead (script plan : Option (List ℕ)) (meaning : Meaning) (marks : List Mark) : Type 0 where
+pub record AreScriptAndPlan (script plan : Option (List ℕ)) (meaning : ScriptMeaning) (marks : List Mark) : Type 0 where
   pub script_text : List ℕ
-  pub is_script : IsText script script_text
+  pub is_script : IsReaderText script script_text
   pub means : script_of script_text ≡ Ok meaning
   pub plan_text : List ℕ
-  pub is_plan : IsText plan plan_text
+  pub is_plan : IsReaderText plan plan_text
   pub plans : plan_of plan_text ≡ Ok marks
 
 -- the runs of a script from its initial memory
-pub record RanScript (tries resumes : ℕ) (script : Meaning) (marks : List Mark) (memory : PlainMemory) : Type 0 where
-  pub made : List BatchRuns
-  pub are : RunsScript tries resumes script marks made memory
+pub record RanScript (tries resumes : ℕ) (script : ScriptMeaning) (marks : List Mark) (memory : PlainMemory) : Type 0
+  where
+    pub made : List BatchRuns
+    pub are : RunsScript tries resumes script marks made memory
 
 -- such runs, each of which ended `All`, before one that ran out of memory
-pub record RanScriptShort (tries resumes : ℕ) (script : Meaning) (marks : List Mark) : Type 0 where
+pub record RanScriptShort (tries resumes : ℕ) (script : ScriptMeaning) (marks : List Mark) : Type 0 where
   pub made : List BatchRuns
   pub memory : PlainMemory
   pub are : RunsScript tries resumes script marks made memory
-  pub all : ended_of (runs_of made) ≡ All
+  pub all : script_ended (runs_of made) ≡ All
   pub came : ends_until script.batches made ≡ false
 
 -- The complete trace of a script's calls and runs. The accesses that it shows explain the log of the target's memory. If
 -- each call ended `All` and none was resumed, they explain the transfers that the reports state: those of the lists, but
 -- for bus errors, with their addresses and words.
-pub record IsTraceIn (memory : PlainMemory) (batches : List Listed) (runs : List Done) (items : List Item) : Type 0
+pub record IsTraceIn (memory : PlainMemory) (batches : List ScriptListed) (runs : List ScriptRun) (items : List Item) :
+    Type 0
   where
-    pub is : IsTraceOf (requests_of runs) (ended_of runs) items
-    pub explained : ∥ Explains (told_in items from_made) memory.log ∥₁
-    pub reported : AreWhole runs → ∥ Explains (told_in items from_made) (transfers_in batches runs) ∥₁
+    pub is : IsRunTraceOf (script_requests runs) (script_ended runs) items
+    pub explained : ∥ ObservedLog (observed_in_trace items trace_observer_made) memory.log ∥₁
+    pub reported : AreWholeRuns runs → ∥ ObservedLog (observed_in_trace items trace_observer_made)
+        (report_transfers_in batches runs) ∥₁
 
 -- What the engine's result states about a script over a new target, and some memory that it is left with.
-abbrev pub AnswersScript : ℕ → ℕ → Meaning → List Mark → Result Finished EngineFault → Option (List ℕ)
-    → Option (List ℕ) → Files → Files → Type 0
-AnswersScript tries resumes script marks answer old new before after =
+abbrev pub ScriptRunAnswers : ℕ → ℕ → ScriptMeaning → List Mark → Result Finished EngineFault → Option (List ℕ)
+    → Option (List ℕ) → RunFiles → RunFiles → Type 0
+ScriptRunAnswers tries resumes script marks answer old new before after =
     (memory : PlainMemory)
     × Answers {Came = RanScript tries resumes script marks memory} {Short = RanScriptShort tries resumes script marks}
     script.batches (full_room script.room memory) (λ ran. ran.made) (λ short. short.made)
     (λ ran items. IsTraceIn memory (calls_of script.batches ran.made) (runs_of ran.made) items)
-    (λ ran items. IsOfTrace (requests_of (runs_of ran.made)) items) answer old new
+    (λ ran items. IsPartOfRunTrace (script_requests (runs_of ran.made)) items) answer old new
     before after
 
 -- the inputs were read, and the engine gave this result
-pub record RanText (tries resumes : ℕ) (answer : Result Finished EngineFault) (script plan old new : Option (List ℕ))
-    (before after : Files) : Type 0 where
-  pub meaning : Meaning
+pub record RanScriptText (tries resumes : ℕ) (answer : Result Finished EngineFault)
+    (script plan old new : Option (List ℕ)) (before after : RunFiles) : Type 0 where
+  pub meaning : ScriptMeaning
   pub marks : List Mark
-  pub read : AreRead script plan meaning marks
-  pub answers : AnswersScript tries resumes meaning marks answer old new before after
+  pub read : AreScriptAndPlan script plan meaning marks
+  pub answers : ScriptRunAnswers tries resumes meaning marks answer old new before after
 
 -- the input, if it is known, is a valid script, or a valid plan
-abbrev pub IsScript : Option (List ℕ) → Type 0
-IsScript known = IfSome known (λ text. IsOk (script_of text))
+abbrev pub IsRunScriptInput : Option (List ℕ) → Type 0
+IsRunScriptInput known = IfSome known (λ text. IsOk (script_of text))
 
-abbrev pub IsPlan : Option (List ℕ) → Type 0
-IsPlan known = IfSome known (λ text. IsOk (plan_of text))
+abbrev pub IsRunPlanInput : Option (List ℕ) → Type 0
+IsRunPlanInput known = IfSome known (λ text. IsOk (plan_of text))
 
 -- why the inputs weren't read: the first error of the script, or of the plan after a valid script; nothing is stated
 -- about a reader that failed
-abbrev pub AreUnread : TextsFault → Option (List ℕ) → Option (List ℕ) → Type 0
-AreUnread (Script fault) script plan = IfSome script (IsScriptFault fault)
-AreUnread (Plan fault) script plan = IsScript script × IfSome plan (IsPlanFault fault)
-AreUnread Read script plan = Unit {0}
+abbrev pub AreRunTextsUnread : TextsFault → Option (List ℕ) → Option (List ℕ) → Type 0
+AreRunTextsUnread (Script fault) script plan = IfSome script (IsScriptFault fault)
+AreRunTextsUnread (Plan fault) script plan = IsRunScriptInput script × IfSome plan (IsPlanFileFault fault)
+AreRunTextsUnread Read script plan = Unit {0}
 
 -- What a result states about the inputs, if their bytes are known, and about the contents of the writers before and
 -- after.
 abbrev pub RunsText : ℕ → ℕ → Result Finished RunFault → Option (List ℕ) → Option (List ℕ) → Option (List ℕ)
-    → Option (List ℕ) → Files → Files → Type 0
+    → Option (List ℕ) → RunFiles → RunFiles → Type 0
 RunsText tries resumes (Ok finished) script plan old new before after =
-    RanText tries resumes (Ok finished) script plan old new before after
+    RanScriptText tries resumes (Ok finished) script plan old new before after
 RunsText tries resumes (Err (Engine fault)) script plan old new before after =
-    RanText tries resumes (Err fault) script plan old new before after
+    RanScriptText tries resumes (Err fault) script plan old new before after
 RunsText tries resumes (Err (Texts fault)) script plan old new before after =
-    AreUnread fault script plan × IsLeft old new × AreLeft before after
+    AreRunTextsUnread fault script plan × IsRunFileLeft old new × AreRunFilesLeft before after
 
 -- the error of a script that wasn't read
-abbrev pub script_fault : Unread ScriptFault → TextsFault
-script_fault Reader = Read
-script_fault (Consumer fault) = Script fault
+abbrev pub run_script_fault : Unread ScriptFault → TextsFault
+run_script_fault Reader = Read
+run_script_fault (Consumer fault) = Script fault
 
-abbrev pub plan_fault : Unread ScriptFault → TextsFault
-plan_fault Reader = Read
-plan_fault (Consumer fault) = Plan fault
+abbrev pub run_plan_fault : Unread ScriptFault → TextsFault
+run_plan_fault Reader = Read
+run_plan_fault (Consumer fault) = Plan fault

@@ -6,86 +6,89 @@ use Rattle.swd_port.specs.declared.access.Answer.{Answer}
 use Rattle.swd_port.specs.declared.access.Answer.TheVariants.{Written, Value}
 use Rattle.swd_port.specs.declared.access.Transfer.{Transfer}
 use Rattle.swd_port.specs.Port.{Port}
-use Rattle.swd_observer.specs.declared.told.Told.{Told}
+use Rattle.swd_observer.specs.declared.told.ObservedAccess.{ObservedAccess}
 use Rattle.swd_observer.specs.declared.told.How.{How}
 use Rattle.swd_observer.specs.declared.told.How.TheVariants.{Took}
-use Rattle.swd_observer.specs.Explained.{Explains, Matches}
+use Rattle.swd_observer.specs.Explained.{ObservedLog, ObservedMatches}
 use Rattle.swd_observer.specs.Runs.{Accounted}
-use Rattle.swd_observer.specs.Sure.{AreSure}
+use Rattle.swd_observer.specs.Sure.{AreObservedSure}
 use Rattle.swd_host.specs.declared.outcome.End.TheVariants.{All}
 use Rattle.swd_host.specs.Reports.{IsAtRest}
-use Rattle.swd_host.specs.Sessions.{Session}
-use Rattle.swd_script.specs.Scripts.{Listed}
-use Rattle.swd_run.specs.Sessions.{Done}
+use Rattle.swd_host.specs.Sessions.{HostSession}
+use Rattle.swd_script.specs.Scripts.{ScriptListed}
+use Rattle.swd_run.specs.Sessions.{ScriptRun}
 
 -- THE REPORT'S TRANSFERS
 -- the transfer of an access with this answer; a bus error is none
-abbrev pub transfer_by : Access → Answer → List Transfer
-transfer_by (Read at) (Value word) = record { read = true; addr = at; word = word } ∷ []
-transfer_by (Write at word) Written = record { read = false; addr = at; word = word } ∷ []
-transfer_by a answer = []
+abbrev pub report_transfer_by : Access → Answer → List Transfer
+report_transfer_by (Read at) (Value word) = record { read = true; addr = at; word = word } ∷ []
+report_transfer_by (Write at word) Written = record { read = false; addr = at; word = word } ∷ []
+report_transfer_by a answer = []
 
 -- those of a list, in order
-abbrev pub transfers_by : List Access → List Answer → List Transfer
-transfers_by [] answers = []
-transfers_by (a ∷ list) [] = []
-transfers_by (a ∷ list) (answer ∷ answers) = transfer_by a answer ++ transfers_by list answers
+abbrev pub report_transfers_by : List Access → List Answer → List Transfer
+report_transfers_by [] answers = []
+report_transfers_by (a ∷ list) [] = []
+report_transfers_by (a ∷ list) (answer ∷ answers) = report_transfer_by a answer ++ report_transfers_by list answers
 
 -- all accesses of successive calls, and all answers to them
-abbrev pub accesses_in : List Listed → List Access
-accesses_in [] = []
-accesses_in (batch ∷ batches) = batch.accesses ++ accesses_in batches
+abbrev pub report_accesses_in : List ScriptListed → List Access
+report_accesses_in [] = []
+report_accesses_in (batch ∷ batches) = batch.accesses ++ report_accesses_in batches
 
-abbrev pub answers_in : List Done → List Answer
-answers_in [] = []
-answers_in (run ∷ runs) = run.told.answers ++ answers_in runs
+abbrev pub report_answers_in : List ScriptRun → List Answer
+report_answers_in [] = []
+report_answers_in (run ∷ runs) = run.told.answers ++ report_answers_in runs
 
 -- the transfers that their reports state
-abbrev pub transfers_in : List Listed → List Done → List Transfer
-transfers_in batches runs = transfers_by (accesses_in batches) (answers_in runs)
+abbrev pub report_transfers_in : List ScriptListed → List ScriptRun → List Transfer
+report_transfers_in batches runs = report_transfers_by (report_accesses_in batches) (report_answers_in runs)
 
 -- each call ended `All`, and none was resumed
-abbrev pub AreWhole : List Done → Type 0
-AreWhole [] = Unit {0}
-AreWhole (run ∷ runs) = (run.stops ≡ []) × (run.told.ended ≡ All) × AreWhole runs
+abbrev pub AreWholeRuns : List ScriptRun → Type 0
+AreWholeRuns [] = Unit {0}
+AreWholeRuns (run ∷ runs) = (run.stops ≡ []) × (run.told.ended ≡ All) × AreWholeRuns runs
 
 -- THE OBSERVER'S
 -- the reported accesses that took effect
-abbrev pub is_took : How → Bool
-is_took Took = true
-is_took how = false
+abbrev pub report_is_took : How → Bool
+report_is_took Took = true
+report_is_took how = false
 
-abbrev pub taken_in : List Told → List Told
-taken_in [] = []
-taken_in (t ∷ told) = if is_took t.how then t ∷ taken_in told else taken_in told
+abbrev pub report_taken_in : List ObservedAccess → List ObservedAccess
+report_taken_in [] = []
+report_taken_in (t ∷ told) = if report_is_took t.how then t ∷ report_taken_in told else report_taken_in told
 
 -- they are these transfers, one by one: each has this direction, and this address and word unless unknown
-abbrev pub AreThese : List Told → List Transfer → Type 0
-AreThese [] [] = Unit {0}
-AreThese (t ∷ told) (x ∷ log) = Matches t x × AreThese told log
-AreThese told log = ⊥
+abbrev pub AreReportTransfers : List ObservedAccess → List Transfer → Type 0
+AreReportTransfers [] [] = Unit {0}
+AreReportTransfers (t ∷ told) (x ∷ log) = ObservedMatches t x × AreReportTransfers told log
+AreReportTransfers told log = ⊥
 
 -- if no access is reported as `May`, those that took effect are the transfers of the log that they explain
-abbrev pub SureIsExact : Type 0
-SureIsExact = (told : List Told) (log : List Transfer) → AreSure told → Explains told log
-    → AreThese (taken_in told) log
+abbrev pub ReportSureIsExact : Type 0
+ReportSureIsExact = (told : List ObservedAccess) (log : List Transfer) → AreObservedSure told → ObservedLog told log
+    → AreReportTransfers (report_taken_in told) log
 
 -- each address and each word is known
-abbrev pub AreKnown : List Told → Type 0
-AreKnown [] = Unit {0}
-AreKnown (t ∷ told) = (is_some t.addr ≡ true) × (is_some t.word ≡ true) × AreKnown told
+abbrev pub AreReportAccessesKnown : List ObservedAccess → Type 0
+AreReportAccessesKnown [] = Unit {0}
+AreReportAccessesKnown (t ∷ told) = (is_some t.addr ≡ true) × (is_some t.word ≡ true) × AreReportAccessesKnown told
 
 -- what an access with this address and this word is
-abbrev pub transfer_told : Told → Transfer
-transfer_told t = record { read = t.read; addr = unwrap_or t.addr 0; word = unwrap_or t.word 0 }
+abbrev pub report_known_transfer : ObservedAccess → Transfer
+report_known_transfer t = record { read = t.read; addr = unwrap_or t.addr 0; word = unwrap_or t.word 0 }
 
 -- and if all is known of these, they are equal
-abbrev pub KnownIsExact : Type 0
-KnownIsExact = (told : List Told) (log : List Transfer) → AreSure told → AreKnown (taken_in told) → Explains told log
-    → map transfer_told (taken_in told) ≡ log
+abbrev pub ReportKnownIsExact : Type 0
+ReportKnownIsExact = (told : List ObservedAccess) (log : List Transfer) → AreObservedSure told
+    → AreReportAccessesKnown (report_taken_in told) → ObservedLog told log
+    → map report_known_transfer (report_taken_in told) ≡ log
 
 -- THE THEOREM. Let successive runs and blocks over a target at rest each have ended `All`. Then accesses that explain
 -- what the memory logged in them explain the transfers of their answers.
-abbrev pub SessionIsReported : Type 0
-SessionIsReported = (s : Port) (list : List Access) (answers : List Answer) (t : Port) (told : List Told) → IsAtRest s
-    → Session s list answers t → Accounted s.target.memory.log told t → Explains told (transfers_by list answers)
+abbrev pub ReportExplainsSession : Type 0
+ReportExplainsSession = (s : Port) (list : List Access) (answers : List Answer) (t : Port) (told : List ObservedAccess)
+    → IsAtRest s
+    → HostSession s list answers t → Accounted s.target.memory.log told t
+    → ObservedLog told (report_transfers_by list answers)

@@ -2,14 +2,14 @@
 ghost use Rattle.std.specs.Prelude.{◌≡◌, ◌≤◌, [], IfNone, IfSome, List, None, Option, Some, length, ℕ};
 ghost use Rattle.std.specs.Vec.{vec_capacity};
 ghost use Rattle.swd_port.specs.declared.wire.Due.TheVariants.{Nothing};
-ghost use Rattle.swd_io.specs.Blocks.{Sends};
-ghost use Rattle.swd_host.specs.Reports.{told_of, told_to};
-ghost use Rattle.swd_script.specs.Readers.{listed};
-ghost use Rattle.swd_script.specs.Laws.{IsBatch};
+ghost use Rattle.swd_io.specs.Blocks.{BlockBufferSends};
+ghost use Rattle.swd_host.specs.Reports.{host_report_of, host_report_to};
+ghost use Rattle.swd_script.specs.Readers.{script_batch_listed};
+ghost use Rattle.swd_script.specs.Laws.{IsScriptBatch};
 ghost use Rattle.swd_run.specs.declared.going_on.Stop.{Stop as StopType};
 ghost use Rattle.swd_run.specs.Reporting.{Goes};
-ghost use Rattle.swd_run.specs.Reports.{IsReported, ReportsRun, lines_from};
-ghost use Rattle.swd_run.specs.Sessions.{GoesOn, most_begun};
+ghost use Rattle.swd_run.specs.Reports.{IsBatchReported, ReportsBatchRun, report_lines_from};
+ghost use Rattle.swd_run.specs.Sessions.{RunsBatch, batch_limit};
 ghost use Rattle.swd_run.specs.Unfoldings.{IsCutShort};
 
 use crate::going_on::run_on_to;
@@ -43,17 +43,18 @@ fn run_reporting<W: Wire, O: Write, A: Allocator>(
     resumes: u32,
     report: &mut Reporting<'_, '_, O, Vec<Answer, A>>,
 ) -> Ending
-    requires batch { IsBatch (listed batch.now) }
+    requires batch { IsScriptBatch (script_batch_listed batch.now) }
     requires due { (W.port wire.old).link.due ≡ Nothing }
     requires none { report.old.answers.now.items ≡ [] }
-    requires room { length (listed batch.now).accesses ≤ vec_capacity report.old.answers.now }
-    requires accesses { report.old.accesses.now ≡ (listed batch.now).accesses }
+    requires room { length (script_batch_listed batch.now).accesses ≤ vec_capacity report.old.answers.now }
+    requires accesses { report.old.accesses.now ≡ (script_batch_listed batch.now).accesses }
     ensures block { report.new.block.ghost_name ≡ report.old.block.ghost_name }
     ensures writer { report.new.block.now.writer.ghost_name ≡ report.old.block.now.writer.ghost_name }
     ensures answers { report.new.answers.ghost_name ≡ report.old.answers.ghost_name }
     ensures goes { (stops : List StopType) × Goes O.contents (λ answers. answers.items) report.old stops report.new
-        × GoesOn W.port W.plan W.lawful (most_begun (listed batch.now)) tries resumes (listed batch.now) wire.old
-        (record { stops = stops; told = told_to report.new.answers.now.items result }) wire.new }
+        × RunsBatch W.port W.plan W.lawful (batch_limit (script_batch_listed batch.now)) tries resumes
+        (script_batch_listed batch.now) wire.old
+        (record { stops = stops; told = host_report_to report.new.answers.now.items result }) wire.new }
     ensures plan { W.plan wire.new ≡ W.plan wire.old }
 {
     match run_on_to(wire, batch, tries, resumes, report) {
@@ -71,16 +72,18 @@ fn put_run<W: Wire, O: Write, A: Allocator>(
     block: &mut Block<'_, O>,
     answers: &mut Vec<Answer, A>,
 ) -> Ending
-    requires batch { IsBatch (listed batch.now) }
+    requires batch { IsScriptBatch (script_batch_listed batch.now) }
     requires due { (W.port wire.old).link.due ≡ Nothing }
     requires none { answers.old.items ≡ [] }
-    requires room { length (listed batch.now).accesses ≤ vec_capacity answers.old }
+    requires room { length (script_batch_listed batch.now).accesses ≤ vec_capacity answers.old }
     ensures writer { block.new.writer.ghost_name ≡ block.old.writer.ghost_name }
     ensures goes { (stops : List StopType)
-        × GoesOn W.port W.plan W.lawful (most_begun (listed batch.now)) tries resumes (listed batch.now) wire.old
-        (record { stops = stops; told = told_to answers.new.items result }) wire.new
-        × ((start : Option (List ℕ)) → Sends O.contents start block.old [] → Sends O.contents start block.new
-        (lines_from None 0 stops (listed batch.now).accesses answers.new.items)) }
+        × RunsBatch W.port W.plan W.lawful (batch_limit (script_batch_listed batch.now)) tries resumes
+        (script_batch_listed batch.now) wire.old
+        (record { stops = stops; told = host_report_to answers.new.items result }) wire.new
+        × ((start : Option (List ℕ)) → BlockBufferSends O.contents start block.old []
+        → BlockBufferSends O.contents start block.new
+        (report_lines_from None 0 stops (script_batch_listed batch.now).accesses answers.new.items)) }
     ensures plan { W.plan wire.new ≡ W.plan wire.old }
 {
     let mut report = Reporting {
@@ -102,11 +105,12 @@ pub fn run_on_reporting<W: Wire, O: Write, A: Allocator + Copy>(
     resumes: u32,
     report: &mut O,
 ) -> Option<ReportedRun<A>>
-    requires batch { IsBatch (listed batch.now) }
+    requires batch { IsScriptBatch (script_batch_listed batch.now) }
     requires plain { batch.now.until ≡ None }
     requires due { (W.port wire.old).link.due ≡ Nothing }
-    ensures reports { IfSome result (λ reported. ReportsRun W.port W.plan W.lawful tries resumes (listed batch.now)
-        wire.old wire.new (O.contents report.old) (O.contents report.new) (told_of reported.report)
+    ensures reports { IfSome result (λ reported. ReportsBatchRun W.port W.plan W.lawful tries resumes
+        (script_batch_listed batch.now)
+        wire.old wire.new (O.contents report.old) (O.contents report.new) (host_report_of reported.report)
         reported.written) }
     ensures unsent { IfNone result (wire.new ≡ wire.old) }
     ensures unwritten { IfNone result (O.contents report.new ≡ O.contents report.old) }
@@ -134,14 +138,15 @@ fn report_until<W: Wire, O: Write, A: Allocator + Copy>(
     resumes: u32,
     report: &mut O,
 ) -> Option<Reported<A>>
-    requires batch { IsBatch (listed batch.now) }
+    requires batch { IsScriptBatch (script_batch_listed batch.now) }
     requires until { batch.now.until ≡ Some until }
     requires due { (W.port wire.old).link.due ≡ Nothing }
-    ensures reported { IfSome result (λ reported. IsReported W.port W.plan W.lawful tries resumes (listed batch.now)
-        wire.old wire.new (O.contents report.old) (O.contents report.new) (told_of reported.report)
+    ensures reported { IfSome result (λ reported. IsBatchReported W.port W.plan W.lawful tries resumes
+        (script_batch_listed batch.now)
+        wire.old wire.new (O.contents report.old) (O.contents report.new) (host_report_of reported.report)
         reported.written) }
     ensures cut { IfNone result
-        (IsCutShort W.port W.plan W.lawful tries resumes (listed batch.now) wire.old wire.new) }
+        (IsCutShort W.port W.plan W.lawful tries resumes (script_batch_listed batch.now) wire.old wire.new) }
     ensures unwritten { IfNone result (O.contents report.new ≡ O.contents report.old) }
     ensures plan { W.plan wire.new ≡ W.plan wire.old }
 {
@@ -165,13 +170,14 @@ pub(crate) fn report_batch<W: Wire, O: Write, A: Allocator + Copy>(
     resumes: u32,
     report: &mut O,
 ) -> Option<Reported<A>>
-    requires batch { IsBatch (listed batch.now) }
+    requires batch { IsScriptBatch (script_batch_listed batch.now) }
     requires due { (W.port wire.old).link.due ≡ Nothing }
-    ensures reported { IfSome result (λ reported. IsReported W.port W.plan W.lawful tries resumes (listed batch.now)
-        wire.old wire.new (O.contents report.old) (O.contents report.new) (told_of reported.report)
+    ensures reported { IfSome result (λ reported. IsBatchReported W.port W.plan W.lawful tries resumes
+        (script_batch_listed batch.now)
+        wire.old wire.new (O.contents report.old) (O.contents report.new) (host_report_of reported.report)
         reported.written) }
     ensures cut { IfNone result
-        (IsCutShort W.port W.plan W.lawful tries resumes (listed batch.now) wire.old wire.new) }
+        (IsCutShort W.port W.plan W.lawful tries resumes (script_batch_listed batch.now) wire.old wire.new) }
     ensures unwritten { IfNone result (O.contents report.new ≡ O.contents report.old) }
     ensures plan { W.plan wire.new ≡ W.plan wire.old }
 {

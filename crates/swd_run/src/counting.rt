@@ -1,7 +1,7 @@
 //! Counts the accesses of a script.
 ghost use Rattle.std.specs.Prelude.{◌≡◌, ◌-◌, ◌^◌, map, min};
-ghost use Rattle.swd_script.specs.Readers.{listed};
-ghost use Rattle.swd_run.specs.Counting.{accesses_in};
+ghost use Rattle.swd_script.specs.Readers.{script_batch_listed};
+ghost use Rattle.swd_run.specs.Counting.{script_access_count};
 
 use std::alloc::Allocator;
 use swd_script::Batch;
@@ -10,7 +10,7 @@ use swd_script::Batch;
 ///
 /// A report has one line for each of them if every call ends `All`.
 pub fn count_accesses<A: Allocator>(batches: &[Batch<A>]) -> u64
-    ensures { result ≡ min (accesses_in (map listed batches.now)) (2 ^ 64 - 1) }
+    ensures { result ≡ min (script_access_count (map script_batch_listed batches.now)) (2 ^ 64 - 1) }
 {
     let mut count = 0u64;
     for batch in batches {

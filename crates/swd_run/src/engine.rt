@@ -1,17 +1,17 @@
 //! Runs the calls of a script over any wire, and writes their reports, their trace and the accesses that it shows.
 ghost use Rattle.std.specs.Prelude.{ℕ, ◌≡◌, All as Each, List, [], ◌∷◌, ◌++◌, None, Option, map, true};
 ghost use Rattle.swd_port.specs.declared.wire.Due.TheVariants.{Nothing};
-ghost use Rattle.swd_port.specs.Laws.Calls.{with_asked};
-ghost use Rattle.swd_host.specs.Reports.{told_of};
-ghost use Rattle.swd_trace.specs.Listed.{AreLegal};
-ghost use Rattle.swd_recorder.specs.Recorders.{lawful_by, plan_by, port_by};
-ghost use Rattle.swd_script.specs.Readers.{listed};
-ghost use Rattle.swd_script.specs.Laws.{IsBatch};
-ghost use Rattle.swd_script.specs.Scripts.{Listed};
-ghost use Rattle.swd_run.specs.Unfoldings.{AreOf, BatchRuns, Unfolds, never_came};
-ghost use Rattle.swd_run.specs.Engine.{AnswersAt, AnswersOver, IsFinished, TellsRecords, port_seen};
-ghost use Rattle.swd_run.specs.Records.{files_from, files_of, held, is_recorded, no_files};
-ghost use Rattle.swd_run.specs.TraceFiles.{HaveAll, held_by};
+ghost use Rattle.swd_port.specs.Laws.Calls.{port_with_asked};
+ghost use Rattle.swd_host.specs.Reports.{host_report_of};
+ghost use Rattle.swd_trace.specs.Listed.{AreLegalItems};
+ghost use Rattle.swd_recorder.specs.Recorders.{recorder_lawful, recorder_plan, recorder_port};
+ghost use Rattle.swd_script.specs.Readers.{script_batch_listed};
+ghost use Rattle.swd_script.specs.Laws.{IsScriptBatch};
+ghost use Rattle.swd_script.specs.Scripts.{ScriptListed};
+ghost use Rattle.swd_run.specs.Unfoldings.{AreRunsOfBatch, BatchRuns, Unfolds, until_never_came};
+ghost use Rattle.swd_run.specs.Engine.{BatchAnswersAt, BatchAnswers, IsScriptFinished, RunFilesOutcome, run_port_seen};
+ghost use Rattle.swd_run.specs.Records.{run_files_from, run_files_of, run_file_held, wants_run_files, no_run_files};
+ghost use Rattle.swd_run.specs.TraceFiles.{IfRunTraceHasAll, run_trace_contents};
 
 use crate::batch_runs::{Reported, report_batch};
 use crate::fault::EngineFault;
@@ -58,13 +58,14 @@ impl Finished {
 
     // Returns the result with the runs of this batch as the last ones.
     fn and<A: Allocator>(self, batch: &Batch<A>, reported: &Reported<A>) -> Finished
-        ensures ended { result.ended ≡ (told_of reported.now.report).ended }
-        ensures never_came { result.never_came ≡ never_came batch.now.until (told_of reported.now.report) }
-        ensures finished { (batches : List Listed) (made : List BatchRuns) (runs : BatchRuns) → Unfolds batches made
-            → IsBatch (listed batch.now) → AreOf (listed batch.now) runs
-            → runs.last.told ≡ told_of reported.now.report
-            → IsFinished batches made None self
-            → IsFinished (batches ++ listed batch.now ∷ []) (made ++ runs ∷ []) None result }
+        ensures ended { result.ended ≡ (host_report_of reported.now.report).ended }
+        ensures never_came { result.never_came ≡ until_never_came batch.now.until (host_report_of reported.now.report) }
+        ensures finished { (batches : List ScriptListed) (made : List BatchRuns) (runs : BatchRuns)
+            → Unfolds batches made
+            → IsScriptBatch (script_batch_listed batch.now) → AreRunsOfBatch (script_batch_listed batch.now) runs
+            → runs.last.told ≡ host_report_of reported.now.report
+            → IsScriptFinished batches made None self
+            → IsScriptFinished (batches ++ script_batch_listed batch.now ∷ []) (made ++ runs ∷ []) None result }
     {
         let report = &reported.report;
         let reads = batch.expected.as_slice();
@@ -89,10 +90,11 @@ fn run_reported<W: Wire, O: Write, A: Allocator + Copy>(
     resumes: u32,
     report: &mut O,
 ) -> Result<Finished, EngineFault>
-    requires batches { Each IsBatch (map listed batches.now) }
+    requires batches { Each IsScriptBatch (map script_batch_listed batches.now) }
     requires due { (W.port wire.old).link.due ≡ Nothing }
-    ensures answer { AnswersOver W.port W.plan W.lawful tries resumes (map listed batches.now) wire.old wire.new
-        result (O.contents report.old) (O.contents report.new) no_files no_files }
+    ensures answer { BatchAnswers W.port W.plan W.lawful tries resumes (map script_batch_listed batches.now) wire.old
+        wire.new
+        result (O.contents report.old) (O.contents report.new) no_run_files no_run_files }
     ensures plan { W.plan wire.new ≡ W.plan wire.old }
 {
     let mut finished = Finished::NONE;
@@ -129,10 +131,10 @@ fn write_records<T: Write>(
     made: bool,
     finished: Finished,
 ) -> Result<Finished, EngineFault>
-    requires { AreLegal items.now }
-    ensures { (start : Option (Option (List ℕ))) → ∥ HaveAll T.contents start items.now file.now ∥₁
-        → TellsRecords finished cut items.now (files_from start (held T.contents accesses.old) made)
-        (files_from (held_by T.contents file.now) (held T.contents accesses.new) made) result }
+    requires { AreLegalItems items.now }
+    ensures { (start : Option (Option (List ℕ))) → ∥ IfRunTraceHasAll T.contents start items.now file.now ∥₁
+        → RunFilesOutcome finished cut items.now (run_files_from start (run_file_held T.contents accesses.old) made)
+        (run_files_from (run_trace_contents T.contents file.now) (run_file_held T.contents accesses.new) made) result }
 {
     if let Err(written) = sent_to(file) {
         return Err(EngineFault::Write { written });
@@ -159,16 +161,17 @@ fn run_traced<B: Origin, W: Wire, O: Write, T: Write, A: Allocator + Copy>(
     accesses: &mut Option<T>,
     made: bool,
 ) -> (Result<Finished, EngineFault>, Recorder<W, A>, Option<T>)
-    requires batches { Each IsBatch (map listed batches.now) }
-    requires due { (port_by traced.recorder).link.due ≡ Nothing }
-    requires asked { (port_by traced.recorder).tally.asked ≡ 0 }
-    requires start { B.start ≡ port_by traced.recorder }
-    requires wanted { is_recorded (files_from B.before (held T.contents accesses.old) made) ≡ true }
-    ensures answer { AnswersOver port_by plan_by lawful_by tries resumes (map listed batches.now) traced.recorder
+    requires batches { Each IsScriptBatch (map script_batch_listed batches.now) }
+    requires due { (recorder_port traced.recorder).link.due ≡ Nothing }
+    requires asked { (recorder_port traced.recorder).tally.asked ≡ 0 }
+    requires start { B.start ≡ recorder_port traced.recorder }
+    requires wanted { wants_run_files (run_files_from B.before (run_file_held T.contents accesses.old) made) ≡ true }
+    ensures answer { BatchAnswers recorder_port recorder_plan recorder_lawful tries resumes
+        (map script_batch_listed batches.now) traced.recorder
         result.1 result.0 (O.contents report.old) (O.contents report.new)
-        (files_from B.before (held T.contents accesses.old) made)
-        (files_from (held T.contents result.2) (held T.contents accesses.new) made) }
-    ensures plan { plan_by result.1 ≡ plan_by traced.recorder }
+        (run_files_from B.before (run_file_held T.contents accesses.old) made)
+        (run_files_from (run_file_held T.contents result.2) (run_file_held T.contents accesses.new) made) }
+    ensures plan { recorder_plan result.1 ≡ recorder_plan traced.recorder }
 {
     let mut traced = traced;
     let ran = run_reported(alloc, &mut traced, batches, tries, resumes, report);
@@ -191,15 +194,15 @@ fn run_recorded<B: Origin, W: Wire, O: Write, T: Write + Drop, A: Allocator + Co
     report: &mut O,
     records: &mut Records<T>,
 ) -> (Result<Finished, EngineFault>, W)
-    requires batches { Each IsBatch (map listed batches.now) }
+    requires batches { Each IsScriptBatch (map script_batch_listed batches.now) }
     requires due { (W.port wire).link.due ≡ Nothing }
-    requires start { B.start ≡ with_asked 0 (W.port wire) }
-    requires before { B.before ≡ held T.contents records.old.trace }
-    requires wanted { is_recorded (files_of T.contents records.old) ≡ true }
+    requires start { B.start ≡ port_with_asked 0 (W.port wire) }
+    requires before { B.before ≡ run_file_held T.contents records.old.trace }
+    requires wanted { wants_run_files (run_files_of T.contents records.old) ≡ true }
     ensures answer { (counted : ℕ)
-        × AnswersOver (port_seen true W.port) (λ seen. W.plan seen.1) (λ seen. W.lawful seen.1) tries resumes
-        (map listed batches.now) (0, wire) (counted, result.1) result.0 (O.contents report.old) (O.contents report.new)
-        (files_of T.contents records.old) (files_of T.contents records.new) }
+        × BatchAnswers (run_port_seen true W.port) (λ seen. W.plan seen.1) (λ seen. W.lawful seen.1) tries resumes
+        (map script_batch_listed batches.now) (0, wire) (counted, result.1) result.0 (O.contents report.old) (O.contents report.new)
+        (run_files_of T.contents records.old) (run_files_of T.contents records.new) }
     ensures plan { W.plan result.1 ≡ W.plan wire }
 {
     let traced = Traced::<W, T, A, B>::new(alloc, wire, records.trace.take());
@@ -267,11 +270,12 @@ pub fn run_batches<W: Wire, O: Write, T: Write + Drop, A: Allocator + Copy>(
     report: &mut O,
     records: &mut Records<T>,
 ) -> (Result<Finished, EngineFault>, W)
-    requires batches { Each IsBatch (map listed batches.now) }
+    requires batches { Each IsScriptBatch (map script_batch_listed batches.now) }
     requires due { (W.port wire).link.due ≡ Nothing }
-    ensures answer { AnswersAt W.port W.plan W.lawful tries resumes (map listed batches.now) wire result.1 result.0
-        (O.contents report.old) (O.contents report.new) (files_of T.contents records.old)
-        (files_of T.contents records.new) }
+    ensures answer { BatchAnswersAt W.port W.plan W.lawful tries resumes (map script_batch_listed batches.now) wire
+        result.1 result.0
+        (O.contents report.old) (O.contents report.new) (run_files_of T.contents records.old)
+        (run_files_of T.contents records.new) }
     ensures plan { W.plan result.1 ≡ W.plan wire }
 {
     if records.is_wanted() {

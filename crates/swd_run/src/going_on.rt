@@ -1,14 +1,14 @@
 //! A run that is resumed after lost acknowledgements.
 ghost use Rattle.std.specs.Prelude.{◌≡◌, ◌≤◌, [], IfNone, IfOk, IfSome, List, OnErr, length};
 ghost use Rattle.swd_port.specs.declared.wire.Due.TheVariants.{Nothing};
-ghost use Rattle.swd_script.specs.Readers.{listed};
-ghost use Rattle.swd_script.specs.Laws.{IsBatch};
-ghost use Rattle.swd_host.specs.Reports.{told_to};
-ghost use Rattle.swd_host.specs.Tasks.{most_of};
+ghost use Rattle.swd_script.specs.Readers.{script_batch_listed};
+ghost use Rattle.swd_script.specs.Laws.{IsScriptBatch};
+ghost use Rattle.swd_host.specs.Reports.{host_report_to};
+ghost use Rattle.swd_host.specs.Tasks.{bursts_limit};
 ghost use Rattle.swd_run.specs.declared.going_on.Stop.{Stop as StopType};
-ghost use Rattle.swd_run.specs.Sessions.{GoesOn, IsRefused, done_of, most_begun};
+ghost use Rattle.swd_run.specs.Sessions.{RunsBatch, IsBatchRefused, script_run_of, batch_limit};
 
-use crate::run_sink::{Kept, RunSink};
+use crate::run_sink::{KeptAnswers, RunSink};
 use std::alloc::Allocator;
 use swd_host::{Bursts, End, Ending, Report, resume_to, run_to};
 use swd_port::Wire;
@@ -36,7 +36,7 @@ pub struct Resumed<A: Allocator> {
 
 // Returns which accesses of a batch are performed in bursts.
 fn bursts_of<A: Allocator>(batch: &Batch<A>) -> Bursts
-    ensures { most_of result ≡ most_begun (listed batch.now) }
+    ensures { bursts_limit result ≡ batch_limit (script_batch_listed batch.now) }
 {
     match batch.block {
         Some(_) => Bursts::Reads,
@@ -58,15 +58,17 @@ pub fn run_on_to<W: Wire, K: RunSink, A: Allocator>(
     resumes: u32,
     sink: &mut K,
 ) -> Result<Ending, K::Refusal>
-    requires batch { IsBatch (listed batch.now) }
+    requires batch { IsScriptBatch (script_batch_listed batch.now) }
     requires due { (W.port wire.old).link.due ≡ Nothing }
     requires none { K.taken sink.old ≡ [] }
-    requires room { length (listed batch.now).accesses ≤ K.most sink.old }
+    requires room { length (script_batch_listed batch.now).accesses ≤ K.most sink.old }
     ensures goes { IfOk result (λ ending. (stops : List StopType) × K.follows sink.old stops sink.new
-        × GoesOn W.port W.plan W.lawful (most_begun (listed batch.now)) tries resumes (listed batch.now) wire.old
-        (record { stops = stops; told = told_to (K.taken sink.new) ending }) wire.new) }
-    ensures refused { OnErr result (IsRefused W.port W.plan W.lawful (most_begun (listed batch.now)) tries resumes
-        (listed batch.now) wire.old wire.new) }
+        × RunsBatch W.port W.plan W.lawful (batch_limit (script_batch_listed batch.now)) tries resumes
+        (script_batch_listed batch.now) wire.old
+        (record { stops = stops; told = host_report_to (K.taken sink.new) ending }) wire.new) }
+    ensures refused { OnErr result (IsBatchRefused W.port W.plan W.lawful (batch_limit (script_batch_listed batch.now))
+        tries resumes
+        (script_batch_listed batch.now) wire.old wire.new) }
     ensures plan { W.plan wire.new ≡ W.plan wire.old }
 {
     let accesses = batch.accesses.as_slice();
@@ -97,25 +99,27 @@ pub fn run_on<W: Wire, A: Allocator + Copy>(
     tries: u32,
     resumes: u32,
 ) -> Option<Resumed<A>>
-    requires batch { IsBatch (listed batch.now) }
+    requires batch { IsScriptBatch (script_batch_listed batch.now) }
     requires due { (W.port wire.old).link.due ≡ Nothing }
-    ensures goes { IfSome result (λ resumed. GoesOn W.port W.plan W.lawful (most_begun (listed batch.now)) tries resumes
-        (listed batch.now) wire.old (done_of resumed) wire.new) }
-    ensures refused { IfNone result (IsRefused W.port W.plan W.lawful (most_begun (listed batch.now)) tries resumes
-        (listed batch.now) wire.old wire.new) }
+    ensures goes { IfSome result (λ resumed. RunsBatch W.port W.plan W.lawful
+        (batch_limit (script_batch_listed batch.now)) tries resumes
+        (script_batch_listed batch.now) wire.old (script_run_of resumed) wire.new) }
+    ensures refused { IfNone result (IsBatchRefused W.port W.plan W.lawful (batch_limit (script_batch_listed batch.now))
+        tries resumes
+        (script_batch_listed batch.now) wire.old wire.new) }
     ensures plan { W.plan wire.new ≡ W.plan wire.old }
 {
     let Ok(answers) = Vec::with_capacity(alloc, batch.accesses.len()) else {
         return None;
     };
-    let mut kept = Kept {
+    let mut kept = KeptAnswers {
         answers,
         stops: Vec::new(alloc),
     };
     let Ok(ending) = run_on_to(wire, batch, tries, resumes, &mut kept) else {
         return None;
     };
-    let Kept { answers, stops } = kept;
+    let KeptAnswers { answers, stops } = kept;
     Some(Resumed {
         stops,
         report: ending.with(answers),

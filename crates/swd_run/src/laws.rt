@@ -1,12 +1,12 @@
 //! Laws of the runs of scripts, and of recorded runs. The functions do nothing: their contracts are the laws.
-ghost use Rattle.swd_run.specs.Laws.{PlainScripts};
-ghost use Rattle.swd_run.specs.Recorded.{AnyRecordedIsAccounted, RecordedIsAccounted};
-ghost use Rattle.swd_run.specs.Transfers.{KnownIsExact, SessionIsReported, SureIsExact};
+ghost use Rattle.swd_run.specs.Laws.{UntilFreeScripts};
+ghost use Rattle.swd_run.specs.Recorded.{AnyRunTraceIsAccounted, RunTraceIsAccounted};
+ghost use Rattle.swd_run.specs.Transfers.{ReportKnownIsExact, ReportExplainsSession, ReportSureIsExact};
 
 /// States that a script without `until` unfolds to itself: its calls are its batches, each once, and the report has the
 /// lines of their runs and no others.
 pub fn plain_scripts_are_unchanged()
-    ensures { PlainScripts }
+    ensures { UntilFreeScripts }
 {}
 
 /// States the theorem of the observer for a recorder's items. Let its calls be steps of the port model, each of whose
@@ -14,8 +14,8 @@ pub fn plain_scripts_are_unchanged()
 /// order. An access reported as `May` was logged once or not at all. The calls start in the target's reset state, or
 /// for an observer that knows nothing, in any state in which nothing is due or pending and no write data is awaited.
 pub fn recorded_accesses()
-    ensures made { RecordedIsAccounted }
-    ensures any { AnyRecordedIsAccounted }
+    ensures made { RunTraceIsAccounted }
+    ensures any { AnyRunTraceIsAccounted }
 {}
 
 /// States what the accesses that an observer reports have to do with the answers of runs. Let successive runs and blocks
@@ -26,7 +26,7 @@ pub fn recorded_accesses()
 /// direction of its transfer, and its address and word unless they are unknown. If none of these is unknown, they are
 /// equal.
 pub fn reported_accesses()
-    ensures sessions { SessionIsReported }
-    ensures sure { SureIsExact }
-    ensures known { KnownIsExact }
+    ensures sessions { ReportExplainsSession }
+    ensures sure { ReportSureIsExact }
+    ensures known { ReportKnownIsExact }
 {}

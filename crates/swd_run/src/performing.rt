@@ -1,12 +1,12 @@
 //! The runs of an `until`.
 ghost use Rattle.std.specs.Prelude.{◌≡◌, IfNone, IfSome, Some};
 ghost use Rattle.swd_port.specs.declared.wire.Due.TheVariants.{Nothing};
-ghost use Rattle.swd_host.specs.Reports.{told_of};
-ghost use Rattle.swd_script.specs.Readers.{listed};
-ghost use Rattle.swd_script.specs.Laws.{IsBatch};
-ghost use Rattle.swd_run.specs.Sessions.{done_of};
-ghost use Rattle.swd_run.specs.Unfoldings.{BatchRuns, IsCutShort, Performs};
-ghost use Rattle.swd_run.specs.Unfoldings.{asks_again, has_come, is_awaited, is_other, never_came, reads_of};
+ghost use Rattle.swd_host.specs.Reports.{host_report_of};
+ghost use Rattle.swd_script.specs.Readers.{script_batch_listed};
+ghost use Rattle.swd_script.specs.Laws.{IsScriptBatch};
+ghost use Rattle.swd_run.specs.Sessions.{script_run_of};
+ghost use Rattle.swd_run.specs.Unfoldings.{BatchRuns, IsCutShort, Performs, asks_again, until_word_came, is_until_word};
+ghost use Rattle.swd_run.specs.Unfoldings.{is_other_until_word, until_never_came, batch_reads_of};
 
 use crate::going_on::{Resumed, run_on};
 use std::alloc::Allocator;
@@ -25,14 +25,14 @@ pub(crate) struct Performed<A: Allocator> {
 
 // Returns whether a word under the mask is the value.
 fn is_awaited(until: Until, word: u32) -> bool
-    ensures { result ≡ is_awaited until word }
+    ensures { result ≡ is_until_word until word }
 {
     word & until.mask == until.value
 }
 
 // Returns whether a read was answered with the awaited word.
 fn has_come(until: Until, answers: &[Answer]) -> bool
-    ensures { result ≡ has_come until answers.now }
+    ensures { result ≡ until_word_came until answers.now }
 {
     match answers {
         [Answer::Value(word)] => is_awaited(until, *word),
@@ -42,7 +42,7 @@ fn has_come(until: Until, answers: &[Answer]) -> bool
 
 // Returns whether a read was answered with another word.
 fn is_other(until: Until, answers: &[Answer]) -> bool
-    ensures { result ≡ is_other until answers.now }
+    ensures { result ≡ is_other_until_word until answers.now }
 {
     match answers {
         [Answer::Value(word)] => !is_awaited(until, *word),
@@ -52,7 +52,7 @@ fn is_other(until: Until, answers: &[Answer]) -> bool
 
 // Returns whether the read has to be made again: it ended `All`, and was answered with another word.
 fn asks_again<A: Allocator>(until: Until, run: &Resumed<A>) -> bool
-    ensures { result ≡ asks_again until (done_of run.now) }
+    ensures { result ≡ asks_again until (script_run_of run.now) }
 {
     match run.report.ended {
         End::All => is_other(until, run.report.answers.as_slice()),
@@ -62,7 +62,7 @@ fn asks_again<A: Allocator>(until: Until, run: &Resumed<A>) -> bool
 
 /// Returns whether this is the last read of an `until`, and it ended `All` without the awaited word.
 pub(crate) fn never_came<A: Allocator>(until: Option<Until>, report: &Report<A>) -> bool
-    ensures { result ≡ never_came until (told_of report.now) }
+    ensures { result ≡ until_never_came until (host_report_of report.now) }
 {
     let Some(until) = until else {
         return false;
@@ -84,14 +84,14 @@ pub(crate) fn perform<W: Wire, A: Allocator + Copy>(
     tries: u32,
     resumes: u32,
 ) -> Option<Performed<A>>
-    requires batch { IsBatch (listed batch.now) }
+    requires batch { IsScriptBatch (script_batch_listed batch.now) }
     requires until { batch.now.until ≡ Some until }
     requires due { (W.port wire.old).link.due ≡ Nothing }
-    ensures performs { IfSome result (λ performed. (runs : BatchRuns) × (runs.last ≡ done_of performed.last)
-        × (reads_of runs ≡ performed.runs)
-        × Performs W.port W.plan W.lawful tries resumes (listed batch.now) wire.old runs wire.new) }
+    ensures performs { IfSome result (λ performed. (runs : BatchRuns) × (runs.last ≡ script_run_of performed.last)
+        × (batch_reads_of runs ≡ performed.runs)
+        × Performs W.port W.plan W.lawful tries resumes (script_batch_listed batch.now) wire.old runs wire.new) }
     ensures cut { IfNone result
-        (IsCutShort W.port W.plan W.lawful tries resumes (listed batch.now) wire.old wire.new) }
+        (IsCutShort W.port W.plan W.lawful tries resumes (script_batch_listed batch.now) wire.old wire.new) }
     ensures plan { W.plan wire.new ≡ W.plan wire.old }
 {
     let mut last = run_on(alloc, wire, batch, tries, resumes)?;

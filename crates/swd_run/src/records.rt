@@ -1,7 +1,7 @@
 //! The files that a run writes beside its report.
 ghost use Rattle.std.specs.Prelude.{◌≡◌, ◌||◌, None, true, OnErr, is_some};
-ghost use Rattle.swd_io.specs.Blocks.{Writes};
-ghost use Rattle.swd_run.specs.Records.{ForFile, accesses_text, held};
+ghost use Rattle.swd_io.specs.Blocks.{WritesOutput};
+ghost use Rattle.swd_run.specs.Records.{ForRunFile, run_accesses_text, run_file_held};
 
 use std::io::Write;
 use swd_capture::Printed;
@@ -52,8 +52,8 @@ pub(crate) fn write_accesses<T: Write>(
     items: &[Item],
     made: bool,
 ) -> Result<(), u64>
-    ensures file { ForFile (λ old new. Writes result old new (accesses_text made items.now))
-        (held T.contents accesses.old) (held T.contents accesses.new) }
+    ensures file { ForRunFile (λ old new. WritesOutput result old new (run_accesses_text made items.now))
+        (run_file_held T.contents accesses.old) (run_file_held T.contents accesses.new) }
     ensures err { OnErr result (is_some accesses.old ≡ true) }
 {
     match accesses {

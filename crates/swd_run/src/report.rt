@@ -1,13 +1,14 @@
 //! The text of a run's report.
-ghost use Rattle.std.specs.Prelude.{◌≡◌, ℕ, ◌+◌, ◌≤◌, List, ◌++◌, Option, None, take, drop};
+ghost use Rattle.std.specs.Prelude.{◌≡◌, ◌+◌, ◌≤◌, ◌++◌, Option, None, take, drop};
 ghost use Rattle.std.specs.Fmt.{decimal};
 ghost use Rattle.arrayvec.specs.ArrayString.{array_string_len};
-ghost use Rattle.swd_host.specs.Reports.{told_of};
-ghost use Rattle.swd_io.specs.Blocks.{Sends};
-ghost use Rattle.swd_script.specs.Readers.{listed};
-ghost use Rattle.swd_run.specs.Reports.{answer_line, answer_lines, end_line, last_line, lines_from, report_text};
-ghost use Rattle.swd_run.specs.Reports.{resume_line, run_report, shown_reads, stop_text, with_reads, WritesOn};
-ghost use Rattle.swd_run.specs.Sessions.{done_of};
+ghost use Rattle.swd_host.specs.Reports.{host_report_of};
+ghost use Rattle.swd_io.specs.Blocks.{BlockQueues};
+ghost use Rattle.swd_script.specs.Readers.{script_batch_listed};
+ghost use Rattle.swd_run.specs.Reports.{report_answer_line, report_answer_lines, report_end_line, report_last_line};
+ghost use Rattle.swd_run.specs.Reports.{report_lines_from, report_text, report_resume_line, script_run_report};
+ghost use Rattle.swd_run.specs.Reports.{report_shown_reads, report_stop_text, report_with_reads, ReportWritesOn};
+ghost use Rattle.swd_run.specs.Sessions.{script_run_of};
 
 use crate::going_on::{Resumed, Stop};
 use crate::performing::{Performed, never_came};
@@ -26,7 +27,7 @@ pub type ReportLine = ArrayString<48>;
 /// Returns the line of an answered access without its line feed, such as `r 20000000 deadbeef`, `w 20000000 written` or
 /// `r 30000000 busfault`.
 pub fn answer_line(access: &Access, answer: &Answer) -> ReportLine
-    ensures bytes { result.bytes ≡ answer_line access.now answer.now }
+    ensures bytes { result.bytes ≡ report_answer_line access.now answer.now }
     ensures len { array_string_len result ≤ 19 }
 {
     let mut text = ReportLine::new();
@@ -53,7 +54,7 @@ pub fn answer_line(access: &Access, answer: &Answer) -> ReportLine
 /// feed. Examples are `end all 4`, `end lost 0 begun 1`, `end tries 0 begun 1`, `end id 2ba01476` and
 /// `end confused 0 begun 0`.
 pub fn last_line(ended: End, answered: usize, begun: u8) -> ReportLine
-    ensures bytes { result.bytes ≡ last_line ended answered begun }
+    ensures bytes { result.bytes ≡ report_last_line ended answered begun }
     ensures len { array_string_len result ≤ 48 }
 {
     let mut text = ReportLine::new();
@@ -84,7 +85,7 @@ pub fn last_line(ended: End, answered: usize, begun: u8) -> ReportLine
 
 // Returns the line for the end of a run. `never` says that it is the read of an `until` whose word never came.
 fn end_line<A: Allocator>(never: bool, report: &Report<A>) -> ReportLine
-    ensures { result.bytes ≡ end_line never (told_of report.now) }
+    ensures { result.bytes ≡ report_end_line never (host_report_of report.now) }
 {
     let answered = report.answers.len();
     if !never {
@@ -99,7 +100,7 @@ fn end_line<A: Allocator>(never: bool, report: &Report<A>) -> ReportLine
 // Returns an answer's line with the number of reads, if it is that of an `until`.
 fn with_reads(line: ReportLine, reads: Option<u32>) -> ReportLine
     requires { array_string_len line ≤ 19 }
-    ensures { result.bytes ≡ with_reads reads line.bytes }
+    ensures { result.bytes ≡ report_with_reads reads line.bytes }
 {
     let Some(reads) = reads else {
         return line;
@@ -112,7 +113,7 @@ fn with_reads(line: ReportLine, reads: Option<u32>) -> ReportLine
 
 /// Returns the line of a place where a run was resumed, without its line feed, such as `resume 3 begun 1`.
 pub fn resume_line(stop: &Stop) -> ReportLine
-    ensures bytes { result.bytes ≡ resume_line stop.now }
+    ensures bytes { result.bytes ≡ report_resume_line stop.now }
     ensures len { array_string_len result ≤ 48 }
 {
     let mut text = ReportLine::new();
@@ -124,7 +125,7 @@ pub fn resume_line(stop: &Stop) -> ReportLine
 // Appends the number of answered accesses and of those in flight.
 fn push_stop(text: &mut ReportLine, answered: usize, begun: u8)
     requires { array_string_len text.old ≤ 13 }
-    ensures bytes { text.new.bytes ≡ text.old.bytes ++ stop_text answered begun }
+    ensures bytes { text.new.bytes ≡ text.old.bytes ++ report_stop_text answered begun }
     ensures len { array_string_len text.new ≤ array_string_len text.old + 30 }
 {
     push_count(text, answered);
@@ -158,8 +159,7 @@ fn put_answers<W: Write>(
     answers: &[Answer],
     reads: Option<u32>,
 )
-    ensures sends { (start : Option (List ℕ)) (all : List ℕ) → Sends W.contents start block.old all
-        → Sends W.contents start block.new (all ++ answer_lines reads accesses.now answers.now) }
+    ensures sends { BlockQueues W.contents (report_answer_lines reads accesses.now answers.now) block.old block.new }
     ensures writer { block.new.writer.ghost_name ≡ block.old.writer.ghost_name }
 {
     for (access, answer) in accesses.iter().zip(answers.iter()) {
@@ -176,8 +176,8 @@ fn put_lines<W: Write>(
     answers: &[Answer],
     reads: Option<u32>,
 )
-    ensures sends { (start : Option (List ℕ)) (all : List ℕ) → Sends W.contents start block.old all
-        → Sends W.contents start block.new (all ++ lines_from reads 0 stops.now accesses.now answers.now) }
+    ensures sends { BlockQueues W.contents (report_lines_from reads 0 stops.now accesses.now answers.now) block.old
+        block.new }
     ensures writer { block.new.writer.ghost_name ≡ block.old.writer.ghost_name }
 {
     let mut from = 0;
@@ -202,9 +202,8 @@ fn put_report<W: Write, A: Allocator>(
     reads: Option<u32>,
     never: bool,
 )
-    ensures sends { (start : Option (List ℕ)) (all : List ℕ) → Sends W.contents start block.old all
-        → Sends W.contents start block.new
-        (all ++ report_text reads never accesses.now run.now.stops.items (told_of run.now.report)) }
+    ensures sends { BlockQueues W.contents
+        (report_text reads never accesses.now run.now.stops.items (host_report_of run.now.report)) block.old block.new }
     ensures writer { block.new.writer.ghost_name ≡ block.old.writer.ghost_name }
 {
     let report = &run.report;
@@ -221,7 +220,7 @@ fn put_report<W: Write, A: Allocator>(
 
 // Returns the number of reads that the report shows: that of an `until`.
 fn shown_reads(until: Option<Until>, reads: u32) -> Option<u32>
-    ensures { result ≡ shown_reads until reads }
+    ensures { result ≡ report_shown_reads until reads }
 {
     match until {
         Some(_) => Some(reads),
@@ -241,8 +240,8 @@ pub(crate) fn write_run<W: Write, A: Allocator>(
     batch: &Batch<A>,
     performed: &Performed<A>,
 ) -> Result<u64, u64>
-    ensures { WritesOn result (W.contents writer.old) (W.contents writer.new)
-        (run_report (listed batch.now) performed.now.runs (done_of performed.now.last)) }
+    ensures { ReportWritesOn result (W.contents writer.old) (W.contents writer.new)
+        (script_run_report (script_batch_listed batch.now) performed.now.runs (script_run_of performed.now.last)) }
 {
     let mut block = Block::new(writer, 0);
     let accesses = batch.accesses.as_slice();

@@ -1,9 +1,9 @@
 //! Writes the report of a run while it goes on.
 ghost use Rattle.std.specs.Prelude.{◌≡◌, ◌++◌, ◌∷◌, [], List, ℕ, Option, length, min, refl};
 ghost use Rattle.std.proofs.Common.{◌∙◌};
-ghost use Rattle.swd_io.specs.Blocks.{Sends};
+ghost use Rattle.swd_io.specs.Blocks.{BlockBufferSends};
 ghost use Rattle.swd_run.specs.Reporting.{Goes, Has};
-ghost use Rattle.swd_run.specs.Reports.{WritesOn, last_line};
+ghost use Rattle.swd_run.specs.Reports.{ReportWritesOn, report_last_line};
 ghost use Rattle.swd_run.specs.Leads.{leads_further, leads_nowhere};
 
 use crate::going_on::Stop;
@@ -103,9 +103,9 @@ pub(crate) fn finish<W: Write>(
     answered: usize,
 ) -> Result<u64, u64>
     ensures writer { block.new.writer.ghost_name ≡ block.old.writer.ghost_name }
-    ensures writes { (start : Option (List ℕ)) (all : List ℕ) → Sends W.contents start block.old all
-        → WritesOn result start (W.contents block.new.writer.now)
-        (all ++ (last_line ending.now.ended answered ending.now.begun ++ 10 ∷ [])) }
+    ensures writes { (start : Option (List ℕ)) (all : List ℕ) → BlockBufferSends W.contents start block.old all
+        → ReportWritesOn result start (W.contents block.new.writer.now)
+        (all ++ (report_last_line ending.now.ended answered ending.now.begun ++ 10 ∷ [])) }
 {
     let line = last_line(ending.ended, answered, ending.begun);
     block.put_line(line.as_str().as_bytes());

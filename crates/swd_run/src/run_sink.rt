@@ -3,7 +3,7 @@ ghost use Rattle.std.specs.Prelude.{◌≡◌, ◌≤◌, ◌++◌, ◌∷◌, [
 ghost use Rattle.std.proofs.Common.{◌∙◌};
 ghost use Rattle.std.specs.Vec.{vec_capacity};
 ghost use Rattle.swd_run.specs.declared.going_on.Stop.{Stop as StopType};
-ghost use Rattle.swd_run.specs.Leads.{no_more, more_and_more, still};
+ghost use Rattle.swd_run.specs.Leads.{run_sink_no_more, run_sink_grows_twice, run_sink_unchanged};
 
 use crate::going_on::Stop;
 use std::alloc::Allocator;
@@ -38,12 +38,12 @@ pub trait RunSink: AnswerSink {
 
 /// Keeps the answers and the places. It takes as many answers as there is capacity for.
 #[derive(Debug, Drop)]
-pub(crate) struct Kept<A: Allocator> {
+pub(crate) struct KeptAnswers<A: Allocator> {
     pub(crate) answers: Vec<Answer, A>,
     pub(crate) stops: Vec<Stop, A>,
 }
 
-impl<A: Allocator> AnswerSink for Kept<A> {
+impl<A: Allocator> AnswerSink for KeptAnswers<A> {
     ghost taken = { λ kept. kept.answers.items };
 
     ghost most = { λ kept. vec_capacity kept.answers };
@@ -58,13 +58,13 @@ impl<A: Allocator> AnswerSink for Kept<A> {
         self.answers.push(answer).unwrap();
     }
 
-    ghost keeps_all = { λ a. still a.stops.items };
+    ghost keeps_all = { λ a. run_sink_unchanged a.stops.items };
 
     ghost keeps_on = { λ a b c first next. next ∙ first };
 }
 
 /// Refuses a place if an allocation fails.
-impl<A: Allocator> RunSink for Kept<A> {
+impl<A: Allocator> RunSink for KeptAnswers<A> {
     type Refusal = ();
 
     ghost follows = { λ old stops new. new.stops.items ≡ old.stops.items ++ stops };
@@ -76,7 +76,7 @@ impl<A: Allocator> RunSink for Kept<A> {
         }
     }
 
-    ghost answers_follow = { λ a b kept. no_more a.stops.items b.stops.items kept };
+    ghost answers_follow = { λ a b kept. run_sink_no_more a.stops.items b.stops.items kept };
 
-    ghost follows_on = { λ a b c first next. more_and_more a.stops.items b.stops.items c.stops.items first next };
+    ghost follows_on = { λ a b c first next. run_sink_grows_twice a.stops.items b.stops.items c.stops.items first next };
 }

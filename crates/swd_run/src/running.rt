@@ -1,12 +1,12 @@
 //! Runs a script over a simulated target with the marks of a plan.
 ghost use Rattle.std.specs.Prelude.{◌≡◌, true, false, IfSome};
-ghost use Rattle.swd_port.specs.Port.{made};
-ghost use Rattle.swd_script.specs.Readers.{meaning};
-ghost use Rattle.swd_script.specs.Laws.{IsRunnable};
-ghost use Rattle.swd_target.specs.Marks.{IsPlan};
-ghost use Rattle.swd_target.specs.Benches.{port_of, plan_of, simulation_of};
-ghost use Rattle.swd_run.specs.Records.{files_of};
-ghost use Rattle.swd_run.specs.Running.{AnswersScript, RunsText, full_room, memory_of, with_full};
+ghost use Rattle.swd_port.specs.Port.{port_made};
+ghost use Rattle.swd_script.specs.Readers.{read_script_meaning};
+ghost use Rattle.swd_script.specs.Laws.{IsScriptRunnable};
+ghost use Rattle.swd_target.specs.Marks.{IsLegalPlan};
+ghost use Rattle.swd_target.specs.Benches.{bench_port, bench_plan, bench_simulation};
+ghost use Rattle.swd_run.specs.Records.{run_files_of};
+ghost use Rattle.swd_run.specs.Running.{ScriptRunAnswers, RunsText, full_room, script_memory, with_full_room};
 
 use crate::engine::{Finished, run_batches};
 use crate::fault::{EngineFault, RunFault};
@@ -29,8 +29,8 @@ pub const QUIRKS: Quirks = Quirks {
 /// Returns the memory that a script describes: its words, all zero, and the capacity of its log. Returns `None` if out
 /// of memory.
 pub fn zero_memory<A: Allocator + Copy>(alloc: A, script: &Script<A>) -> Option<Memory<A>>
-    requires { IsRunnable (meaning script.now) }
-    ensures { IfSome result (λ memory. memory ≡ memory_of (meaning script.now)) }
+    requires { IsScriptRunnable (read_script_meaning script.now) }
+    ensures { IfSome result (λ memory. memory ≡ script_memory (read_script_meaning script.now)) }
 {
     match Memory::new(alloc, script.base, script.words, script.room) {
         Ok(memory) => Some(memory),
@@ -55,7 +55,7 @@ fn with_full(
     answer: Result<Finished, EngineFault>,
     full: Option<u32>,
 ) -> Result<Finished, EngineFault>
-    ensures { result ≡ with_full full answer }
+    ensures { result ≡ with_full_room full answer }
 {
     match answer {
         Ok(finished) => Ok(Finished { full, ..finished }),
@@ -69,13 +69,14 @@ fn target_of<A: Allocator + Copy>(
     script: &Script<A>,
     plan: Vec<Mark, A>,
 ) -> Option<Bench<A>>
-    requires script { IsRunnable (meaning script.now) }
-    requires plan { IsPlan plan.items }
-    ensures port { IfSome result (λ bench. port_of bench ≡ made 0x2ba0_1477 (memory_of (meaning script.now))) }
-    ensures plan { IfSome result (λ bench. plan_of bench ≡ plan.items) }
+    requires script { IsScriptRunnable (read_script_meaning script.now) }
+    requires plan { IsLegalPlan plan.items }
+    ensures port { IfSome result (λ bench. bench_port bench
+        ≡ port_made 0x2ba0_1477 (script_memory (read_script_meaning script.now))) }
+    ensures plan { IfSome result (λ bench. bench_plan bench ≡ plan.items) }
     // A transfer takes effect at once, TAR wraps at the end of a kilobyte, and a value that is unknown is 0.
     ensures choices { IfSome result (λ bench.
-        (simulation_of bench).quirks ≡ record { wrap = true; late = false; filler = 0 }) }
+        (bench_simulation bench).quirks ≡ record { wrap = true; late = false; filler = 0 }) }
 {
     let memory = zero_memory(alloc, script)?;
     Some(Bench::new(memory, QUIRKS, plan))
@@ -99,10 +100,10 @@ pub fn run_script<W: Write, T: Write + Drop, A: Allocator + Copy>(
     writer: &mut W,
     records: &mut Records<T>,
 ) -> Result<Finished, EngineFault>
-    requires script { IsRunnable (meaning script.now) }
-    requires plan { IsPlan plan.items }
-    ensures { AnswersScript tries resumes (meaning script.now) plan.items result (W.contents writer.old)
-        (W.contents writer.new) (files_of T.contents records.old) (files_of T.contents records.new) }
+    requires script { IsScriptRunnable (read_script_meaning script.now) }
+    requires plan { IsLegalPlan plan.items }
+    ensures { ScriptRunAnswers tries resumes (read_script_meaning script.now) plan.items result (W.contents writer.old)
+        (W.contents writer.new) (run_files_of T.contents records.old) (run_files_of T.contents records.new) }
 {
     let Some(bench) = target_of(alloc, script, plan) else {
         return Err(EngineFault::Memory);
@@ -133,8 +134,8 @@ pub fn run_text<S: Read, P: Read, W: Write, T: Write + Drop, A: Allocator + Copy
     records: &mut Records<T>,
 ) -> Result<Finished, RunFault>
     ensures { RunsText tries resumes result (S.remaining script.old) (P.remaining plan.old)
-        (W.contents writer.old) (W.contents writer.new) (files_of T.contents records.old)
-        (files_of T.contents records.new) }
+        (W.contents writer.old) (W.contents writer.new) (run_files_of T.contents records.old)
+        (run_files_of T.contents records.new) }
 {
     let Texts { script, plan } = match read_texts(alloc, script, plan) {
         Ok(texts) => texts,

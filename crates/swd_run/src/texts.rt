@@ -1,10 +1,10 @@
 //! Reads the script and the plan of a run.
 ghost use Rattle.std.specs.Prelude.{◌≡◌, IfOk, IfErr};
-ghost use Rattle.swd_script.specs.Laws.{IsRunnable};
-ghost use Rattle.swd_script.specs.Readers.{meaning};
-ghost use Rattle.swd_target.specs.Marks.{IsPlan};
-ghost use Rattle.swd_run.specs.Running.{AreRead, AreUnread};
-ghost use Rattle.swd_run.specs.Running.{plan_fault as plan_fault_of, script_fault as script_fault_of};
+ghost use Rattle.swd_script.specs.Laws.{IsScriptRunnable};
+ghost use Rattle.swd_script.specs.Readers.{read_script_meaning};
+ghost use Rattle.swd_target.specs.Marks.{IsLegalPlan};
+ghost use Rattle.swd_run.specs.Running.{AreScriptAndPlan, AreRunTextsUnread};
+ghost use Rattle.swd_run.specs.Running.{run_plan_fault as plan_fault_of, run_script_fault as script_fault_of};
 
 use crate::fault::TextsFault;
 use std::alloc::Allocator;
@@ -51,11 +51,11 @@ pub fn read_texts<S: Read, P: Read, A: Allocator + Copy>(
     script: &mut S,
     plan: &mut P,
 ) -> Result<Texts<A>, TextsFault>
-    ensures read { IfOk result (λ texts. AreRead (S.remaining script.old) (P.remaining plan.old)
-        (meaning texts.script) texts.plan.items) }
-    ensures script { IfOk result (λ texts. IsRunnable (meaning texts.script)) }
-    ensures plan { IfOk result (λ texts. IsPlan texts.plan.items) }
-    ensures fault { IfErr result (λ fault. AreUnread fault (S.remaining script.old) (P.remaining plan.old)) }
+    ensures read { IfOk result (λ texts. AreScriptAndPlan (S.remaining script.old) (P.remaining plan.old)
+        (read_script_meaning texts.script) texts.plan.items) }
+    ensures script { IfOk result (λ texts. IsScriptRunnable (read_script_meaning texts.script)) }
+    ensures plan { IfOk result (λ texts. IsLegalPlan texts.plan.items) }
+    ensures fault { IfErr result (λ fault. AreRunTextsUnread fault (S.remaining script.old) (P.remaining plan.old)) }
 {
     let script = match read_script(alloc, script) {
         Ok(script) => script,

@@ -1,8 +1,9 @@
 //! The file of a run's trace, which is written while the run goes on.
 ghost use Rattle.std.specs.Prelude.{◌≡◌, ◌-◌, ◌≤◌, List, Option, ℕ, length};
-ghost use Rattle.swd_trace.specs.Listed.{AreLegal};
-ghost use Rattle.swd_run.specs.TraceFiles.{HasDone, HaveAll, HaveDone, IsFresh, IsFreshIf, count_done, sent_of};
-ghost use Rattle.swd_run.specs.TraceFiles.{writer_in};
+ghost use Rattle.swd_trace.specs.Listed.{AreLegalItems};
+ghost use Rattle.swd_run.specs.TraceFiles.{RunTraceHasDone, IfRunTraceHasAll, IfRunTraceHasDone, IsFreshRunTrace};
+ghost use Rattle.swd_run.specs.TraceFiles.{IsFreshRunTraceIf, run_trace_count_done, run_trace_sent};
+ghost use Rattle.swd_run.specs.TraceFiles.{run_trace_writer_in};
 
 use std::io::Write;
 use swd_io::Block;
@@ -26,7 +27,7 @@ pub(crate) struct TraceFile<T> {
 impl<T> TraceFile<T> {
     // Returns a file to which nothing was written yet.
     fn new(writer: T) -> TraceFile<T>
-        ensures { IsFresh writer result }
+        ensures { IsFreshRunTrace writer result }
     {
         TraceFile {
             writer,
@@ -39,12 +40,12 @@ impl<T> TraceFile<T> {
 impl<T: Write> TraceFile<T> {
     // Writes the lines of the first `count` items, behind those that were written.
     fn write_to(&mut self, items: &[Item], count: usize)
-        requires legal { AreLegal items.now }
+        requires legal { AreLegalItems items.now }
         requires more { self.old.done ≤ count }
         requires within { count ≤ length items.now }
         ensures done { self.new.done ≡ count }
-        ensures has { (start : Option (List ℕ)) → HasDone T.contents start items.now self.old
-            → HasDone T.contents start items.now self.new }
+        ensures has { (start : Option (List ℕ)) → RunTraceHasDone T.contents start items.now self.old
+            → RunTraceHasDone T.contents start items.now self.new }
     {
         if let Ok(written) = self.sent {
             let mut block = Block::new(&mut self.writer, written);
@@ -57,7 +58,7 @@ impl<T: Write> TraceFile<T> {
 
 /// Returns a file to which nothing was written yet, if there is a writer.
 pub(crate) fn fresh<T>(writer: Option<T>) -> Option<TraceFile<T>>
-    ensures { IsFreshIf writer result }
+    ensures { IsFreshRunTraceIf writer result }
 {
     match writer {
         Some(writer) => Some(TraceFile::new(writer)),
@@ -67,7 +68,7 @@ pub(crate) fn fresh<T>(writer: Option<T>) -> Option<TraceFile<T>>
 
 /// Returns the writer, if there is a file.
 pub(crate) fn writer_of<T>(file: Option<TraceFile<T>>) -> Option<T>
-    ensures { result ≡ writer_in file }
+    ensures { result ≡ run_trace_writer_in file }
 {
     match file {
         Some(file) => Some(file.writer),
@@ -81,7 +82,7 @@ pub(crate) fn writer_of<T>(file: Option<TraceFile<T>>) -> Option<T>
 ///
 /// The same number, if the writer failed.
 pub(crate) fn sent_to<T>(file: &Option<TraceFile<T>>) -> Result<u64, u64>
-    ensures { result ≡ sent_of file.now }
+    ensures { result ≡ run_trace_sent file.now }
 {
     match file {
         Some(file) => file.sent,
@@ -101,11 +102,11 @@ fn is_reset(cue: Cue) -> bool {
 /// which each run begins, and where many lines wait.
 #[inline]
 pub(crate) fn write_settled<T: Write>(file: &mut Option<TraceFile<T>>, items: &[Item], cue: Cue)
-    requires legal { AreLegal items.now }
-    requires within { count_done file.old ≤ length items.now - 1 }
-    ensures within { count_done file.new ≤ length items.now - 1 }
-    ensures has { (start : Option (Option (List ℕ))) → HaveDone T.contents start items.now file.old
-        → HaveDone T.contents start items.now file.new }
+    requires legal { AreLegalItems items.now }
+    requires within { run_trace_count_done file.old ≤ length items.now - 1 }
+    ensures within { run_trace_count_done file.new ≤ length items.now - 1 }
+    ensures has { (start : Option (Option (List ℕ))) → IfRunTraceHasDone T.contents start items.now file.old
+        → IfRunTraceHasDone T.contents start items.now file.new }
 {
     let Some(file) = file else {
         return;
@@ -118,10 +119,10 @@ pub(crate) fn write_settled<T: Write>(file: &mut Option<TraceFile<T>>, items: &[
 
 /// Writes the lines of the items that weren't written yet.
 pub(crate) fn write_rest<T: Write>(file: &mut Option<TraceFile<T>>, items: &[Item])
-    requires legal { AreLegal items.now }
-    requires within { count_done file.old ≤ length items.now }
-    ensures { (start : Option (Option (List ℕ))) → HaveDone T.contents start items.now file.old
-        → HaveAll T.contents start items.now file.new }
+    requires legal { AreLegalItems items.now }
+    requires within { run_trace_count_done file.old ≤ length items.now }
+    ensures { (start : Option (Option (List ℕ))) → IfRunTraceHasDone T.contents start items.now file.old
+        → IfRunTraceHasAll T.contents start items.now file.new }
 {
     if let Some(file) = file {
         file.write_to(items, items.len());

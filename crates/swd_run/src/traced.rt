@@ -3,12 +3,12 @@
 ghost use Rattle.std.specs.Prelude.{◌≡◌, ◌-◌, ◌≤◌, [], List, None, Option, length, ℕ};
 ghost use Rattle.std.specs.FinMap.{empty};
 ghost use Rattle.swd_port.specs.declared.wire.Due.TheVariants.{Nothing};
-ghost use Rattle.swd_port.specs.Port.{Port, made};
-ghost use Rattle.swd_port.specs.Laws.Calls.{with_asked};
-ghost use Rattle.swd_recorder.specs.Recorders.{calls_by, kept_by, lawful_by, port_by};
-ghost use Rattle.swd_run.specs.Recorded.{Stepped};
-ghost use Rattle.swd_run.specs.Records.{held};
-ghost use Rattle.swd_run.specs.TraceFiles.{HaveAll, HaveDone, count_done};
+ghost use Rattle.swd_port.specs.Port.{Port, port_made};
+ghost use Rattle.swd_port.specs.Laws.Calls.{port_with_asked};
+ghost use Rattle.swd_recorder.specs.Recorders.{recorder_calls, recorder_kept, recorder_lawful, recorder_port};
+ghost use Rattle.swd_run.specs.Recorded.{RunCallsStepped};
+ghost use Rattle.swd_run.specs.Records.{run_file_held};
+ghost use Rattle.swd_run.specs.TraceFiles.{IfRunTraceHasAll, IfRunTraceHasDone, run_trace_count_done};
 
 use crate::trace_file::{TraceFile, fresh, write_rest, write_settled};
 use std::alloc::Allocator;
@@ -26,7 +26,7 @@ pub(crate) trait Origin {
 }
 
 impl Origin for Brand {
-    ghost start = { made 0 (record { words = empty; log = []; room = 0 }) };
+    ghost start = { port_made 0 (record { words = empty; log = []; room = 0 }) };
 
     ghost before = { None };
 }
@@ -39,23 +39,24 @@ pub(crate) struct Traced<W: Wire, T: Write, A: Allocator, B: Origin> {
     pub(crate) recorder: Recorder<W, A>,
     pub(crate) file: Option<TraceFile<T>>,
     origin: PhantomData<B>,
-    ghost steps: { ∥ (lawful_by recorder → Stepped B.start (calls_by recorder) (port_by recorder)) ∥₁ },
+    ghost steps: { ∥ (recorder_lawful recorder
+        → RunCallsStepped B.start (recorder_calls recorder) (recorder_port recorder)) ∥₁ },
     // No further call changes the items that are done.
-    ghost settled: { count_done file ≤ length (kept_by recorder).items - 1 },
-    ghost has: { ∥ HaveDone T.contents B.before (kept_by recorder).items file ∥₁ },
+    ghost settled: { run_trace_count_done file ≤ length (recorder_kept recorder).items - 1 },
+    ghost has: { ∥ IfRunTraceHasDone T.contents B.before (recorder_kept recorder).items file ∥₁ },
 }
 
 impl<W: Wire, T: Write, A: Allocator, B: Origin> Traced<W, T, A, B> {
-    ghost use Rattle.swd_recorder.specs.Recorders.{plan_by, wire_under};
+    ghost use Rattle.swd_recorder.specs.Recorders.{recorder_plan, recorder_wire_under};
 
     /// Returns a recorder over this wire, without items, with the writer of the trace, if it is to be written.
     pub(crate) fn new(alloc: A, wire: W, writer: Option<T>) -> Traced<W, T, A, B>
         requires due { (W.port wire).link.due ≡ Nothing }
-        requires start { B.start ≡ with_asked 0 (W.port wire) }
-        requires before { B.before ≡ held T.contents writer }
-        ensures port { port_by result.recorder ≡ with_asked 0 (W.port wire) }
-        ensures plan { plan_by result.recorder ≡ W.plan wire }
-        ensures wire { wire_under result.recorder ≡ wire }
+        requires start { B.start ≡ port_with_asked 0 (W.port wire) }
+        requires before { B.before ≡ run_file_held T.contents writer }
+        ensures port { recorder_port result.recorder ≡ port_with_asked 0 (W.port wire) }
+        ensures plan { recorder_plan result.recorder ≡ W.plan wire }
+        ensures wire { recorder_wire_under result.recorder ≡ wire }
     {
         Traced {
             recorder: Recorder::new(alloc, wire),
@@ -67,7 +68,7 @@ impl<W: Wire, T: Write, A: Allocator, B: Origin> Traced<W, T, A, B> {
     /// Writes what isn't written yet of the trace. Returns the recorder, and the file.
     pub(crate) fn finish(self) -> (Recorder<W, A>, Option<TraceFile<T>>)
         ensures recorder { result.0 ≡ self.recorder }
-        ensures file { ∥ HaveAll T.contents B.before (kept_by self.recorder).items result.1 ∥₁ }
+        ensures file { ∥ IfRunTraceHasAll T.contents B.before (recorder_kept self.recorder).items result.1 ∥₁ }
     {
         let Traced {
             recorder,
@@ -80,13 +81,13 @@ impl<W: Wire, T: Write, A: Allocator, B: Origin> Traced<W, T, A, B> {
 }
 
 impl<W: Wire, T: Write, A: Allocator, B: Origin> Wire for Traced<W, T, A, B> {
-    ghost use Rattle.swd_recorder.specs.Recorders.{plan_by};
+    ghost use Rattle.swd_recorder.specs.Recorders.{recorder_plan};
 
-    ghost port = { λ traced. port_by traced.recorder };
+    ghost port = { λ traced. recorder_port traced.recorder };
 
-    ghost plan = { λ traced. plan_by traced.recorder };
+    ghost plan = { λ traced. recorder_plan traced.recorder };
 
-    ghost lawful = { λ traced. lawful_by traced.recorder };
+    ghost lawful = { λ traced. recorder_lawful traced.recorder };
 
     fn due(&self) -> Due {
         self.recorder.due()

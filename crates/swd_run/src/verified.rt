@@ -1,7 +1,7 @@
 //! Compares read words with those that a script expects, and finds bus errors.
 ghost use Rattle.std.specs.Prelude.{◌≡◌, ◌||◌};
-ghost use Rattle.swd_run.specs.Verified.{difference_in, differs, differs_among, has_bus_fault, is_bus_fault};
-ghost use Rattle.swd_run.specs.Verified.{or_else};
+ghost use Rattle.swd_run.specs.Verified.{verify_difference_in, verify_read_differs, verify_read_differs_in};
+ghost use Rattle.swd_run.specs.Verified.{report_has_bus_fault, report_is_bus_fault, verify_or_else};
 
 use swd_port::Answer;
 use swd_script::Expected;
@@ -21,7 +21,7 @@ pub struct Difference {
 
 // Returns the difference, if the answer isn't the expected word.
 fn differs(read: &Expected, answer: Answer) -> Option<Difference>
-    ensures { result ≡ differs read.now answer }
+    ensures { result ≡ verify_read_differs read.now answer }
 {
     if answer == Answer::Value(read.word) {
         return None;
@@ -36,7 +36,7 @@ fn differs(read: &Expected, answer: Answer) -> Option<Difference>
 
 // Returns the same for a read that may not be answered; an unanswered read isn't a difference.
 fn differs_among(answers: &[Answer], read: &Expected) -> Option<Difference>
-    ensures { result ≡ differs_among answers.now read.now }
+    ensures { result ≡ verify_read_differs_in answers.now read.now }
 {
     if read.place < answers.len() {
         differs(read, answers[read.place])
@@ -47,7 +47,7 @@ fn differs_among(answers: &[Answer], read: &Expected) -> Option<Difference>
 
 // Returns the first difference of a run.
 fn difference_in(reads: &[Expected], answers: &[Answer]) -> Option<Difference>
-    ensures { result ≡ difference_in reads.now answers.now }
+    ensures { result ≡ verify_difference_in reads.now answers.now }
 {
     for read in reads {
         if let Some(found) = differs_among(answers, read) {
@@ -63,7 +63,7 @@ pub(crate) fn or_difference_in(
     reads: &[Expected],
     answers: &[Answer],
 ) -> Option<Difference>
-    ensures { result ≡ or_else earlier (difference_in reads.now answers.now) }
+    ensures { result ≡ verify_or_else earlier (verify_difference_in reads.now answers.now) }
 {
     match earlier {
         Some(found) => Some(found),
@@ -72,14 +72,14 @@ pub(crate) fn or_difference_in(
 }
 
 fn is_bus_fault(answer: Answer) -> bool
-    ensures { result ≡ is_bus_fault answer }
+    ensures { result ≡ report_is_bus_fault answer }
 {
     matches!(answer, Answer::BusFault)
 }
 
 // Returns whether one of these answers is a bus error.
 fn has_bus_fault(answers: &[Answer]) -> bool
-    ensures { result ≡ has_bus_fault answers.now }
+    ensures { result ≡ report_has_bus_fault answers.now }
 {
     for answer in answers {
         if is_bus_fault(*answer) {
@@ -91,7 +91,7 @@ fn has_bus_fault(answers: &[Answer]) -> bool
 
 /// Returns whether an access of earlier runs, or of this one, was a bus error.
 pub(crate) fn or_bus_fault(earlier: bool, answers: &[Answer]) -> bool
-    ensures { result ≡ (earlier || has_bus_fault answers.now) }
+    ensures { result ≡ (earlier || report_has_bus_fault answers.now) }
 {
     earlier || has_bus_fault(answers)
 }

@@ -7,175 +7,192 @@ use Rattle.std.proofs.lemmas.Bool.{ne_eqb}
 use Rattle.std.proofs.lemmas.Bool.Decides.{nat_tests}
 use Rattle.std.proofs.lemmas.List.{append-nil}
 use Rattle.arrayvec.specs.ArrayVec.{ArrayVec}
-use Rattle.swd_script.specs.declared.line_scan.Place.{Place}
-use Rattle.swd_script.specs.declared.line_scan.Place.TheVariants.{Code, Return, Comment, Spoiled}
-use Rattle.swd_script.specs.declared.words.Words.{Words}
-use Rattle.swd_script.specs.Lines.{is_blank, is_plain, line_words, uncommented, words}
-use Rattle.swd_script.specs.Scans.{without_return, words_at, HasWords, HoldsAt, IsCode, IsCodeSoFar, IsCodeThen}
-use Rattle.swd_script.specs.Scans.{IsScanned, IsSpoiled}
+use Rattle.swd_script.specs.declared.line_scan.ScanState.{ScanState}
+use Rattle.swd_script.specs.declared.line_scan.ScanState.TheVariants.{Code, Return, Comment, Spoiled}
+use Rattle.swd_script.specs.declared.words.LineWords.{LineWords}
+use Rattle.swd_script.specs.Lines.{is_script_blank, is_script_plain, script_line_words, script_uncommented}
+use Rattle.swd_script.specs.Lines.{script_blank_split}
+use Rattle.swd_script.specs.Scans.{script_without_return, script_scan_words_at, HasFirstScriptWords, ScriptScanHoldsAt}
+use Rattle.swd_script.specs.Scans.{IsScriptCode, IsScriptCodeSoFar, IsScriptCodeThen}
+use Rattle.swd_script.specs.Scans.{IsScannedScriptLine, IsSpoiledScriptLine}
 use Rattle.swd_script.specs.Words.{AreFirst, Gathers}
 
 uncommented_byte : (byte : ℕ) (line : List ℕ) → (byte == 35) ≡ false
-    → uncommented (byte ∷ line) ≡ byte ∷ uncommented line
-uncommented_byte byte line e = ap (λ t. if t then [] else byte ∷ uncommented line) e
+    → script_uncommented (byte ∷ line) ≡ byte ∷ script_uncommented line
+uncommented_byte byte line e = ap (λ t. if t then [] else byte ∷ script_uncommented line) e
 
 -- what stands before code's end
-uncommented_code : (front rest : List ℕ) → IsCode front → uncommented (front ++ rest) ≡ front ++ uncommented rest
+uncommented_code : (front rest : List ℕ) → IsScriptCode front
+    → script_uncommented (front ++ rest) ≡ front ++ script_uncommented rest
 uncommented_code [] rest h = refl
 uncommented_code (byte ∷ front) rest h = uncommented_byte byte (front ++ rest) h.1
     ∙ ap (λ x. byte ∷ x) (uncommented_code front rest h.2)
 
-plain_code : (front rest : List ℕ) → IsCode front → list_all is_plain (front ++ rest) ≡ list_all is_plain rest
+plain_code : (front rest : List ℕ) → IsScriptCode front
+    → list_all is_script_plain (front ++ rest) ≡ list_all is_script_plain rest
 plain_code [] rest h = refl
-plain_code (byte ∷ front) rest h = ap (λ t. t && list_all is_plain (front ++ rest)) h.0 ∙ plain_code front rest h.2
+plain_code (byte ∷ front) rest h = ap (λ t. t && list_all is_script_plain (front ++ rest)) h.0 ∙ plain_code front rest
+    h.2
 
-words_if : (line : List ℕ) (t : Bool) → list_all is_plain (uncommented line) ≡ t
-    → line_words line ≡ (if t then Some (words (uncommented line)) else None)
-words_if line t e = ap (λ t. if t then Some (words (uncommented line)) else None) e
+words_if : (line : List ℕ) (t : Bool) → list_all is_script_plain (script_uncommented line) ≡ t
+    → script_line_words line ≡ (if t then Some (script_blank_split (script_uncommented line)) else None)
+words_if line t e = ap (λ t. if t then Some (script_blank_split (script_uncommented line)) else None) e
 
 -- code, and what a comment follows
-pub code_words : (front rest : List ℕ) → IsCode front → uncommented rest ≡ []
-    → line_words (front ++ rest) ≡ Some (words front)
-code_words front rest h e =
-    let u : uncommented (front ++ rest) ≡ front = uncommented_code front rest h ∙ ap (λ x. front ++ x) e
+pub script_code_words : (front rest : List ℕ) → IsScriptCode front → script_uncommented rest ≡ []
+    → script_line_words (front ++ rest) ≡ Some (script_blank_split front)
+script_code_words front rest h e =
+    let u : script_uncommented (front ++ rest) ≡ front = uncommented_code front rest h ∙ ap (λ x. front ++ x) e
     ∙ append-nil front in
-    let p : list_all is_plain (uncommented (front ++ rest)) ≡ true = ap (list_all is_plain) (u ∙ sym (append-nil front))
-    ∙ plain_code front [] h in
-    words_if (front ++ rest) true p ∙ ap (λ x. Some (words x)) u
+    let p : list_all is_script_plain (script_uncommented (front ++ rest)) ≡ true =
+    ap (list_all is_script_plain) (u ∙ sym (append-nil front)) ∙ plain_code front [] h in
+    words_if (front ++ rest) true p ∙ ap (λ x. Some (script_blank_split x)) u
 
 -- code, and a byte that may not stand there
-pub spoiled_words : (front : List ℕ) (byte : ℕ) (rest : List ℕ) → IsCode front → (byte == 35) ≡ false
-    → is_plain byte ≡ false → line_words (front ++ byte ∷ rest) ≡ None
-spoiled_words front byte rest h k p =
-    let u : uncommented (front ++ byte ∷ rest) ≡ front ++ byte ∷ uncommented rest = uncommented_code front (byte ∷ rest)
-    h ∙ ap (λ x. front ++ x) (uncommented_byte byte rest k) in
+pub script_spoiled_words : (front : List ℕ) (byte : ℕ) (rest : List ℕ) → IsScriptCode front → (byte == 35) ≡ false
+    → is_script_plain byte ≡ false → script_line_words (front ++ byte ∷ rest) ≡ None
+script_spoiled_words front byte rest h k p =
+    let u : script_uncommented (front ++ byte ∷ rest) ≡ front ++ byte ∷ script_uncommented rest =
+    uncommented_code front (byte ∷ rest) h ∙ ap (λ x. front ++ x) (uncommented_byte byte rest k) in
     words_if (front ++ byte ∷ rest) false
-    (ap (list_all is_plain) u ∙ plain_code front (byte ∷ uncommented rest) h
-    ∙ ap (λ t. t && list_all is_plain (uncommented rest)) p)
+    (ap (list_all is_script_plain) u ∙ plain_code front (byte ∷ script_uncommented rest) h
+    ∙ ap (λ t. t && list_all is_script_plain (script_uncommented rest)) p)
 
 -- the carriage return that is left out is the last byte
-pub return_last : (front rest : List ℕ) (byte : ℕ)
-    → without_return (front ++ byte ∷ rest) ≡ front ++ without_return (byte ∷ rest)
-return_last [] rest byte = refl
-return_last (first ∷ []) rest byte = refl
-return_last (first ∷ next ∷ front) rest byte = ap (λ x. first ∷ x) (return_last (next ∷ front) rest byte)
+pub script_return_last : (front rest : List ℕ) (byte : ℕ)
+    → script_without_return (front ++ byte ∷ rest) ≡ front ++ script_without_return (byte ∷ rest)
+script_return_last [] rest byte = refl
+script_return_last (first ∷ []) rest byte = refl
+script_return_last (first ∷ next ∷ front) rest byte = ap (λ x. first ∷ x) (script_return_last (next ∷ front) rest byte)
 
 -- code has none
-pub return_none : (front : List ℕ) → IsCode front → without_return front ≡ front
-return_none [] h = refl
-return_none (byte ∷ []) h = ap (λ t. if t then [] else byte ∷ []) (ne_eqb byte 13 (λ e. absurd (not_plain byte e h.0)))
+pub script_code_no_return : (front : List ℕ) → IsScriptCode front → script_without_return front ≡ front
+script_code_no_return [] h = refl
+script_code_no_return (byte ∷ []) h = ap (λ t. if t then [] else byte ∷ [])
+    (ne_eqb byte 13 (λ e. absurd (not_plain byte e h.0)))
   where
-    not_plain : (byte : ℕ) → byte ≡ 13 → is_plain byte ≡ true → ⊥
-    not_plain byte e p = let q : is_plain 13 ≡ true = ap is_plain (sym e) ∙ p in cc
-return_none (byte ∷ next ∷ line) h = ap (λ x. byte ∷ x) (return_none (next ∷ line) h.2)
+    not_plain : (byte : ℕ) → byte ≡ 13 → is_script_plain byte ≡ true → ⊥
+    not_plain byte e p = let q : is_script_plain 13 ≡ true = ap is_script_plain (sym e) ∙ p in cc
+script_code_no_return (byte ∷ next ∷ line) h = ap (λ x. byte ∷ x) (script_code_no_return (next ∷ line) h.2)
 
-pub code_more : (front : List ℕ) (byte : ℕ) → IsCode front → is_plain byte ≡ true → (byte == 35) ≡ false
-    → IsCode (front ++ byte ∷ [])
-code_more [] byte h p k = (p, k, tt)
-code_more (first ∷ front) byte h p k = (h.0, h.1, code_more front byte h.2 p k)
+pub script_code_more : (front : List ℕ) (byte : ℕ) → IsScriptCode front → is_script_plain byte ≡ true
+    → (byte == 35) ≡ false → IsScriptCode (front ++ byte ∷ [])
+script_code_more [] byte h p k = (p, k, tt)
+script_code_more (first ∷ front) byte h p k = (h.0, h.1, script_code_more front byte h.2 p k)
 
 -- the end of code
-pub ended_code : (line : List ℕ) (old : Words) (kept : List (ArrayVec ℕ))
-    → ((front : List ℕ) → Gathers front old → AreFirst kept front) → IsCodeSoFar line old → HasWords line kept
-ended_code line old kept f h = record {
-  all = words line;
-  are = ap line_words (sym (append-nil line)) ∙ code_words line [] h.code refl;
+pub script_code_at_end : (line : List ℕ) (old : LineWords) (kept : List (ArrayVec ℕ))
+    → ((front : List ℕ) → Gathers front old → AreFirst kept front) → IsScriptCodeSoFar line old
+    → HasFirstScriptWords line kept
+script_code_at_end line old kept f h = record {
+  all = script_blank_split line;
+  are = ap script_line_words (sym (append-nil line)) ∙ script_code_words line [] h.code refl;
   first = f line h.gathers;
 }
 
 -- the end of code that a comment follows
-pub ended_comment : (line front rest : List ℕ) (old : Words) (kept : List (ArrayVec ℕ))
-    → ((front : List ℕ) → Gathers front old → AreFirst kept front) → IsCodeThen line 35 rest front old
-    → HasWords line kept
-ended_comment line front rest old kept f h = record {
-  all = words front;
-  are = ap line_words h.is ∙ code_words front (35 ∷ rest) h.front_is.code refl;
+pub script_comment_at_end : (line front rest : List ℕ) (old : LineWords) (kept : List (ArrayVec ℕ))
+    → ((front : List ℕ) → Gathers front old → AreFirst kept front) → IsScriptCodeThen line 35 rest front old
+    → HasFirstScriptWords line kept
+script_comment_at_end line front rest old kept f h = record {
+  all = script_blank_split front;
+  are = ap script_line_words h.is ∙ script_code_words front (35 ∷ rest) h.front_is.code refl;
   first = f front h.front_is.gathers;
 }
 
 -- the same, without a carriage return at the line's end
-comment_kept : (rest : List ℕ) → uncommented (without_return (35 ∷ rest)) ≡ []
+comment_kept : (rest : List ℕ) → script_uncommented (script_without_return (35 ∷ rest)) ≡ []
 comment_kept [] = refl
 comment_kept (byte ∷ rest) = refl
 
-pub fed_comment : (line front rest : List ℕ) (old : Words) (kept : List (ArrayVec ℕ))
-    → ((front : List ℕ) → Gathers front old → AreFirst kept front) → IsCodeThen line 35 rest front old
-    → HasWords (without_return line) kept
-fed_comment line front rest old kept f h = record {
-  all = words front;
-  are = ap (λ x. line_words (without_return x)) h.is ∙ ap line_words (return_last front rest 35)
-      ∙ code_words front (without_return (35 ∷ rest)) h.front_is.code (comment_kept rest);
+pub script_comment_at_feed : (line front rest : List ℕ) (old : LineWords) (kept : List (ArrayVec ℕ))
+    → ((front : List ℕ) → Gathers front old → AreFirst kept front) → IsScriptCodeThen line 35 rest front old
+    → HasFirstScriptWords (script_without_return line) kept
+script_comment_at_feed line front rest old kept f h = record {
+  all = script_blank_split front;
+  are = ap (λ x. script_line_words (script_without_return x)) h.is ∙ ap script_line_words
+      (script_return_last front rest 35) ∙ script_code_words front (script_without_return (35 ∷ rest)) h.front_is.code
+      (comment_kept rest);
   first = f front h.front_is.gathers;
 }
 
-pub fed_code : (line : List ℕ) (old : Words) (kept : List (ArrayVec ℕ))
-    → ((front : List ℕ) → Gathers front old → AreFirst kept front) → IsCodeSoFar line old
-    → HasWords (without_return line) kept
-fed_code line old kept f h = subst (λ x. HasWords x kept) (sym (return_none line h.code)) (ended_code line old kept f h)
+pub script_code_at_feed : (line : List ℕ) (old : LineWords) (kept : List (ArrayVec ℕ))
+    → ((front : List ℕ) → Gathers front old → AreFirst kept front) → IsScriptCodeSoFar line old
+    → HasFirstScriptWords (script_without_return line) kept
+script_code_at_feed line old kept f h = subst (λ x. HasFirstScriptWords x kept)
+    (sym (script_code_no_return line h.code)) (script_code_at_end line old kept f h)
 
-pub fed_return : (line front : List ℕ) (old : Words) (kept : List (ArrayVec ℕ))
-    → ((front : List ℕ) → Gathers front old → AreFirst kept front) → IsCodeThen line 13 [] front old
-    → HasWords (without_return line) kept
-fed_return line front old kept f h =
-    subst (λ x. HasWords x kept) (sym (ap without_return h.is ∙ return_last front [] 13 ∙ append-nil front))
-    (ended_code front old kept f h.front_is)
+pub script_return_at_feed : (line front : List ℕ) (old : LineWords) (kept : List (ArrayVec ℕ))
+    → ((front : List ℕ) → Gathers front old → AreFirst kept front) → IsScriptCodeThen line 13 [] front old
+    → HasFirstScriptWords (script_without_return line) kept
+script_return_at_feed line front old kept f h =
+    subst (λ x. HasFirstScriptWords x kept)
+    (sym (ap script_without_return h.is ∙ script_return_last front [] 13 ∙ append-nil front))
+    (script_code_at_end front old kept f h.front_is)
 
 -- a carriage return that the text ends
-pub ended_return : (line front : List ℕ) (old : Words) → IsCodeThen line 13 [] front old → line_words line ≡ None
-ended_return line front old h = ap line_words h.is ∙ spoiled_words front 13 [] h.front_is.code refl refl
+pub script_return_at_end : (line front : List ℕ) (old : LineWords) → IsScriptCodeThen line 13 [] front old
+    → script_line_words line ≡ None
+script_return_at_end line front old h = ap script_line_words h.is ∙ script_spoiled_words front 13 [] h.front_is.code
+    refl refl
 
 -- one byte more of a spoiled line
-pub spoiled_more : (line : List ℕ) (byte : ℕ) → IsSpoiled line → IsSpoiled (line ++ byte ∷ [])
-spoiled_more line byte h = record {
-  fed = λ more. ap (λ x. line_words (without_return x)) (append_assoc line (byte ∷ []) more) ∙ h.fed (byte ∷ more);
-  unfed = λ more. ap line_words (append_assoc line (byte ∷ []) more) ∙ h.unfed (byte ∷ more);
+pub script_spoiled_more : (line : List ℕ) (byte : ℕ) → IsSpoiledScriptLine line
+    → IsSpoiledScriptLine (line ++ byte ∷ [])
+script_spoiled_more line byte h = record {
+  fed = λ more. ap (λ x. script_line_words (script_without_return x)) (append_assoc line (byte ∷ []) more) ∙ h.fed
+      (byte ∷ more);
+  unfed = λ more. ap script_line_words (append_assoc line (byte ∷ []) more) ∙ h.unfed (byte ∷ more);
 }
 
 -- the last byte is not the one that is left out
-return_kept : (byte : ℕ) (more : List ℕ) → byte ≢ 13 → (rest : List ℕ) × (without_return (byte ∷ more) ≡ byte ∷ rest)
+return_kept : (byte : ℕ) (more : List ℕ) → byte ≢ 13 → (rest : List ℕ)
+    × (script_without_return (byte ∷ more) ≡ byte ∷ rest)
 return_kept byte [] h = ([], ap (λ t. if t then [] else byte ∷ []) (ne_eqb byte 13 h))
-return_kept byte (next ∷ more) h = (without_return (next ∷ more), refl)
+return_kept byte (next ∷ more) h = (script_without_return (next ∷ more), refl)
 
 -- a byte that may not stand in a line, nor end it
-pub spoils : (line : List ℕ) (byte : ℕ) → IsCode line → byte ≢ 13 → (byte == 35) ≡ false → is_plain byte ≡ false
-    → IsSpoiled (line ++ byte ∷ [])
-spoils line byte h n k p = record {
+pub script_byte_spoils_line : (line : List ℕ) (byte : ℕ) → IsScriptCode line → byte ≢ 13 → (byte == 35) ≡ false
+    → is_script_plain byte ≡ false → IsSpoiledScriptLine (line ++ byte ∷ [])
+script_byte_spoils_line line byte h n k p = record {
   fed = λ more.
       let r = return_kept byte more n in
-      ap (λ x. line_words (without_return x)) (append_assoc line (byte ∷ []) more)
-      ∙ ap line_words (return_last line more byte ∙ ap (λ x. line ++ x) r.1) ∙ spoiled_words line byte r.0 h k p;
-  unfed = λ more. ap line_words (append_assoc line (byte ∷ []) more) ∙ spoiled_words line byte more h k p;
+      ap (λ x. script_line_words (script_without_return x)) (append_assoc line (byte ∷ []) more)
+      ∙ ap script_line_words (script_return_last line more byte ∙ ap (λ x. line ++ x) r.1) ∙ script_spoiled_words line
+      byte r.0 h k p;
+  unfed = λ more. ap script_line_words (append_assoc line (byte ∷ []) more) ∙ script_spoiled_words line byte more h k p;
 }
 
 -- a carriage return within a line
-pub return_spoils : (line front : List ℕ) (byte : ℕ) (old : Words) → IsCodeThen line 13 [] front old
-    → IsSpoiled (line ++ byte ∷ [])
-return_spoils line front byte old h =
+pub script_return_spoils_line : (line front : List ℕ) (byte : ℕ) (old : LineWords)
+    → IsScriptCodeThen line 13 [] front old → IsSpoiledScriptLine (line ++ byte ∷ [])
+script_return_spoils_line line front byte old h =
     let e : (more : List ℕ) → (line ++ byte ∷ []) ++ more ≡ front ++ 13 ∷ byte ∷ more =
     λ more. ap (λ x. (x ++ byte ∷ []) ++ more) h.is ∙ append_assoc (front ++ 13 ∷ []) (byte ∷ []) more
     ∙ append_assoc front (13 ∷ []) (byte ∷ more) in
     record {
-      fed = λ more. ap (λ x. line_words (without_return x)) (e more)
-          ∙ ap line_words (return_last front (byte ∷ more) 13)
-          ∙ spoiled_words front 13 (without_return (byte ∷ more)) h.front_is.code refl refl;
-      unfed = λ more. ap line_words (e more) ∙ spoiled_words front 13 (byte ∷ more) h.front_is.code refl refl;
+      fed = λ more. ap (λ x. script_line_words (script_without_return x)) (e more)
+          ∙ ap script_line_words (script_return_last front (byte ∷ more) 13)
+          ∙ script_spoiled_words front 13 (script_without_return (byte ∷ more)) h.front_is.code refl refl;
+      unfed = λ more. ap script_line_words (e more) ∙ script_spoiled_words front 13 (byte ∷ more) h.front_is.code refl
+          refl;
     }
 
-pub comment_more : (line front rest : List ℕ) (byte : ℕ) (old : Words) → IsCodeThen line 35 rest front old
-    → IsCodeThen (line ++ byte ∷ []) 35 (rest ++ byte ∷ []) front old
-comment_more line front rest byte old h = record {
+pub script_comment_more : (line front rest : List ℕ) (byte : ℕ) (old : LineWords)
+    → IsScriptCodeThen line 35 rest front old → IsScriptCodeThen (line ++ byte ∷ []) 35 (rest ++ byte ∷ []) front old
+script_comment_more line front rest byte old h = record {
   is = ap (λ x. x ++ byte ∷ []) h.is ∙ append_assoc front (35 ∷ rest) (byte ∷ []);
   front_is = h.front_is;
 }
 
 -- what the tests say of a byte
-pub record Tests (byte : ℕ) (plain : Bool) : Type 0 where
-  pub plain_is : is_plain byte ≡ plain
+pub record ScriptByteTests (byte : ℕ) (plain : Bool) : Type 0 where
+  pub plain_is : is_script_plain byte ≡ plain
   pub hash : (byte == 35) ≡ false
 
 -- a blank is plain and begins no comment
-pub blank_tests : (byte : ℕ) → is_blank byte ≡ true → byte ≢ 35 → Tests byte true
-blank_tests byte e n = record {
+pub script_blank_byte_tests : (byte : ℕ) → is_script_blank byte ≡ true → byte ≢ 35 → ScriptByteTests byte true
+script_blank_byte_tests byte e n = record {
   plain_is = ap (λ t. t || (nat_le 33 byte && nat_le byte 126)) e;
   hash = ne_eqb byte 35 n;
 }
@@ -189,112 +206,117 @@ below byte h = grind (arith, nat_tests)
 above : (byte : ℕ) → 126 < byte → (nat_le 33 byte && nat_le byte 126) ≡ false
 above byte h = grind (arith, nat_tests)
 
-other_tests : (byte : ℕ) (plain : Bool) → is_blank byte ≡ false → (nat_le 33 byte && nat_le byte 126) ≡ plain
-    → byte ≢ 35 → Tests byte plain
+other_tests : (byte : ℕ) (plain : Bool) → is_script_blank byte ≡ false → (nat_le 33 byte && nat_le byte 126) ≡ plain
+    → byte ≢ 35 → ScriptByteTests byte plain
 other_tests byte plain e p n = record {
   plain_is = ap (λ t. t || (nat_le 33 byte && nat_le byte 126)) e ∙ p;
   hash = ne_eqb byte 35 n;
 }
 
 -- a byte of printable ASCII other than `#` is plain and begins no comment
-pub word_tests : (byte : ℕ) → is_blank byte ≡ false → 33 ≤ byte → byte ≤ 126 → byte ≢ 35 → Tests byte true
-word_tests byte e h k n = other_tests byte true e (within byte h k) n
+pub script_word_byte_tests : (byte : ℕ) → is_script_blank byte ≡ false → 33 ≤ byte → byte ≤ 126 → byte ≢ 35
+    → ScriptByteTests byte true
+script_word_byte_tests byte e h k n = other_tests byte true e (within byte h k) n
 
 -- a byte below printable ASCII that is no blank isn't plain and begins no comment
-pub low_tests : (byte : ℕ) → is_blank byte ≡ false → byte < 33 → byte ≢ 35 → Tests byte false
-low_tests byte e h n = other_tests byte false e (below byte h) n
+pub script_low_byte_tests : (byte : ℕ) → is_script_blank byte ≡ false → byte < 33 → byte ≢ 35
+    → ScriptByteTests byte false
+script_low_byte_tests byte e h n = other_tests byte false e (below byte h) n
 
 -- a byte above printable ASCII isn't plain and begins no comment
-pub high_tests : (byte : ℕ) → is_blank byte ≡ false → 126 < byte → byte ≢ 35 → Tests byte false
-high_tests byte e h n = other_tests byte false e (above byte h) n
+pub script_high_byte_tests : (byte : ℕ) → is_script_blank byte ≡ false → 126 < byte → byte ≢ 35
+    → ScriptByteTests byte false
+script_high_byte_tests byte e h n = other_tests byte false e (above byte h) n
 
 -- a line so far without a comment, and a plain byte more: there is still none, and its words are gathered
-pub code_so_far : (line : List ℕ) (byte : ℕ) (old new : Words) → Tests byte true
-    → (Gathers line old → Gathers (line ++ byte ∷ []) new) → IsCodeSoFar line old → IsCodeSoFar (line ++ byte ∷ []) new
-code_so_far line byte old new t f h = record {
-  code = code_more line byte h.code t.plain_is t.hash;
+pub script_code_so_far : (line : List ℕ) (byte : ℕ) (old new : LineWords) → ScriptByteTests byte true
+    → (Gathers line old → Gathers (line ++ byte ∷ []) new) → IsScriptCodeSoFar line old
+    → IsScriptCodeSoFar (line ++ byte ∷ []) new
+script_code_so_far line byte old new t f h = record {
+  code = script_code_more line byte h.code t.plain_is t.hash;
   gathers = f h.gathers;
 }
 
 -- a line so far without a comment, and a byte more that isn't plain, begins no comment and is no carriage return: the
 -- line is invalid, whatever follows
-pub code_spoils : (line : List ℕ) (byte : ℕ) (old : Words) → Tests byte false → byte ≢ 13 → IsCodeSoFar line old
-    → IsSpoiled (line ++ byte ∷ [])
-code_spoils line byte old t n h = spoils line byte h.code n t.hash t.plain_is
+pub script_code_spoiled_by_byte : (line : List ℕ) (byte : ℕ) (old : LineWords) → ScriptByteTests byte false → byte ≢ 13
+    → IsScriptCodeSoFar line old → IsSpoiledScriptLine (line ++ byte ∷ [])
+script_code_spoiled_by_byte line byte old t n h = script_byte_spoils_line line byte h.code n t.hash t.plain_is
 
 -- a whole line, where no byte has spoiled it
-pub fed_words : (line : List ℕ) (place : Place) (old : Words) (kept : List (ArrayVec ℕ))
-    → ((front : List ℕ) → Gathers front old → AreFirst kept front) → place ≢ Spoiled → HoldsAt place line old
-    → HasWords (without_return line) kept
-fed_words line Code old kept f n h = fed_code line old kept f h
-fed_words line Return old kept f n h = fed_return line h.0 old kept f h.1
-fed_words line Comment old kept f n h = fed_comment line h.0 h.1 old kept f h.2
-fed_words line Spoiled old kept f n h = absurd (n refl)
+pub script_words_at_feed : (line : List ℕ) (place : ScanState) (old : LineWords) (kept : List (ArrayVec ℕ))
+    → ((front : List ℕ) → Gathers front old → AreFirst kept front) → place ≢ Spoiled → ScriptScanHoldsAt place line old
+    → HasFirstScriptWords (script_without_return line) kept
+script_words_at_feed line Code old kept f n h = script_code_at_feed line old kept f h
+script_words_at_feed line Return old kept f n h = script_return_at_feed line h.0 old kept f h.1
+script_words_at_feed line Comment old kept f n h = script_comment_at_feed line h.0 h.1 old kept f h.2
+script_words_at_feed line Spoiled old kept f n h = absurd (n refl)
 
 -- the last line of a text, at whose end there is code or a comment, has the words that were kept
-pub ended_words : (line : List ℕ) (place : Place) (old : Words) (kept : List (ArrayVec ℕ))
+pub script_words_at_end : (line : List ℕ) (place : ScanState) (old : LineWords) (kept : List (ArrayVec ℕ))
     → ((front : List ℕ) → Gathers front old → AreFirst kept front) → (place ≡ Code) ⊎ (place ≡ Comment)
-    → HoldsAt place line old → HasWords line kept
-ended_words line Code old kept f n h = ended_code line old kept f h
-ended_words line Return old kept f (inl n) h = absurd cc
-ended_words line Return old kept f (inr n) h = absurd cc
-ended_words line Comment old kept f n h = ended_comment line h.0 h.1 old kept f h.2
-ended_words line Spoiled old kept f (inl n) h = absurd cc
-ended_words line Spoiled old kept f (inr n) h = absurd cc
+    → ScriptScanHoldsAt place line old → HasFirstScriptWords line kept
+script_words_at_end line Code old kept f n h = script_code_at_end line old kept f h
+script_words_at_end line Return old kept f (inl n) h = absurd cc
+script_words_at_end line Return old kept f (inr n) h = absurd cc
+script_words_at_end line Comment old kept f n h = script_comment_at_end line h.0 h.1 old kept f h.2
+script_words_at_end line Spoiled old kept f (inl n) h = absurd cc
+script_words_at_end line Spoiled old kept f (inr n) h = absurd cc
 
-spoiled_line : (line : List ℕ) → IsSpoiled line → line_words line ≡ None
-spoiled_line line h = ap line_words (sym (append-nil line)) ∙ h.unfed []
+spoiled_line : (line : List ℕ) → IsSpoiledScriptLine line → script_line_words line ≡ None
+spoiled_line line h = ap script_line_words (sym (append-nil line)) ∙ h.unfed []
 
 -- the last line of a text, at whose end there is a carriage return or which has an invalid byte, is invalid
-pub ended_none : (line : List ℕ) (place : Place) (old : Words) → (place ≡ Return) ⊎ (place ≡ Spoiled)
-    → HoldsAt place line old → line_words line ≡ None
-ended_none line Code old (inl n) h = absurd cc
-ended_none line Code old (inr n) h = absurd cc
-ended_none line Return old n h = ended_return line h.0 old h.1
-ended_none line Comment old (inl n) h = absurd cc
-ended_none line Comment old (inr n) h = absurd cc
-ended_none line Spoiled old n h = spoiled_line line h
+pub script_invalid_at_end : (line : List ℕ) (place : ScanState) (old : LineWords) → (place ≡ Return) ⊎ (place ≡ Spoiled)
+    → ScriptScanHoldsAt place line old → script_line_words line ≡ None
+script_invalid_at_end line Code old (inl n) h = absurd cc
+script_invalid_at_end line Code old (inr n) h = absurd cc
+script_invalid_at_end line Return old n h = script_return_at_end line h.0 old h.1
+script_invalid_at_end line Comment old (inl n) h = absurd cc
+script_invalid_at_end line Comment old (inr n) h = absurd cc
+script_invalid_at_end line Spoiled old n h = spoiled_line line h
 
 -- a line with an invalid byte is invalid, also where a line feed ends it
-pub fed_none : (line : List ℕ) (place : Place) (old : Words) → place ≡ Spoiled → HoldsAt place line old
-    → line_words (without_return line) ≡ None
-fed_none line place old e h =
-    let k : IsSpoiled line = subst (λ p. HoldsAt p line old) e h in
-    ap (λ x. line_words (without_return x)) (sym (append-nil line)) ∙ k.fed []
+pub script_invalid_at_feed : (line : List ℕ) (place : ScanState) (old : LineWords) → place ≡ Spoiled
+    → ScriptScanHoldsAt place line old → script_line_words (script_without_return line) ≡ None
+script_invalid_at_feed line place old e h =
+    let k : IsSpoiledScriptLine line = subst (λ p. ScriptScanHoldsAt p line old) e h in
+    ap (λ x. script_line_words (script_without_return x)) (sym (append-nil line)) ∙ k.fed []
 
 -- a line that a line feed ends, with the words that were kept
-pub fed_scanned : (line : List ℕ) (place : Place) (old new : Words)
-    → ((front : List ℕ) → Gathers front old → AreFirst new.ended.items front) → HoldsAt place line old
-    → IsScanned (without_return line) (words_at place new)
-fed_scanned line Code old new f h = fed_words line Code old new.ended.items f (λ e. cc) h
-fed_scanned line Return old new f h = fed_words line Return old new.ended.items f (λ e. cc) h
-fed_scanned line Comment old new f h = fed_words line Comment old new.ended.items f (λ e. cc) h
-fed_scanned line Spoiled old new f h = fed_none line Spoiled old refl h
+pub script_scanned_at_feed : (line : List ℕ) (place : ScanState) (old new : LineWords)
+    → ((front : List ℕ) → Gathers front old → AreFirst new.ended.items front) → ScriptScanHoldsAt place line old
+    → IsScannedScriptLine (script_without_return line) (script_scan_words_at place new)
+script_scanned_at_feed line Code old new f h = script_words_at_feed line Code old new.ended.items f (λ e. cc) h
+script_scanned_at_feed line Return old new f h = script_words_at_feed line Return old new.ended.items f (λ e. cc) h
+script_scanned_at_feed line Comment old new f h = script_words_at_feed line Comment old new.ended.items f (λ e. cc) h
+script_scanned_at_feed line Spoiled old new f h = script_invalid_at_feed line Spoiled old refl h
 
 -- the last line of a text, at whose end there is code or a comment, with the words that were kept
-pub ended_scanned : (line : List ℕ) (place : Place) (old new : Words)
+pub script_scanned_at_end : (line : List ℕ) (place : ScanState) (old new : LineWords)
     → ((front : List ℕ) → Gathers front old → AreFirst new.ended.items front) → (place ≡ Code) ⊎ (place ≡ Comment)
-    → HoldsAt place line old → IsScanned line (words_at place new)
-ended_scanned line Code old new f n h = ended_words line Code old new.ended.items f n h
-ended_scanned line Return old new f (inl n) h = absurd cc
-ended_scanned line Return old new f (inr n) h = absurd cc
-ended_scanned line Comment old new f n h = ended_words line Comment old new.ended.items f n h
-ended_scanned line Spoiled old new f (inl n) h = absurd cc
-ended_scanned line Spoiled old new f (inr n) h = absurd cc
+    → ScriptScanHoldsAt place line old → IsScannedScriptLine line (script_scan_words_at place new)
+script_scanned_at_end line Code old new f n h = script_words_at_end line Code old new.ended.items f n h
+script_scanned_at_end line Return old new f (inl n) h = absurd cc
+script_scanned_at_end line Return old new f (inr n) h = absurd cc
+script_scanned_at_end line Comment old new f n h = script_words_at_end line Comment old new.ended.items f n h
+script_scanned_at_end line Spoiled old new f (inl n) h = absurd cc
+script_scanned_at_end line Spoiled old new f (inr n) h = absurd cc
 
 -- a byte after a carriage return, or in a comment or a spoiled line
-pub return_more : (line : List ℕ) (byte : ℕ) (place : Place) (old : Words) → place ≡ Return → HoldsAt place line old
-    → IsSpoiled (line ++ byte ∷ [])
-return_more line byte place old e h =
-    let k : HoldsAt Return line old = subst (λ p. HoldsAt p line old) e h in
-    return_spoils line k.0 byte old k.1
+pub script_spoiled_after_return : (line : List ℕ) (byte : ℕ) (place : ScanState) (old : LineWords) → place ≡ Return
+    → ScriptScanHoldsAt place line old → IsSpoiledScriptLine (line ++ byte ∷ [])
+script_spoiled_after_return line byte place old e h =
+    let k : ScriptScanHoldsAt Return line old = subst (λ p. ScriptScanHoldsAt p line old) e h in
+    script_return_spoils_line line k.0 byte old k.1
 
 -- a byte more in a comment, or in an invalid line, changes nothing of what is held
-pub passed_more : (line : List ℕ) (byte : ℕ) (place : Place) (old : Words) → (place ≡ Comment) ⊎ (place ≡ Spoiled)
-    → HoldsAt place line old → HoldsAt place (line ++ byte ∷ []) old
-passed_more line byte Code old (inl n) h = absurd cc
-passed_more line byte Code old (inr n) h = absurd cc
-passed_more line byte Return old (inl n) h = absurd cc
-passed_more line byte Return old (inr n) h = absurd cc
-passed_more line byte Comment old n h = (h.0, h.1 ++ byte ∷ [], comment_more line h.0 h.1 byte old h.2)
-passed_more line byte Spoiled old n h = spoiled_more line byte h
+pub script_comment_byte_ignored : (line : List ℕ) (byte : ℕ) (place : ScanState) (old : LineWords) → (place ≡ Comment)
+    ⊎ (place ≡ Spoiled) → ScriptScanHoldsAt place line old → ScriptScanHoldsAt place (line ++ byte ∷ []) old
+script_comment_byte_ignored line byte Code old (inl n) h = absurd cc
+script_comment_byte_ignored line byte Code old (inr n) h = absurd cc
+script_comment_byte_ignored line byte Return old (inl n) h = absurd cc
+script_comment_byte_ignored line byte Return old (inr n) h = absurd cc
+script_comment_byte_ignored line byte Comment old n h =
+    (h.0, h.1 ++ byte ∷ [], script_comment_more line h.0 h.1 byte old h.2)
+script_comment_byte_ignored line byte Spoiled old n h = script_spoiled_more line byte h

@@ -10,13 +10,15 @@ use Rattle.swd_script.specs.declared.command.Command.{Command}
 use Rattle.swd_script.specs.declared.command.Command.TheVariants.{Memory, Room, Read as ReadCommand}
 use Rattle.swd_script.specs.declared.command.Command.TheVariants.{Write as WriteCommand, ReadMany, Block, Verify, Next}
 use Rattle.swd_script.specs.declared.command.Command.TheVariants.{Until as UntilLine}
-use Rattle.swd_script.specs.Numerals.{decimal_of, hex_of, is_prefix, number_from, numeral, word_sized}
-use Rattle.swd_script.specs.Plans.{bare_mark, mark_of, marked, place_below, placed_mark, plan_line, with_mark}
-use Rattle.swd_script.specs.Scripts.{after_command, command_of, long_command, script_line, short_command}
-use Rattle.swd_script.specs.Scripts.{until_command, Sayings}
+use Rattle.swd_script.specs.Numerals.{script_decimal_number, script_hex_number, is_script_hex_prefix}
+use Rattle.swd_script.specs.Numerals.{script_number_from, script_numeral, script_number_in_word}
+use Rattle.swd_script.specs.Plans.{plan_file_bare_mark, plan_file_mark, plan_file_marked, plan_file_place}
+use Rattle.swd_script.specs.Plans.{plan_file_placed_mark, plan_file_line, plan_file_with_mark}
+use Rattle.swd_script.specs.Scripts.{script_after_command, script_command_of, script_long_command, script_line}
+use Rattle.swd_script.specs.Scripts.{script_short_command, script_until_command, ScriptSayings}
 use Rattle.arrayvec.specs.ArrayVec.{ArrayVec}
-use Rattle.swd_script.specs.Lines.{line_words}
-use Rattle.swd_script.specs.Scans.{IsScanned}
+use Rattle.swd_script.specs.Lines.{script_line_words}
+use Rattle.swd_script.specs.Scans.{IsScannedScriptLine}
 use Rattle.swd_script.specs.Words.{texts, texts_of, first_words}
 use Rattle.swd_port.specs.declared.mark.Mark.{Mark}
 use Rattle.swd_port.specs.declared.mark.Mark.TheVariants.{Clean, Wait, Flip, Deaf, Mute}
@@ -31,50 +33,51 @@ same_name (suc n) (byte ∷ word) [] h = refl
 same_name (suc n) (byte ∷ word) (first ∷ name) h = let k : length name < n = omega arith in
     ap (λ t. nat_eq byte first && t) (same_name n word name k)
 
-no_numeral : (base longest : ℕ) (word : List ℕ) → longest < length word → numeral base longest word ≡ None
+no_numeral : (base longest : ℕ) (word : List ℕ) → longest < length word → script_numeral base longest word ≡ None
 no_numeral base longest word h =
     let e : (nat_le 1 (length word) && nat_le (length word) longest) ≡ false = grind (arith, nat_tests) in
-    ap (λ t. if t then option_and_then word_sized (number_from base 0 word) else None) e
+    ap (λ t. if t then option_and_then script_number_in_word (script_number_from base 0 word) else None) e
 
 numeral_cut : (base longest kept : ℕ) (word : List ℕ) (t : Bool) → nat_le (length word) kept ≡ t → longest < kept
-    → numeral base longest (take kept word) ≡ numeral base longest word
+    → script_numeral base longest (take kept word) ≡ script_numeral base longest word
 numeral_cut base longest kept word true e h =
     let n : length word ≤ kept = grind (arith, nat_tests) in
-    ap (numeral base longest) (take_all kept word n)
+    ap (script_numeral base longest) (take_all kept word n)
 numeral_cut base longest kept word false e h =
     let n : kept < length word = grind (arith, nat_tests) in
     let m : length (take kept word) ≡ kept = length-take-le kept word (omega arith) in
     no_numeral base longest (take kept word) (omega arith) ∙ sym (no_numeral base longest word (omega arith))
 
-hex_cut : (word : List ℕ) → hex_of (take 11 word) ≡ hex_of word
+hex_cut : (word : List ℕ) → script_hex_number (take 11 word) ≡ script_hex_number word
 hex_cut [] = refl
 hex_cut (first ∷ []) = refl
-hex_cut (first ∷ second ∷ word) = behind (is_prefix first second)
+hex_cut (first ∷ second ∷ word) = behind (is_script_hex_prefix first second)
   where
     behind : (prefix : Bool)
-        → numeral 16 8 (if prefix then take 9 word else take 11 (first ∷ second ∷ word))
-        ≡ numeral 16 8 (if prefix then word else first ∷ second ∷ word)
+        → script_numeral 16 8 (if prefix then take 9 word else take 11 (first ∷ second ∷ word))
+        ≡ script_numeral 16 8 (if prefix then word else first ∷ second ∷ word)
     behind true = numeral_cut 16 8 9 word (nat_le (length word) 9) refl (omega arith)
     behind false =
         let whole : List ℕ = first ∷ second ∷ word in
         numeral_cut 16 8 11 whole (nat_le (length whole) 11) refl (omega arith)
 
-decimal_cut : (word : List ℕ) → decimal_of (take 11 word) ≡ decimal_of word
+decimal_cut : (word : List ℕ) → script_decimal_number (take 11 word) ≡ script_decimal_number word
 decimal_cut word = numeral_cut 10 10 11 word (nat_le (length word) 11) refl (omega arith)
 
 name_cut : (word name : List ℕ) → length name < 11 → bytes_eq (take 11 word) name ≡ bytes_eq word name
 name_cut word name h = same_name 11 word name h
 
-short_cut : (name first : List ℕ) → short_command (take 11 name) (take 11 first) ≡ short_command name first
+short_cut : (name first : List ℕ) → script_short_command (take 11 name) (take 11 first)
+    ≡ script_short_command name first
 short_cut name first =
-    ap (λ t. if t then Some (Room (decimal_of (take 11 first))) else
-    (if bytes_eq (take 11 name) (codes "r") then Some (ReadCommand (hex_of (take 11 first))) else None))
+    ap (λ t. if t then Some (Room (script_decimal_number (take 11 first))) else
+    (if bytes_eq (take 11 name) (codes "r") then Some (ReadCommand (script_hex_number (take 11 first))) else None))
     (name_cut name (codes "room") (omega arith))
-    ∙ ap (λ t. if bytes_eq name (codes "room") then Some (Room (decimal_of (take 11 first))) else
-    (if t then Some (ReadCommand (hex_of (take 11 first))) else None)) (name_cut name (codes "r") (omega arith))
-    ∙ ap (λ n. if bytes_eq name (codes "room") then Some (Room n) else
-    (if bytes_eq name (codes "r") then Some (ReadCommand (hex_of (take 11 first))) else None)) (decimal_cut first)
-    ∙ ap (λ n. if bytes_eq name (codes "room") then Some (Room (decimal_of first)) else
+    ∙ ap (λ t. if bytes_eq name (codes "room") then Some (Room (script_decimal_number (take 11 first))) else
+    (if t then Some (ReadCommand (script_hex_number (take 11 first))) else None))
+    (name_cut name (codes "r") (omega arith)) ∙ ap (λ n. if bytes_eq name (codes "room") then Some (Room n) else
+    (if bytes_eq name (codes "r") then Some (ReadCommand (script_hex_number (take 11 first))) else None))
+    (decimal_cut first) ∙ ap (λ n. if bytes_eq name (codes "room") then Some (Room (script_decimal_number first)) else
     (if bytes_eq name (codes "r") then Some (ReadCommand n) else None)) (hex_cut first)
 
 abbrev long_shape : Bool → Bool → Bool → Bool → Bool → Option ℕ → Option ℕ → Option ℕ → Option Command
@@ -86,12 +89,12 @@ long_shape memory write many block verify first second count =
     (if verify then Some (Verify first second) else None))))
 
 long_cut : (name first second : List ℕ)
-    → long_command (take 11 name) (take 11 first) (take 11 second) ≡ long_command name first second
+    → script_long_command (take 11 name) (take 11 first) (take 11 second) ≡ script_long_command name first second
 long_cut name first second =
     let kept = take 11 name in
-    let f = hex_of (take 11 first) in
-    let s = hex_of (take 11 second) in
-    let d = decimal_of (take 11 second) in
+    let f = script_hex_number (take 11 first) in
+    let s = script_hex_number (take 11 second) in
+    let d = script_decimal_number (take 11 second) in
     let memory = bytes_eq name (codes "memory") in
     let write = bytes_eq name (codes "w") in
     let many = bytes_eq name (codes "rn") in
@@ -108,28 +111,30 @@ long_cut name first second =
     ∙ ap (λ t. long_shape memory write many t last f s d) (name_cut name (codes "block") (omega arith))
     ∙ ap (λ t. long_shape memory write many block t f s d) (name_cut name (codes "verify") (omega arith))
     ∙ ap (λ n. long_shape memory write many block verify n s d) (hex_cut first)
-    ∙ ap (λ n. long_shape memory write many block verify (hex_of first) n d) (hex_cut second)
-    ∙ ap (λ n. long_shape memory write many block verify (hex_of first) (hex_of second) n) (decimal_cut second)
+    ∙ ap (λ n. long_shape memory write many block verify (script_hex_number first) n d) (hex_cut second)
+    ∙ ap (λ n. long_shape memory write many block verify (script_hex_number first) (script_hex_number second) n)
+    (decimal_cut second)
 
 abbrev until_shape : Bool → Option ℕ → Option ℕ → Option ℕ → Option ℕ → Option Command
 until_shape until addr mask value most = if until then Some (UntilLine addr mask value most) else None
 
 until_cut : (name addr mask value most : List ℕ)
-    → until_command (take 11 name) (take 11 addr) (take 11 mask) (take 11 value) (take 11 most)
-    ≡ until_command name addr mask value most
+    → script_until_command (take 11 name) (take 11 addr) (take 11 mask) (take 11 value) (take 11 most)
+    ≡ script_until_command name addr mask value most
 until_cut name addr mask value most =
-    let a = hex_of (take 11 addr) in
-    let m = hex_of (take 11 mask) in
-    let v = hex_of (take 11 value) in
-    let n = decimal_of (take 11 most) in
+    let a = script_hex_number (take 11 addr) in
+    let m = script_hex_number (take 11 mask) in
+    let v = script_hex_number (take 11 value) in
+    let n = script_decimal_number (take 11 most) in
     let until = bytes_eq name (codes "until") in
     ap (λ t. until_shape t a m v n) (name_cut name (codes "until") (omega arith))
     ∙ ap (λ x. until_shape until x m v n) (hex_cut addr)
-    ∙ ap (λ x. until_shape until (hex_of addr) x v n) (hex_cut mask)
-    ∙ ap (λ x. until_shape until (hex_of addr) (hex_of mask) x n) (hex_cut value)
-    ∙ ap (λ x. until_shape until (hex_of addr) (hex_of mask) (hex_of value) x) (decimal_cut most)
+    ∙ ap (λ x. until_shape until (script_hex_number addr) x v n) (hex_cut mask)
+    ∙ ap (λ x. until_shape until (script_hex_number addr) (script_hex_number mask) x n) (hex_cut value)
+    ∙ ap (λ x. until_shape until (script_hex_number addr) (script_hex_number mask) (script_hex_number value) x)
+    (decimal_cut most)
 
-command_cut : (all : List (List ℕ)) → command_of (first_words all) ≡ command_of all
+command_cut : (all : List (List ℕ)) → script_command_of (first_words all) ≡ script_command_of all
 command_cut [] = refl
 command_cut (name ∷ []) = ap (λ t. if t then Some Next else None) (name_cut name (codes "next") (omega arith))
 command_cut (name ∷ first ∷ []) = short_cut name first
@@ -139,29 +144,30 @@ command_cut (name ∷ first ∷ second ∷ third ∷ fourth ∷ []) = until_cut 
 command_cut (name ∷ first ∷ second ∷ third ∷ fourth ∷ fifth ∷ more) = refl
 
 -- no command has four words
-pub no_four : (words : List (ArrayVec ℕ)) → 4 ≤ length words → length words < 5 → command_of (texts words) ≡ None
-no_four [] low high = absurd (omega arith)
-no_four (a ∷ []) low high = absurd (omega arith)
-no_four (a ∷ b ∷ []) low high = absurd (omega arith)
-no_four (a ∷ b ∷ c ∷ []) low high = absurd (omega arith)
-no_four (a ∷ b ∷ c ∷ d ∷ []) low high = refl
-no_four (a ∷ b ∷ c ∷ d ∷ e ∷ more) low high = absurd (omega arith)
+pub script_no_four_words : (words : List (ArrayVec ℕ)) → 4 ≤ length words → length words < 5
+    → script_command_of (texts words) ≡ None
+script_no_four_words [] low high = absurd (omega arith)
+script_no_four_words (a ∷ []) low high = absurd (omega arith)
+script_no_four_words (a ∷ b ∷ []) low high = absurd (omega arith)
+script_no_four_words (a ∷ b ∷ c ∷ []) low high = absurd (omega arith)
+script_no_four_words (a ∷ b ∷ c ∷ d ∷ []) low high = refl
+script_no_four_words (a ∷ b ∷ c ∷ d ∷ e ∷ more) low high = absurd (omega arith)
 
 -- nor more than five
-pub no_more : (words : List (ArrayVec ℕ)) → 6 ≤ length words → command_of (texts words) ≡ None
-no_more [] low = absurd (omega arith)
-no_more (a ∷ []) low = absurd (omega arith)
-no_more (a ∷ b ∷ []) low = absurd (omega arith)
-no_more (a ∷ b ∷ c ∷ []) low = absurd (omega arith)
-no_more (a ∷ b ∷ c ∷ d ∷ []) low = absurd (omega arith)
-no_more (a ∷ b ∷ c ∷ d ∷ e ∷ []) low = absurd (omega arith)
-no_more (a ∷ b ∷ c ∷ d ∷ e ∷ f ∷ more) low = refl
+pub script_no_six_words : (words : List (ArrayVec ℕ)) → 6 ≤ length words → script_command_of (texts words) ≡ None
+script_no_six_words [] low = absurd (omega arith)
+script_no_six_words (a ∷ []) low = absurd (omega arith)
+script_no_six_words (a ∷ b ∷ []) low = absurd (omega arith)
+script_no_six_words (a ∷ b ∷ c ∷ []) low = absurd (omega arith)
+script_no_six_words (a ∷ b ∷ c ∷ d ∷ []) low = absurd (omega arith)
+script_no_six_words (a ∷ b ∷ c ∷ d ∷ e ∷ []) low = absurd (omega arith)
+script_no_six_words (a ∷ b ∷ c ∷ d ∷ e ∷ f ∷ more) low = refl
 
 -- the first words of a line say what all of them say
-pub script_cut : (number : ℕ) (said : Sayings) (all : List (List ℕ))
+pub script_line_cut : (number : ℕ) (said : ScriptSayings) (all : List (List ℕ))
     → script_line number said (Some (first_words all)) ≡ script_line number said (Some all)
-script_cut number said [] = refl
-script_cut number said (name ∷ arguments) = ap (after_command number said) (command_cut (name ∷ arguments))
+script_line_cut number said [] = refl
+script_line_cut number said (name ∷ arguments) = ap (script_after_command number said) (command_cut (name ∷ arguments))
 
 abbrev bare_shape : Bool → Bool → Bool → Result Mark LineFault
 bare_shape clean wait deaf = if clean then Ok Clean else
@@ -169,10 +175,10 @@ bare_shape clean wait deaf = if clean then Ok Clean else
 
 abbrev placed_shape : Bool → Bool → Option ℕ → Result Mark LineFault
 placed_shape flip mute place =
-    if flip then marked (λ bit. Flip bit) (place_below 33 place) else
-    (if mute then marked (λ bit. Mute bit) (place_below 3 place) else Err Word)
+    if flip then plan_file_marked (λ bit. Flip bit) (plan_file_place 33 place) else
+    (if mute then plan_file_marked (λ bit. Mute bit) (plan_file_place 3 place) else Err Word)
 
-bare_cut : (name : List ℕ) → bare_mark (take 11 name) ≡ bare_mark name
+bare_cut : (name : List ℕ) → plan_file_bare_mark (take 11 name) ≡ plan_file_bare_mark name
 bare_cut name =
     let kept = take 11 name in
     let clean = bytes_eq name (codes ".") in
@@ -182,16 +188,17 @@ bare_cut name =
     ∙ ap (λ t. bare_shape clean t (bytes_eq kept (codes "deaf"))) (name_cut name (codes "wait") (omega arith))
     ∙ ap (λ t. bare_shape clean wait t) (name_cut name (codes "deaf") (omega arith))
 
-placed_cut : (name place : List ℕ) → placed_mark (take 11 name) (take 11 place) ≡ placed_mark name place
+placed_cut : (name place : List ℕ) → plan_file_placed_mark (take 11 name) (take 11 place)
+    ≡ plan_file_placed_mark name place
 placed_cut name place =
     let kept = take 11 name in
-    let number = decimal_of (take 11 place) in
+    let number = script_decimal_number (take 11 place) in
     let flip = bytes_eq name (codes "flip") in
     ap (λ t. placed_shape t (bytes_eq kept (codes "mute")) number) (name_cut name (codes "flip") (omega arith))
     ∙ ap (λ t. placed_shape flip t number) (name_cut name (codes "mute") (omega arith))
     ∙ ap (λ n. placed_shape flip (bytes_eq name (codes "mute")) n) (decimal_cut place)
 
-mark_cut : (all : List (List ℕ)) → mark_of (first_words all) ≡ mark_of all
+mark_cut : (all : List (List ℕ)) → plan_file_mark (first_words all) ≡ plan_file_mark all
 mark_cut [] = refl
 mark_cut (name ∷ []) = bare_cut name
 mark_cut (name ∷ place ∷ []) = placed_cut name place
@@ -200,23 +207,25 @@ mark_cut (name ∷ place ∷ third ∷ fourth ∷ []) = refl
 mark_cut (name ∷ place ∷ third ∷ fourth ∷ fifth ∷ []) = refl
 mark_cut (name ∷ place ∷ third ∷ fourth ∷ fifth ∷ sixth ∷ more) = refl
 
-pub plan_cut : (marks : List Mark) (all : List (List ℕ))
-    → plan_line marks (Some (first_words all)) ≡ plan_line marks (Some all)
-plan_cut marks [] = refl
-plan_cut marks (name ∷ arguments) = ap (with_mark marks) (mark_cut (name ∷ arguments))
+pub plan_file_line_cut : (marks : List Mark) (all : List (List ℕ))
+    → plan_file_line marks (Some (first_words all)) ≡ plan_file_line marks (Some all)
+plan_file_line_cut marks [] = refl
+plan_file_line_cut marks (name ∷ arguments) = ap (plan_file_with_mark marks) (mark_cut (name ∷ arguments))
 
 -- what the first words of a line say is what the line says
-pub script_words : (number : ℕ) (said : Sayings) (line : List ℕ) (words : Option (ArrayVec (ArrayVec ℕ)))
-    → IsScanned line words
-    → script_line number said (texts_of words) ≡ script_line number said (line_words line)
-script_words number said line None h = ap (script_line number said) (sym h)
-script_words number said line (Some kept) h =
-    ap (λ x. script_line number said (Some x)) h.first ∙ script_cut number said h.all
+pub script_line_of_first_words : (number : ℕ) (said : ScriptSayings) (line : List ℕ)
+    (words : Option (ArrayVec (ArrayVec ℕ))) → IsScannedScriptLine line words
+    → script_line number said (texts_of words) ≡ script_line number said (script_line_words line)
+script_line_of_first_words number said line None h = ap (script_line number said) (sym h)
+script_line_of_first_words number said line (Some kept) h =
+    ap (λ x. script_line number said (Some x)) h.first ∙ script_line_cut number said h.all
     ∙ ap (script_line number said) (sym h.are)
 
 -- the first words of a plan's line say what all its words say
-pub plan_words : (marks : List Mark) (line : List ℕ) (words : Option (ArrayVec (ArrayVec ℕ))) → IsScanned line words
-    → plan_line marks (texts_of words) ≡ plan_line marks (line_words line)
-plan_words marks line None h = ap (plan_line marks) (sym h)
-plan_words marks line (Some kept) h =
-    ap (λ x. plan_line marks (Some x)) h.first ∙ plan_cut marks h.all ∙ ap (plan_line marks) (sym h.are)
+pub plan_file_line_of_words : (marks : List Mark) (line : List ℕ) (words : Option (ArrayVec (ArrayVec ℕ)))
+    → IsScannedScriptLine line words
+    → plan_file_line marks (texts_of words) ≡ plan_file_line marks (script_line_words line)
+plan_file_line_of_words marks line None h = ap (plan_file_line marks) (sym h)
+plan_file_line_of_words marks line (Some kept) h =
+    ap (λ x. plan_file_line marks (Some x)) h.first ∙ plan_file_line_cut marks h.all ∙ ap (plan_file_line marks)
+    (sym h.are)

@@ -6,18 +6,18 @@ use Rattle.swd_port.specs.declared.access.Access.TheVariants.{Read, Write}
 use Rattle.swd_port.specs.declared.mark.Mark.TheVariants.{Clean, Wait, Flip, Deaf, Mute}
 use Rattle.swd_script.specs.declared.fault.ScriptFault.TheVariants.{Word, Number, Range, NoMemoryLine}
 use Rattle.swd_script.specs.Plans.{plan_of}
-use Rattle.swd_script.specs.Scripts.{Listed, script_of}
+use Rattle.swd_script.specs.Scripts.{ScriptListed, script_of}
 
 -- a line and its line feed
 fed : List ℕ → List ℕ
 fed line = line ++ 10 ∷ []
 
 -- single accesses
-single : List Access → Listed
+single : List Access → ScriptListed
 single accesses = record { accesses = accesses; block = None; expected = []; until = None }
 
 -- three reads as a block
-of_block : Listed
+of_block : ScriptListed
 of_block = record {
   accesses = Read 536870912 ∷ Read 536870916 ∷ Read 536870920 ∷ [];
   block = Some 536870912;
@@ -128,7 +128,7 @@ unfolding fed single of_block
 calls = refl
 
 -- the call of an `until`
-waits : ℕ → ℕ → ℕ → ℕ → Listed
+waits : ℕ → ℕ → ℕ → ℕ → ScriptListed
 waits addr mask value most = record {
   accesses = Read addr ∷ [];
   block = None;

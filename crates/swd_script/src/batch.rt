@@ -1,7 +1,7 @@
 //! The accesses of one call.
 ghost use Rattle.std.specs.Prelude.{◌≡◌, IfSome};
-ghost use Rattle.swd_script.specs.Readers.{listed};
-ghost use Rattle.swd_script.specs.Scripts.{nothing_listed, until_listed};
+ghost use Rattle.swd_script.specs.Readers.{script_batch_listed};
+ghost use Rattle.swd_script.specs.Scripts.{script_nothing_listed, script_until_listed};
 
 use std::alloc::Allocator;
 use swd_port::Access;
@@ -48,7 +48,7 @@ pub struct Expected {
 impl<A: Allocator + Copy> Batch<A> {
     /// Returns a call without accesses.
     pub(crate) fn new(alloc: A) -> Batch<A>
-        ensures { listed result ≡ nothing_listed }
+        ensures { script_batch_listed result ≡ script_nothing_listed }
     {
         Batch {
             accesses: Vec::new(alloc),
@@ -60,7 +60,7 @@ impl<A: Allocator + Copy> Batch<A> {
 
     /// Returns the call of an `until`. Returns `None` if an allocation fails.
     pub(crate) fn waiting(alloc: A, until: Until) -> Option<Batch<A>>
-        ensures { IfSome result (λ batch. listed batch ≡ until_listed until) }
+        ensures { IfSome result (λ batch. script_batch_listed batch ≡ script_until_listed until) }
     {
         let mut accesses = Vec::new(alloc);
         let Ok(()) = accesses.push(Access::Read(until.addr)) else {

@@ -1,6 +1,7 @@
 //! The commands of a script.
 ghost use Rattle.std.specs.Prelude.{◌≡◌};
-ghost use Rattle.swd_script.specs.Scripts.{bare_command, command_of, long_command, short_command, until_command};
+ghost use Rattle.swd_script.specs.Scripts.{script_bare_command, script_command_of, script_long_command};
+ghost use Rattle.swd_script.specs.Scripts.{script_short_command, script_until_command};
 ghost use Rattle.swd_script.specs.Words.{texts};
 
 use crate::numeral::{decimal_of, hex_of};
@@ -56,7 +57,7 @@ pub(crate) enum Command {
 /// Returns the command of a line's first words. Returns `None` if the command is unknown, or has a wrong
 /// number of arguments.
 pub(crate) fn command_of(words: &[Word]) -> Option<Command>
-    ensures { result ≡ command_of (texts words.now) }
+    ensures { result ≡ script_command_of (texts words.now) }
 {
     match words {
         [name] => bare_command(name.as_slice()),
@@ -77,7 +78,7 @@ pub(crate) fn command_of(words: &[Word]) -> Option<Command>
 
 // Returns the command without arguments that has this name.
 fn bare_command(name: &[u8]) -> Option<Command>
-    ensures { result ≡ bare_command name.now }
+    ensures { result ≡ script_bare_command name.now }
 {
     if name == b"next".as_slice() {
         Some(Command::Next)
@@ -88,7 +89,7 @@ fn bare_command(name: &[u8]) -> Option<Command>
 
 // Returns the command with one argument that has this name.
 fn short_command(name: &[u8], first: &[u8]) -> Option<Command>
-    ensures { result ≡ short_command name.now first.now }
+    ensures { result ≡ script_short_command name.now first.now }
 {
     if name == b"room".as_slice() {
         return Some(Command::Room {
@@ -105,7 +106,7 @@ fn short_command(name: &[u8], first: &[u8]) -> Option<Command>
 
 // Returns the command with two arguments that has this name.
 fn long_command(name: &[u8], first: &[u8], second: &[u8]) -> Option<Command>
-    ensures { result ≡ long_command name.now first.now second.now }
+    ensures { result ≡ script_long_command name.now first.now second.now }
 {
     if name == b"memory".as_slice() {
         return Some(Command::Memory {
@@ -148,7 +149,7 @@ fn until_command(
     value: &[u8],
     most: &[u8],
 ) -> Option<Command>
-    ensures { result ≡ until_command name.now addr.now mask.now value.now most.now }
+    ensures { result ≡ script_until_command name.now addr.now mask.now value.now most.now }
 {
     if name == b"until".as_slice() {
         return Some(Command::Until {

@@ -1,7 +1,7 @@
 //! What the lines of a script have said so far.
 ghost use Rattle.std.specs.Prelude.{◌≡◌, ◌+◌, ◌∷◌, [], length, nat_le, ok_or};
 ghost use Rattle.std.specs.Prelude.{Ok, Err, OnOk, IfErr, IfOk, option_copied};
-ghost use Rattle.swd_script.specs.Scripts.{are_words, can_come};
+ghost use Rattle.swd_script.specs.Scripts.{are_script_words, script_until_can_match};
 
 use crate::batch::{Batch, Expected, Until};
 use crate::command::{Command, command_of};
@@ -38,17 +38,20 @@ pub struct Draft<A: Allocator> {
 
 impl<A: Allocator + Copy> Draft<A> {
     ghost use Rattle.swd_port.specs.declared.access.Access.{Access};
-    ghost use Rattle.swd_port.specs.PlainMemory.{reads};
+    ghost use Rattle.swd_port.specs.PlainMemory.{plain_reads};
     ghost use Rattle.swd_script.specs.declared.batch.Expected.{Expected as TheExpected};
-    ghost use Rattle.swd_script.specs.Scripts.{as_block, as_expected, carried_out, has_begun, misplaced, nothing_said};
-    ghost use Rattle.swd_script.specs.Scripts.{script_line, script_meaning, with_accesses, with_memory, with_next};
-    ghost use Rattle.swd_script.specs.Scripts.{further, with_room, with_until, with_verified};
-    ghost use Rattle.swd_script.specs.Readers.{IsEndFault, IsFaultOf, meaning, said};
+    ghost use Rattle.swd_script.specs.Scripts.{script_as_block, script_as_expected, script_command_added};
+    ghost use Rattle.swd_script.specs.Scripts.{script_has_calls, misplaced_script_command, script_nothing_said};
+    ghost use Rattle.swd_script.specs.Scripts.{script_line, script_meaning, script_with_accesses, script_with_memory};
+    ghost use Rattle.swd_script.specs.Scripts.{script_with_next, script_further, script_with_room, script_with_until};
+    ghost use Rattle.swd_script.specs.Scripts.{script_with_verified};
+    ghost use Rattle.swd_script.specs.Readers.{IsScriptEndFault, IsScriptLineFault, read_script_meaning};
+    ghost use Rattle.swd_script.specs.Readers.{script_draft_sayings};
     ghost use Rattle.swd_script.specs.Words.{texts_of};
 
     /// Returns the state before the first line.
     pub(crate) fn new(alloc: A) -> Draft<A>
-        ensures { said result ≡ nothing_said }
+        ensures { script_draft_sayings result ≡ script_nothing_said }
     {
         Draft {
             alloc,
@@ -63,9 +66,9 @@ impl<A: Allocator + Copy> Draft<A> {
     /// After an error the state is unspecified.
     pub(crate) fn line(&mut self, number: u64, words: Option<&FirstWords>) -> Result<(), LineFault>
         ensures ok { OnOk result
-            (script_line number (said self.old) (texts_of (option_copied words.entry)) ≡ Ok (said self.new)) }
+            (script_line number (script_draft_sayings self.old) (texts_of (option_copied words.entry)) ≡ Ok (script_draft_sayings self.new)) }
         ensures err { IfErr result
-            (λ fault. IsFaultOf fault (script_line number (said self.old) (texts_of (option_copied words.entry)))) }
+            (λ fault. IsScriptLineFault fault (script_line number (script_draft_sayings self.old) (texts_of (option_copied words.entry)))) }
     {
         let Some(words) = words else {
             return Err(LineFault::Word);
@@ -84,7 +87,7 @@ impl<A: Allocator + Copy> Draft<A> {
 
     // Returns the error of a command that isn't allowed here.
     fn misplaced(&self, command: Command) -> Option<LineFault>
-        ensures { result ≡ misplaced (said self.now) command }
+        ensures { result ≡ misplaced_script_command (script_draft_sayings self.now) command }
     {
         match command {
             Command::Memory { .. } if self.memory.is_some() => Some(LineFault::Word),
@@ -105,15 +108,17 @@ impl<A: Allocator + Copy> Draft<A> {
 
     // Returns whether there was an access or a line `next`.
     fn has_begun(&self) -> bool
-        ensures { result ≡ has_begun (said self.now) }
+        ensures { result ≡ script_has_calls (script_draft_sayings self.now) }
     {
         !self.earlier.is_empty() || !self.batch.accesses.is_empty()
     }
 
     // Adds a command that is allowed here, on the line with this number.
     fn carry_out(&mut self, line: u64, command: Command) -> Result<(), LineFault>
-        ensures ok { OnOk result (carried_out line (said self.old) command ≡ Ok (said self.new)) }
-        ensures err { IfErr result (λ fault. IsFaultOf fault (carried_out line (said self.old) command)) }
+        ensures ok { OnOk result (script_command_added line (script_draft_sayings self.old) command
+            ≡ Ok (script_draft_sayings self.new)) }
+        ensures err { IfErr result (λ fault. IsScriptLineFault fault
+            (script_command_added line (script_draft_sayings self.old) command)) }
     {
         match command {
             Command::Memory { base, words } => self.set_memory(number(base)?, number(words)?),
@@ -148,8 +153,10 @@ impl<A: Allocator + Copy> Draft<A> {
     }
 
     fn set_memory(&mut self, base: u32, words: u32) -> Result<(), LineFault>
-        ensures ok { OnOk result (with_memory (said self.old) base words ≡ Ok (said self.new)) }
-        ensures err { IfErr result (λ fault. IsFaultOf fault (with_memory (said self.old) base words)) }
+        ensures ok { OnOk result (script_with_memory (script_draft_sayings self.old) base words
+            ≡ Ok (script_draft_sayings self.new)) }
+        ensures err { IfErr result (λ fault. IsScriptLineFault fault
+            (script_with_memory (script_draft_sayings self.old) base words)) }
     {
         if !are_words(base, words) || words > MOST {
             return Err(LineFault::Range);
@@ -159,8 +166,10 @@ impl<A: Allocator + Copy> Draft<A> {
     }
 
     fn set_room(&mut self, count: u32) -> Result<(), LineFault>
-        ensures ok { OnOk result (with_room (said self.old) count ≡ Ok (said self.new)) }
-        ensures err { IfErr result (λ fault. IsFaultOf fault (with_room (said self.old) count)) }
+        ensures ok { OnOk result (script_with_room (script_draft_sayings self.old) count
+            ≡ Ok (script_draft_sayings self.new)) }
+        ensures err { IfErr result (λ fault. IsScriptLineFault fault
+            (script_with_room (script_draft_sayings self.old) count)) }
     {
         if count > MOST {
             return Err(LineFault::Range);
@@ -171,9 +180,10 @@ impl<A: Allocator + Copy> Draft<A> {
 
     // Adds an access at an address.
     fn add(&mut self, addr: u32, access: Access) -> Result<(), LineFault>
-        ensures ok { OnOk result (with_accesses (further (said self.old)) addr 1 (access ∷ []) ≡ Ok (said self.new)) }
+        ensures ok { OnOk result (script_with_accesses (script_further (script_draft_sayings self.old)) addr 1
+            (access ∷ []) ≡ Ok (script_draft_sayings self.new)) }
         ensures err { IfErr result (λ fault.
-            IsFaultOf fault (with_accesses (further (said self.old)) addr 1 (access ∷ []))) }
+            IsScriptLineFault fault (script_with_accesses (script_further (script_draft_sayings self.old)) addr 1 (access ∷ []))) }
     {
         if !are_words(addr, 1) || !self.has_room_for(1) {
             return Err(LineFault::Range);
@@ -187,10 +197,11 @@ impl<A: Allocator + Copy> Draft<A> {
 
     // Adds `count` reads from an address on.
     fn add_reads(&mut self, addr: u32, count: u32) -> Result<(), LineFault>
-        ensures ok { OnOk result (with_accesses (further (said self.old)) addr count (reads addr count)
-            ≡ Ok (said self.new)) }
+        ensures ok { OnOk result (script_with_accesses (script_further (script_draft_sayings self.old)) addr count
+            (plain_reads addr count)
+            ≡ Ok (script_draft_sayings self.new)) }
         ensures err { IfErr result (λ fault.
-            IsFaultOf fault (with_accesses (further (said self.old)) addr count (reads addr count))) }
+            IsScriptLineFault fault (script_with_accesses (script_further (script_draft_sayings self.old)) addr count (plain_reads addr count))) }
     {
         if !are_words(addr, count) || !self.has_room_for(count) {
             return Err(LineFault::Range);
@@ -204,8 +215,10 @@ impl<A: Allocator + Copy> Draft<A> {
 
     // Adds a read with the word that the line with this number expects.
     fn add_verified(&mut self, line: u64, addr: u32, word: u32) -> Result<(), LineFault>
-        ensures ok { OnOk result (with_verified line (further (said self.old)) addr word ≡ Ok (said self.new)) }
-        ensures err { IfErr result (λ fault. IsFaultOf fault (with_verified line (further (said self.old)) addr word)) }
+        ensures ok { OnOk result (script_with_verified line (script_further (script_draft_sayings self.old)) addr word
+            ≡ Ok (script_draft_sayings self.new)) }
+        ensures err { IfErr result (λ fault. IsScriptLineFault fault
+            (script_with_verified line (script_further (script_draft_sayings self.old)) addr word)) }
     {
         let place = self.place();
         self.add(addr, Access::Read(addr))?;
@@ -223,8 +236,10 @@ impl<A: Allocator + Copy> Draft<A> {
 
     // Adds the call of an `until`, and ends the call before it if that has accesses.
     fn add_until(&mut self, until: Until) -> Result<(), LineFault>
-        ensures ok { OnOk result (with_until (said self.old) until ≡ Ok (said self.new)) }
-        ensures err { IfErr result (λ fault. IsFaultOf fault (with_until (said self.old) until)) }
+        ensures ok { OnOk result (script_with_until (script_draft_sayings self.old) until
+            ≡ Ok (script_draft_sayings self.new)) }
+        ensures err { IfErr result (λ fault. IsScriptLineFault fault
+            (script_with_until (script_draft_sayings self.old) until)) }
     {
         if !are_words(until.addr, 1) || !can_come(until) {
             return Err(LineFault::Range);
@@ -241,7 +256,7 @@ impl<A: Allocator + Copy> Draft<A> {
 
     // Starts a further call, if the current one is that of an `until`.
     fn leave_until(&mut self) -> Result<(), LineFault>
-        ensures ok { OnOk result (further (said self.old) ≡ said self.new) }
+        ensures ok { OnOk result (script_further (script_draft_sayings self.old) ≡ script_draft_sayings self.new) }
         ensures err { IfErr result (λ fault. fault ≡ LineFault.Memory) }
     {
         if self.batch.until.is_none() {
@@ -252,7 +267,7 @@ impl<A: Allocator + Copy> Draft<A> {
 
     // Ends the current call, and starts a further one.
     fn end_batch(&mut self) -> Result<(), LineFault>
-        ensures ok { OnOk result (with_next (said self.old) ≡ said self.new) }
+        ensures ok { OnOk result (script_with_next (script_draft_sayings self.old) ≡ script_draft_sayings self.new) }
         ensures err { IfErr result (λ fault. fault ≡ LineFault.Memory) }
     {
         let batch = mem::replace(&mut self.batch, Batch::new(self.alloc));
@@ -264,10 +279,11 @@ impl<A: Allocator + Copy> Draft<A> {
 
     // Adds the reads of a block, which are the only accesses of their call.
     fn add_block(&mut self, addr: u32, count: u32) -> Result<(), LineFault>
-        ensures ok { OnOk result (as_block addr (with_accesses (further (said self.old)) addr count (reads addr count))
-            ≡ Ok (said self.new)) }
+        ensures ok { OnOk result (script_as_block addr
+            (script_with_accesses (script_further (script_draft_sayings self.old)) addr count (plain_reads addr count))
+            ≡ Ok (script_draft_sayings self.new)) }
         ensures err { IfErr result (λ fault.
-            IsFaultOf fault (as_block addr (with_accesses (further (said self.old)) addr count (reads addr count)))) }
+            IsScriptLineFault fault (script_as_block addr (script_with_accesses (script_further (script_draft_sayings self.old)) addr count (plain_reads addr count)))) }
     {
         self.add_reads(addr, count)?;
         self.batch.block = Some(addr);
@@ -276,7 +292,7 @@ impl<A: Allocator + Copy> Draft<A> {
 
     // Returns the index that the next access gets in its call. After an `until` that is a further call.
     fn place(&self) -> usize
-        ensures { result ≡ length (further (said self.now)).batch.accesses }
+        ensures { result ≡ length (script_further (script_draft_sayings self.now)).batch.accesses }
     {
         if self.batch.until.is_some() {
             0
@@ -287,15 +303,17 @@ impl<A: Allocator + Copy> Draft<A> {
 
     // Returns whether the call of the next access may have `count` more accesses.
     fn has_room_for(&self, count: u32) -> bool
-        ensures { result ≡ nat_le (length (further (said self.now)).batch.accesses + count) 65536 }
+        ensures { result ≡ nat_le (length (script_further (script_draft_sayings self.now)).batch.accesses + count) 65536 }
     {
         self.place() as u64 + u64::from(count) <= u64::from(MOST_ACCESSES)
     }
 
     /// Returns the whole script, whose last line has this number.
     pub(crate) fn finish(self, line: u64) -> Result<Script<A>, ScriptFault>
-        ensures ok { IfOk result (λ script. script_meaning self.memory (said self) ≡ Ok (meaning script)) }
-        ensures err { IfErr result (λ fault. IsEndFault fault line (script_meaning self.memory (said self))) }
+        ensures ok { IfOk result (λ script. script_meaning self.memory (script_draft_sayings self)
+            ≡ Ok (read_script_meaning script)) }
+        ensures err { IfErr result (λ fault. IsScriptEndFault fault line
+            (script_meaning self.memory (script_draft_sayings self))) }
     {
         let Draft {
             alloc: _,
@@ -328,14 +346,14 @@ fn number(reading: Option<u32>) -> Result<u32, LineFault>
 // Returns whether `count` words from an address on are at least one, at multiples of 4, and end within 32
 // bits.
 fn are_words(addr: u32, count: u32) -> bool
-    ensures { result ≡ are_words addr count }
+    ensures { result ≡ are_script_words addr count }
 {
     addr % 4 == 0 && count >= 1 && u64::from(addr) + 4 * u64::from(count) <= 1 << 32
 }
 
 // Returns whether the word of an `until` can come, and the number of its reads is in range.
 fn can_come(until: Until) -> bool
-    ensures { result ≡ can_come until }
+    ensures { result ≡ script_until_can_match until }
 {
     until.value & until.mask == until.value && until.most >= 1 && until.most <= MOST_READS
 }

@@ -1,6 +1,6 @@
 //! Errors of a script or a plan.
 ghost use Rattle.std.specs.Prelude.{◌≡◌};
-ghost use Rattle.swd_script.specs.Faults.{fault_at};
+ghost use Rattle.swd_script.specs.Faults.{script_fault_at};
 
 use thiserror::Error;
 
@@ -41,7 +41,7 @@ pub enum LineFault {
 impl LineFault {
     /// Returns the error of the line with this number.
     pub(crate) fn at(self, line: u64) -> ScriptFault
-        ensures { result ≡ fault_at self line }
+        ensures { result ≡ script_fault_at self line }
     {
         match self {
             LineFault::Word => ScriptFault::Word { line },

@@ -1,12 +1,12 @@
 //! Reads input line by line, however it is divided into pieces.
 ghost use Rattle.std.specs.Prelude.{◌++◌, ◌∷◌, [], ℕ, List, OnOk, IfErr, IfOk, IfSome, option_copied};
-ghost use Rattle.swd_io.specs.Pieces.{IsText, IsUnread};
+ghost use Rattle.swd_io.specs.Pieces.{IsReaderText, IsUnreadByConsumer};
 ghost use Rattle.swd_script.specs.declared.fault.ScriptFault.{ScriptFault as TheFault};
-ghost use Rattle.swd_script.specs.Lines.{lines};
-ghost use Rattle.swd_script.specs.Readers.{HasLast, LineLeads, LineStops};
+ghost use Rattle.swd_script.specs.Lines.{script_lines};
+ghost use Rattle.swd_script.specs.Readers.{HasLastScriptLine, ScriptLineLeads, ScriptLineStops};
 
 use crate::fault::{LineFault, ScriptFault};
-use crate::lines::Lines;
+use crate::lines::ScriptLines;
 use crate::words::FirstWords;
 use std::io::Read;
 use swd_io::{Consumer, Unread, read_pieces};
@@ -29,13 +29,15 @@ pub trait LineSink: Drop {
     /// Adds the line with this number and these first words. `None` stands for a line with an invalid byte.
     /// After an error the state is unspecified.
     fn add_line(&mut self, number: u64, words: Option<&FirstWords>) -> Result<(), LineFault>
-        ensures ok { OnOk result (LineLeads took number (option_copied words.entry) self.old self.new) }
-        ensures err { IfErr result (λ fault. LineStops took refuses number (option_copied words.entry) self.old fault) };
+        ensures ok { OnOk result (ScriptLineLeads took number (option_copied words.entry) self.old self.new) }
+        ensures err { IfErr result (λ fault. ScriptLineStops took refuses number (option_copied words.entry) self.old
+            fault) };
 
     /// Returns what the whole input says, once all lines were added. The last one has this number.
     fn whole(self, last: u64) -> Result<Self::Whole, ScriptFault>
-        ensures ok { IfOk result (λ whole. (text : List ℕ) → took (lines text) self → says text whole) }
-        ensures err { IfErr result (λ fault. (text : List ℕ) → HasLast text last → took (lines text) self
+        ensures ok { IfOk result (λ whole. (text : List ℕ) → took (script_lines text) self → says text whole) }
+        ensures err { IfErr result (λ fault. (text : List ℕ) → HasLastScriptLine text last
+            → took (script_lines text) self
             → refuses fault text) };
 }
 
@@ -45,28 +47,28 @@ pub trait LineSink: Drop {
 /// It holds a bounded number of bytes of a line, however long the line is, and what the lines before it said.
 #[derive(Drop)]
 pub struct LineReader<S> {
-    lines: Lines,
+    lines: ScriptLines,
     sink: S,
 }
 
 impl<S: LineSink> LineReader<S> {
-    ghost use Rattle.swd_script.specs.Readers.{ReadsLines};
+    ghost use Rattle.swd_script.specs.Readers.{ReadsScriptLines};
 
     // Returns a reader before the first byte.
     pub(crate) fn over(sink: S) -> LineReader<S>
-        ensures { S.took [] sink → ReadsLines S.took result [] }
+        ensures { S.took [] sink → ReadsScriptLines S.took result [] }
     {
         LineReader {
-            lines: Lines::new(),
+            lines: ScriptLines::new(),
             sink,
         }
     }
 
     // Takes a byte. After an error the state is unspecified.
     fn byte(&mut self, byte: u8) -> Result<(), ScriptFault>
-        ensures ok { OnOk result ((seen : List ℕ) → ReadsLines S.took self.old seen
-            → ReadsLines S.took self.new (seen ++ byte ∷ [])) }
-        ensures err { IfErr result (λ fault. (seen more : List ℕ) → ReadsLines S.took self.old seen
+        ensures ok { OnOk result ((seen : List ℕ) → ReadsScriptLines S.took self.old seen
+            → ReadsScriptLines S.took self.new (seen ++ byte ∷ [])) }
+        ensures err { IfErr result (λ fault. (seen more : List ℕ) → ReadsScriptLines S.took self.old seen
             → S.refuses fault (seen ++ byte ∷ more)) }
     {
         if byte != b'\n' {
@@ -89,8 +91,8 @@ impl<S: LineSink> LineReader<S> {
     ///
     /// The first error of the input, or `Memory` if memory ran out for what a line says.
     pub fn finish(self) -> Result<S::Whole, ScriptFault>
-        ensures ok { IfOk result (λ whole. (seen : List ℕ) → ReadsLines S.took self seen → S.says seen whole) }
-        ensures err { IfErr result (λ fault. (seen : List ℕ) → ReadsLines S.took self seen → S.refuses fault seen) }
+        ensures ok { IfOk result (λ whole. (seen : List ℕ) → ReadsScriptLines S.took self seen → S.says seen whole) }
+        ensures err { IfErr result (λ fault. (seen : List ℕ) → ReadsScriptLines S.took self seen → S.refuses fault seen) }
     {
         let LineReader {
             mut lines,
@@ -106,17 +108,17 @@ impl<S: LineSink> LineReader<S> {
 }
 
 impl<S: LineSink> Consumer<()> for LineReader<S> {
-    ghost use Rattle.swd_io.specs.Pieces.{LeadsOn, LeadsToEnd};
-    ghost use Rattle.swd_io.proofs.PieceLemmas.{leads_nowhere, leads_further, leads_to_later_end};
-    ghost use Rattle.swd_script.specs.Readers.{HasReadLines, RefusesLines};
+    ghost use Rattle.swd_io.specs.Pieces.{LeadsConsumerOn, LeadsConsumerToEnd};
+    ghost use Rattle.swd_io.proofs.PieceLemmas.{consumer_reads_no_byte, consumer_pieces_join, consumer_pieces_fault};
+    ghost use Rattle.swd_script.specs.Readers.{HasReadScriptLines, RefusesScriptLines};
 
     type Fault = ScriptFault;
 
     ghost can_take = { λ _. Unit {0} };
 
-    ghost takes = { LeadsOn (HasReadLines S.took) };
+    ghost takes = { LeadsConsumerOn (HasReadScriptLines S.took) };
 
-    ghost stops = { LeadsToEnd (HasReadLines S.took) (RefusesLines S.refuses) };
+    ghost stops = { LeadsConsumerToEnd (HasReadScriptLines S.took) (RefusesScriptLines S.refuses) };
 
     // Takes the next piece of the input. After an error the state is unspecified.
     fn take(&mut self, _writer: &mut (), piece: &[u8]) -> Result<(), ScriptFault> {
@@ -128,11 +130,11 @@ impl<S: LineSink> Consumer<()> for LineReader<S> {
         Ok(())
     }
 
-    ghost takes_nothing = { leads_nowhere (HasReadLines S.took) };
+    ghost takes_nothing = { consumer_reads_no_byte (HasReadScriptLines S.took) };
 
-    ghost takes_on = { leads_further (HasReadLines S.took) };
+    ghost takes_on = { consumer_pieces_join (HasReadScriptLines S.took) };
 
-    ghost stops_later = { leads_to_later_end (HasReadLines S.took) (RefusesLines S.refuses) };
+    ghost stops_later = { consumer_pieces_fault (HasReadScriptLines S.took) (RefusesScriptLines S.refuses) };
 }
 
 /// Reads an input to its end or to the first error, and returns what it says. Nothing is retried.
@@ -146,9 +148,9 @@ pub(crate) fn read_lines<R: Read, S: LineSink>(
     reader: &mut R,
 ) -> Result<S::Whole, Unread<ScriptFault>>
     ensures ok { IfOk result (λ whole. S.took [] sink
-        → (text : List ℕ) × IsText (R.remaining reader.old) text × S.says text whole) }
+        → (text : List ℕ) × IsReaderText (R.remaining reader.old) text × S.says text whole) }
     ensures err { IfErr result (λ unread. S.took [] sink
-        → IfSome (R.remaining reader.old) (IsUnread S.refuses unread)) }
+        → IfSome (R.remaining reader.old) (IsUnreadByConsumer S.refuses unread)) }
 {
     let mut lines = LineReader::over(sink);
     match read_pieces(reader, &mut (), &mut lines) {

@@ -1,9 +1,10 @@
 //! Plans: a mark for each request.
 ghost use Rattle.std.specs.Prelude.{◌≡◌, [], ℕ, List, Ok, OnOk, IfErr, IfOk, IfSome, option_copied};
-ghost use Rattle.swd_io.specs.Pieces.{IsText, IsUnread};
-ghost use Rattle.swd_script.specs.Numerals.{decimal_of as decimal_in};
-ghost use Rattle.swd_script.specs.Plans.{bare_mark, mark_of, place_below, placed_mark, plan_line, plan_of};
-ghost use Rattle.swd_script.specs.Readers.{IsFaultOf, IsPlanFault};
+ghost use Rattle.swd_io.specs.Pieces.{IsReaderText, IsUnreadByConsumer};
+ghost use Rattle.swd_script.specs.Numerals.{script_decimal_number as decimal_in};
+ghost use Rattle.swd_script.specs.Plans.{plan_file_bare_mark, plan_file_mark, plan_file_place, plan_file_placed_mark};
+ghost use Rattle.swd_script.specs.Plans.{plan_file_line, plan_of};
+ghost use Rattle.swd_script.specs.Readers.{IsScriptLineFault, IsPlanFileFault};
 ghost use Rattle.swd_script.specs.Words.{texts_of, texts};
 
 use crate::fault::{LineFault, ScriptFault};
@@ -20,26 +21,26 @@ use swd_port::Mark;
 pub type PlanReader<A> = LineReader<Vec<Mark, A>>;
 
 impl<A: Allocator> LineReader<Vec<Mark, A>> {
-    ghost use Rattle.swd_script.specs.Readers.{ReadsLines, TookPlan};
+    ghost use Rattle.swd_script.specs.Readers.{ReadsScriptLines, TookPlanFileLines};
 
     /// Returns a reader before the first byte.
     pub fn new(alloc: A) -> PlanReader<A>
-        ensures { ReadsLines TookPlan result [] }
+        ensures { ReadsScriptLines TookPlanFileLines result [] }
     {
         LineReader::over(Vec::new(alloc))
     }
 }
 
 impl<A: Allocator> LineSink for Vec<Mark, A> {
-    ghost use Rattle.swd_script.specs.Readers.{TookPlan};
+    ghost use Rattle.swd_script.specs.Readers.{TookPlanFileLines};
 
     type Whole = Vec<Mark, A>;
 
-    ghost took = { TookPlan };
+    ghost took = { TookPlanFileLines };
 
     ghost says = { λ text marks. plan_of text ≡ Ok marks.items };
 
-    ghost refuses = { IsPlanFault };
+    ghost refuses = { IsPlanFileFault };
 
     fn add_line(&mut self, _number: u64, words: Option<&FirstWords>) -> Result<(), LineFault> {
         add_mark(self, words)
@@ -61,8 +62,8 @@ pub fn read_plan<R: Read, A: Allocator>(
     reader: &mut R,
 ) -> Result<Vec<Mark, A>, Unread<ScriptFault>>
     ensures ok { IfOk result (λ marks.
-        (text : List ℕ) × IsText (R.remaining reader.old) text × (plan_of text ≡ Ok marks.items)) }
-    ensures err { IfErr result (λ unread. IfSome (R.remaining reader.old) (IsUnread IsPlanFault unread)) }
+        (text : List ℕ) × IsReaderText (R.remaining reader.old) text × (plan_of text ≡ Ok marks.items)) }
+    ensures err { IfErr result (λ unread. IfSome (R.remaining reader.old) (IsUnreadByConsumer IsPlanFileFault unread)) }
 {
     read_lines(Vec::new(alloc), reader)
 }
@@ -73,8 +74,10 @@ fn add_mark<A: Allocator>(
     marks: &mut Vec<Mark, A>,
     words: Option<&FirstWords>,
 ) -> Result<(), LineFault>
-    ensures ok { OnOk result (plan_line marks.old.items (texts_of (option_copied words.entry)) ≡ Ok marks.new.items) }
-    ensures err { IfErr result (λ fault. IsFaultOf fault (plan_line marks.old.items (texts_of (option_copied words.entry)))) }
+    ensures ok { OnOk result (plan_file_line marks.old.items (texts_of (option_copied words.entry))
+        ≡ Ok marks.new.items) }
+    ensures err { IfErr result (λ fault. IsScriptLineFault fault
+        (plan_file_line marks.old.items (texts_of (option_copied words.entry)))) }
 {
     let Some(words) = words else {
         return Err(LineFault::Word);
@@ -90,7 +93,7 @@ fn add_mark<A: Allocator>(
 
 // Returns the mark of a line's first words.
 fn mark_of(words: &[Word]) -> Result<Mark, LineFault>
-    ensures { result ≡ mark_of (texts words.now) }
+    ensures { result ≡ plan_file_mark (texts words.now) }
 {
     match words {
         [name] => bare_mark(name.as_slice()),
@@ -101,7 +104,7 @@ fn mark_of(words: &[Word]) -> Result<Mark, LineFault>
 
 // Returns the mark without argument that has this name.
 fn bare_mark(name: &[u8]) -> Result<Mark, LineFault>
-    ensures { result ≡ bare_mark name.now }
+    ensures { result ≡ plan_file_bare_mark name.now }
 {
     if name == b".".as_slice() {
         return Ok(Mark::Clean);
@@ -118,7 +121,7 @@ fn bare_mark(name: &[u8]) -> Result<Mark, LineFault>
 // Returns the mark with this name and bit: one of the 33 bits of a data phase, or of the three of an
 // acknowledgement.
 fn placed_mark(name: &[u8], place: &[u8]) -> Result<Mark, LineFault>
-    ensures { result ≡ placed_mark name.now place.now }
+    ensures { result ≡ plan_file_placed_mark name.now place.now }
 {
     if name == b"flip".as_slice() {
         return Ok(Mark::Flip(place_below(33, place)?));
@@ -131,7 +134,7 @@ fn placed_mark(name: &[u8], place: &[u8]) -> Result<Mark, LineFault>
 
 // Parses a bit number below a limit.
 fn place_below(limit: u8, place: &[u8]) -> Result<u8, LineFault>
-    ensures { result ≡ place_below limit (decimal_in place.now) }
+    ensures { result ≡ plan_file_place limit (decimal_in place.now) }
 {
     let Some(place) = decimal_of(place) else {
         return Err(LineFault::Number);

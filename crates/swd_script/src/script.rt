@@ -1,7 +1,7 @@
 //! Scripts: a memory, and calls with accesses of it.
 ghost use Rattle.std.specs.Prelude.{◌≡◌, [], ℕ, List, Ok, IfErr, IfOk, IfSome};
-ghost use Rattle.swd_io.specs.Pieces.{IsText, IsUnread};
-ghost use Rattle.swd_script.specs.Readers.{IsScriptFault, meaning};
+ghost use Rattle.swd_io.specs.Pieces.{IsReaderText, IsUnreadByConsumer};
+ghost use Rattle.swd_script.specs.Readers.{IsScriptFault, read_script_meaning};
 ghost use Rattle.swd_script.specs.Scripts.{script_of};
 
 use crate::batch::Batch;
@@ -30,24 +30,24 @@ pub struct Script<A: Allocator> {
 pub type ScriptReader<A> = LineReader<Draft<A>>;
 
 impl<A: Allocator + Copy> LineReader<Draft<A>> {
-    ghost use Rattle.swd_script.specs.Readers.{ReadsLines, TookScript};
+    ghost use Rattle.swd_script.specs.Readers.{ReadsScriptLines, TookScriptLines};
 
     /// Returns a reader before the first byte.
     pub fn new(alloc: A) -> ScriptReader<A>
-        ensures { ReadsLines TookScript result [] }
+        ensures { ReadsScriptLines TookScriptLines result [] }
     {
         LineReader::over(Draft::new(alloc))
     }
 }
 
 impl<A: Allocator + Copy> LineSink for Draft<A> {
-    ghost use Rattle.swd_script.specs.Readers.{TookScript};
+    ghost use Rattle.swd_script.specs.Readers.{TookScriptLines};
 
     type Whole = Script<A>;
 
-    ghost took = { TookScript };
+    ghost took = { TookScriptLines };
 
-    ghost says = { λ text script. script_of text ≡ Ok (meaning script) };
+    ghost says = { λ text script. script_of text ≡ Ok (read_script_meaning script) };
 
     ghost refuses = { IsScriptFault };
 
@@ -71,8 +71,8 @@ pub fn read_script<R: Read, A: Allocator + Copy>(
     reader: &mut R,
 ) -> Result<Script<A>, Unread<ScriptFault>>
     ensures ok { IfOk result (λ script.
-        (text : List ℕ) × IsText (R.remaining reader.old) text × (script_of text ≡ Ok (meaning script))) }
-    ensures err { IfErr result (λ unread. IfSome (R.remaining reader.old) (IsUnread IsScriptFault unread)) }
+        (text : List ℕ) × IsReaderText (R.remaining reader.old) text × (script_of text ≡ Ok (read_script_meaning script))) }
+    ensures err { IfErr result (λ unread. IfSome (R.remaining reader.old) (IsUnreadByConsumer IsScriptFault unread)) }
 {
     read_lines(Draft::new(alloc), reader)
 }

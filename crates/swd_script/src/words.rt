@@ -1,6 +1,6 @@
 //! The first words of a line.
 ghost use Rattle.std.specs.Prelude.{◌≡◌, ◌∷◌, ◌++◌, [], ℕ, List, take, true, false};
-ghost use Rattle.swd_script.specs.Lines.{is_blank};
+ghost use Rattle.swd_script.specs.Lines.{is_script_blank};
 
 use arrayvec::ArrayVec;
 use std::mem;
@@ -19,19 +19,19 @@ pub type FirstWords = ArrayVec<Word, MOST>;
 
 /// The first words of the line so far, and the current word.
 #[derive(Drop)]
-pub(crate) struct Words {
+pub(crate) struct LineWords {
     pub(crate) ended: FirstWords,
     pub(crate) last: Word,
 }
 
-impl Words {
+impl LineWords {
     ghost use Rattle.swd_script.specs.Words.{begun, texts, AreFirst, Gathers};
 
     /// Returns the state before the first word.
-    pub(crate) fn new() -> Words
+    pub(crate) fn new() -> LineWords
         ensures { Gathers [] result }
     {
-        Words {
+        LineWords {
             ended: ArrayVec::new(),
             last: ArrayVec::new(),
         }
@@ -39,7 +39,7 @@ impl Words {
 
     /// Takes a byte of a word.
     pub(crate) fn push(&mut self, byte: u8)
-        requires { is_blank byte ≡ false }
+        requires { is_script_blank byte ≡ false }
         ensures { (line : List ℕ) → Gathers line self.old → Gathers (line ++ byte ∷ []) self.new }
     {
         if !self.last.is_full() {
@@ -49,7 +49,7 @@ impl Words {
 
     /// Takes a space or a tab.
     pub(crate) fn blank(&mut self, byte: u8)
-        requires { is_blank byte ≡ true }
+        requires { is_script_blank byte ≡ true }
         ensures { (line : List ℕ) → Gathers line self.old → Gathers (line ++ byte ∷ []) self.new }
     {
         self.end_word();

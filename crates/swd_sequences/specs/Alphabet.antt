@@ -5,23 +5,23 @@ use Rattle.swd_sequences.specs.declared.character.Character.TheVariants.{Moves, 
 use Rattle.swd_sequences.specs.declared.character.Character.TheVariants.{Quits}
 
 -- the byte of a character: d e f g, c, O o, B b, r s t u, Z z, Q
-abbrev pub byte_of : Character → ℕ
-byte_of (Moves false false) = 100
-byte_of (Moves false true) = 101
-byte_of (Moves true false) = 102
-byte_of (Moves true true) = 103
-byte_of Looks = 99
-byte_of (Drives true) = 79
-byte_of (Drives false) = 111
-byte_of (Lights true) = 66
-byte_of (Lights false) = 98
-byte_of (Resets false false) = 114
-byte_of (Resets false true) = 115
-byte_of (Resets true false) = 116
-byte_of (Resets true true) = 117
-byte_of (Waits true) = 90
-byte_of (Waits false) = 122
-byte_of Quits = 81
+abbrev pub alphabet_byte : Character → ℕ
+alphabet_byte (Moves false false) = 100
+alphabet_byte (Moves false true) = 101
+alphabet_byte (Moves true false) = 102
+alphabet_byte (Moves true true) = 103
+alphabet_byte Looks = 99
+alphabet_byte (Drives true) = 79
+alphabet_byte (Drives false) = 111
+alphabet_byte (Lights true) = 66
+alphabet_byte (Lights false) = 98
+alphabet_byte (Resets false false) = 114
+alphabet_byte (Resets false true) = 115
+alphabet_byte (Resets true false) = 116
+alphabet_byte (Resets true true) = 117
+alphabet_byte (Waits true) = 90
+alphabet_byte (Waits false) = 122
+alphabet_byte Quits = 81
 
 -- all characters
 abbrev pub alphabet : List Character
@@ -31,15 +31,15 @@ alphabet =
     ∷ Waits true ∷ Waits false ∷ Quits ∷ []
 
 -- the first of some characters that has this byte
-abbrev pub read_as : List Character → ℕ → Option Character
-read_as [] byte = None
-read_as (c ∷ more) byte = if byte == byte_of c then Some c else read_as more byte
+abbrev pub alphabet_read_as : List Character → ℕ → Option Character
+alphabet_read_as [] byte = None
+alphabet_read_as (c ∷ more) byte = if byte == alphabet_byte c then Some c else alphabet_read_as more byte
 
 -- the character of a byte
-abbrev pub character : ℕ → Option Character
-character byte = read_as alphabet byte
+abbrev pub alphabet_character : ℕ → Option Character
+alphabet_character byte = alphabet_read_as alphabet byte
 
 -- the byte of a level: 0 or 1
-abbrev pub level_character : Bool → ℕ
-level_character false = 48
-level_character true = 49
+abbrev pub alphabet_level : Bool → ℕ
+alphabet_level false = 48
+alphabet_level true = 49

@@ -1,6 +1,6 @@
 //! The characters of the protocol.
 ghost use Rattle.std.specs.Prelude.{◌≡◌, ◌≢◌, Bool, IfSome, IfNone};
-ghost use Rattle.swd_sequences.specs.Alphabet.{byte_of, character, level_character};
+ghost use Rattle.swd_sequences.specs.Alphabet.{alphabet_byte, alphabet_character, alphabet_level};
 
 /// One character of a host.
 #[derive(Clone, Copy, Debug, PartialEq, Eq)]
@@ -25,7 +25,7 @@ impl Character {
     /// Returns the byte of this character.
     #[inline(always)]
     pub fn byte(self) -> u8
-        ensures { result ≡ byte_of self }
+        ensures { result ≡ alphabet_byte self }
     {
         match self {
             Character::Moves(false, false) => b'd',
@@ -50,7 +50,7 @@ impl Character {
     /// Returns the character with this byte, or `None` if no character of the protocol for serial wire has
     /// it.
     pub fn of(byte: u8) -> Option<Character>
-        ensures { result ≡ character byte }
+        ensures { result ≡ alphabet_character byte }
     {
         match byte {
             b'd' => Some(Character::Moves(false, false)),
@@ -77,7 +77,7 @@ impl Character {
 /// Returns the byte of a level: `0` or `1`.
 #[inline(always)]
 pub fn level_byte(level: bool) -> u8
-    ensures { result ≡ level_character level }
+    ensures { result ≡ alphabet_level level }
 {
     if level { b'1' } else { b'0' }
 }
@@ -85,8 +85,8 @@ pub fn level_byte(level: bool) -> u8
 /// Returns the level with this byte, or `None` if no level has it.
 #[inline(always)]
 pub fn level_of(byte: u8) -> Option<bool>
-    ensures level { IfSome result (λ level. byte ≡ level_character level) }
-    ensures none { IfNone result ((level : Bool) → byte ≢ level_character level) }
+    ensures level { IfSome result (λ level. byte ≡ alphabet_level level) }
+    ensures none { IfNone result ((level : Bool) → byte ≢ alphabet_level level) }
 {
     match byte {
         b'0' => Some(false),

@@ -1,7 +1,8 @@
 //! A run as a struct of integers, for callers that store it themselves, such as programs in C.
 ghost use Rattle.std.specs.Prelude.{◌≡◌, IfSome, Some};
 ghost use Rattle.swd_steps.specs.declared.run.Run.{Run as RunType};
-ghost use Rattle.swd_steps.specs.Fields.{end_at, end_fields, fields_of, stage_at, stage_number};
+ghost use Rattle.swd_steps.specs.Fields.{stepped_end_from, stepped_end_fields, stepped_fields, stepped_stage_from};
+ghost use Rattle.swd_steps.specs.Fields.{stepped_stage_number};
 
 use crate::run::{Run, Stage};
 use swd_host::{End, EngineFields, Outcome, OutcomeFields};
@@ -27,7 +28,7 @@ pub struct RunFields {
 }
 
 fn number_of_stage(stage: Stage) -> u8
-    ensures { result ≡ stage_number stage }
+    ensures { result ≡ stepped_stage_number stage }
 {
     match stage {
         Stage::Driving => 1,
@@ -37,7 +38,7 @@ fn number_of_stage(stage: Stage) -> u8
 }
 
 fn fields_of_end(stage: Stage) -> OutcomeFields
-    ensures { result ≡ end_fields stage }
+    ensures { result ≡ stepped_end_fields stage }
 {
     match stage {
         Stage::Ended(end) => OutcomeFields::of(Outcome::Stopped(end)),
@@ -47,7 +48,7 @@ fn fields_of_end(stage: Stage) -> OutcomeFields
 
 // Here and below, invalid numbers may give any result: `RunFields::run` rejects a run whose own fields differ.
 fn end_with(fields: OutcomeFields) -> End
-    ensures { result ≡ end_at fields }
+    ensures { result ≡ stepped_end_from fields }
 {
     match fields.kind {
         5 => End::All,
@@ -59,7 +60,7 @@ fn end_with(fields: OutcomeFields) -> End
 }
 
 fn stage_with(number: u8, end: OutcomeFields) -> Stage
-    ensures { result ≡ stage_at number end }
+    ensures { result ≡ stepped_stage_from number end }
 {
     match number {
         1 => Stage::Driving,
@@ -71,8 +72,8 @@ fn stage_with(number: u8, end: OutcomeFields) -> Stage
 impl RunFields {
     /// Returns the run with these fields, or `None` if no run has them.
     pub fn run(&self) -> Option<Run>
-        ensures found { (run : RunType) → fields_of run ≡ self.now → result ≡ Some run }
-        ensures same { IfSome result (λ run. fields_of run ≡ self.now) }
+        ensures found { (run : RunType) → stepped_fields run ≡ self.now → result ≡ Some run }
+        ensures same { IfSome result (λ run. stepped_fields run ≡ self.now) }
     {
         let engine = self.engine.engine()?;
         let run = Run {
@@ -91,14 +92,14 @@ impl RunFields {
 impl Run {
     /// Returns the fields of the run.
     pub fn fields(&self) -> RunFields
-        ensures { result ≡ fields_of self.now }
+        ensures { result ≡ stepped_fields self.now }
     {
         self.fields_with(self.engine.fields())
     }
 
     // Returns the fields of the run, with these for its engine.
     fn fields_with(&self, engine: EngineFields) -> RunFields
-        ensures { result ≡ record (fields_of self.now) { engine = engine } }
+        ensures { result ≡ record (stepped_fields self.now) { engine = engine } }
     {
         RunFields {
             requests: self.requests(),

@@ -1,21 +1,22 @@
 //! The theorem of a run whose caller makes the calls. A function here does nothing: its contract is the law.
-ghost use Rattle.swd_steps.specs.Laws.{ClosesAnyhow, Ends, IsShown, ResumesAsTold, RunsAsTold};
+ghost use Rattle.swd_steps.specs.Laws.{SteppedAlwaysCloses, SteppedRunEnds, SteppedRunsAreShown, SteppedResumeFits};
+ghost use Rattle.swd_steps.specs.Laws.{SteppedRunFits};
 
 /// States what the report of a run that ended says. Whatever came back, it matches the list and the calls that were
 /// made for it. Where what came back is consistent with the port model, the report is that of the theorem of
 /// `swd_host::run`. For a run that resumes after an earlier report, it is that of the theorem of `swd_host::resume`.
 pub fn runs()
-    ensures closes { ClosesAnyhow }
-    ensures runs { RunsAsTold }
-    ensures resumes { ResumesAsTold }
+    ensures closes { SteppedAlwaysCloses }
+    ensures runs { SteppedRunFits }
+    ensures resumes { SteppedResumeFits }
 {}
 
 /// States that a run makes a bounded number of calls, whatever comes back.
 pub fn ends()
-    ensures { Ends }
+    ensures { SteppedRunEnds }
 {}
 
 /// States that the fields of a run that ended have its report, except for the answers.
 pub fn numbers()
-    ensures { IsShown }
+    ensures { SteppedRunsAreShown }
 {}

@@ -1,17 +1,19 @@
 //! A run as a state machine without I/O: it returns what to send next, and takes the replies.
-ghost use Rattle.std.specs.Prelude.{◌≡◌, ◌+◌, ◌≤◌, [], length, List, true, false};
-ghost use Rattle.std.specs.Prelude.{◌++◌, IfOk, IfErr, IfNone, IfSome, Some, None, slice_get, ℕ};
+ghost use Rattle.std.specs.Prelude.{◌≡◌, ◌+◌, ◌≤◌, [], length, List, true, false, ◌++◌, IfOk, IfErr, IfNone, IfSome};
+ghost use Rattle.std.specs.Prelude.{Some, None, slice_get, ℕ};
 ghost use Rattle.swd_steps.specs.declared.run.Run.{Run as RunType};
 ghost use Rattle.swd_port.specs.declared.access.Access.{Access as AccessType};
-ghost use Rattle.swd_port.specs.Stories.{IsSeen};
+ghost use Rattle.swd_port.specs.Stories.{IsPortSeen};
 ghost use Rattle.swd_host.specs.declared.engine.Ahead.TheVariants.{Unsent};
 ghost use Rattle.swd_host.specs.declared.task.Bursts.TheVariants.{Reads, Writes};
-ghost use Rattle.swd_host.specs.Engines.{HasCue, IsPhaseCue, begun_of, cue_of, finished_of, is_ahead, is_resting};
-ghost use Rattle.swd_host.specs.Engines.{may_start, requests_of};
-ghost use Rattle.swd_host.specs.Plain.{AreAccesses, HasRanges, is_aligned};
-ghost use Rattle.swd_host.specs.Turns.{Starts};
-ghost use Rattle.swd_steps.specs.Runs.{Extends, HasReason, IsFit, Leaves, MakesCall, Ran, after, anew, answered_by};
-ghost use Rattle.swd_steps.specs.Runs.{end_of, is_lead, listed, may_go_on, run_cue, seen_of};
+ghost use Rattle.swd_host.specs.Engines.{EngineHasCue, IsEnginePhaseCue, engine_begun, engine_cue, engine_outcome};
+ghost use Rattle.swd_host.specs.Engines.{engine_is_ahead, engine_is_resting, engine_may_start, engine_requests};
+ghost use Rattle.swd_host.specs.Plain.{AreHostAccesses, HostAccessHasRanges, host_access_is_aligned};
+ghost use Rattle.swd_host.specs.Turns.{EngineStarts};
+ghost use Rattle.swd_steps.specs.Runs.{SteppedExtends, SteppedRefusalReason, SteppedListFits, SteppedLeaves};
+ghost use Rattle.swd_steps.specs.Runs.{SteppedMakesCall, SteppedRan, stepped_again, stepped_anew, stepped_answers};
+ghost use Rattle.swd_steps.specs.Runs.{stepped_run_end, stepped_cue_is_lead, stepped_answer_list, stepped_may_resume};
+ghost use Rattle.swd_steps.specs.Runs.{stepped_run_cue, stepped_seen};
 
 use crate::accesses::Accesses;
 use swd_host::{End, Engine, Outcome};
@@ -76,7 +78,7 @@ pub struct Run {
 impl Run {
     /// Creates a run at the start of the opening. The opening, and each access, may meet up to `tries` events.
     pub fn new(tries: u32) -> Run
-        ensures { (list : List AccessType) → Ran (anew Writes tries) list [] result [] }
+        ensures { (list : List AccessType) → SteppedRan (stepped_anew Writes tries) list [] result [] }
     {
         Run::beginning(Engine::new(tries), 0)
     }
@@ -84,7 +86,7 @@ impl Run {
     /// Creates a run for a block of reads: its bursts are of reads instead of writes. The request for the next word
     /// returns the word of a read.
     pub fn blocks(tries: u32) -> Run
-        ensures { (list : List AccessType) → Ran (anew Reads tries) list [] result [] }
+        ensures { (list : List AccessType) → SteppedRan (stepped_anew Reads tries) list [] result [] }
     {
         Run::beginning(Engine::blocks(tries), 0)
     }
@@ -94,9 +96,9 @@ impl Run {
     /// `begun` are those of the new run alone.
     pub fn again(&self, tries: u32) -> Option<Run>
         ensures again { IfSome result (λ run.
-            (list : List AccessType) → Ran (after self.now.answered tries) list [] run []) }
-        ensures none { IfNone result (may_go_on self.now.stage ≡ false) }
-        ensures some { IfSome result (λ run. may_go_on self.now.stage ≡ true) }
+            (list : List AccessType) → SteppedRan (stepped_again self.now.answered tries) list [] run []) }
+        ensures none { IfNone result (stepped_may_resume self.now.stage ≡ false) }
+        ensures some { IfSome result (λ run. stepped_may_resume self.now.stage ≡ true) }
     {
         match self.stage {
             Stage::Ended(End::Lost | End::TriesOut) => {
@@ -120,8 +122,8 @@ impl Run {
 
     /// Returns what to send next, or `None` once the run has ended.
     pub fn cue(&self) -> Option<Cue>
-        ensures cue { result ≡ run_cue self.now }
-        ensures range { IfSome result IsPhaseCue }
+        ensures cue { result ≡ stepped_run_cue self.now }
+        ensures range { IfSome result IsEnginePhaseCue }
     {
         match self.stage {
             Stage::Driving => self.engine.cue(),
@@ -137,7 +139,7 @@ impl Run {
 
     /// Returns the end of the run, or `None` before it.
     pub fn ended(&self) -> Option<End>
-        ensures { result ≡ end_of self.now }
+        ensures { result ≡ stepped_run_end self.now }
     {
         match self.stage {
             Stage::Ended(end) => Some(end),
@@ -154,14 +156,14 @@ impl Run {
 
     /// Returns the number of unanswered accesses whose DRW request this run sent.
     pub fn begun(&self) -> u8
-        ensures { result ≡ begun_of self.now.engine }
+        ensures { result ≡ engine_begun self.now.engine }
     {
         self.engine.begun()
     }
 
     /// Returns how many requests this run sent, saturating at `u64::MAX`.
     pub fn requests(&self) -> u64
-        ensures { result ≡ requests_of self.now.engine }
+        ensures { result ≡ engine_requests self.now.engine }
     {
         self.engine.requests()
     }
@@ -179,11 +181,11 @@ impl Run {
     /// 2^33 for a read's data phase. Returns `TooMany`, `Unaligned` or `TooFew` if the list isn't valid. The run is
     /// unchanged then.
     pub fn next<L: Accesses>(&mut self, accesses: &L, reply: u64) -> Result<Answers, Refusal>
-        ensures goes { IfOk result (λ came. HasCue (λ cue.
-            Extends cue reply (L.list accesses.now) self.old (answered_by came) self.new) (run_cue self.old)) }
-        ensures counted { IfOk result (λ came. (self.new.answered ≡ self.old.answered + length (answered_by came))
+        ensures goes { IfOk result (λ came. EngineHasCue (λ cue.
+            SteppedExtends cue reply (L.list accesses.now) self.old (stepped_answers came) self.new) (stepped_run_cue self.old)) }
+        ensures counted { IfOk result (λ came. (self.new.answered ≡ self.old.answered + length (stepped_answers came))
             × (self.new.answered ≤ length (L.list accesses.now))) }
-        ensures refused { IfErr result (HasReason self.old (L.list accesses.now) reply) }
+        ensures refused { IfErr result (SteppedRefusalReason self.old (L.list accesses.now) reply) }
         ensures same { IfErr result (λ refusal. self.new ≡ self.old) }
     {
         let Some(cue) = self.cue() else {
@@ -208,8 +210,9 @@ impl Run {
 impl Run {
     // Returns why this list is refused, if it is.
     fn refusal<L: Accesses>(&self, accesses: &L) -> Option<Refusal>
-        ensures none { IfNone result (IsFit (L.list accesses.now) self.now) }
-        ensures some { IfSome result (λ refusal. (reply : ℕ) → HasReason self.now (L.list accesses.now) reply refusal) }
+        ensures none { IfNone result (SteppedListFits (L.list accesses.now) self.now) }
+        ensures some { IfSome result (λ refusal. (reply : ℕ)
+            → SteppedRefusalReason self.now (L.list accesses.now) reply refusal) }
     {
         let count = accesses.count();
         if count > MOST_ACCESSES as usize {
@@ -227,19 +230,20 @@ impl Run {
 
     // Returns whether the line reset comes next.
     fn is_first(&self) -> bool
-        ensures { result ≡ is_lead (cue_of self.now.engine) }
+        ensures { result ≡ stepped_cue_is_lead (engine_cue self.now.engine) }
     {
         matches!(self.engine.cue(), Some(Cue::Lead { .. }))
     }
 
     // Takes a valid reply to the cue.
     fn turn<L: Accesses>(&mut self, accesses: &L, seen: u64) -> Answers
-        requires cue { HasCue (λ cue. IsSeen cue seen × IsPhaseCue cue) (run_cue self.old) }
+        requires cue { EngineHasCue (λ cue. IsPortSeen cue seen × IsEnginePhaseCue cue) (stepped_run_cue self.old) }
         requires few { self.old.answered ≤ 65536 }
-        ensures turns { HasCue (λ cue. MakesCall cue seen (L.list accesses.now) self.old (answered_by result) self.new)
-            (run_cue self.old) }
-        ensures counted { self.new.answered ≡ self.old.answered + length (answered_by result) }
-        ensures drives { self.new.stage ≡ Stage.Driving → is_resting self.new.engine ≡ false }
+        ensures turns { EngineHasCue (λ cue. SteppedMakesCall cue seen (L.list accesses.now) self.old
+            (stepped_answers result) self.new)
+            (stepped_run_cue self.old) }
+        ensures counted { self.new.answered ≡ self.old.answered + length (stepped_answers result) }
+        ensures drives { self.new.stage ≡ Stage.Driving → engine_is_resting self.new.engine ≡ false }
     {
         if let Stage::Between = self.stage {
             self.stage = Stage::Ended(End::All);
@@ -254,15 +258,15 @@ impl Run {
     // Takes the outcome of the engine, if it has reached one.
     fn follow<L: Accesses>(&mut self, accesses: &L) -> Option<Answer>
         requires few { self.old.answered ≤ 65537 }
-        ensures follows { Leaves (L.list accesses.now) self.old (listed result) self.new }
-        ensures counted { self.new.answered ≡ self.old.answered + length (listed result) }
+        ensures follows { SteppedLeaves (L.list accesses.now) self.old (stepped_answer_list result) self.new }
+        ensures counted { self.new.answered ≡ self.old.answered + length (stepped_answer_list result) }
         ensures more { self.new.answered ≤ self.old.answered + 1 }
-        ensures same { is_resting self.old.engine ≡ false → self.new ≡ self.old }
+        ensures same { engine_is_resting self.old.engine ≡ false → self.new ≡ self.old }
         ensures driven { self.new.stage ≡ Stage.Driving → self.old.stage ≡ Stage.Driving }
-        ensures calm { is_resting self.old.engine ≡ true → self.new.stage ≡ Stage.Driving
-            → (self.new.engine.ahead ≡ Unsent) × (is_ahead self.new.engine ≡ false) }
-        ensures drives { self.old.engine.ahead ≡ Unsent → is_ahead self.old.engine ≡ false
-            → self.new.stage ≡ Stage.Driving → is_resting self.new.engine ≡ false }
+        ensures calm { engine_is_resting self.old.engine ≡ true → self.new.stage ≡ Stage.Driving
+            → (self.new.engine.ahead ≡ Unsent) × (engine_is_ahead self.new.engine ≡ false) }
+        ensures drives { self.old.engine.ahead ≡ Unsent → engine_is_ahead self.old.engine ≡ false
+            → self.new.stage ≡ Stage.Driving → engine_is_resting self.new.engine ≡ false }
     {
         let Stage::Driving = self.stage else {
             return None;
@@ -287,10 +291,10 @@ impl Run {
 
     // Starts the next access, if there is one.
     fn begin<L: Accesses>(&mut self, accesses: &L)
-        requires rests { may_start (finished_of self.old.engine) ≡ true }
+        requires rests { engine_may_start (engine_outcome self.old.engine) ≡ true }
         requires few { self.old.answered ≤ 65538 }
         ensures starts { (a : AccessType) → slice_get (L.list accesses.now) self.old.answered ≡ Some a
-            → Starts a (slice_get (L.list accesses.now) (self.old.answered + 1)) self.old.engine self.new.engine }
+            → EngineStarts a (slice_get (L.list accesses.now) (self.old.answered + 1)) self.old.engine self.new.engine }
         ensures drives { (a : AccessType) → slice_get (L.list accesses.now) self.old.answered ≡ Some a
             → self.new.stage ≡ Stage.Driving }
         ensures none { slice_get (L.list accesses.now) self.old.answered ≡ None
@@ -310,7 +314,7 @@ impl Run {
 
 impl Answers {
     fn of(first: Option<Answer>, second: Option<Answer>) -> Answers
-        ensures { answered_by result ≡ listed first ++ listed second }
+        ensures { stepped_answers result ≡ stepped_answer_list first ++ stepped_answer_list second }
     {
         match first {
             Some(_) => Answers { first, second },
@@ -324,8 +328,8 @@ impl Answers {
 
 // Returns what was seen at a cue, or `None` if the reply has too many bits.
 fn seen(cue: Cue, reply: u64) -> Option<u64>
-    ensures some { IfSome result (λ seen. (seen ≡ seen_of cue reply) × IsSeen cue seen) }
-    ensures none { IfNone result (IsSeen cue (seen_of cue reply) → ⊥) }
+    ensures some { IfSome result (λ seen. (seen ≡ stepped_seen cue reply) × IsPortSeen cue seen) }
+    ensures none { IfNone result (IsPortSeen cue (stepped_seen cue reply) → ⊥) }
 {
     match cue {
         Cue::Ask(_) if reply >= 8 => None,
@@ -339,9 +343,9 @@ fn seen(cue: Cue, reply: u64) -> Option<u64>
 fn unaligned<L: Accesses>(accesses: &L, count: usize) -> Option<Refusal>
     requires count { count ≡ length (L.list accesses.now) }
     requires few { length (L.list accesses.now) ≤ 65536 }
-    ensures none { IfNone result (AreAccesses (L.list accesses.now)) }
+    ensures none { IfNone result (AreHostAccesses (L.list accesses.now)) }
     ensures some { IfSome result (λ refusal.
-        (run : RunType) (reply : ℕ) → HasReason run (L.list accesses.now) reply refusal) }
+        (run : RunType) (reply : ℕ) → SteppedRefusalReason run (L.list accesses.now) reply refusal) }
 {
     for index in 0..count {
         if let Some(access) = accesses.access(index) {
@@ -355,8 +359,8 @@ fn unaligned<L: Accesses>(accesses: &L, count: usize) -> Option<Refusal>
 
 // Returns whether the address is a multiple of 4.
 fn is_aligned(access: Access) -> bool
-    ensures aligned { result ≡ is_aligned access }
-    ensures ranges { HasRanges access }
+    ensures aligned { result ≡ host_access_is_aligned access }
+    ensures ranges { HostAccessHasRanges access }
 {
     let (Access::Read(addr) | Access::Write(addr, _)) = access;
     addr % 4 == 0

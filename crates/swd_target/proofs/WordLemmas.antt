@@ -7,36 +7,38 @@ use Rattle.std.specs.Prelude.{Some, None, nat_lt}
 use Rattle.std.specs.Ordering.{nat_cmp}
 use Rattle.std.specs.FinMap.{FinMap, get, insert, get-empty, same_map, nat_cmp-IsAntisymmetric}
 use Rattle.std.specs.Cmp.{nat_cmp_total}
-use Rattle.swd_port.proofs.MapLemmas.{get_other, get_same, insert_twice}
+use Rattle.swd_port.proofs.MapLemmas.{port_map_get_other, port_map_get_same, port_map_insert_twice}
 use Rattle.swd_port.specs.declared.access.Transfer.{Transfer}
 use Rattle.swd_port.specs.declared.access.Access.{Access}
 use Rattle.swd_port.specs.declared.access.Access.TheVariants.{Read, Write}
 use Rattle.swd_port.specs.declared.access.Answer.TheVariants.{Value, Written, BusFault}
-use Rattle.swd_port.specs.PlainMemory.{PlainMemory, succeeds_at, address, plain_answer, plain_after}
-use Rattle.swd_target.specs.MemoryWords.{words_from, words_of, window, window_after}
+use Rattle.swd_port.specs.PlainMemory.{PlainMemory, succeeds_at, plain_address, plain_answer, plain_after}
+use Rattle.swd_target.specs.MemoryWords.{target_words_from, target_word_list, target_window, target_window_after}
 
 -- the word at a place, and none outside
 pub get-words_from : (base : ℕ) (ws : List ℕ) (i q d : ℕ) → i < length ws → base + 4 * i ≡ q
-    → get (words_from base ws) q ≡ Some (get_or ws i d)
+    → get (target_words_from base ws) q ≡ Some (get_or ws i d)
 get-words_from base [] i q d l e = absurd (omega arith)
-get-words_from base (w ∷ ws) zero q d l e = get_same _ base w q (omega arith)
-get-words_from base (w ∷ ws) (suc i) q d l e = get_other _ base w q (λ same. omega arith)
+get-words_from base (w ∷ ws) zero q d l e = port_map_get_same _ base w q (omega arith)
+get-words_from base (w ∷ ws) (suc i) q d l e = port_map_get_other _ base w q (λ same. omega arith)
     ∙ get-words_from (base + 4) ws i q d (omega arith) (omega arith)
 
 pub get-outside : (base : ℕ) (ws : List ℕ) (q : ℕ) → ((i : ℕ) → i < length ws → base + 4 * i ≡ q → ⊥)
-    → get (words_from base ws) q ≡ None
+    → get (target_words_from base ws) q ≡ None
 get-outside base [] q none = get-empty nat_cmp q
-get-outside base (w ∷ ws) q none = get_other _ base w q (λ same. none 0 (omega arith) (omega arith))
+get-outside base (w ∷ ws) q none = port_map_get_other _ base w q (λ same. none 0 (omega arith) (omega arith))
     ∙ get-outside (base + 4) ws q (λ i l e. none (suc i) (omega arith) (omega arith))
 
 -- two insertions at two keys
 apart_at : (m : FinMap nat_cmp ℕ) (k l v w q : ℕ) → (k ≡ l → ⊥) → (q ≡ k) ⊎ (q ≡ k → ⊥) → (q ≡ l) ⊎ (q ≡ l → ⊥)
     → get (insert (insert m k v) l w) q ≡ get (insert (insert m l w) k v) q
 apart_at m k l v w q n (inl e) (inl f) = absurd (n (sym e ∙ f))
-apart_at m k l v w q n (inl e) (inr f) = get_other _ l w q f ∙ (get_same m k v q e ∙ sym (get_same _ k v q e))
-apart_at m k l v w q n (inr e) (inl f) = get_same _ l w q f ∙ sym (get_other _ k v q e ∙ get_same m l w q f)
-apart_at m k l v w q n (inr e) (inr f) = get_other _ l w q f
-    ∙ (get_other m k v q e ∙ sym (get_other _ k v q e ∙ get_other m l w q f))
+apart_at m k l v w q n (inl e) (inr f) = port_map_get_other _ l w q f ∙
+    (port_map_get_same m k v q e ∙ sym (port_map_get_same _ k v q e))
+apart_at m k l v w q n (inr e) (inl f) = port_map_get_same _ l w q f ∙ sym
+    (port_map_get_other _ k v q e ∙ port_map_get_same m l w q f)
+apart_at m k l v w q n (inr e) (inr f) = port_map_get_other _ l w q f
+    ∙ (port_map_get_other m k v q e ∙ sym (port_map_get_other _ k v q e ∙ port_map_get_other m l w q f))
 
 insert_apart : (m : FinMap nat_cmp ℕ) (k l v w : ℕ) → (k ≡ l → ⊥)
     → insert (insert m k v) l w ≡ insert (insert m l w) k v
@@ -45,15 +47,15 @@ insert_apart m k l v w n = same_map nat_cmp_total nat_cmp-IsAntisymmetric _ _
 
 -- a word that is written
 pub words_from-set : (base : ℕ) (ws : List ℕ) (i v q : ℕ) → i < length ws → base + 4 * i ≡ q
-    → words_from base (set ws i v) ≡ insert (words_from base ws) q v
+    → target_words_from base (set ws i v) ≡ insert (target_words_from base ws) q v
 words_from-set base [] i v q l e = absurd (omega arith)
 words_from-set base (w ∷ ws) zero v q l e =
     let same : base ≡ q = omega arith in
-    sym (insert_twice (words_from (base + 4) ws) base w v)
-    ∙ ap (λ k. insert (insert (words_from (base + 4) ws) base w) k v) same
+    sym (port_map_insert_twice (target_words_from (base + 4) ws) base w v)
+    ∙ ap (λ k. insert (insert (target_words_from (base + 4) ws) base w) k v) same
 words_from-set base (w ∷ ws) (suc i) v q l e =
     ap (λ m. insert m base w) (words_from-set (base + 4) ws i v q (omega arith) (omega arith))
-    ∙ sym (insert_apart (words_from (base + 4) ws) base q w v (λ same. omega arith))
+    ∙ sym (insert_apart (target_words_from (base + 4) ws) base q w v (λ same. omega arith))
 
 -- a transfer at an address with no word fails
 pub succeeds-outside : (at : ℕ) (m : PlainMemory) → get m.words at ≡ None → succeeds_at at m ≡ false
@@ -64,11 +66,12 @@ pub succeeds-inside : (at word : ℕ) (m : PlainMemory) → get m.words at ≡ S
     → succeeds_at at m ≡ true
 succeeds-inside at word m e h = rw e (grind arith)
 
--- a bus fault leaves the memory as it was
-pub answer-failed : (a : Access) (m : PlainMemory) → succeeds_at (address a) m ≡ false → BusFault ≡ plain_answer a m
+-- a bus error leaves the memory as it was
+pub answer-failed : (a : Access) (m : PlainMemory) → succeeds_at (plain_address a) m ≡ false
+    → BusFault ≡ plain_answer a m
 answer-failed a m e = rw e
 
-pub after-failed : (a : Access) (m : PlainMemory) → succeeds_at (address a) m ≡ false → m ≡ plain_after a m
+pub after-failed : (a : Access) (m : PlainMemory) → succeeds_at (plain_address a) m ≡ false → m ≡ plain_after a m
 after-failed a m e = rw e
 
 -- a read that succeeds
@@ -106,13 +109,15 @@ pub succeeds-there : (at word : ℕ) (m : PlainMemory) → get m.words at ≡ So
 succeeds-there at word m e = rw e
 
 -- the word of a window, and none beside it
-pub get-window : (at : ℕ) (word : Option ℕ) (q : ℕ) → q ≡ at → get (words_from at (words_of word)) q ≡ word
+pub get-window : (at : ℕ) (word : Option ℕ) (q : ℕ) → q ≡ at
+    → get (target_words_from at (target_word_list word)) q ≡ word
 get-window at None q e = get-empty nat_cmp q
-get-window at (Some w) q e = get_same _ at w q e
+get-window at (Some w) q e = port_map_get_same _ at w q e
 
-pub get-beside : (at : ℕ) (word : Option ℕ) (q : ℕ) → (q ≡ at → ⊥) → get (words_from at (words_of word)) q ≡ None
+pub get-beside : (at : ℕ) (word : Option ℕ) (q : ℕ) → (q ≡ at → ⊥)
+    → get (target_words_from at (target_word_list word)) q ≡ None
 get-beside at None q n = get-empty nat_cmp q
-get-beside at (Some w) q n = get_other _ at w q n ∙ get-empty nat_cmp q
+get-beside at (Some w) q n = port_map_get_other _ at w q n ∙ get-empty nat_cmp q
 
 full : (b : Bool) → (b && false) ≡ true → ⊥
 full true e = cc
@@ -120,36 +125,38 @@ full false e = cc
 
 -- a write there that succeeds
 pub window-write : (at : ℕ) (word : Option ℕ) (made : Option Transfer) (q w : ℕ)
-    → succeeds_at q (window_after at word made) ≡ true
-    → window_after at (Some w) (Some (record { read = false; addr = q; word = w })) ≡ plain_after (Write q w)
-    (window_after at word made)
+    → succeeds_at q (target_window_after at word made) ≡ true
+    → target_window_after at (Some w) (Some (record { read = false; addr = q; word = w })) ≡ plain_after (Write q w)
+    (target_window_after at word made)
 window-write at None made q w h =
-    let fails : succeeds_at q (window_after at None made) ≡ false = succeeds-outside q (window_after at None made)
-    (get-empty nat_cmp q) in
+    let fails : succeeds_at q (target_window_after at None made) ≡ false =
+    succeeds-outside q (target_window_after at None made) (get-empty nat_cmp q) in
     cc
 window-write at (Some old) (Some t) q w h = absurd (full _ h)
 window-write at (Some old) None q w h = elim (cases_eq q at) [
   | inl e ↦
-      after-write q w (window at (Some old)) (words_from at (w ∷ [])) (record { read = false; addr = q; word = w } ∷ [])
-      h (sym (insert_twice (words_from (at + 4) []) at old w)
-      ∙ ap (λ k. insert (words_from at (old ∷ [])) k w) (sym e)) refl
+      after-write q w (target_window at (Some old)) (target_words_from at (w ∷ []))
+      (record { read = false; addr = q; word = w } ∷ []) h
+      (sym (port_map_insert_twice (target_words_from (at + 4) []) at old w)
+      ∙ ap (λ k. insert (target_words_from at (old ∷ [])) k w) (sym e)) refl
   | inr n ↦
-      let fails : succeeds_at q (window at (Some old)) ≡ false = succeeds-outside q (window at (Some old))
+      let fails : succeeds_at q (target_window at (Some old)) ≡ false = succeeds-outside q (target_window at (Some old))
       (get-beside at (Some old) q n) in
       cc
 ]
 
 -- the one transfer of a window
-pub window-ready : (at w : ℕ) → succeeds_at at (window at (Some w)) ≡ true
-window-ready at w = succeeds-inside at w (window at (Some w)) (get-window at (Some w) at refl) (omega arith)
+pub window-ready : (at w : ℕ) → succeeds_at at (target_window at (Some w)) ≡ true
+window-ready at w = succeeds-inside at w (target_window at (Some w)) (get-window at (Some w) at refl) (omega arith)
 
-pub window-read : (at w : ℕ) → Value w ≡ plain_answer (Read at) (window at (Some w))
-window-read at w = answer-read at w (window at (Some w)) (window-ready at w) (get-window at (Some w) at refl)
+pub window-read : (at w : ℕ) → Value w ≡ plain_answer (Read at) (target_window at (Some w))
+window-read at w = answer-read at w (target_window at (Some w)) (window-ready at w) (get-window at (Some w) at refl)
 
-pub window-written : (at v w : ℕ) → Written ≡ plain_answer (Write at w) (window at (Some v))
-window-written at v w = answer-write at w (window at (Some v)) (window-ready at v)
+pub window-written : (at v w : ℕ) → Written ≡ plain_answer (Write at w) (target_window at (Some v))
+window-written at v w = answer-write at w (target_window at (Some v)) (window-ready at v)
 
-pub window-failed : (a : Access) → BusFault ≡ plain_answer a (window (address a) None)
+pub window-failed : (a : Access) → BusFault ≡ plain_answer a (target_window (plain_address a) None)
 window-failed a =
-    answer-failed a (window (address a) None)
-    (succeeds-outside (address a) (window (address a) None) (get-window (address a) None (address a) refl))
+    answer-failed a (target_window (plain_address a) None)
+    (succeeds-outside (plain_address a) (target_window (plain_address a) None)
+    (get-window (plain_address a) None (plain_address a) refl))

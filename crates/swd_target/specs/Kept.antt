@@ -1,8 +1,8 @@
 -- A memory, wherever it keeps its words.
 use Rattle.swd_port.specs.PlainMemory.{PlainMemory}
-use Rattle.swd_target.specs.declared.memory.Kept.{Kept}
-use Rattle.swd_target.specs.declared.memory.Kept.TheVariants.{Here, Elsewhere}
+use Rattle.swd_target.specs.declared.memory.Storage.{Storage}
+use Rattle.swd_target.specs.declared.memory.Storage.TheVariants.{Here, Elsewhere}
 
-abbrev pub memory_in : {A : Type 0} → Kept A → PlainMemory
-memory_in (Here words) = words
-memory_in (Elsewhere window) = window
+abbrev pub target_memory_in : {A : Type 0} → Storage A → PlainMemory
+target_memory_in (Here words) = words
+target_memory_in (Elsewhere window) = window

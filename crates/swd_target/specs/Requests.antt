@@ -2,64 +2,66 @@
 use Rattle.std.specs.Prelude.{ℕ, ◌≡◌, ◌⊎◌, Bool, true, false}
 use Rattle.swd_bits.specs.declared.request.Request.{Request}
 use Rattle.swd_port.specs.declared.mark.Mark.{Mark}
-use Rattle.swd_port.specs.declared.state.Line.{Line}
+use Rattle.swd_port.specs.declared.state.AfterAck.{AfterAck}
 use Rattle.swd_port.specs.declared.state.Reply.{Reply}
-use Rattle.swd_port.specs.Port.{Port, Link, Tally, Target as State}
+use Rattle.swd_port.specs.Port.{Port, PortLink, PortTally, Target as State}
 use Rattle.swd_port.specs.PlainMemory.{PlainMemory}
-use Rattle.swd_port.specs.Choices.{Choice, IsChoice, IsMark, is_deaf, is_wait}
-use Rattle.swd_port.specs.Answers.{seen_at}
-use Rattle.swd_port.specs.Completion.{Completes, completion_of}
-use Rattle.swd_port.specs.Asking.{AsksNow, tally_after}
-use Rattle.swd_port.specs.Moving.{Arrival, after_bits}
+use Rattle.swd_port.specs.Choices.{Choice, IsPortChoice, IsPortMark, is_port_deaf, is_port_wait}
+use Rattle.swd_port.specs.Answers.{port_seen_at}
+use Rattle.swd_port.specs.Completion.{PortCompletes, port_completion}
+use Rattle.swd_port.specs.Asking.{PortAsksNow, port_tally_after}
+use Rattle.swd_port.specs.Moving.{PortArrival, port_after_bits}
 use Rattle.swd_target.specs.declared.target.Target.{Target}
-use Rattle.swd_target.specs.Simulations.{asked, reply_to, phase_to, link_after, is_done, arrived}
-use Rattle.swd_target.specs.Targets.{state_of, simulation}
-use Rattle.swd_target.specs.Elsewhere.{IsReadyIf, IsUntouched, over}
-use Rattle.swd_target.specs.Flips.{line_under}
+use Rattle.swd_target.specs.Simulations.{simulation_asked, simulation_reply, simulation_phase, simulation_link_after}
+use Rattle.swd_target.specs.Simulations.{simulation_write_done, simulation_arrived}
+use Rattle.swd_target.specs.Targets.{target_state, target_simulation}
+use Rattle.swd_target.specs.Elsewhere.{IsTargetReadyIf, IsUntouched, target_over_memory}
+use Rattle.swd_target.specs.Flips.{target_line_under}
 
 -- the state of the port model, from that of its target
-abbrev pub port_at : Link → Tally → State → Port
-port_at l n s = record { link = l; target = s; tally = n }
+abbrev pub target_port_at : PortLink → PortTally → State → Port
+target_port_at l n s = record { link = l; target = s; tally = n }
 
 -- the pending transfer takes effect, or not yet
-abbrev pub Transfers : State → State → Type 0
-Transfers s t = (t ≡ s) ⊎ ((c : Choice) × IsChoice c × (t ≡ completion_of c s))
+abbrev pub TargetTransfers : State → State → Type 0
+TargetTransfers s t = (t ≡ s) ⊎ ((c : Choice) × IsPortChoice c × (t ≡ port_completion c s))
 
 -- one call of `ask` under a mark: a step of the port model
-abbrev pub AsksUnder : Mark → Port → Request → ℕ → Port → Type 0
-AsksUnder mark s q seen t =
-    (a : Port) × (b : Port) × (c : Choice) × Completes s a × AsksNow mark c a q seen b × Completes b t
+abbrev pub TargetAsksUnder : Mark → Port → Request → ℕ → Port → Type 0
+TargetAsksUnder mark s q seen t =
+    (a : Port) × (b : Port) × (c : Choice) × PortCompletes s a × PortAsksNow mark c a q seen b × PortCompletes b t
 
 -- A request under a mark, with its reply and the data phase as it arrives: a step of the port model, and exactly the
 -- step that the quirks and the mark choose.
-pub record AnswersUnder {A : Type 0} (mark : Mark) (q : Request) (s : Target A) (reply : Reply) (phase : Line)
+pub record TargetAnswersUnder {A : Type 0} (mark : Mark) (q : Request) (s : Target A) (reply : Reply) (phase : AfterAck)
     (t : Target A) : Type 0 where
-  pub step : (l : Link) (n : Tally) → AsksUnder mark (port_at l n (state_of s)) q (seen_at mark reply)
-      (port_at (link_after mark q reply phase l) (tally_after mark n) (state_of t))
-  pub replies : reply ≡ reply_to mark q (simulation s)
-  pub phases : phase ≡ phase_to mark q (simulation s)
-  pub exact : simulation t ≡ asked mark q (simulation s)
+  pub step : (l : PortLink) (n : PortTally)
+      → TargetAsksUnder mark (target_port_at l n (target_state s)) q (port_seen_at mark reply)
+      (target_port_at (simulation_link_after mark q reply phase l) (port_tally_after mark n) (target_state t))
+  pub replies : reply ≡ simulation_reply mark q (target_simulation s)
+  pub phases : phase ≡ simulation_phase mark q (target_simulation s)
+  pub exact : target_simulation t ≡ simulation_asked mark q (target_simulation s)
 
 -- a request that the target sees, under each mark that asks for WAIT, or each that doesn't
-abbrev pub AnswersEach : {A : Type 0} → Bool → Request → Target A → Reply → Line → Target A → Type 0
-AnswersEach waits q s reply phase t = (mark : Mark) → IsMark mark → is_deaf mark ≡ false → is_wait mark ≡ waits
-    → AnswersUnder mark q s reply (line_under mark phase) t
+abbrev pub TargetAnswersEach : {A : Type 0} → Bool → Request → Target A → Reply → AfterAck → Target A → Type 0
+TargetAnswersEach waits q s reply phase t = (mark : Mark) → IsPortMark mark → is_port_deaf mark ≡ false
+    → is_port_wait mark ≡ waits → TargetAnswersUnder mark q s reply (target_line_under mark phase) t
 
 -- A request that the target sees, where WAIT is asked for or not, under each such mark. Where transfers take effect
 -- late and no transfer did, the same holds over every other memory. If WAIT is asked for, that memory has to be one
 -- where the pending transfer would succeed.
-pub record Answers {A : Type 0} (waits : Bool) (q : Request) (s : Target A) (reply : Reply) (phase : Line)
+pub record TargetAnswers {A : Type 0} (waits : Bool) (q : Request) (s : Target A) (reply : Reply) (phase : AfterAck)
     (t : Target A) : Type 0 where
-  pub under : AnswersEach waits q s reply phase t
-  pub elsewhere : (m : PlainMemory) → IsUntouched s t → IsReadyIf waits m s
-      → AnswersEach waits q (over m s) reply phase (over m t)
+  pub under : TargetAnswersEach waits q s reply phase t
+  pub elsewhere : (m : PlainMemory) → IsUntouched s t → IsTargetReadyIf waits m s
+      → TargetAnswersEach waits q (target_over_memory m s) reply phase (target_over_memory m t)
 
 -- The data of a write: a step of the port model, and exactly the step that the quirks choose. Where the write isn't
 -- done, no transfer takes effect. Where transfers take effect late, the same holds over every other memory.
-pub record DataComes {A : Type 0} (a : Arrival) (s t : Target A) : Type 0 where
-  pub later : Transfers (after_bits a (state_of s)) (state_of t)
-  pub undone : is_done a ≡ false → state_of t ≡ after_bits a (state_of s)
-  pub exact : simulation t ≡ arrived a (simulation s)
+pub record DataComes {A : Type 0} (a : PortArrival) (s t : Target A) : Type 0 where
+  pub later : TargetTransfers (port_after_bits a (target_state s)) (target_state t)
+  pub undone : simulation_write_done a ≡ false → target_state t ≡ port_after_bits a (target_state s)
+  pub exact : target_simulation t ≡ simulation_arrived a (target_simulation s)
   pub elsewhere : (m : PlainMemory) → s.quirks.late ≡ true
-      → (state_of (over m t) ≡ after_bits a (state_of (over m s)))
-      × (simulation (over m t) ≡ arrived a (simulation (over m s)))
+      → (target_state (target_over_memory m t) ≡ port_after_bits a (target_state (target_over_memory m s)))
+      × (target_simulation (target_over_memory m t) ≡ simulation_arrived a (target_simulation (target_over_memory m s)))

@@ -2,16 +2,17 @@
 ghost use Rattle.std.specs.Prelude.{◌≡◌, ◌<◌, ◌^◌};
 ghost use Rattle.swd_port.specs.declared.cue.Cue.TheVariants.{Ask};
 ghost use Rattle.swd_port.specs.declared.wire.Due.TheVariants.{Nothing, Take, Give, Pass};
-ghost use Rattle.swd_port.specs.Stories.{MayStep, IsSeen, IsStep};
-ghost use Rattle.swd_port.specs.Port.{idle_link, made};
-ghost use Rattle.swd_port.specs.Completion.{completed};
-ghost use Rattle.swd_port.specs.Asking.{Asks, tally_after};
-ghost use Rattle.swd_port.specs.Leading.{LeadsNow};
-ghost use Rattle.swd_port.specs.Moving.{Takes, TakesNow, Gives, Passes, PassesNow, bits_driven};
-ghost use Rattle.swd_target.specs.Marks.{IsPlan};
-ghost use Rattle.swd_target.specs.Flips.{flip_place, awaited_flip};
-ghost use Rattle.swd_target.specs.Simulations.{made_with, transferred};
-ghost use Rattle.swd_target.specs.Targets.{IsChosen};
+ghost use Rattle.swd_port.specs.Stories.{PortMayStep, IsPortSeen, IsPortStep};
+ghost use Rattle.swd_port.specs.Port.{port_idle_link, port_made};
+ghost use Rattle.swd_port.specs.Completion.{port_completed};
+ghost use Rattle.swd_port.specs.Asking.{PortAsks, port_tally_after};
+ghost use Rattle.swd_port.specs.Leading.{PortLeadsNow};
+ghost use Rattle.swd_port.specs.Moving.{PortTakes, PortTakesNow, PortGives, PortPasses, PortPassesNow};
+ghost use Rattle.swd_port.specs.Moving.{port_bits_driven};
+ghost use Rattle.swd_target.specs.Marks.{IsLegalPlan};
+ghost use Rattle.swd_target.specs.Flips.{target_flip_place, target_awaited_flip};
+ghost use Rattle.swd_target.specs.Simulations.{simulation_made_with, simulation_transferred};
+ghost use Rattle.swd_target.specs.Targets.{IsChoiceByQuirks};
 
 use crate::acknowledgement::seen_under;
 use crate::memory::Memory;
@@ -21,7 +22,7 @@ use crate::quirks::Quirks;
 use crate::target::Target;
 use std::alloc::{Allocator, Global};
 use swd_bits::Request;
-use swd_port::{Cue, Due, Line, Mark, Wire};
+use swd_port::{AfterAck, Cue, Due, Mark, Wire};
 
 /// A simulated target as a [`Wire`]. Each request uses the next mark of the plan; after its end all marks are `Clean`.
 /// DPIDR reads 2ba01477.
@@ -41,74 +42,80 @@ use swd_port::{Cue, Due, Line, Mark, Wire};
 pub struct Bench<A: Allocator = Global> {
     target: Target<A>,
     due: Due,
-    line: Line,
+    line: AfterAck,
     plan: Plan<A>,
-    ghost driven: { bits_driven line < 2 ^ 33 },
-    ghost flipped: { flip_place (awaited_flip line) < 33 },
+    ghost driven: { port_bits_driven line < 2 ^ 33 },
+    ghost flipped: { target_flip_place (target_awaited_flip line) < 33 },
 }
 
 impl<A: Allocator> Bench<A> {
-    ghost use Rattle.swd_target.specs.Benches.{port_of, link_of, tally_of, simulation_of, plan_of, choice_of, next_mark};
-    ghost use Rattle.swd_target.specs.Stepping.{led, given, seen_by, stepped_by, link_by};
+    ghost use Rattle.swd_target.specs.Benches.{bench_port, bench_link, bench_tally, bench_simulation, bench_plan};
+    ghost use Rattle.swd_target.specs.Benches.{bench_choice, bench_next_mark};
+    ghost use Rattle.swd_target.specs.Stepping.{simulation_led, simulation_given, simulation_seen_at_cue};
+    ghost use Rattle.swd_target.specs.Stepping.{simulation_after_cue, simulation_link_at_cue};
 
     /// Creates a target before its first line reset, with this memory behind its access port.
     pub fn new(memory: Memory<A>, quirks: Quirks, plan: Vec<Mark, A>) -> Bench<A>
-        requires { IsPlan plan.items }
-        ensures port { port_of result ≡ made 0x2ba0_1477 memory }
-        ensures exact { simulation_of result ≡ made_with quirks memory }
-        ensures plan { plan_of result ≡ plan.items }
+        requires { IsLegalPlan plan.items }
+        ensures port { bench_port result ≡ port_made 0x2ba0_1477 memory }
+        ensures exact { bench_simulation result ≡ simulation_made_with quirks memory }
+        ensures plan { bench_plan result ≡ plan.items }
     {
         Bench {
             target: Target::new(memory, quirks),
             due: Due::Nothing,
-            line: Line::Idle,
+            line: AfterAck::Idle,
             plan: Plan::new(plan),
         }
     }
 
     /// Completes the pending DRW transfer, if any. Without the quirk `late` no transfer is ever pending.
     pub fn settle(&mut self)
-        ensures port { port_of self.new ≡ completed (choice_of self.old) (port_of self.old) }
-        ensures choice { IsChosen (simulation_of self.old).quirks (choice_of self.old) }
-        ensures exact { simulation_of self.new ≡ transferred (simulation_of self.old) }
-        ensures plan { plan_of self.new ≡ plan_of self.old }
+        ensures port { bench_port self.new ≡ port_completed (bench_choice self.old) (bench_port self.old) }
+        ensures choice { IsChoiceByQuirks (bench_simulation self.old).quirks (bench_choice self.old) }
+        ensures exact { bench_simulation self.new ≡ simulation_transferred (bench_simulation self.old) }
+        ensures plan { bench_plan self.new ≡ bench_plan self.old }
     {
         self.target.complete();
     }
 
     /// Returns the memory behind the access port.
     pub fn memory(&self) -> &Memory<A>
-        ensures { result.now ≡ (port_of self.now).target.memory }
+        ensures { result.now ≡ (bench_port self.now).target.memory }
     {
         &self.target.memory
     }
 
     // Performs a line reset if there are ones. Neither the sixteen bits of the switch nor zeros change the target.
     fn lead_now(&mut self, ones: u32)
-        ensures now { LeadsNow (port_of self.old) ones (port_of self.new) }
-        ensures exact { simulation_of self.new ≡ led ones (link_of self.old) (simulation_of self.old) }
-        ensures plan { plan_of self.new ≡ plan_of self.old }
+        ensures now { PortLeadsNow (bench_port self.old) ones (bench_port self.new) }
+        ensures exact { bench_simulation self.new
+            ≡ simulation_led ones (bench_link self.old) (bench_simulation self.old) }
+        ensures plan { bench_plan self.new ≡ bench_plan self.old }
     {
         self.due = Due::Nothing;
         if ones > 0 {
             self.target.line_reset(is_awaiting(self.line));
-            self.line = Line::Idle;
+            self.line = AfterAck::Idle;
         }
     }
 
     // Performs a request under the next mark.
     #[inline(always)]
     fn ask_now(&mut self, request: Request) -> u8
-        requires { (port_of self.old).link.due ≡ Nothing }
+        requires { (bench_port self.old).link.due ≡ Nothing }
         ensures range { result < 8 }
-        ensures step { Asks (port_of self.old) request result (port_of self.new) }
-        ensures sees { result ≡ seen_by (next_mark self.old) (Ask request) (link_of self.old) (simulation_of self.old) }
-        ensures exact { simulation_of self.new
-            ≡ stepped_by (next_mark self.old) (Ask request) (link_of self.old) (simulation_of self.old) }
-        ensures link { link_of self.new
-            ≡ link_by (next_mark self.old) (Ask request) (link_of self.old) (simulation_of self.old) }
-        ensures tally { tally_of self.new ≡ tally_after (next_mark self.old) (tally_of self.old) }
-        ensures plan { plan_of self.new ≡ plan_of self.old }
+        ensures step { PortAsks (bench_port self.old) request result (bench_port self.new) }
+        ensures sees { result ≡ simulation_seen_at_cue (bench_next_mark self.old) (Ask request) (bench_link self.old)
+            (bench_simulation self.old) }
+        ensures exact { bench_simulation self.new
+            ≡ simulation_after_cue (bench_next_mark self.old) (Ask request) (bench_link self.old)
+            (bench_simulation self.old) }
+        ensures link { bench_link self.new
+            ≡ simulation_link_at_cue (bench_next_mark self.old) (Ask request) (bench_link self.old)
+            (bench_simulation self.old) }
+        ensures tally { bench_tally self.new ≡ port_tally_after (bench_next_mark self.old) (bench_tally self.old) }
+        ensures plan { bench_plan self.new ≡ bench_plan self.old }
     {
         let mark = self.plan.use_mark();
         let (reply, phase) = self.target.request_under(mark, request);
@@ -121,55 +128,58 @@ impl<A: Allocator> Bench<A> {
     // Returns the data phase of a read.
     #[inline(always)]
     fn take_now(&mut self) -> u64
-        requires { (port_of self.old).link.due ≡ Take }
+        requires { (bench_port self.old).link.due ≡ Take }
         ensures range { result < 2 ^ 33 }
-        ensures step { Takes (port_of self.old) result (port_of self.new) }
-        ensures now { TakesNow (port_of self.old) result (port_of self.new) }
-        ensures exact { simulation_of self.new ≡ simulation_of self.old }
-        ensures plan { plan_of self.new ≡ plan_of self.old }
+        ensures step { PortTakes (bench_port self.old) result (bench_port self.new) }
+        ensures now { PortTakesNow (bench_port self.old) result (bench_port self.new) }
+        ensures exact { bench_simulation self.new ≡ bench_simulation self.old }
+        ensures plan { bench_plan self.new ≡ bench_plan self.old }
     {
         let bits = bits_on(self.line);
         self.due = Due::Nothing;
-        self.line = Line::Idle;
+        self.line = AfterAck::Idle;
         bits
     }
 
     // Takes the data phase of a write.
     #[inline(always)]
     fn give_now(&mut self, bits: u64)
-        requires due { (port_of self.old).link.due ≡ Give }
+        requires due { (bench_port self.old).link.due ≡ Give }
         requires range { bits < 2 ^ 33 }
-        ensures step { Gives (port_of self.old) bits (port_of self.new) }
-        ensures link { link_of self.new ≡ idle_link }
-        ensures tally { tally_of self.new ≡ tally_of self.old }
-        ensures exact { simulation_of self.new ≡ given bits (link_of self.old) (simulation_of self.old) }
-        ensures plan { plan_of self.new ≡ plan_of self.old }
+        ensures step { PortGives (bench_port self.old) bits (bench_port self.new) }
+        ensures link { bench_link self.new ≡ port_idle_link }
+        ensures tally { bench_tally self.new ≡ bench_tally self.old }
+        ensures exact { bench_simulation self.new
+            ≡ simulation_given bits (bench_link self.old) (bench_simulation self.old) }
+        ensures plan { bench_plan self.new ≡ bench_plan self.old }
     {
         self.target.arrive_on(self.line, bits);
         self.due = Due::Nothing;
-        self.line = Line::Idle;
+        self.line = AfterAck::Idle;
     }
 
     // Passes the turnaround after WAIT or FAULT, which doesn't change the target.
     #[inline(always)]
     fn pass_now(&mut self)
-        requires { (port_of self.old).link.due ≡ Pass }
-        ensures step { Passes (port_of self.old) (port_of self.new) }
-        ensures now { PassesNow (port_of self.old) (port_of self.new) }
-        ensures exact { simulation_of self.new ≡ simulation_of self.old }
-        ensures plan { plan_of self.new ≡ plan_of self.old }
+        requires { (bench_port self.old).link.due ≡ Pass }
+        ensures step { PortPasses (bench_port self.old) (bench_port self.new) }
+        ensures now { PortPassesNow (bench_port self.old) (bench_port self.new) }
+        ensures exact { bench_simulation self.new ≡ bench_simulation self.old }
+        ensures plan { bench_plan self.new ≡ bench_plan self.old }
     {
         self.due = Due::Nothing;
     }
 }
 
 impl<A: Allocator> Wire for Bench<A> {
-    ghost use Rattle.swd_target.specs.Benches.{port_of, link_of, tally_of, simulation_of, plan_of, next_mark};
-    ghost use Rattle.swd_target.specs.Stepping.{seen_by, stepped_by, link_by, tally_by, StepsAlone};
+    ghost use Rattle.swd_target.specs.Benches.{bench_port, bench_link, bench_tally, bench_simulation, bench_plan};
+    ghost use Rattle.swd_target.specs.Benches.{bench_next_mark};
+    ghost use Rattle.swd_target.specs.Stepping.{simulation_seen_at_cue, simulation_after_cue, simulation_link_at_cue};
+    ghost use Rattle.swd_target.specs.Stepping.{simulation_tally_at_cue, TargetStepsAlone};
 
-    ghost port = { port_of };
+    ghost port = { bench_port };
 
-    ghost plan = { plan_of };
+    ghost plan = { bench_plan };
 
     fn due(&self) -> Due {
         self.due
@@ -178,17 +188,19 @@ impl<A: Allocator> Wire for Bench<A> {
     /// Performs the cue. The n-th request uses the n-th mark of the plan, or `Clean` after its end.
     #[inline(always)]
     fn step(&mut self, cue: Cue) -> u64
-        requires { MayStep (port_of self.old).link.due cue }
-        ensures seen { IsSeen cue result }
-        ensures step { IsStep cue result (port_of self.old) (port_of self.new) }
-        ensures alone { StepsAlone cue result (port_of self.old) (port_of self.new) }
-        ensures sees { result ≡ seen_by (next_mark self.old) cue (link_of self.old) (simulation_of self.old) }
-        ensures exact { simulation_of self.new
-            ≡ stepped_by (next_mark self.old) cue (link_of self.old) (simulation_of self.old) }
-        ensures link { link_of self.new
-            ≡ link_by (next_mark self.old) cue (link_of self.old) (simulation_of self.old) }
-        ensures tally { tally_of self.new ≡ tally_by (next_mark self.old) cue (tally_of self.old) }
-        ensures plan { plan_of self.new ≡ plan_of self.old }
+        requires { PortMayStep (bench_port self.old).link.due cue }
+        ensures seen { IsPortSeen cue result }
+        ensures step { IsPortStep cue result (bench_port self.old) (bench_port self.new) }
+        ensures alone { TargetStepsAlone cue result (bench_port self.old) (bench_port self.new) }
+        ensures sees { result ≡ simulation_seen_at_cue (bench_next_mark self.old) cue (bench_link self.old)
+            (bench_simulation self.old) }
+        ensures exact { bench_simulation self.new
+            ≡ simulation_after_cue (bench_next_mark self.old) cue (bench_link self.old) (bench_simulation self.old) }
+        ensures link { bench_link self.new
+            ≡ simulation_link_at_cue (bench_next_mark self.old) cue (bench_link self.old) (bench_simulation self.old) }
+        ensures tally { bench_tally self.new
+            ≡ simulation_tally_at_cue (bench_next_mark self.old) cue (bench_tally self.old) }
+        ensures plan { bench_plan self.new ≡ bench_plan self.old }
     {
         match cue {
             Cue::Lead { ones, .. } => self.lead_now(ones),

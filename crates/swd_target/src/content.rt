@@ -11,18 +11,18 @@ pub(crate) struct Content {
 
 impl Content {
     ghost use Rattle.std.specs.Prelude.{◌≡◌};
-    ghost use Rattle.swd_target.specs.Contents.{known_word};
+    ghost use Rattle.swd_target.specs.Contents.{target_known_word};
 
     pub(crate) fn known(word: u32) -> Content
         ensures word { result.word ≡ word }
-        ensures known { known_word result ≡ Some word }
+        ensures known { target_known_word result ≡ Some word }
     {
         Content { word, known: true }
     }
 
     pub(crate) fn unknown(word: u32) -> Content
         ensures word { result.word ≡ word }
-        ensures unknown { known_word result ≡ None }
+        ensures unknown { target_known_word result ≡ None }
     {
         Content { word, known: false }
     }

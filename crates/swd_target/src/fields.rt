@@ -1,9 +1,9 @@
 //! A target as a struct of integers, for callers that store it themselves, such as programs in C.
 ghost use Rattle.std.specs.Prelude.{◌≡◌, ◌==◌};
-ghost use Rattle.swd_target.specs.Fields.{content_fields, pending_fields, power_number, reset_number};
-ghost use Rattle.swd_target.specs.Fields.{read_content, read_pending, read_power, read_reset, read_target};
-ghost use Rattle.swd_target.specs.Fields.{fields_of};
-ghost use Rattle.swd_target.specs.Targets.{state_of};
+ghost use Rattle.swd_target.specs.Fields.{target_content_fields, target_pending_fields, target_power_number};
+ghost use Rattle.swd_target.specs.Fields.{target_reset_number, restored_target_content, restored_target_pending};
+ghost use Rattle.swd_target.specs.Fields.{restored_target_power, restored_target_reset, restored_target, target_fields};
+ghost use Rattle.swd_target.specs.Targets.{target_state};
 
 use crate::content::Content;
 use crate::memory::Memory;
@@ -58,7 +58,7 @@ pub struct PendingFields {
 
 impl ContentFields {
     fn of(content: Content) -> ContentFields
-        ensures { result ≡ content_fields content }
+        ensures { result ≡ target_content_fields content }
     {
         ContentFields {
             word: content.word,
@@ -67,7 +67,7 @@ impl ContentFields {
     }
 
     fn content(self) -> Content
-        ensures { content_fields result ≡ read_content self }
+        ensures { target_content_fields result ≡ restored_target_content self }
     {
         Content {
             word: self.word,
@@ -78,7 +78,7 @@ impl ContentFields {
 
 impl PendingFields {
     fn of(pending: Option<Drw>) -> PendingFields
-        ensures { result ≡ pending_fields pending }
+        ensures { result ≡ target_pending_fields pending }
     {
         match pending {
             None => PendingFields { word: 0, kind: 0 },
@@ -88,7 +88,7 @@ impl PendingFields {
     }
 
     fn pending(self) -> Option<Drw>
-        ensures { pending_fields result ≡ read_pending self }
+        ensures { target_pending_fields result ≡ restored_target_pending self }
     {
         match self.kind {
             1 => Some(Drw::Reads),
@@ -99,7 +99,7 @@ impl PendingFields {
 }
 
 fn number_of_reset(reset: Reset) -> u8
-    ensures { result ≡ reset_number reset }
+    ensures { result ≡ target_reset_number reset }
 {
     match reset {
         Reset::Unreset => 1,
@@ -109,7 +109,7 @@ fn number_of_reset(reset: Reset) -> u8
 }
 
 fn reset_with(number: u8) -> Reset
-    ensures { reset_number result ≡ read_reset number }
+    ensures { target_reset_number result ≡ restored_target_reset number }
 {
     match number {
         1 => Reset::Unreset,
@@ -119,7 +119,7 @@ fn reset_with(number: u8) -> Reset
 }
 
 fn number_of_power(power_up: PowerUp) -> u8
-    ensures { result ≡ power_number power_up }
+    ensures { result ≡ target_power_number power_up }
 {
     match power_up {
         PowerUp::Unseen => 1,
@@ -129,7 +129,7 @@ fn number_of_power(power_up: PowerUp) -> u8
 }
 
 fn power_with(number: u8) -> PowerUp
-    ensures { power_number result ≡ read_power number }
+    ensures { target_power_number result ≡ restored_target_power number }
 {
     match number {
         1 => PowerUp::Unseen,
@@ -142,8 +142,8 @@ impl TargetFields {
     /// Creates a target with these fields and this memory. An invalid number is read as a valid one: compare the fields
     /// of the result to reject it.
     pub fn target<A: Allocator>(&self, memory: Memory<A>) -> Target<A>
-        ensures numbers { fields_of result ≡ read_target self.now }
-        ensures memory { (state_of result).memory ≡ memory }
+        ensures numbers { target_fields result ≡ restored_target self.now }
+        ensures memory { (target_state result).memory ≡ memory }
     {
         Target {
             quirks: self.quirks(),
@@ -183,7 +183,7 @@ impl TargetFields {
 impl<A: Allocator> Target<A> {
     /// Returns the fields of the target, without its memory.
     pub fn fields(&self) -> TargetFields
-        ensures { result ≡ fields_of self.now }
+        ensures { result ≡ target_fields self.now }
     {
         TargetFields {
             tar: ContentFields::of(self.tar),

@@ -1,12 +1,11 @@
 //! The memory behind a simulated access port.
-ghost use Rattle.std.specs.Prelude.{◌≡◌, ◌≢◌, ◌↔◌, ◌+◌, ◌*◌, ◌<◌, ◌%◌, ◌^◌};
-ghost use Rattle.std.specs.Prelude.{IfOk, IsErrOf};
+ghost use Rattle.std.specs.Prelude.{◌≡◌, ◌≢◌, ◌↔◌, ◌+◌, ◌*◌, ◌<◌, ◌%◌, ◌^◌, IfOk, IsErrOf};
 ghost use Rattle.std.specs.FinMap.{get};
 ghost use Rattle.swd_port.specs.PlainMemory.{succeeds_at, plain_answer, plain_after};
-ghost use Rattle.swd_target.specs.MemoryWords.{zero_memory, window};
+ghost use Rattle.swd_target.specs.MemoryWords.{target_zero_memory, target_window};
 
 use crate::window::Window;
-use crate::words::Words;
+use crate::words::OwnWords;
 use std::alloc::{Allocator, Global};
 use std::marker::Model;
 use swd_port::{Access, Answer, Transfer};
@@ -31,9 +30,9 @@ pub enum MakeFault {
 
 // Where the words are.
 #[derive(Debug, Drop)]
-pub(crate) enum Kept<A: Allocator> {
+pub(crate) enum Storage<A: Allocator> {
     // In this memory.
-    Here(Words<A>),
+    Here(OwnWords<A>),
     // Elsewhere; at most one word is here.
     Elsewhere(Window),
 }
@@ -42,7 +41,7 @@ pub(crate) enum Kept<A: Allocator> {
 /// `PlainMemory`.
 #[derive(Debug, Drop)]
 pub struct Memory<A: Allocator = Global> {
-    kept: Kept<A>,
+    kept: Storage<A>,
 }
 
 impl<A: Allocator> Model for Memory<A> {
@@ -51,13 +50,13 @@ impl<A: Allocator> Model for Memory<A> {
     ghost use Rattle.std.specs.Ordering.{nat_cmp};
     ghost use Rattle.swd_port.specs.contracts.access.Transfer as transfer;
     ghost use Rattle.swd_port.specs.PlainMemory.{PlainMemory};
-    ghost use Rattle.swd_target.specs.Kept.{memory_in};
+    ghost use Rattle.swd_target.specs.Kept.{target_memory_in};
 
     ghost Value = { PlainMemory };
 
     ghost coded = { Prim.hlevel (codes, map.code {R = nat_cmp} coded_ℕ coded_ℕ, transfer.the_row.coded) };
 
-    ghost view = { λ m. memory_in m.kept };
+    ghost view = { λ m. target_memory_in m.kept };
 }
 
 impl<A: Allocator + Copy> Memory<A> {
@@ -69,14 +68,14 @@ impl<A: Allocator + Copy> Memory<A> {
     /// Returns `Base` if `base` isn't a multiple of 4, `Empty` if `words` is 0, `Range` if the words pass 2^32, and
     /// `Memory` if allocating fails.
     pub fn new(alloc: A, base: u32, words: u32, room: u32) -> Result<Memory<A>, MakeFault>
-        ensures made { IfOk result (λ memory. memory ≡ zero_memory base words room) }
+        ensures made { IfOk result (λ memory. memory ≡ target_zero_memory base words room) }
         ensures base { IsErrOf result MakeFault.Base ↔ (base % 4 ≢ 0) }
         ensures empty { IsErrOf result MakeFault.Empty ↔ ((base % 4 ≡ 0) × (words ≡ 0)) }
         ensures range { IsErrOf result MakeFault.Range ↔ ((base % 4 ≡ 0) × (words ≢ 0) × (2 ^ 32 < base + 4 * words)) }
     {
-        match Words::new(alloc, base, words, room) {
+        match OwnWords::new(alloc, base, words, room) {
             Ok(words) => Ok(Memory {
-                kept: Kept::Here(words),
+                kept: Storage::Here(words),
             }),
             Err(fault) => Err(fault),
         }
@@ -87,10 +86,10 @@ impl<A: Allocator> Memory<A> {
     /// Creates a memory of one word at a byte address, or of no word, in place of a memory elsewhere. Its empty log has
     /// room for one transfer. It doesn't allocate.
     pub fn window(addr: u32, word: Option<u32>) -> Memory<A>
-        ensures { result ≡ window addr word }
+        ensures { result ≡ target_window addr word }
     {
         Memory {
-            kept: Kept::Elsewhere(Window::new(addr, word)),
+            kept: Storage::Elsewhere(Window::new(addr, word)),
         }
     }
 
@@ -100,8 +99,8 @@ impl<A: Allocator> Memory<A> {
         ensures { result ≡ get self.now.words addr }
     {
         match &self.kept {
-            Kept::Here(words) => words.word(addr),
-            Kept::Elsewhere(window) => window.word(addr),
+            Storage::Here(words) => words.word(addr),
+            Storage::Elsewhere(window) => window.word(addr),
         }
     }
 
@@ -110,8 +109,8 @@ impl<A: Allocator> Memory<A> {
         ensures { result.now ≡ self.now.log }
     {
         match &self.kept {
-            Kept::Here(words) => words.log(),
-            Kept::Elsewhere(window) => window.log(),
+            Storage::Here(words) => words.log(),
+            Storage::Elsewhere(window) => window.log(),
         }
     }
 
@@ -120,8 +119,8 @@ impl<A: Allocator> Memory<A> {
         ensures { result ≡ succeeds_at addr self.now }
     {
         match &self.kept {
-            Kept::Here(words) => words.is_ready(addr),
-            Kept::Elsewhere(window) => window.is_ready(addr),
+            Storage::Here(words) => words.is_ready(addr),
+            Storage::Elsewhere(window) => window.is_ready(addr),
         }
     }
 
@@ -133,8 +132,8 @@ impl<A: Allocator> Memory<A> {
         ensures after { self.new ≡ plain_after access self.old }
     {
         match &mut self.kept {
-            Kept::Here(words) => words.transfer(access),
-            Kept::Elsewhere(window) => window.transfer(access),
+            Storage::Here(words) => words.transfer(access),
+            Storage::Elsewhere(window) => window.transfer(access),
         }
     }
 }

@@ -1,8 +1,8 @@
 //! The plan of a simulated wire: the marks of its requests, and how many of them were used.
 ghost use Rattle.std.specs.Prelude.{◌≡◌, ◌+◌, true, length, min, take};
 ghost use Rattle.std.specs.List.{list_all};
-ghost use Rattle.swd_port.specs.Choices.{IsMark, disturbs, loses, disturbed_among, lost_among};
-ghost use Rattle.swd_target.specs.Marks.{is_legal, IsPlan};
+ghost use Rattle.swd_port.specs.Choices.{IsPortMark, port_disturbs, port_loses, port_disturbed_among, port_lost_among};
+ghost use Rattle.swd_target.specs.Marks.{is_legal_mark, IsLegalPlan};
 
 use std::alloc::{Allocator, Global};
 use swd_port::{Count, Mark};
@@ -16,22 +16,22 @@ pub struct Plan<A: Allocator = Global> {
     asked: Count,
     disturbed: Count,
     lost: Count,
-    ghost legal: { list_all is_legal marks.items ≡ true },
+    ghost legal: { list_all is_legal_mark marks.items ≡ true },
     ghost counted: { next ≡ min asked.ticks (length marks.items) },
-    ghost counted_disturbed: { disturbed.ticks ≡ disturbed_among (take asked.ticks marks.items) },
-    ghost counted_lost: { lost.ticks ≡ lost_among (take asked.ticks marks.items) },
+    ghost counted_disturbed: { disturbed.ticks ≡ port_disturbed_among (take asked.ticks marks.items) },
+    ghost counted_lost: { lost.ticks ≡ port_lost_among (take asked.ticks marks.items) },
 }
 
 impl<A: Allocator> Plan<A> {
-    ghost use Rattle.swd_target.specs.Plans.{marks_of, tally_of, mark_next};
+    ghost use Rattle.swd_target.specs.Plans.{plan_marks, plan_tally, plan_next_mark};
 
     /// Creates a plan of which no mark was used yet.
     pub fn new(marks: Vec<Mark, A>) -> Plan<A>
-        requires { IsPlan marks.items }
-        ensures marks { marks_of result ≡ marks.items }
-        ensures asked { (tally_of result).asked ≡ 0 }
-        ensures disturbed { (tally_of result).disturbed ≡ 0 }
-        ensures lost { (tally_of result).lost ≡ 0 }
+        requires { IsLegalPlan marks.items }
+        ensures marks { plan_marks result ≡ marks.items }
+        ensures asked { (plan_tally result).asked ≡ 0 }
+        ensures disturbed { (plan_tally result).disturbed ≡ 0 }
+        ensures lost { (plan_tally result).lost ≡ 0 }
     {
         Plan {
             marks,
@@ -44,19 +44,19 @@ impl<A: Allocator> Plan<A> {
 
     /// Consumes the plan, and returns all its marks.
     pub fn into_marks(self) -> Vec<Mark, A>
-        ensures { result.items ≡ marks_of self }
+        ensures { result.items ≡ plan_marks self }
     {
         self.marks
     }
 
     /// Uses the mark of the next request, and returns it.
     pub fn use_mark(&mut self) -> Mark
-        ensures mark { result ≡ mark_next self.old }
-        ensures legal { IsMark result }
-        ensures marks { marks_of self.new ≡ marks_of self.old }
-        ensures asked { (tally_of self.new).asked ≡ (tally_of self.old).asked + 1 }
-        ensures disturbed { (tally_of self.new).disturbed ≡ (tally_of self.old).disturbed + disturbs result }
-        ensures lost { (tally_of self.new).lost ≡ (tally_of self.old).lost + loses result }
+        ensures mark { result ≡ plan_next_mark self.old }
+        ensures legal { IsPortMark result }
+        ensures marks { plan_marks self.new ≡ plan_marks self.old }
+        ensures asked { (plan_tally self.new).asked ≡ (plan_tally self.old).asked + 1 }
+        ensures disturbed { (plan_tally self.new).disturbed ≡ (plan_tally self.old).disturbed + port_disturbs result }
+        ensures lost { (plan_tally self.new).lost ≡ (plan_tally self.old).lost + port_loses result }
     {
         let mark = self.next_mark();
         self.asked.tick();
@@ -72,8 +72,8 @@ impl<A: Allocator> Plan<A> {
     }
 
     fn next_mark(&self) -> Mark
-        ensures mark { result ≡ mark_next self.now }
-        ensures legal { IsMark result }
+        ensures mark { result ≡ plan_next_mark self.now }
+        ensures legal { IsPortMark result }
     {
         match self.marks.get(self.next) {
             Some(mark) => *mark,

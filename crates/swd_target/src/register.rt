@@ -1,16 +1,16 @@
 //! The registers that a request names.
 ghost use Rattle.std.specs.Prelude.{◌≡◌, true, false};
-ghost use Rattle.swd_port.specs.Port.{register};
-ghost use Rattle.swd_port.specs.Answers.{is_exempt};
-ghost use Rattle.swd_port.specs.Asking.{is_access_port, is_posted};
-ghost use Rattle.swd_port.specs.Moving.{is_ap_write};
+ghost use Rattle.swd_port.specs.Port.{port_register};
+ghost use Rattle.swd_port.specs.Answers.{is_exempt_register};
+ghost use Rattle.swd_port.specs.Asking.{is_access_port_register, is_port_posted};
+ghost use Rattle.swd_port.specs.Moving.{is_ap_write_register};
 
 use swd_bits::{Reg4, Request};
 use swd_port::{Register, Select};
 
 // Returns the register that a request names under a SELECT.
 pub(crate) fn register_named(select: Select, request: Request) -> Register
-    ensures { result ≡ register select request }
+    ensures { result ≡ port_register select request }
 {
     if request.ap {
         access_port_register(select, request)
@@ -22,7 +22,7 @@ pub(crate) fn register_named(select: Select, request: Request) -> Register
 // Returns the debug port's register. DPBANKSEL decides the one at address 4 alone.
 fn debug_port_register(select: Select, request: Request) -> Register
     requires { request.ap ≡ false }
-    ensures { result ≡ register select request }
+    ensures { result ≡ port_register select request }
 {
     let bank0 = select.dpbanksel == 0;
     match (request.read, request.addr) {
@@ -52,7 +52,7 @@ fn debug_port_register(select: Select, request: Request) -> Register
 // Returns the access port's register. Only bank 0 of access port 0 has registers.
 fn access_port_register(select: Select, request: Request) -> Register
     requires { request.ap ≡ true }
-    ensures { result ≡ register select request }
+    ensures { result ≡ port_register select request }
 {
     if select.apsel != 0 || select.apbanksel != 0 {
         return if request.read {
@@ -75,7 +75,7 @@ fn access_port_register(select: Select, request: Request) -> Register
 
 // Returns whether the register's request is never answered WAIT or FAULT.
 pub(crate) fn is_exempt(register: Register) -> bool
-    ensures { result ≡ is_exempt register }
+    ensures { result ≡ is_exempt_register register }
 {
     matches!(
         &register,
@@ -85,7 +85,7 @@ pub(crate) fn is_exempt(register: Register) -> bool
 
 // Returns whether it is a read that returns the read buffer and that READOK is about.
 pub(crate) fn is_posted(register: Register) -> bool
-    ensures { result ≡ is_posted register }
+    ensures { result ≡ is_port_posted register }
 {
     matches!(
         &register,
@@ -99,7 +99,7 @@ pub(crate) fn is_posted(register: Register) -> bool
 
 // Returns whether it is a register of an access port.
 pub(crate) fn is_access_port(register: Register) -> bool
-    ensures { result ≡ is_access_port register }
+    ensures { result ≡ is_access_port_register register }
 {
     matches!(
         &register,
@@ -116,7 +116,7 @@ pub(crate) fn is_access_port(register: Register) -> bool
 
 // Returns whether it is a write of an access port. After it the read buffer and the last returned value are unknown.
 pub(crate) fn is_access_port_write(register: Register) -> bool
-    ensures { result ≡ is_ap_write register }
+    ensures { result ≡ is_ap_write_register register }
 {
     matches!(
         &register,

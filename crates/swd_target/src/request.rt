@@ -1,33 +1,33 @@
 //! A request at a simulated target, and the data of a write, as both benches use them.
 ghost use Rattle.std.specs.Prelude.{◌≡◌, ◌<◌, ◌^◌, false, true};
-ghost use Rattle.swd_bits.specs.Phases.{word_in};
-ghost use Rattle.swd_port.specs.Choices.{IsMark, is_deaf};
-ghost use Rattle.swd_port.specs.Asking.{IsWordRead, value_in};
-ghost use Rattle.swd_port.specs.Moving.{arrival, arrival_of, bits_driven};
-ghost use Rattle.swd_target.specs.Flips.{flip_place, awaited_flip};
-ghost use Rattle.swd_target.specs.Simulations.{accepted_after};
+ghost use Rattle.swd_bits.specs.Phases.{data_phase_word};
+ghost use Rattle.swd_port.specs.Choices.{IsPortMark, is_port_deaf};
+ghost use Rattle.swd_port.specs.Asking.{IsPortWordRead, port_value_in};
+ghost use Rattle.swd_port.specs.Moving.{port_arrival, port_arrival_of, port_bits_driven};
+ghost use Rattle.swd_target.specs.Flips.{target_flip_place, target_awaited_flip};
+ghost use Rattle.swd_target.specs.Simulations.{simulation_accepted_after};
 
 use crate::phase::{flip_bit, flip_line, flip_under, phase_of};
 use crate::register::register_named;
 use crate::target::Target;
 use std::alloc::Allocator;
 use swd_bits::{Request, word_of};
-use swd_port::{Line, Mark, Register, Reply};
+use swd_port::{AfterAck, Mark, Register, Reply};
 
 impl<A: Allocator> Target<A> {
-    ghost use Rattle.swd_target.specs.Targets.{state_of, simulation, stand_in, phase_in};
-    ghost use Rattle.swd_target.specs.Requests.{Answers, AnswersUnder, DataComes, Transfers};
+    ghost use Rattle.swd_target.specs.Targets.{target_state, target_simulation, target_stand_in, target_phase_in};
+    ghost use Rattle.swd_target.specs.Requests.{TargetAnswers, TargetAnswersUnder, DataComes, TargetTransfers};
 
     /// Performs a request, and returns the reply and the data phase that follows an OK. `waits` asks for WAIT. A read
     /// of CTRL/STAT, which never gets WAIT, then finds power-up not acknowledged, unless it was read as acknowledged
     /// before.
     #[inline(always)]
-    pub fn request(&mut self, waits: bool, request: Request) -> (Reply, Line)
-        ensures answers { Answers waits request self.old result.0 result.1 self.new }
-        ensures quirks { (simulation self.new).quirks ≡ (simulation self.old).quirks }
-        ensures quiet { (simulation self.old).quirks.late ≡ true → (state_of self.old).pending ≡ None
-            → (state_of self.new).memory ≡ (state_of self.old).memory }
-        ensures driven { bits_driven result.1 < 2 ^ 33 }
+    pub fn request(&mut self, waits: bool, request: Request) -> (Reply, AfterAck)
+        ensures answers { TargetAnswers waits request self.old result.0 result.1 self.new }
+        ensures quirks { (target_simulation self.new).quirks ≡ (target_simulation self.old).quirks }
+        ensures quiet { (target_simulation self.old).quirks.late ≡ true → (target_state self.old).pending ≡ None
+            → (target_state self.new).memory ≡ (target_state self.old).memory }
+        ensures driven { port_bits_driven result.1 < 2 ^ 33 }
     {
         let register = register_named(self.select, request);
         let reply = self.reply(waits, register, request.ap);
@@ -39,8 +39,8 @@ impl<A: Allocator> Target<A> {
 
     // Lets a transfer that an OK accepted take effect as the quirks say.
     fn accept_after(&mut self, reply: Reply)
-        ensures effect { Transfers (state_of self.old) (state_of self.new) }
-        ensures exact { simulation self.new ≡ accepted_after reply (simulation self.old) }
+        ensures effect { TargetTransfers (target_state self.old) (target_state self.new) }
+        ensures exact { target_simulation self.new ≡ simulation_accepted_after reply (target_simulation self.old) }
         ensures late { self.old.quirks.late ≡ true → self.new ≡ self.old }
     {
         if let Reply::Okay = reply {
@@ -49,42 +49,44 @@ impl<A: Allocator> Target<A> {
     }
 
     // Returns the data phase that follows a reply.
-    fn phase(&self, waits: bool, reply: Reply, register: Register, read: bool) -> Line
-        ensures phase { result ≡ phase_in waits reply read register (stand_in register self.now) (state_of self.now) }
-        ensures exact { result ≡ phase_in waits reply read register self.now.quirks.filler (simulation self.now).state }
-        ensures word { IsWordRead reply read (value_in waits register (stand_in register self.now)
-            (state_of self.now)) }
-        ensures driven { bits_driven result < 2 ^ 33 }
+    fn phase(&self, waits: bool, reply: Reply, register: Register, read: bool) -> AfterAck
+        ensures phase { result ≡ target_phase_in waits reply read register (target_stand_in register self.now)
+            (target_state self.now) }
+        ensures exact { result ≡ target_phase_in waits reply read register self.now.quirks.filler
+            (target_simulation self.now).state }
+        ensures word { IsPortWordRead reply read (port_value_in waits register (target_stand_in register self.now)
+            (target_state self.now)) }
+        ensures driven { port_bits_driven result < 2 ^ 33 }
     {
         match reply {
             Reply::Okay => phase_of(read, register, self.value(waits, register)),
-            _ => Line::Idle,
+            _ => AfterAck::Idle,
         }
     }
 
     // Performs a request under a mark, and returns the reply and the data phase that follows an OK, as it arrives.
     #[inline(always)]
-    pub(crate) fn request_under(&mut self, mark: Mark, request: Request) -> (Reply, Line)
-        requires { IsMark mark }
-        ensures answers { AnswersUnder mark request self.old result.0 result.1 self.new }
-        ensures driven { bits_driven result.1 < 2 ^ 33 }
-        ensures flipped { flip_place (awaited_flip result.1) < 33 }
+    pub(crate) fn request_under(&mut self, mark: Mark, request: Request) -> (Reply, AfterAck)
+        requires { IsPortMark mark }
+        ensures answers { TargetAnswersUnder mark request self.old result.0 result.1 self.new }
+        ensures driven { port_bits_driven result.1 < 2 ^ 33 }
+        ensures flipped { target_flip_place (target_awaited_flip result.1) < 33 }
     {
         match mark {
             Mark::Clean => self.request_heard(Mark::Clean, request),
-            Mark::Deaf => (Reply::Silent, Line::Idle),
+            Mark::Deaf => (Reply::Silent, AfterAck::Idle),
             _ => self.request_disturbed(mark, request),
         }
     }
 
     // Performs a request under a mark at which the target sees it.
     #[inline(always)]
-    fn request_heard(&mut self, mark: Mark, request: Request) -> (Reply, Line)
-        requires mark { IsMark mark }
-        requires heard { is_deaf mark ≡ false }
-        ensures answers { AnswersUnder mark request self.old result.0 result.1 self.new }
-        ensures driven { bits_driven result.1 < 2 ^ 33 }
-        ensures flipped { flip_place (awaited_flip result.1) < 33 }
+    fn request_heard(&mut self, mark: Mark, request: Request) -> (Reply, AfterAck)
+        requires mark { IsPortMark mark }
+        requires heard { is_port_deaf mark ≡ false }
+        ensures answers { TargetAnswersUnder mark request self.old result.0 result.1 self.new }
+        ensures driven { port_bits_driven result.1 < 2 ^ 33 }
+        ensures flipped { target_flip_place (target_awaited_flip result.1) < 33 }
     {
         let (reply, phase) = self.request(matches!(&mark, Mark::Wait), request);
         (reply, flip_line(flip_under(mark), phase))
@@ -92,12 +94,12 @@ impl<A: Allocator> Target<A> {
 
     // Out of line: nearly every mark is `Clean`, and for `Clean` the compiler drops what the other marks need.
     #[inline(never)]
-    fn request_disturbed(&mut self, mark: Mark, request: Request) -> (Reply, Line)
-        requires mark { IsMark mark }
-        requires heard { is_deaf mark ≡ false }
-        ensures answers { AnswersUnder mark request self.old result.0 result.1 self.new }
-        ensures driven { bits_driven result.1 < 2 ^ 33 }
-        ensures flipped { flip_place (awaited_flip result.1) < 33 }
+    fn request_disturbed(&mut self, mark: Mark, request: Request) -> (Reply, AfterAck)
+        requires mark { IsPortMark mark }
+        requires heard { is_port_deaf mark ≡ false }
+        ensures answers { TargetAnswersUnder mark request self.old result.0 result.1 self.new }
+        ensures driven { port_bits_driven result.1 < 2 ^ 33 }
+        ensures flipped { target_flip_place (target_awaited_flip result.1) < 33 }
     {
         self.request_heard(mark, request)
     }
@@ -106,10 +108,10 @@ impl<A: Allocator> Target<A> {
     /// otherwise WDATAERR is set.
     pub fn arrive(&mut self, register: Register, bits: u64)
         requires { bits < 2 ^ 33 }
-        ensures comes { DataComes (arrival_of register (word_in bits)) self.old self.new }
-        ensures quirks { (simulation self.new).quirks ≡ (simulation self.old).quirks }
-        ensures quiet { (simulation self.old).quirks.late ≡ true
-            → (state_of self.new).memory ≡ (state_of self.old).memory }
+        ensures comes { DataComes (port_arrival_of register (data_phase_word bits)) self.old self.new }
+        ensures quirks { (target_simulation self.new).quirks ≡ (target_simulation self.old).quirks }
+        ensures quiet { (target_simulation self.old).quirks.late ≡ true
+            → (target_state self.new).memory ≡ (target_state self.old).memory }
     {
         match word_of(bits) {
             Some(word) => {
@@ -121,12 +123,12 @@ impl<A: Allocator> Target<A> {
     }
 
     // Sends the 33 bits of a write to a target that awaits them, with the awaited bit changed, if any.
-    pub(crate) fn arrive_on(&mut self, line: Line, bits: u64)
+    pub(crate) fn arrive_on(&mut self, line: AfterAck, bits: u64)
         requires range { bits < 2 ^ 33 }
-        requires flip { flip_place (awaited_flip line) < 33 }
-        ensures { DataComes (arrival line bits) self.old self.new }
+        requires flip { target_flip_place (target_awaited_flip line) < 33 }
+        ensures { DataComes (port_arrival line bits) self.old self.new }
     {
-        if let Line::Awaits(register, flip) = line {
+        if let AfterAck::Awaits(register, flip) = line {
             self.arrive(register, flip_bit(flip, bits));
         }
     }

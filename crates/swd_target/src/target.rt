@@ -1,17 +1,17 @@
 //! The target behind a wire: a debug port with one memory access port.
 ghost use Rattle.std.specs.Prelude.{◌≡◌, ◌&&◌, ◌||◌, not, true, false};
-ghost use Rattle.swd_port.specs.Port.{made_target};
+ghost use Rattle.swd_port.specs.Port.{port_made_target};
 ghost use Rattle.swd_port.specs.declared.state.Reset.TheVariants.{Fresh};
 ghost use Rattle.swd_port.specs.declared.register.Register.TheVariants.{DrwRead};
-ghost use Rattle.swd_port.specs.Answers.{is_answered};
+ghost use Rattle.swd_port.specs.Answers.{port_is_answered};
 ghost use Rattle.swd_port.specs.declared.state.Reply.TheVariants.{Okay, Waits};
-ghost use Rattle.swd_port.specs.Asking.{IsSettled, has_power, power_up_after, value_in, status_in};
-ghost use Rattle.swd_port.specs.Asking.{after_okay, after_wait, target_after};
+ghost use Rattle.swd_port.specs.Asking.{IsPendingSettled, port_has_power, power_up_after, port_value_in};
+ghost use Rattle.swd_port.specs.Asking.{ctrl_stat_word_in, port_after_okay, port_after_wait, port_target_after};
 ghost use Rattle.swd_port.specs.Registers.{csw_read};
-ghost use Rattle.swd_port.specs.Moving.{Arrives, Damaged, after_bits};
-ghost use Rattle.swd_port.specs.Completion.{completion_of, fails, next_address};
-ghost use Rattle.swd_target.specs.Contents.{known_word};
-ghost use Rattle.swd_target.specs.Simulations.{made_with, accepted};
+ghost use Rattle.swd_port.specs.Moving.{Arrives, Damaged, port_after_bits};
+ghost use Rattle.swd_port.specs.Completion.{port_completion, pending_fails, port_tar_next_address};
+ghost use Rattle.swd_target.specs.Contents.{target_known_word};
+ghost use Rattle.swd_target.specs.Simulations.{simulation_made_with, simulation_accepted};
 
 use crate::content::Content;
 use crate::memory::Memory;
@@ -49,15 +49,17 @@ pub struct Target<A: Allocator = Global> {
 }
 
 impl<A: Allocator> Target<A> {
-    ghost use Rattle.swd_target.specs.Targets.{state_of, simulation, stand_in, answer_at, reply_when, settled_when};
-    ghost use Rattle.swd_target.specs.Targets.{Steps, incremented, flags_cleared, power_set, line_reset};
-    ghost use Rattle.swd_target.specs.Requests.{Transfers};
-    ghost use Rattle.swd_target.specs.Elsewhere.{IsReady, Stays};
+    ghost use Rattle.swd_target.specs.Targets.{target_state, target_simulation, target_stand_in, target_answer_at};
+    ghost use Rattle.swd_target.specs.Targets.{target_reply_when, target_settled_when};
+    ghost use Rattle.swd_target.specs.Targets.{TargetSteps, target_tar_incremented, target_flags_cleared};
+    ghost use Rattle.swd_target.specs.Targets.{target_power_set, target_line_reset};
+    ghost use Rattle.swd_target.specs.Requests.{TargetTransfers};
+    ghost use Rattle.swd_target.specs.Elsewhere.{IsTargetReady, TargetStays};
 
     /// Creates a target before its first line reset, with this memory behind its access port. DPIDR reads 2ba01477.
     pub fn new(memory: Memory<A>, quirks: Quirks) -> Target<A>
-        ensures state { state_of result ≡ made_target 0x2ba0_1477 memory }
-        ensures exact { simulation result ≡ made_with quirks memory }
+        ensures state { target_state result ≡ port_made_target 0x2ba0_1477 memory }
+        ensures exact { target_simulation result ≡ simulation_made_with quirks memory }
     {
         Target {
             quirks,
@@ -85,14 +87,14 @@ impl<A: Allocator> Target<A> {
 
     /// Returns the memory behind the access port.
     pub fn memory(&self) -> &Memory<A>
-        ensures { result.now ≡ (state_of self.now).memory }
+        ensures { result.now ≡ (target_state self.now).memory }
     {
         &self.memory
     }
 
     /// Consumes the target, and returns the memory behind the access port.
     pub fn into_memory(self) -> Memory<A>
-        ensures { result ≡ (state_of self).memory }
+        ensures { result ≡ (target_state self).memory }
     {
         self.memory
     }
@@ -100,7 +102,7 @@ impl<A: Allocator> Target<A> {
     /// Completes the pending DRW transfer, if any.
     #[inline(always)]
     pub fn complete(&mut self)
-        ensures { Steps completion_of self.old self.new }
+        ensures { TargetSteps port_completion self.old self.new }
     {
         match self.pending {
             Some(Drw::Reads) => self.complete_read(),
@@ -111,7 +113,7 @@ impl<A: Allocator> Target<A> {
 
     fn complete_read(&mut self)
         requires { self.old.pending ≡ Some Drw.Reads }
-        ensures { Steps completion_of self.old self.new }
+        ensures { TargetSteps port_completion self.old self.new }
     {
         self.pending = None;
         match self.memory.transfer(Access::Read(self.tar.word)) {
@@ -125,7 +127,7 @@ impl<A: Allocator> Target<A> {
 
     fn complete_write(&mut self, word: u32)
         requires { self.old.pending ≡ Some (Drw.Writes word) }
-        ensures { Steps completion_of self.old self.new }
+        ensures { TargetSteps port_completion self.old self.new }
     {
         self.pending = None;
         match self.memory.transfer(Access::Write(self.tar.word, word)) {
@@ -136,7 +138,7 @@ impl<A: Allocator> Target<A> {
 
     // Increments TAR after a transfer that succeeded.
     fn step_address(&mut self)
-        ensures { Steps incremented self.old self.new }
+        ensures { TargetSteps target_tar_incremented self.old self.new }
     {
         if self.increments {
             self.tar.word = next(self.quirks.wrap, self.tar.word);
@@ -145,7 +147,7 @@ impl<A: Allocator> Target<A> {
 
     // Returns the answer to a request for which no WAIT is asked.
     fn answer(&self, register: Register, ap: bool) -> Reply
-        ensures { result ≡ answer_at register ap (state_of self.now) }
+        ensures { result ≡ target_answer_at register ap (target_state self.now) }
     {
         if !self.is_answering(register) {
             Reply::Silent
@@ -160,13 +162,13 @@ impl<A: Allocator> Target<A> {
 
     // Returns whether debug power is on.
     fn has_power(&self) -> bool
-        ensures { result ≡ has_power (state_of self.now) }
+        ensures { result ≡ port_has_power (target_state self.now) }
     {
         self.debug_power && !matches!(&self.power_up, PowerUp::Late)
     }
 
     fn is_answering(&self, register: Register) -> bool
-        ensures { result ≡ is_answered self.now.reset register }
+        ensures { result ≡ port_is_answered self.now.reset register }
     {
         match self.reset {
             Reset::Unreset => false,
@@ -177,7 +179,7 @@ impl<A: Allocator> Target<A> {
 
     // Returns the reply to a request in the current state; `waits` asks for WAIT.
     fn reply_now(&self, waits: bool, register: Register, ap: bool) -> Reply
-        ensures { result ≡ reply_when waits register (answer_at register ap (state_of self.now)) }
+        ensures { result ≡ target_reply_when waits register (target_answer_at register ap (target_state self.now)) }
     {
         let answer = self.answer(register, ap);
         match answer {
@@ -189,13 +191,14 @@ impl<A: Allocator> Target<A> {
     // Settles the pending transfer if necessary, and returns the reply to a request; `waits` asks for WAIT.
     #[inline(always)]
     pub(crate) fn reply(&mut self, waits: bool, register: Register, ap: bool) -> Reply
-        ensures reply { result ≡ reply_when waits register (answer_at register ap (state_of self.new)) }
-        ensures settles { Transfers (state_of self.old) (state_of self.new) }
-        ensures settled { IsSettled result register self.new.pending }
+        ensures reply { result ≡ target_reply_when waits register (target_answer_at register ap (target_state self.new)) }
+        ensures settles { TargetTransfers (target_state self.old) (target_state self.new) }
+        ensures settled { IsPendingSettled result register self.new.pending }
         ensures select { self.new.select ≡ self.old.select }
-        ensures exact { simulation self.new ≡ settled_when waits register ap (simulation self.old) }
-        ensures untouched { IsReady self.old.memory self.old → self.new.memory.log ≡ self.old.memory.log
-            → Stays self.old self.new }
+        ensures exact { target_simulation self.new
+            ≡ target_settled_when waits register ap (target_simulation self.old) }
+        ensures untouched { IsTargetReady self.old.memory self.old → self.new.memory.log ≡ self.old.memory.log
+            → TargetStays self.old self.new }
     {
         // Usually no transfer is pending, and testing whether it has to settle costs as much as the reply.
         if self.pending.is_some() {
@@ -206,13 +209,15 @@ impl<A: Allocator> Target<A> {
 
     // Completes the pending transfer if it has to take effect before the reply.
     fn settle(&mut self, waits: bool, register: Register, ap: bool)
-        ensures settles { Transfers (state_of self.old) (state_of self.new) }
-        ensures settled { IsSettled (reply_when waits register (answer_at register ap (state_of self.new)))
+        ensures settles { TargetTransfers (target_state self.old) (target_state self.new) }
+        ensures settled { IsPendingSettled
+            (target_reply_when waits register (target_answer_at register ap (target_state self.new)))
             register self.new.pending }
         ensures select { self.new.select ≡ self.old.select }
-        ensures exact { simulation self.new ≡ settled_when waits register ap (simulation self.old) }
-        ensures untouched { IsReady self.old.memory self.old → self.new.memory.log ≡ self.old.memory.log
-            → Stays self.old self.new }
+        ensures exact { target_simulation self.new
+            ≡ target_settled_when waits register ap (target_simulation self.old) }
+        ensures untouched { IsTargetReady self.old.memory self.old → self.new.memory.log ≡ self.old.memory.log
+            → TargetStays self.old self.new }
     {
         if self.settles_before(waits, register, ap) {
             self.complete();
@@ -221,7 +226,7 @@ impl<A: Allocator> Target<A> {
 
     // Applies the effects of a reply to the target; `waits`: WAIT was asked for.
     pub(crate) fn apply(&mut self, waits: bool, reply: Reply, register: Register, ap: bool)
-        ensures { Steps (λ c. target_after waits reply register ap) self.old self.new }
+        ensures { TargetSteps (λ c. port_target_after waits reply register ap) self.old self.new }
     {
         match reply {
             Reply::Silent => {}
@@ -238,7 +243,7 @@ impl<A: Allocator> Target<A> {
 
     // Clears READOK where an AP read or RDBUFF read wasn't answered OK.
     fn refuse_read(&mut self, register: Register)
-        ensures { Steps (λ c. after_wait register) self.old self.new }
+        ensures { TargetSteps (λ c. port_after_wait register) self.old self.new }
     {
         if is_posted(register) {
             self.read_ok = false;
@@ -246,7 +251,7 @@ impl<A: Allocator> Target<A> {
     }
 
     fn apply_okay(&mut self, waits: bool, register: Register)
-        ensures { Steps (λ c. after_okay waits register) self.old self.new }
+        ensures { TargetSteps (λ c. port_after_okay waits register) self.old self.new }
     {
         self.power_up = self.power_up_after(waits, register);
         if is_posted(register) {
@@ -280,8 +285,9 @@ impl<A: Allocator> Target<A> {
 
     // Returns the word that a read returns; `waits` asks for WAIT.
     pub(crate) fn value(&self, waits: bool, register: Register) -> u32
-        ensures value { result ≡ value_in waits register (stand_in register self.now) (state_of self.now) }
-        ensures exact { result ≡ value_in waits register self.now.quirks.filler (simulation self.now).state }
+        ensures value { result ≡ port_value_in waits register (target_stand_in register self.now)
+            (target_state self.now) }
+        ensures exact { result ≡ port_value_in waits register self.now.quirks.filler (target_simulation self.now).state }
     {
         match register {
             Register::DpidrRead => IDENTIFICATION,
@@ -294,7 +300,7 @@ impl<A: Allocator> Target<A> {
 
     // Returns CTRL/STAT as it is read; `waits` asks for WAIT.
     fn status(&self, waits: bool) -> u32
-        ensures { result ≡ status_in waits (state_of self.now) }
+        ensures { result ≡ ctrl_stat_word_in waits (target_state self.now) }
     {
         let power_up = self.power_up_after(waits, Register::CtrlStatRead);
         let there = !matches!(&power_up, PowerUp::Late);
@@ -323,7 +329,7 @@ impl<A: Allocator> Target<A> {
 
     // Performs a write whose data arrived with right parity.
     pub(crate) fn write(&mut self, register: Register, word: u32)
-        ensures { Steps (λ c. after_bits (Arrives register word)) self.old self.new }
+        ensures { TargetSteps (λ c. port_after_bits (Arrives register word)) self.old self.new }
     {
         if is_access_port_write(register) {
             self.forget_values();
@@ -345,7 +351,7 @@ impl<A: Allocator> Target<A> {
 
     // Makes the read buffer and the last returned value unknown, as an AP write does.
     fn forget_values(&mut self)
-        ensures { Steps (λ c s. record s { buffer = None; last_returned = None }) self.old self.new }
+        ensures { TargetSteps (λ c s. record s { buffer = None; last_returned = None }) self.old self.new }
     {
         let unknown = self.unknown();
         self.buffer = unknown;
@@ -354,7 +360,7 @@ impl<A: Allocator> Target<A> {
 
     // Performs a write of ABORT.
     fn clear_flags(&mut self, word: u32)
-        ensures { Steps (λ c. flags_cleared word) self.old self.new }
+        ensures { TargetSteps (λ c. target_flags_cleared word) self.old self.new }
     {
         let abort = Abort::of(word);
         self.sticky_error &= !abort.contains(Abort::STKERRCLR);
@@ -363,7 +369,7 @@ impl<A: Allocator> Target<A> {
 
     // Performs a write of CTRL/STAT.
     fn set_power(&mut self, word: u32)
-        ensures { Steps (λ c. power_set word) self.old self.new }
+        ensures { TargetSteps (λ c. target_power_set word) self.old self.new }
     {
         let control = CtrlStat::of(word);
         self.debug_power = control.contains(CtrlStat::CDBGPWRUPREQ);
@@ -373,7 +379,7 @@ impl<A: Allocator> Target<A> {
 
     // Sets WDATAERR for a write whose data arrived with wrong parity, which isn't done.
     pub(crate) fn refuse_write(&mut self)
-        ensures { Steps (λ c. after_bits Damaged) self.old self.new }
+        ensures { TargetSteps (λ c. port_after_bits Damaged) self.old self.new }
     {
         self.write_error = true;
     }
@@ -381,7 +387,7 @@ impl<A: Allocator> Target<A> {
     /// Performs a line reset, which changes no register but WDATAERR: write data that was awaited (`awaiting`) is taken
     /// from its ones, whose parity is wrong.
     pub fn line_reset(&mut self, awaiting: bool)
-        ensures { Steps (λ c. line_reset awaiting) self.old self.new }
+        ensures { TargetSteps (λ c. target_line_reset awaiting) self.old self.new }
     {
         if awaiting {
             self.write_error = true;
@@ -395,20 +401,20 @@ impl<A: Allocator> Target<A> {
 // TAR wraps or carries at the end of a kilobyte. WAIT is answered only where a mark asks for it, and not over a bus
 // error.
 impl<A: Allocator> Target<A> {
-    ghost use Rattle.swd_target.specs.Targets.{state_of, simulation, Steps, settles_first};
-    ghost use Rattle.swd_target.specs.Requests.{Transfers};
+    ghost use Rattle.swd_target.specs.Targets.{target_state, target_simulation, TargetSteps, target_settles_first};
+    ghost use Rattle.swd_target.specs.Requests.{TargetTransfers};
 
     // Returns the content of a register whose value is unknown.
     fn unknown(&self) -> Content
         ensures word { result.word ≡ self.now.quirks.filler }
-        ensures unknown { known_word result ≡ None }
+        ensures unknown { target_known_word result ≡ None }
     {
         Content::unknown(self.quirks.filler)
     }
 
     // Sets STICKYERR. TAR keeps its word, but counts as unknown.
     fn bus_error(&mut self)
-        ensures { Steps (λ c s. record s { sticky_error = true; tar = None; buffer = None }) self.old self.new }
+        ensures { TargetSteps (λ c s. record s { sticky_error = true; tar = None; buffer = None }) self.old self.new }
     {
         self.sticky_error = true;
         self.tar.known = false;
@@ -418,8 +424,8 @@ impl<A: Allocator> Target<A> {
     // Completes a transfer that was just accepted, unless transfers take effect late.
     #[inline(always)]
     pub(crate) fn accept(&mut self)
-        ensures effect { Transfers (state_of self.old) (state_of self.new) }
-        ensures exact { simulation self.new ≡ accepted (simulation self.old) }
+        ensures effect { TargetTransfers (target_state self.old) (target_state self.new) }
+        ensures exact { target_simulation self.new ≡ simulation_accepted (target_simulation self.old) }
         ensures late { self.old.quirks.late ≡ true → self.new ≡ self.old }
     {
         if !self.quirks.late {
@@ -429,7 +435,7 @@ impl<A: Allocator> Target<A> {
 
     // Returns whether the pending transfer would be a bus error.
     fn is_failing(&self) -> bool
-        ensures { result ≡ fails self.now.pending self.now.tar.word self.now.memory }
+        ensures { result ≡ pending_fails self.now.pending self.now.tar.word self.now.memory }
     {
         match self.pending {
             Some(_) => !self.memory.is_ready(self.tar.word),
@@ -440,7 +446,7 @@ impl<A: Allocator> Target<A> {
     // Returns whether the pending transfer has to take effect before the reply: before OK or FAULT to a request that
     // may get WAIT. WAIT replaces only OK, and so not the FAULT of a bus error.
     fn settles_before(&self, waits: bool, register: Register, ap: bool) -> bool
-        ensures { result ≡ settles_first waits register ap self.now }
+        ensures { result ≡ target_settles_first waits register ap self.now }
     {
         if is_exempt(register) {
             return false;
@@ -455,7 +461,7 @@ impl<A: Allocator> Target<A> {
 
 // Returns the incremented address.
 fn next(wraps: bool, addr: u32) -> u32
-    ensures { result ≡ next_address wraps addr }
+    ensures { result ≡ port_tar_next_address wraps addr }
 {
     if wraps {
         addr / 1024 * 1024 + (addr % 1024 + 4) % 1024

@@ -2,7 +2,7 @@
 ghost use Rattle.std.specs.Prelude.{◌≡◌};
 ghost use Rattle.std.specs.FinMap.{get};
 ghost use Rattle.swd_port.specs.PlainMemory.{succeeds_at, plain_answer, plain_after};
-ghost use Rattle.swd_target.specs.MemoryWords.{window};
+ghost use Rattle.swd_target.specs.MemoryWords.{target_window};
 
 use std::marker::Model;
 use swd_port::{Access, Answer, Transfer};
@@ -22,18 +22,18 @@ impl Model for Window {
     ghost use Rattle.std.specs.Ordering.{nat_cmp};
     ghost use Rattle.swd_port.specs.contracts.access.Transfer as transfer;
     ghost use Rattle.swd_port.specs.PlainMemory.{PlainMemory};
-    ghost use Rattle.swd_target.specs.MemoryWords.{window_after};
+    ghost use Rattle.swd_target.specs.MemoryWords.{target_window_after};
 
     ghost Value = { PlainMemory };
 
     ghost coded = { Prim.hlevel (codes, map.code {R = nat_cmp} coded_ℕ coded_ℕ, transfer.the_row.coded) };
 
-    ghost view = { λ w. window_after w.addr w.word w.made };
+    ghost view = { λ w. target_window_after w.addr w.word w.made };
 }
 
 impl Window {
     pub(crate) fn new(addr: u32, word: Option<u32>) -> Window
-        ensures { result ≡ window addr word }
+        ensures { result ≡ target_window addr word }
     {
         Window {
             addr,

@@ -1,9 +1,8 @@
 //! The words that a memory holds itself, and its log.
-ghost use Rattle.std.specs.Prelude.{◌≡◌, ◌≢◌, ◌↔◌, ◌+◌, ◌*◌, ◌<◌, ◌≤◌, ◌%◌, ◌^◌, ℕ, MatchOption};
-ghost use Rattle.std.specs.Prelude.{IfOk, IsErrOf};
+ghost use Rattle.std.specs.Prelude.{◌≡◌, ◌≢◌, ◌↔◌, ◌+◌, ◌*◌, ◌<◌, ◌≤◌, ◌%◌, ◌^◌, ℕ, MatchOption, IfOk, IsErrOf};
 ghost use Rattle.std.specs.FinMap.{get};
 ghost use Rattle.swd_port.specs.PlainMemory.{succeeds_at, plain_answer, plain_after};
-ghost use Rattle.swd_target.specs.MemoryWords.{zero_memory};
+ghost use Rattle.swd_target.specs.MemoryWords.{target_zero_memory};
 
 use crate::memory::MakeFault;
 use std::alloc::Allocator;
@@ -13,14 +12,14 @@ use swd_port::{Access, Answer, Transfer};
 /// Words at addresses, and a log of the transfers that succeeded, the oldest first. Contracts see both as a
 /// `PlainMemory`.
 #[derive(Debug, Drop)]
-pub(crate) struct Words<A: Allocator> {
+pub(crate) struct OwnWords<A: Allocator> {
     base: u32,
     words: Vec<u32, A>,
     log: Vec<Transfer, A>,
     room: u32,
 }
 
-impl<A: Allocator> Model for Words<A> {
+impl<A: Allocator> Model for OwnWords<A> {
     ghost use Rattle.std.specs.Prelude.{◌≡◌, ◌+◌, ◌*◌, ◌≤◌, ◌%◌, ◌^◌, vec_len};
     ghost use Rattle.std.specs.Vec.{vec_capacity};
     ghost use Rattle.std.specs.Coded.{codes, coded_ℕ};
@@ -28,13 +27,13 @@ impl<A: Allocator> Model for Words<A> {
     ghost use Rattle.std.specs.Ordering.{nat_cmp};
     ghost use Rattle.swd_port.specs.contracts.access.Transfer as transfer;
     ghost use Rattle.swd_port.specs.PlainMemory.{PlainMemory};
-    ghost use Rattle.swd_target.specs.MemoryWords.{words_from};
+    ghost use Rattle.swd_target.specs.MemoryWords.{target_words_from};
 
     ghost Value = { PlainMemory };
 
     ghost coded = { Prim.hlevel (codes, map.code {R = nat_cmp} coded_ℕ coded_ℕ, transfer.the_row.coded) };
 
-    ghost view = { λ m. record { words = words_from m.base m.words.items; log = m.log.items; room = m.room } };
+    ghost view = { λ m. record { words = target_words_from m.base m.words.items; log = m.log.items; room = m.room } };
 
     ghost invariant = { λ m. record {
       aligned : m.base % 4 ≡ 0;
@@ -62,11 +61,11 @@ fn place(base: u32, words: usize, addr: u32) -> Option<usize>
     if place < words { Some(place) } else { None }
 }
 
-impl<A: Allocator + Copy> Words<A> {
+impl<A: Allocator + Copy> OwnWords<A> {
     /// Creates a memory of `words` zero words from byte address `base`, with an empty log for up to `room` transfers.
     /// It allocates here and never again.
-    pub(crate) fn new(alloc: A, base: u32, words: u32, room: u32) -> Result<Words<A>, MakeFault>
-        ensures made { IfOk result (λ memory. memory ≡ zero_memory base words room) }
+    pub(crate) fn new(alloc: A, base: u32, words: u32, room: u32) -> Result<OwnWords<A>, MakeFault>
+        ensures made { IfOk result (λ memory. memory ≡ target_zero_memory base words room) }
         ensures base { IsErrOf result MakeFault.Base ↔ (base % 4 ≢ 0) }
         ensures empty { IsErrOf result MakeFault.Empty ↔ ((base % 4 ≡ 0) × (words ≡ 0)) }
         ensures range { IsErrOf result MakeFault.Range ↔ ((base % 4 ≡ 0) × (words ≢ 0) × (2 ^ 32 < base + 4 * words)) }
@@ -86,7 +85,7 @@ impl<A: Allocator + Copy> Words<A> {
         let Ok(log) = Vec::with_capacity(alloc, room as usize) else {
             return Err(MakeFault::Memory);
         };
-        Ok(Words {
+        Ok(OwnWords {
             base,
             words: zeros,
             log,
@@ -95,7 +94,7 @@ impl<A: Allocator + Copy> Words<A> {
     }
 }
 
-impl<A: Allocator> Words<A> {
+impl<A: Allocator> OwnWords<A> {
     /// Returns the word at a byte address, or `None` if the memory has no word there. It logs no transfer.
     pub(crate) fn word(&self, addr: u32) -> Option<u32>
         ensures { result ≡ get self.now.words addr }

@@ -1,4 +1,5 @@
 //! Worked requests at a target, and worked cycles at a clocked target and at its bench.
+mod cycle_texts;
 mod cycles;
 mod expect;
 mod faults;
@@ -6,7 +7,6 @@ mod fields;
 mod lists;
 mod marks;
 mod memory;
-mod parts;
 mod recorded;
 mod refusals;
 mod registers;

@@ -1,9 +1,9 @@
 //! What the tests need of a simulated target, whichever it is.
 ghost use Rattle.std.specs.Prelude.{◌≡◌, IfOk};
-ghost use Rattle.swd_port.specs.Port.{made};
-ghost use Rattle.swd_port.specs.Choices.{Choice, IsChoice};
-ghost use Rattle.swd_port.specs.Completion.{completed};
-ghost use Rattle.swd_target.specs.Marks.{IsPlan};
+ghost use Rattle.swd_port.specs.Port.{port_made};
+ghost use Rattle.swd_port.specs.Choices.{Choice, IsPortChoice};
+ghost use Rattle.swd_port.specs.Completion.{port_completed};
+ghost use Rattle.swd_target.specs.Marks.{IsLegalPlan};
 
 use std::alloc::{AllocError, Global};
 use swd_clocked::ClockedBench;
@@ -20,12 +20,13 @@ pub trait Simulated: Wire {
         quirks: Quirks,
         plan: Vec<Mark>,
     ) -> Result<Self, AllocError>
-        requires { IsPlan plan.items }
-        ensures { IfOk result (λ target. Self.Wire.port target ≡ made 0x2ba0_1477 memory) };
+        requires { IsLegalPlan plan.items }
+        ensures { IfOk result (λ target. Self.Wire.port target ≡ port_made 0x2ba0_1477 memory) };
 
     /// Completes the transfer that was accepted and has not taken effect yet, where there is one.
     fn settle(&mut self)
-        ensures { (c : Choice) × IsChoice c × (Self.Wire.port self.new ≡ completed c (Self.Wire.port self.old)) };
+        ensures { (c : Choice) × IsPortChoice c
+            × (Self.Wire.port self.new ≡ port_completed c (Self.Wire.port self.old)) };
 
     /// The memory behind the access port.
     fn memory(&self) -> &Memory

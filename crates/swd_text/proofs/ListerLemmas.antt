@@ -1,32 +1,31 @@
 -- Laws of a trace text that is listed as it is read.
 use Rattle.std.proofs.Common.{◌≡◌, ℕ, zero, suc, ◌+◌, ◌-◌, ◌*◌, ◌/◌, ◌%◌, ◌<◌, ◌≤◌, ◌^◌, Bool, true, false, List, []}
-use Rattle.std.proofs.Common.{◌∷◌, ◌++◌, length, map, take, Option}
-use Rattle.std.proofs.Common.{Result, Ok, Err}
-use Rattle.std.proofs.Common.{refl, sym, ap, ◌∙◌, subst, append_assoc, arith, inl}
+use Rattle.std.proofs.Common.{◌∷◌, ◌++◌, length, map, take, Option, Result, Ok, Err, refl, sym, ap, ◌∙◌, subst}
+use Rattle.std.proofs.Common.{append_assoc, arith, inl}
 use Rattle.std.specs.Prelude.{OnOk, OnErr, IfErr}
 use Rattle.std.proofs.KnownBytes.{Appends-nil}
 use Rattle.std.proofs.Math.Seq.{take-append_seam}
 use Rattle.std.proofs.lemmas.List.{length-append, append-nil, map-append}
-use Rattle.swd_io.specs.Blocks.{Sends}
+use Rattle.swd_io.specs.Blocks.{BlockBufferSends}
 use Rattle.swd_io.specs.declared.block.Block.{Block}
 use Rattle.swd_bits.specs.Bits.{low_bits}
 use Rattle.swd_bits.proofs.BitsLemmas.{length-low_bits}
-use Rattle.swd_bits.proofs.ScanLemmas.{reads_none}
+use Rattle.swd_bits.proofs.ScanLemmas.{scan_bits_no_byte}
 use Rattle.swd_bits.specs.Listing.{tx_line}
 use Rattle.swd_bits.specs.declared.tx.Tx.{Tx as Transaction}
 use Rattle.swd_trace.specs.declared.item.Item.{Item}
 use Rattle.swd_trace.specs.declared.item.Item.TheVariants.{Tx, Idle, Junk}
 use Rattle.swd_trace.specs.declared.decoder.Decoder.{Decoder}
 use Rattle.swd_trace.specs.Reading.{items_after, reading_of}
-use Rattle.swd_trace.specs.Decided.{IsUndecided}
+use Rattle.swd_trace.specs.Decided.{DecidesNoItem}
 use Rattle.swd_trace.specs.Texts.{item_line, listing}
-use Rattle.swd_trace.specs.Held.{rest, fed_of, idle_items}
-use Rattle.swd_trace.proofs.NumberLemmas.{low_mod, parted}
-use Rattle.swd_text.specs.Listers.{Lists, Listed, HasRead}
+use Rattle.swd_trace.specs.Held.{decoder_rest, decoder_fed, idle_items}
+use Rattle.swd_trace.proofs.NumberLemmas.{decoder_bits_mod, decoder_bits_parted}
+use Rattle.swd_text.specs.Listers.{DecodeTextLists, DecodeTextListed, DecodeTextHasRead}
 use Rattle.swd_text.specs.declared.lister.Lister.{Lister}
 
 -- nothing at all decides nothing
-none_undecided : (readings : List Bool → List Item) → readings [] ≡ reading_of [] → IsUndecided readings
+none_undecided : (readings : List Bool → List Item) → readings [] ≡ reading_of [] → DecidesNoItem readings
 unfolding items_after
 none_undecided readings e = λ item h.
     let p = h [] (inl refl) in
@@ -34,15 +33,15 @@ none_undecided readings e = λ item h.
     absurd cc
 
 -- a lister that has taken nothing
-pub has_read_nothing : {W : Type 0} (contents : W → Option (List ℕ)) (lister : Lister) (writer : W) →
-    ((more : List Bool) → rest lister.decoder more ≡ reading_of more) → fed_of lister.decoder ≡ 0 → lister.scan ≡ false
-    →
-    lister.place ≡ 0 → lister.written ≡ 0 → HasRead contents (contents writer) (lister, writer) []
-has_read_nothing contents lister writer law fed scan place written = record {
+pub decode_text_reads_nothing : {W : Type 0} (contents : W → Option (List ℕ)) (lister : Lister) (writer : W) →
+    ((more : List Bool) → decoder_rest lister.decoder more ≡ reading_of more) → decoder_fed lister.decoder ≡ 0
+    → lister.scan ≡ false →
+    lister.place ≡ 0 → lister.written ≡ 0 → DecodeTextHasRead contents (contents writer) (lister, writer) []
+decode_text_reads_nothing contents lister writer law fed scan place written = record {
   read = record {
     bits = [];
     items = [];
-    reads = reads_none lister.scan scan;
+    reads = scan_bits_no_byte lister.scan scan;
     undecided = none_undecided _ (law []);
     law = law;
     count = fed;
@@ -54,33 +53,38 @@ has_read_nothing contents lister writer law fed scan place written = record {
 }
 
 -- the lines of some items and one more
-pub listing_more : (items : List Item) (item : Item)
+pub decode_text_listing_more : (items : List Item) (item : Item)
     → listing (items ++ item ∷ []) ≡ listing items ++ (item_line item ++ 10 ∷ [])
-listing_more [] item = append-nil (item_line item ++ 10 ∷ [])
-listing_more (i ∷ items) item =
-    ap (λ x. (item_line i ++ 10 ∷ []) ++ x) (listing_more items item)
+decode_text_listing_more [] item = append-nil (item_line item ++ 10 ∷ [])
+decode_text_listing_more (i ∷ items) item =
+    ap (λ x. (item_line i ++ 10 ∷ []) ++ x) (decode_text_listing_more items item)
     ∙ sym (append_assoc (item_line i ++ 10 ∷ []) (listing items) (item_line item ++ 10 ∷ []))
 
 -- one more item is returned, and its line is queued
-pub one_more : {W : Type 0} (contents : W → Option (List ℕ)) (start : Option (List ℕ)) (before after : Decoder)
-    (old new : Block W) (bits : List Bool) (items : List Item) (item : Item) →
-    ((more : List Bool) → rest before more ≡ item ∷ rest after more) → fed_of after ≡ fed_of before →
-    ((all : List ℕ) → Sends contents start old all → Sends contents start new (all ++ (item_line item ++ 10 ∷ []))) →
-    Lists contents start before old bits items → Lists contents start after new bits (items ++ item ∷ [])
-one_more contents start before after old new bits items item law fed sends h = record {
-  law = λ more. append_assoc items (item ∷ []) (rest after more) ∙ ap (λ x. items ++ x) (sym (law more)) ∙ h.law more;
+pub decode_text_lists_item : {W : Type 0} (contents : W → Option (List ℕ)) (start : Option (List ℕ))
+    (before after : Decoder) (old new : Block W) (bits : List Bool) (items : List Item) (item : Item) →
+    ((more : List Bool) → decoder_rest before more ≡ item ∷ decoder_rest after more)
+    → decoder_fed after ≡ decoder_fed before → ((all : List ℕ) → BlockBufferSends contents start old all
+    → BlockBufferSends contents start new (all ++ (item_line item ++ 10 ∷ []))) →
+    DecodeTextLists contents start before old bits items
+    → DecodeTextLists contents start after new bits (items ++ item ∷ [])
+decode_text_lists_item contents start before after old new bits items item law fed sends h = record {
+  law = λ more. append_assoc items (item ∷ []) (decoder_rest after more) ∙ ap (λ x. items ++ x) (sym (law more)) ∙ h.law
+      more;
   count = fed ∙ h.count;
   counted = h.counted;
-  sends = subst (λ all. Sends contents start new all) (sym (listing_more items item)) (sends (listing items) h.sends);
+  sends = subst (λ all. BlockBufferSends contents start new all) (sym (decode_text_listing_more items item))
+      (sends (listing items) h.sends);
 }
 
 -- more bits are taken
-pub more_bits : {W : Type 0} (contents : W → Option (List ℕ)) (start : Option (List ℕ)) (before after : Decoder)
-    (block : Block W) (bits : List Bool) (items : List Item) (next : List Bool) →
-    ((more : List Bool) → rest after more ≡ rest before (next ++ more)) → fed_of after ≡ fed_of before + length next
-    → fed_of before + length next < 2 ^ 64 →
-    Lists contents start before block bits items → Lists contents start after block (bits ++ next) items
-more_bits contents start before after block bits items next law fed few h =
+pub decode_text_takes_bits : {W : Type 0} (contents : W → Option (List ℕ)) (start : Option (List ℕ))
+    (before after : Decoder) (block : Block W) (bits : List Bool) (items : List Item) (next : List Bool) →
+    ((more : List Bool) → decoder_rest after more ≡ decoder_rest before (next ++ more))
+    → decoder_fed after ≡ decoder_fed before + length next
+    → decoder_fed before + length next < 2 ^ 64 → DecodeTextLists contents start before block bits items
+    → DecodeTextLists contents start after block (bits ++ next) items
+decode_text_takes_bits contents start before after block bits items next law fed few h =
     let count = h.count in
     let len : length (bits ++ next) ≡ length bits + length next = length-append bits next in
     record {
@@ -92,10 +96,11 @@ more_bits contents start before after block bits items next law fed few h =
     }
 
 -- what was listed, by its bits and items
-pub lists_of : {W : Type 0} (contents : W → Option (List ℕ)) (start : Option (List ℕ)) (decoder : Decoder)
+pub decode_text_lists_of : {W : Type 0} (contents : W → Option (List ℕ)) (start : Option (List ℕ)) (decoder : Decoder)
     (comment : Bool) (block : Block W) (seen : List ℕ) →
-    (h : Listed contents start decoder comment block seen) → Lists contents start decoder block h.read.bits h.read.items
-lists_of contents start decoder comment block seen h = record {
+    (h : DecodeTextListed contents start decoder comment block seen)
+    → DecodeTextLists contents start decoder block h.read.bits h.read.items
+decode_text_lists_of contents start decoder comment block seen h = record {
   law = h.read.law;
   count = h.read.count;
   counted = h.read.counted;
@@ -103,94 +108,96 @@ lists_of contents start decoder comment block seen h = record {
 }
 
 -- two facts of an Ok
-pub on_ok : {A E : Type 0} {P Q R : Type 0} (r : Result A E) → (P → Q → R) → OnOk r P → OnOk r Q → OnOk r R
-on_ok (Ok x) f p q = f p q
-on_ok (Err e) f p q = tt
+pub decode_text_on_ok : {A E : Type 0} {P Q R : Type 0} (r : Result A E) → (P → Q → R) → OnOk r P → OnOk r Q → OnOk r R
+decode_text_on_ok (Ok x) f p q = f p q
+decode_text_on_ok (Err e) f p q = tt
 
 -- two facts of an Err
-pub on_err : {A E : Type 0} {Q : Type 0} {P R : E → Type 0} (r : Result A E) → ((e : E) → P e → Q → R e) → IfErr r P
-    → OnErr r Q → IfErr r R
-on_err (Ok x) f p q = tt
-on_err (Err e) f p q = f e p q
+pub decode_text_on_err : {A E : Type 0} {Q : Type 0} {P R : E → Type 0} (r : Result A E) → ((e : E) → P e → Q → R e)
+    → IfErr r P → OnErr r Q → IfErr r R
+decode_text_on_err (Ok x) f p q = tt
+decode_text_on_err (Err e) f p q = f e p q
 
 -- the lines of some items, and of others after them
-pub listing_append : (a b : List Item) → listing (a ++ b) ≡ listing a ++ listing b
-listing_append [] b = refl
-listing_append (i ∷ a) b = ap (λ x. (item_line i ++ 10 ∷ []) ++ x) (listing_append a b)
+pub decode_text_listing_append : (a b : List Item) → listing (a ++ b) ≡ listing a ++ listing b
+decode_text_listing_append [] b = refl
+decode_text_listing_append (i ∷ a) b = ap (λ x. (item_line i ++ 10 ∷ []) ++ x) (decode_text_listing_append a b)
     ∙ sym (append_assoc (item_line i ++ 10 ∷ []) (listing a) (listing b))
 
 -- the line of idle cycles
-pub idle_listed : (all : List ℕ) (n : ℕ) → 0 < n
+pub decode_text_idle_line : (all : List ℕ) (n : ℕ) → 0 < n
     → all ++ (item_line (Idle n) ++ 10 ∷ []) ≡ all ++ listing (idle_items n)
-idle_listed all zero h = absurd (omega arith)
-idle_listed all (suc n) h = ap (λ x. all ++ x) (sym (append-nil (item_line (Idle (suc n)) ++ 10 ∷ [])))
+decode_text_idle_line all zero h = absurd (omega arith)
+decode_text_idle_line all (suc n) h = ap (λ x. all ++ x) (sym (append-nil (item_line (Idle (suc n)) ++ 10 ∷ [])))
 
 -- 0 idle cycles add no line
-pub no_idle_listed : (all : List ℕ) (n : ℕ) → n ≡ 0 → all ≡ all ++ listing (idle_items n)
-no_idle_listed all n e = sym (ap (λ k. all ++ listing (idle_items k)) e ∙ append-nil all)
+pub decode_text_no_idle_line : (all : List ℕ) (n : ℕ) → n ≡ 0 → all ≡ all ++ listing (idle_items n)
+decode_text_no_idle_line all n e = sym (ap (λ k. all ++ listing (idle_items k)) e ∙ append-nil all)
 
 -- a transaction is found after any idle cycles, and their lines are queued
-pub found_more : {W : Type 0} (contents : W → Option (List ℕ)) (start : Option (List ℕ)) (before after : Decoder)
-    (old new : Block W) (bits : List Bool) (items : List Item) (next : List Bool) (n idle : ℕ) (tx : Transaction) →
-    ((more : List Bool) → (items ++ (idle_items idle ++ Tx tx ∷ []))
-    ++ rest after more ≡ reading_of ((bits ++ next) ++ more))
-    → fed_of after ≡ fed_of before + n → length next ≡ n → fed_of before + n < 2 ^ 64 →
-    ((all : List ℕ) → Sends contents start old all
-    → Sends contents start new ((all ++ listing (idle_items idle)) ++ (tx_line tx ++ 10 ∷ []))) →
-    Lists contents start before old bits items →
-    Lists contents start after new (bits ++ next) (items ++ (idle_items idle ++ Tx tx ∷ []))
-found_more contents start before after old new bits items next n idle tx law fed long few sends h =
+pub decode_text_lists_found_tx : {W : Type 0} (contents : W → Option (List ℕ)) (start : Option (List ℕ))
+    (before after : Decoder) (old new : Block W) (bits : List Bool) (items : List Item) (next : List Bool) (n idle : ℕ)
+    (tx : Transaction) → ((more : List Bool) → (items ++ (idle_items idle ++ Tx tx ∷ []))
+    ++ decoder_rest after more ≡ reading_of ((bits ++ next) ++ more))
+    → decoder_fed after ≡ decoder_fed before + n → length next ≡ n → decoder_fed before + n < 2 ^ 64 →
+    ((all : List ℕ) → BlockBufferSends contents start old all
+    → BlockBufferSends contents start new ((all ++ listing (idle_items idle)) ++ (tx_line tx ++ 10 ∷ []))) →
+    DecodeTextLists contents start before old bits items →
+    DecodeTextLists contents start after new (bits ++ next) (items ++ (idle_items idle ++ Tx tx ∷ []))
+decode_text_lists_found_tx contents start before after old new bits items next n idle tx law fed long few sends h =
     let count = h.count in
     let len : length (bits ++ next) ≡ length bits + length next = length-append bits next in
     let lines : listing (items ++ (idle_items idle ++ Tx tx ∷ []))
     ≡ (listing items ++ listing (idle_items idle)) ++ (tx_line tx ++ 10 ∷ []) =
-    listing_append items (idle_items idle ++ Tx tx ∷ [])
-    ∙ ap (λ x. listing items ++ x) (listing_more (idle_items idle) (Tx tx))
+    decode_text_listing_append items (idle_items idle ++ Tx tx ∷ [])
+    ∙ ap (λ x. listing items ++ x) (decode_text_listing_more (idle_items idle) (Tx tx))
     ∙ sym (append_assoc (listing items) (listing (idle_items idle)) (tx_line tx ++ 10 ∷ [])) in
     record {
       law = law;
       count = omega arith;
       counted = omega arith;
-      sends = subst (λ all. Sends contents start new all) (sym lines) (sends (listing items) h.sends);
+      sends = subst (λ all. BlockBufferSends contents start new all) (sym lines) (sends (listing items) h.sends);
     }
 
 -- ---- bits that belong to nothing
 
-pub junk_length : (bits : List Bool) → length (listing (map Junk bits)) ≡ 7 * length bits
-junk_length [] = refl
-junk_length (true ∷ bits) = let more = junk_length bits in omega arith
-junk_length (false ∷ bits) = let more = junk_length bits in omega arith
+pub decode_text_junk_length : (bits : List Bool) → length (listing (map Junk bits)) ≡ 7 * length bits
+decode_text_junk_length [] = refl
+decode_text_junk_length (true ∷ bits) = let more = decode_text_junk_length bits in omega arith
+decode_text_junk_length (false ∷ bits) = let more = decode_text_junk_length bits in omega arith
 
 -- the lines of some of four bits stand first
-pub junk_taken : (k v : ℕ) → k ≤ 4
+pub decode_text_junk_taken : (k v : ℕ) → k ≤ 4
     → take (7 * k) (listing (map Junk (low_bits 4 (v % 16)))) ≡ listing (map Junk (low_bits k v))
-junk_taken k v h =
+decode_text_junk_taken k v h =
     let first = listing (map Junk (low_bits k v)) in
     let others = listing (map Junk (low_bits (4 - k) (v / 2 ^ k))) in
-    let long : length first ≡ 7 * k = junk_length (low_bits k v) ∙ ap (λ n. 7 * n) (length-low_bits k v) in
-    ap (λ bits. take (7 * k) (listing (map Junk bits))) (low_mod 4 v ∙ parted k 4 v h)
+    let long : length first ≡ 7 * k = decode_text_junk_length (low_bits k v) ∙ ap (λ n. 7 * n) (length-low_bits k v) in
+    ap (λ bits. take (7 * k) (listing (map Junk bits))) (decoder_bits_mod 4 v ∙ decoder_bits_parted k 4 v h)
     ∙ ap (λ items. take (7 * k) (listing items)) (map-append Junk (low_bits k v) (low_bits (4 - k) (v / 2 ^ k)))
-    ∙ ap (take (7 * k)) (listing_append (map Junk (low_bits k v)) (map Junk (low_bits (4 - k) (v / 2 ^ k))))
+    ∙ ap (take (7 * k)) (decode_text_listing_append (map Junk (low_bits k v)) (map Junk (low_bits (4 - k) (v / 2 ^ k))))
     ∙ ap (λ n. take n (first ++ others)) (sym long)
     ∙ take-append_seam first others
 
 -- the lines of the first bits, and those of the others
-pub junk_parted : (k n v : ℕ) → k ≤ n → listing (map Junk (low_bits n v))
+pub decode_text_junk_split : (k n v : ℕ) → k ≤ n → listing (map Junk (low_bits n v))
     ≡ listing (map Junk (low_bits k v)) ++ listing (map Junk (low_bits (n - k) (v / 2 ^ k)))
-junk_parted k n v h =
-    ap (λ bits. listing (map Junk bits)) (parted k n v h)
+decode_text_junk_split k n v h =
+    ap (λ bits. listing (map Junk bits)) (decoder_bits_parted k n v h)
     ∙ ap listing (map-append Junk (low_bits k v) (low_bits (n - k) (v / 2 ^ k)))
-    ∙ listing_append (map Junk (low_bits k v)) (map Junk (low_bits (n - k) (v / 2 ^ k)))
+    ∙ decode_text_listing_append (map Junk (low_bits k v)) (map Junk (low_bits (n - k) (v / 2 ^ k)))
 
 -- more items are returned, and their lines are queued
-pub many_more : {W : Type 0} (contents : W → Option (List ℕ)) (start : Option (List ℕ)) (before after : Decoder)
-    (old new : Block W) (bits : List Bool) (items next : List Item) →
-    ((more : List Bool) → rest before more ≡ next ++ rest after more) → fed_of after ≡ fed_of before →
-    ((all : List ℕ) → Sends contents start old all → Sends contents start new (all ++ listing next)) →
-    Lists contents start before old bits items → Lists contents start after new bits (items ++ next)
-many_more contents start before after old new bits items next law fed sends h = record {
-  law = λ more. append_assoc items next (rest after more) ∙ ap (λ x. items ++ x) (sym (law more)) ∙ h.law more;
+pub decode_text_lists_items : {W : Type 0} (contents : W → Option (List ℕ)) (start : Option (List ℕ))
+    (before after : Decoder) (old new : Block W) (bits : List Bool) (items next : List Item) →
+    ((more : List Bool) → decoder_rest before more ≡ next ++ decoder_rest after more)
+    → decoder_fed after ≡ decoder_fed before → ((all : List ℕ) → BlockBufferSends contents start old all
+    → BlockBufferSends contents start new (all ++ listing next)) →
+    DecodeTextLists contents start before old bits items → DecodeTextLists contents start after new bits (items ++ next)
+decode_text_lists_items contents start before after old new bits items next law fed sends h = record {
+  law = λ more. append_assoc items next (decoder_rest after more) ∙ ap (λ x. items ++ x) (sym (law more)) ∙ h.law more;
   count = fed ∙ h.count;
   counted = h.counted;
-  sends = subst (λ all. Sends contents start new all) (sym (listing_append items next)) (sends (listing items) h.sends);
+  sends = subst (λ all. BlockBufferSends contents start new all) (sym (decode_text_listing_append items next))
+      (sends (listing items) h.sends);
 }

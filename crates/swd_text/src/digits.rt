@@ -2,8 +2,8 @@
 ghost use Rattle.std.specs.Prelude.{◌≡◌, ℕ, ◌<◌, ◌≤◌, ◌==◌, true, length, slice_index, take, map};
 ghost use Rattle.std.specs.Simd.Lanes.{mask_l};
 ghost use Rattle.swd_bits.specs.Bits.{low_bits};
-ghost use Rattle.swd_trace.specs.Texts.{digit};
-ghost use Rattle.swd_text.specs.Digits.{is_other};
+ghost use Rattle.swd_trace.specs.Texts.{trace_digit};
+ghost use Rattle.swd_text.specs.Digits.{is_not_text_digit};
 
 use std::simd::prelude::*;
 
@@ -24,8 +24,8 @@ pub struct Digits {
 pub fn digits_of(text: &[u8]) -> Digits
     requires { WIDTH ≤ length text.now }
     ensures most { result.count ≤ WIDTH }
-    ensures ends { result.count < WIDTH → is_other (slice_index text.now result.count) ≡ true }
-    ensures bits { (n : ℕ) → n ≤ result.count → take n text.now ≡ map digit (low_bits n result.bits) }
+    ensures ends { result.count < WIDTH → is_not_text_digit (slice_index text.now result.count) ≡ true }
+    ensures bits { (n : ℕ) → n ≤ result.count → take n text.now ≡ map trace_digit (low_bits n result.bits) }
 {
     let bytes = u8x64::from_slice(text);
     Digits {
@@ -45,7 +45,7 @@ fn ones(bytes: u8x64) -> u64
 // Sets bit k where byte k is neither `0` nor `1`.
 #[inline(always)]
 fn others(bytes: u8x64) -> u64
-    ensures { result ≡ mask_l (map is_other bytes) }
+    ensures { result ≡ mask_l (map is_not_text_digit bytes) }
 {
     // `0` and `1` are 48 and 49.
     (bytes >> u8x64::splat(1))

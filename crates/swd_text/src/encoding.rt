@@ -1,8 +1,7 @@
 //! The engine of `swd encode`: converts a listing to its trace text.
-ghost use Rattle.std.specs.Prelude.{◌≡◌, ℕ, List, ◌++◌, Option};
-ghost use Rattle.swd_io.specs.Blocks.{Sends, Writes};
-ghost use Rattle.swd_trace.specs.Listed.{IsLegal};
-ghost use Rattle.swd_trace.specs.Listed.{AreLegal};
+ghost use Rattle.std.specs.Prelude.{◌≡◌, List};
+ghost use Rattle.swd_io.specs.Blocks.{WritesOutput, BlockQueues};
+ghost use Rattle.swd_trace.specs.Listed.{IsLegalItem, AreLegalItems};
 ghost use Rattle.swd_trace.specs.Texts.{item_text, trace_text};
 ghost use Rattle.swd_text.specs.Encoding.{Encodes};
 
@@ -17,9 +16,8 @@ const PIECE: usize = 128;
 
 // Also queues the trace text of an item, piece by piece.
 fn put_item<W: Write>(block: &mut Block<'_, W>, item: &Item)
-    requires { IsLegal item.now }
-    ensures sends { (start : Option (List ℕ)) (all : List ℕ) → Sends W.contents start block.old all
-        → Sends W.contents start block.new (all ++ item_text item.now) }
+    requires { IsLegalItem item.now }
+    ensures sends { BlockQueues W.contents (item_text item.now) block.old block.new }
     ensures writer { block.new.writer.ghost_name ≡ block.old.writer.ghost_name }
 {
     let mut bytes = ItemBytes::of(item);
@@ -35,9 +33,8 @@ fn put_item<W: Write>(block: &mut Block<'_, W>, item: &Item)
 
 /// Appends the trace text of some items to the output of a block, one line for each item. It allocates nothing.
 pub fn put_items<W: Write>(block: &mut Block<'_, W>, items: &[Item])
-    requires { AreLegal items.now }
-    ensures sends { (start : Option (List ℕ)) (all : List ℕ) → Sends W.contents start block.old all
-        → Sends W.contents start block.new (all ++ trace_text items.now) }
+    requires { AreLegalItems items.now }
+    ensures sends { BlockQueues W.contents (trace_text items.now) block.old block.new }
     ensures writer { block.new.writer.ghost_name ≡ block.old.writer.ghost_name }
 {
     for item in items {
@@ -52,8 +49,8 @@ pub fn put_items<W: Write>(block: &mut Block<'_, W>, items: &[Item])
 /// If the writer fails or takes no bytes: how many bytes of the text were written. These are exactly its
 /// first ones.
 pub fn write_items<W: Write>(writer: &mut W, items: &[Item]) -> Result<(), u64>
-    requires { AreLegal items.now }
-    ensures { Writes result (W.contents writer.old) (W.contents writer.new) (trace_text items.now) }
+    requires { AreLegalItems items.now }
+    ensures { WritesOutput result (W.contents writer.old) (W.contents writer.new) (trace_text items.now) }
 {
     let mut block = Block::new(writer, 0);
     put_items(&mut block, items);

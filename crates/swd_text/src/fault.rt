@@ -1,6 +1,6 @@
 //! Errors of the conversions.
 ghost use Rattle.std.specs.Prelude.{◌≡◌};
-ghost use Rattle.swd_text.specs.Decoding.{decode_fault};
+ghost use Rattle.swd_text.specs.Decoding.{decode_text_fault};
 
 use swd_io::Unread;
 use swd_trace::ListFault;
@@ -45,7 +45,7 @@ pub enum DecodeFault {
 impl DecodeFault {
     /// Returns the error of a trace text that wasn't read to its end.
     pub fn of(unread: Unread<TakeFault>) -> DecodeFault
-        ensures { result ≡ decode_fault unread }
+        ensures { result ≡ decode_text_fault unread }
     {
         match unread {
             Unread::Reader => DecodeFault::Read,

@@ -1,21 +1,22 @@
 //! Converts a trace text to its listing, piece by piece.
 ghost use Rattle.std.specs.Prelude.{◌≡◌, ℕ, ◌+◌, ◌-◌, ◌^◌, ◌<◌, ◌≤◌, min, List, Bool, false, true, ◌∷◌, ◌++◌};
 ghost use Rattle.std.specs.Prelude.{[], length, map, take, Option, OnOk, OnErr, IfErr};
-ghost use Rattle.swd_io.specs.Blocks.{Sends};
-ghost use Rattle.swd_io.specs.Pieces.{LeadsOn, LeadsToEnd};
-ghost use Rattle.swd_io.proofs.PieceLemmas.{leads_nowhere, leads_further, leads_to_later_end};
+ghost use Rattle.swd_io.specs.Blocks.{BlockBufferSends, BlockQueues};
+ghost use Rattle.swd_io.specs.Pieces.{LeadsConsumerOn, LeadsConsumerToEnd};
+ghost use Rattle.swd_io.proofs.PieceLemmas.{consumer_reads_no_byte, consumer_pieces_join, consumer_pieces_fault};
 ghost use Rattle.swd_trace.specs.declared.item.Item;
 ghost use Rattle.swd_trace.specs.Reading.{reading_of};
 ghost use Rattle.swd_trace.specs.Texts.{item_line, listing};
 ghost use Rattle.swd_bits.specs.Bits.{low_bits};
-ghost use Rattle.swd_bits.specs.BitLists.{bits_of, IsSpelled};
+ghost use Rattle.swd_bits.specs.BitLists.{tx_bits_of, IsWellFormedTxBits};
 ghost use Rattle.swd_bits.specs.Listing.{tx_line};
-ghost use Rattle.swd_bits.specs.Transactions.{Spells};
+ghost use Rattle.swd_bits.specs.Transactions.{SpellsTx};
 ghost use Rattle.swd_bits.specs.declared.tx.Tx.{Tx};
-ghost use Rattle.swd_trace.specs.Held.{fed_of, rest, idle_items, IsSettled};
-ghost use Rattle.swd_trace.specs.Decided.{IsUndecided};
-ghost use Rattle.swd_text.specs.Decoding.{Finishes};
-ghost use Rattle.swd_text.specs.Listers.{Lists, GoesOn, Listed, HasRead, StopsAt, StopsIn, Ends};
+ghost use Rattle.swd_trace.specs.Held.{decoder_fed, decoder_rest, idle_items, IsDecoderSettled};
+ghost use Rattle.swd_trace.specs.Decided.{DecidesNoItem};
+ghost use Rattle.swd_text.specs.Decoding.{DecodeTextFinishes};
+ghost use Rattle.swd_text.specs.Listers.{DecodeTextLists, DecodeTextContinues, DecodeTextListed, DecodeTextHasRead};
+ghost use Rattle.swd_text.specs.Listers.{DecodeTextStopsAt, DecodeTextStopsIn, DecodeTextEnds};
 
 use crate::comment::comment_len;
 use crate::digits::{WIDTH, digits_of};
@@ -50,8 +51,7 @@ pub(crate) struct Lister {
 // Also queues the line of an item. A junk bit seldom comes alone, so its line takes the short path.
 #[inline(always)]
 fn put_line<W: Write>(block: &mut Block<'_, W>, line: &mut ArrayString<ROOM>, item: &Item)
-    ensures sends { (start : Option (List ℕ)) (all : List ℕ) → Sends W.contents start block.old all
-        → Sends W.contents start block.new (all ++ (item_line item.now ++ 10 ∷ [])) }
+    ensures sends { BlockQueues W.contents (item_line item.now ++ 10 ∷ []) block.old block.new }
     ensures writer { block.new.writer.ghost_name ≡ block.old.writer.ghost_name }
 {
     match item {
@@ -94,8 +94,7 @@ fn junk_lines(bits: u8) -> &'static [u8; 28]
 // Also queues the lines of junk bits.
 #[inline(never)]
 fn put_junk<W: Write>(block: &mut Block<'_, W>, junk: TxBits)
-    ensures sends { (start : Option (List ℕ)) (all : List ℕ) → Sends W.contents start block.old all
-        → Sends W.contents start block.new (all ++ listing (map Item.Junk (bits_of junk))) }
+    ensures sends { BlockQueues W.contents (listing (map Item.Junk (tx_bits_of junk))) block.old block.new }
     ensures writer { block.new.writer.ghost_name ≡ block.old.writer.ghost_name }
 {
     let mut bits = junk.bits;
@@ -112,12 +111,13 @@ fn put_junk<W: Write>(block: &mut Block<'_, W>, junk: TxBits)
 // there are any.
 #[inline(always)]
 fn put_found<W: Write>(block: &mut Block<'_, W>, line: &mut ArrayString<ROOM>, found: FoundTx)
-    requires whole { IsSpelled found.tx }
+    requires whole { IsWellFormedTxBits found.tx }
     requires short { found.tx.len ≤ 46 }
-    requires spells { (tx : Tx) × Spells tx (bits_of found.tx) }
-    ensures sends { (tx : Tx) → Spells tx (bits_of found.tx) → (start : Option (List ℕ)) (all : List ℕ)
-        → Sends W.contents start block.old all
-        → Sends W.contents start block.new ((all ++ listing (idle_items found.idle)) ++ (tx_line tx ++ 10 ∷ [])) }
+    requires spells { (tx : Tx) × SpellsTx tx (tx_bits_of found.tx) }
+    ensures sends { (tx : Tx) → SpellsTx tx (tx_bits_of found.tx) → (start : Option (List ℕ)) (all : List ℕ)
+        → BlockBufferSends W.contents start block.old all
+        → BlockBufferSends W.contents start block.new
+        ((all ++ listing (idle_items found.idle)) ++ (tx_line tx ++ 10 ∷ [])) }
     ensures writer { block.new.writer.ghost_name ≡ block.old.writer.ghost_name }
 {
     put_idle(block, line, found.idle);
@@ -128,11 +128,11 @@ fn put_found<W: Write>(block: &mut Block<'_, W>, line: &mut ArrayString<ROOM>, f
 // path of junk bits.
 #[inline(never)]
 fn put_held_tx<W: Write>(block: &mut Block<'_, W>, spelled: TxBits)
-    requires whole { IsSpelled spelled }
+    requires whole { IsWellFormedTxBits spelled }
     requires short { spelled.len ≤ 46 }
-    requires found { (tx : Tx) × Spells tx (bits_of spelled) }
-    ensures sends { (tx : Tx) → Spells tx (bits_of spelled) → (start : Option (List ℕ)) (all : List ℕ)
-        → Sends W.contents start block.old all → Sends W.contents start block.new (all ++ (tx_line tx ++ 10 ∷ [])) }
+    requires found { (tx : Tx) × SpellsTx tx (tx_bits_of spelled) }
+    ensures sends { (tx : Tx) → SpellsTx tx (tx_bits_of spelled)
+        → BlockQueues W.contents (tx_line tx ++ 10 ∷ []) block.old block.new }
     ensures writer { block.new.writer.ghost_name ≡ block.old.writer.ghost_name }
 {
     put_tx(block, spelled);
@@ -141,8 +141,7 @@ fn put_held_tx<W: Write>(block: &mut Block<'_, W>, spelled: TxBits)
 // Also queues the line of idle cycles, if there are any.
 #[inline(always)]
 fn put_idle<W: Write>(block: &mut Block<'_, W>, line: &mut ArrayString<ROOM>, count: u64)
-    ensures sends { (start : Option (List ℕ)) (all : List ℕ) → Sends W.contents start block.old all
-        → Sends W.contents start block.new (all ++ listing (idle_items count)) }
+    ensures sends { BlockQueues W.contents (listing (idle_items count)) block.old block.new }
     ensures writer { block.new.writer.ghost_name ≡ block.old.writer.ghost_name }
 {
     if count == 0 {
@@ -166,8 +165,7 @@ fn idle_line(count: u8) -> [u8; 7]
 // Also queues the line of any item.
 #[inline(never)]
 fn put_any_line<W: Write>(block: &mut Block<'_, W>, line: &mut ArrayString<ROOM>, item: &Item)
-    ensures sends { (start : Option (List ℕ)) (all : List ℕ) → Sends W.contents start block.old all
-        → Sends W.contents start block.new (all ++ (item_line item.now ++ 10 ∷ [])) }
+    ensures sends { BlockQueues W.contents (item_line item.now ++ 10 ∷ []) block.old block.new }
     ensures writer { block.new.writer.ghost_name ≡ block.old.writer.ghost_name }
 {
     line.clear();
@@ -178,9 +176,9 @@ fn put_any_line<W: Write>(block: &mut Block<'_, W>, line: &mut ArrayString<ROOM>
 
 impl Lister {
     pub(crate) fn new() -> Lister
-        ensures settled { IsSettled result.decoder }
-        ensures law { (more : List Bool) → rest result.decoder more ≡ reading_of more }
-        ensures fed { fed_of result.decoder ≡ 0 }
+        ensures settled { IsDecoderSettled result.decoder }
+        ensures law { (more : List Bool) → decoder_rest result.decoder more ≡ reading_of more }
+        ensures fed { decoder_fed result.decoder ≡ 0 }
         ensures scan { result.scan ≡ false }
         ensures place { result.place ≡ 0 }
         ensures written { result.written ≡ 0 }
@@ -198,8 +196,8 @@ impl Lister {
     #[inline(always)]
     fn put_txs<W: Write>(&mut self, block: &mut Block<'_, W>)
         ensures lists { (start : Option (List ℕ)) (bits : List Bool) (items : List Item)
-            → Lists W.contents start self.old.decoder block.old bits items
-            → (more : List Item) × Lists W.contents start self.new.decoder block.new bits more }
+            → DecodeTextLists W.contents start self.old.decoder block.old bits items
+            → (more : List Item) × DecodeTextLists W.contents start self.new.decoder block.new bits more }
         ensures scan { self.new.scan ≡ self.old.scan }
         ensures place { self.new.place ≡ self.old.place }
         ensures writer { block.new.writer.ghost_name ≡ block.old.writer.ghost_name }
@@ -213,8 +211,8 @@ impl Lister {
     #[inline(always)]
     fn put_lost<W: Write>(&mut self, block: &mut Block<'_, W>)
         ensures lists { (start : Option (List ℕ)) (bits : List Bool) (items : List Item)
-            → Lists W.contents start self.old.decoder block.old bits items
-            → (more : List Item) × Lists W.contents start self.new.decoder block.new bits more }
+            → DecodeTextLists W.contents start self.old.decoder block.old bits items
+            → (more : List Item) × DecodeTextLists W.contents start self.new.decoder block.new bits more }
         ensures scan { self.new.scan ≡ self.old.scan }
         ensures place { self.new.place ≡ self.old.place }
         ensures writer { block.new.writer.ghost_name ≡ block.old.writer.ghost_name }
@@ -227,10 +225,10 @@ impl Lister {
     // Also queues the lines of the items that are due.
     fn put_due<W: Write>(&mut self, block: &mut Block<'_, W>)
         ensures lists { (start : Option (List ℕ)) (bits : List Bool) (items : List Item)
-            → Lists W.contents start self.old.decoder block.old bits items
-            → (more : List Item) × Lists W.contents start self.new.decoder block.new bits more }
-        ensures settled { IsSettled self.new.decoder }
-        ensures undecided { IsUndecided (rest self.new.decoder) }
+            → DecodeTextLists W.contents start self.old.decoder block.old bits items
+            → (more : List Item) × DecodeTextLists W.contents start self.new.decoder block.new bits more }
+        ensures settled { IsDecoderSettled self.new.decoder }
+        ensures undecided { DecidesNoItem (decoder_rest self.new.decoder) }
         ensures scan { self.new.scan ≡ self.old.scan }
         ensures place { self.new.place ≡ self.old.place }
         ensures writer { block.new.writer.ghost_name ≡ block.old.writer.ghost_name }
@@ -244,16 +242,16 @@ impl Lister {
 
     // Takes a bit, unless it is one too many.
     fn bit<W: Write>(&mut self, block: &mut Block<'_, W>, bit: bool) -> Result<(), TextFault>
-        requires { IsSettled self.old.decoder }
+        requires { IsDecoderSettled self.old.decoder }
         ensures ok { OnOk result ((start : Option (List ℕ)) (bits : List Bool) (items : List Item)
-            → Lists W.contents start self.old.decoder block.old bits items
-            → (more : List Item) × Lists W.contents start self.new.decoder block.new (bits ++ bit ∷ []) more) }
-        ensures settled { IsSettled self.new.decoder }
-        ensures undecided { OnOk result (IsUndecided (rest self.new.decoder)) }
+            → DecodeTextLists W.contents start self.old.decoder block.old bits items
+            → (more : List Item) × DecodeTextLists W.contents start self.new.decoder block.new (bits ++ bit ∷ []) more) }
+        ensures settled { IsDecoderSettled self.new.decoder }
+        ensures undecided { OnOk result (DecidesNoItem (decoder_rest self.new.decoder)) }
         ensures scan { self.new.scan ≡ self.old.scan }
         ensures place { self.new.place ≡ self.old.place }
         ensures writer { block.new.writer.ghost_name ≡ block.old.writer.ghost_name }
-        ensures long { IfErr result (λ fault. (fault ≡ TextFault.TooLong) × (fed_of self.old.decoder ≡ 2 ^ 64 - 1)) }
+        ensures long { IfErr result (λ fault. (fault ≡ TextFault.TooLong) × (decoder_fed self.old.decoder ≡ 2 ^ 64 - 1)) }
         ensures same { OnErr result ((self.new ≡ self.old) × (block.new ≡ block.old)) }
     {
         if self.decoder.fed() == u64::MAX {
@@ -271,17 +269,17 @@ impl Lister {
         byte: u8,
         index: usize,
     ) -> Result<(), TextFault>
-        requires { IsSettled self.old.decoder }
-        ensures settled { IsSettled self.new.decoder }
+        requires { IsDecoderSettled self.old.decoder }
+        ensures settled { IsDecoderSettled self.new.decoder }
         ensures place { self.new.place ≡ self.old.place }
         ensures writer { block.new.writer.ghost_name ≡ block.old.writer.ghost_name }
         ensures ok { OnOk result ((start : Option (List ℕ)) (seen : List ℕ)
-            → GoesOn W.contents start self.old block.old seen
-            → GoesOn W.contents start self.new block.new (seen ++ byte ∷ [])) }
+            → DecodeTextContinues W.contents start self.old block.old seen
+            → DecodeTextContinues W.contents start self.new block.new (seen ++ byte ∷ [])) }
         ensures err { IfErr result (λ fault. (start : Option (List ℕ)) (seen : List ℕ)
-            → GoesOn W.contents start self.old block.old seen
-            → StopsAt fault (min (self.old.place + index) (2 ^ 64 - 1)) seen byte
-            × ((comment : Bool) × Listed W.contents start self.new.decoder comment block.new seen)) }
+            → DecodeTextContinues W.contents start self.old block.old seen
+            → DecodeTextStopsAt fault (min (self.old.place + index) (2 ^ 64 - 1)) seen byte
+            × ((comment : Bool) × DecodeTextListed W.contents start self.new.decoder comment block.new seen)) }
     {
         match self.scan.byte(byte) {
             Sign::Passed => Ok(()),
@@ -296,16 +294,16 @@ impl Lister {
     // or what else is there.
     #[inline(always)]
     fn bits_at_once<W: Write>(&mut self, block: &mut Block<'_, W>, bits: u64, count: u8) -> u8
-        requires settled { IsSettled self.old.decoder }
+        requires settled { IsDecoderSettled self.old.decoder }
         requires some { 0 < count }
         requires within { count ≤ 64 }
-        requires room { fed_of self.old.decoder + count < 2 ^ 64 }
+        requires room { decoder_fed self.old.decoder + count < 2 ^ 64 }
         ensures most { result ≤ count }
         ensures lists { (start : Option (List ℕ)) (before : List Bool) (items : List Item)
-            → Lists W.contents start self.old.decoder block.old before items
+            → DecodeTextLists W.contents start self.old.decoder block.old before items
             → (more : List Item)
-            × Lists W.contents start self.new.decoder block.new (before ++ low_bits result bits) more }
-        ensures settled { IsSettled self.new.decoder }
+            × DecodeTextLists W.contents start self.new.decoder block.new (before ++ low_bits result bits) more }
+        ensures settled { IsDecoderSettled self.new.decoder }
         ensures scan { self.new.scan ≡ self.old.scan }
         ensures place { self.new.place ≡ self.old.place }
         ensures writer { block.new.writer.ghost_name ≡ block.old.writer.ghost_name }
@@ -320,16 +318,16 @@ impl Lister {
     // Does the same where the bits are held first. This path is long, so it is outlined from the short one.
     #[inline(never)]
     fn held_bits<W: Write>(&mut self, block: &mut Block<'_, W>, bits: u64, count: u8) -> u8
-        requires settled { IsSettled self.old.decoder }
+        requires settled { IsDecoderSettled self.old.decoder }
         requires some { 0 < count }
         requires within { count ≤ 64 }
-        requires room { fed_of self.old.decoder + count < 2 ^ 64 }
+        requires room { decoder_fed self.old.decoder + count < 2 ^ 64 }
         ensures most { result ≤ count }
         ensures lists { (start : Option (List ℕ)) (before : List Bool) (items : List Item)
-            → Lists W.contents start self.old.decoder block.old before items
+            → DecodeTextLists W.contents start self.old.decoder block.old before items
             → (more : List Item)
-            × Lists W.contents start self.new.decoder block.new (before ++ low_bits result bits) more }
-        ensures settled { IsSettled self.new.decoder }
+            × DecodeTextLists W.contents start self.new.decoder block.new (before ++ low_bits result bits) more }
+        ensures settled { IsDecoderSettled self.new.decoder }
         ensures scan { self.new.scan ≡ self.old.scan }
         ensures place { self.new.place ≡ self.old.place }
         ensures writer { block.new.writer.ghost_name ≡ block.old.writer.ghost_name }
@@ -346,7 +344,7 @@ impl Lister {
     fn may_take_digits(&self, text: &[u8]) -> bool
         ensures long { result ≡ true → WIDTH ≤ length text.now }
         ensures outside { result ≡ true → self.now.scan ≡ false }
-        ensures room { result ≡ true → fed_of self.now.decoder + WIDTH < 2 ^ 64 }
+        ensures room { result ≡ true → decoder_fed self.now.decoder + WIDTH < 2 ^ 64 }
     {
         text.len() >= WIDTH
             && text[0] >= b'0'
@@ -356,13 +354,14 @@ impl Lister {
 
     // Takes digits at the front of a text at once, and returns how many: 0 or more.
     fn digits<W: Write>(&mut self, block: &mut Block<'_, W>, text: &[u8]) -> usize
-        requires { IsSettled self.old.decoder }
-        ensures settled { IsSettled self.new.decoder }
+        requires { IsDecoderSettled self.old.decoder }
+        ensures settled { IsDecoderSettled self.new.decoder }
         ensures place { self.new.place ≡ self.old.place }
         ensures writer { block.new.writer.ghost_name ≡ block.old.writer.ghost_name }
         ensures within { result ≤ length text.now }
-        ensures taken { (start : Option (List ℕ)) (seen : List ℕ) → GoesOn W.contents start self.old block.old seen
-            → GoesOn W.contents start self.new block.new (seen ++ take result text.now) }
+        ensures taken { (start : Option (List ℕ)) (seen : List ℕ)
+            → DecodeTextContinues W.contents start self.old block.old seen
+            → DecodeTextContinues W.contents start self.new block.new (seen ++ take result text.now) }
     {
         if !self.may_take_digits(text) {
             return 0;
@@ -378,13 +377,14 @@ impl Lister {
     // or 0.
     #[inline(always)]
     fn bytes_at_once<W: Write>(&mut self, block: &mut Block<'_, W>, text: &[u8]) -> usize
-        requires { IsSettled self.old.decoder }
-        ensures settled { IsSettled self.new.decoder }
+        requires { IsDecoderSettled self.old.decoder }
+        ensures settled { IsDecoderSettled self.new.decoder }
         ensures place { self.new.place ≡ self.old.place }
         ensures writer { block.new.writer.ghost_name ≡ block.old.writer.ghost_name }
         ensures within { result ≤ length text.now }
-        ensures taken { (start : Option (List ℕ)) (seen : List ℕ) → GoesOn W.contents start self.old block.old seen
-            → GoesOn W.contents start self.new block.new (seen ++ take result text.now) }
+        ensures taken { (start : Option (List ℕ)) (seen : List ℕ)
+            → DecodeTextContinues W.contents start self.old block.old seen
+            → DecodeTextContinues W.contents start self.new block.new (seen ++ take result text.now) }
     {
         if self.scan.in_comment() {
             return comment_len(text);
@@ -394,16 +394,17 @@ impl Lister {
 
     // Takes the bytes of a piece, up to the first one that isn't allowed.
     fn bytes<W: Write>(&mut self, block: &mut Block<'_, W>, piece: &[u8]) -> Result<(), TextFault>
-        requires { IsSettled self.old.decoder }
-        ensures settled { IsSettled self.new.decoder }
+        requires { IsDecoderSettled self.old.decoder }
+        ensures settled { IsDecoderSettled self.new.decoder }
         ensures writer { block.new.writer.ghost_name ≡ block.old.writer.ghost_name }
         ensures ok { OnOk result ((start : Option (List ℕ)) (seen : List ℕ)
-            → GoesOn W.contents start self.old block.old seen
-            → GoesOn W.contents start self.new block.new (seen ++ piece.now)) }
+            → DecodeTextContinues W.contents start self.old block.old seen
+            → DecodeTextContinues W.contents start self.new block.new (seen ++ piece.now)) }
         ensures place { OnOk result (self.new.place ≡ min (self.old.place + length piece.now) (2 ^ 64 - 1)) }
         ensures err { IfErr result (λ fault. (start : Option (List ℕ)) (seen : List ℕ)
-            → GoesOn W.contents start self.old block.old seen → self.old.place ≡ min (length seen) (2 ^ 64 - 1)
-            → StopsIn W.contents start block.new fault (seen ++ piece.now)) }
+            → DecodeTextContinues W.contents start self.old block.old seen
+            → self.old.place ≡ min (length seen) (2 ^ 64 - 1)
+            → DecodeTextStopsIn W.contents start block.new fault (seen ++ piece.now)) }
     {
         let mut index = 0;
         while index < piece.len() {
@@ -424,8 +425,8 @@ impl Lister {
     // Also queues the lines of the items that the end of the trace decides.
     fn put_last<W: Write>(&mut self, block: &mut Block<'_, W>)
         ensures sends { (start : Option (List ℕ)) (bits : List Bool) (items : List Item)
-            → Lists W.contents start self.old.decoder block.old bits items
-            → Sends W.contents start block.new (listing (reading_of bits)) }
+            → DecodeTextLists W.contents start self.old.decoder block.old bits items
+            → BlockBufferSends W.contents start block.new (listing (reading_of bits)) }
         ensures writer { block.new.writer.ghost_name ≡ block.old.writer.ghost_name }
     {
         while let Some(item) = self.decoder.last() {
@@ -435,8 +436,9 @@ impl Lister {
 
     /// Ends a listing whose text was read to its end.
     pub(crate) fn finish<W: Write>(&mut self, writer: &mut W) -> Result<(), u64>
-        ensures { (start : Option (List ℕ)) (seen : List ℕ) → HasRead W.contents start (self.old, writer.old) seen
-            → Finishes result seen start (W.contents writer.new) }
+        ensures { (start : Option (List ℕ)) (seen : List ℕ)
+            → DecodeTextHasRead W.contents start (self.old, writer.old) seen
+            → DecodeTextFinishes result seen start (W.contents writer.new) }
     {
         let mut block = Block::new(writer, self.written);
         self.put_last(&mut block);
@@ -450,11 +452,11 @@ impl Lister {
 impl<W: Write> Consumer<W> for Lister {
     type Fault = TakeFault;
 
-    ghost can_take = { λ lister. IsSettled lister.decoder };
+    ghost can_take = { λ lister. IsDecoderSettled lister.decoder };
 
-    ghost takes = { LeadsOn (HasRead W.contents) };
+    ghost takes = { LeadsConsumerOn (DecodeTextHasRead W.contents) };
 
-    ghost stops = { LeadsToEnd (HasRead W.contents) (Ends W.contents) };
+    ghost stops = { LeadsConsumerToEnd (DecodeTextHasRead W.contents) (DecodeTextEnds W.contents) };
 
     // Writes what the piece decides before more is read.
     fn take(&mut self, writer: &mut W, piece: &[u8]) -> Result<(), TakeFault> {
@@ -470,9 +472,9 @@ impl<W: Write> Consumer<W> for Lister {
         }
     }
 
-    ghost takes_nothing = { leads_nowhere (HasRead W.contents) };
+    ghost takes_nothing = { consumer_reads_no_byte (DecodeTextHasRead W.contents) };
 
-    ghost takes_on = { leads_further (HasRead W.contents) };
+    ghost takes_on = { consumer_pieces_join (DecodeTextHasRead W.contents) };
 
-    ghost stops_later = { leads_to_later_end (HasRead W.contents) (Ends W.contents) };
+    ghost stops_later = { consumer_pieces_fault (DecodeTextHasRead W.contents) (DecodeTextEnds W.contents) };
 }

@@ -2,15 +2,14 @@
 //!
 //! Most of a listing's time is spent here. So pieces have constant length, and no branch depends on what the
 //! branch predictor can't predict.
-ghost use Rattle.std.specs.Prelude.{◌≡◌, ◌==◌, ℕ, ◌+◌, ◌-◌, ◌/◌, ◌%◌, ◌<◌, ◌≤◌, List, Option, ◌++◌};
-ghost use Rattle.std.specs.Prelude.{◌∷◌, [], take};
-ghost use Rattle.swd_io.specs.Blocks.{Sends};
+ghost use Rattle.std.specs.Prelude.{◌≡◌, ◌==◌, ◌+◌, ◌-◌, ◌/◌, ◌%◌, ◌<◌, ◌≤◌, ◌++◌, ◌∷◌, [], take};
+ghost use Rattle.swd_io.specs.Blocks.{BlockQueues};
 ghost use Rattle.swd_bits.specs.Bits.{low_bits};
-ghost use Rattle.swd_bits.specs.BitLists.{bits_of, IsSpelled};
-ghost use Rattle.swd_bits.specs.Listing.{hex2, hex8, parity, tx_line};
-ghost use Rattle.swd_bits.specs.Transactions.{Spells};
+ghost use Rattle.swd_bits.specs.BitLists.{tx_bits_of, IsWellFormedTxBits};
+ghost use Rattle.swd_bits.specs.Listing.{hex2, hex8, tx_line_parity, tx_line};
+ghost use Rattle.swd_bits.specs.Transactions.{SpellsTx};
 ghost use Rattle.swd_bits.specs.declared.tx.Tx.{Tx};
-ghost use Rattle.swd_text.specs.TxLines.{asked_at, request_line};
+ghost use Rattle.swd_text.specs.TxLines.{tx_line_request_at, tx_line_request_text};
 
 use std::io::Write;
 use swd_bits::{MOVED_BITS, REFUSED_BITS, Tx, TxBits};
@@ -91,7 +90,7 @@ fn word_line(word: u32) -> [u8; 9]
 #[inline(always)]
 fn request_text(asked: usize) -> &'static [u8; 12]
     requires { asked < 16 }
-    ensures { take (11 - asked / 2 % 2) result.now ≡ request_line (asked_at asked) }
+    ensures { take (11 - asked / 2 % 2) result.now ≡ tx_line_request_text (tx_line_request_at asked) }
 {
     &REQUESTS[asked]
 }
@@ -99,7 +98,7 @@ fn request_text(asked: usize) -> &'static [u8; 12]
 #[inline(always)]
 fn parity_text(odd: usize) -> &'static [u8; 4]
     requires { odd < 2 }
-    ensures { take (3 + odd) result.now ≡ parity (odd == 0) }
+    ensures { take (3 + odd) result.now ≡ tx_line_parity (odd == 0) }
 {
     &PARITIES[odd]
 }
@@ -107,9 +106,9 @@ fn parity_text(odd: usize) -> &'static [u8; 4]
 // Also queues the line of the transaction with these 46 bits, which moved a word.
 #[inline(always)]
 fn put_moved<W: Write>(block: &mut Block<'_, W>, bits: u64)
-    requires { (tx : Tx) × Spells tx (low_bits 46 bits) }
-    ensures sends { (tx : Tx) → Spells tx (low_bits 46 bits) → (start : Option (List ℕ)) (all : List ℕ)
-        → Sends W.contents start block.old all → Sends W.contents start block.new (all ++ (tx_line tx ++ 10 ∷ [])) }
+    requires { (tx : Tx) × SpellsTx tx (low_bits 46 bits) }
+    ensures sends { (tx : Tx) → SpellsTx tx (low_bits 46 bits)
+        → BlockQueues W.contents (tx_line tx ++ 10 ∷ []) block.old block.new }
     ensures writer { block.new.writer.ghost_name ≡ block.old.writer.ghost_name }
 {
     let asked = (bits / 2 % 16) as usize;
@@ -128,9 +127,9 @@ fn put_moved<W: Write>(block: &mut Block<'_, W>, bits: u64)
 // Also queues the line of the transaction with these 13 bits, which was answered WAIT or FAULT.
 #[inline(always)]
 fn put_refused<W: Write>(block: &mut Block<'_, W>, bits: u64)
-    requires { (tx : Tx) × Spells tx (low_bits 13 bits) }
-    ensures sends { (tx : Tx) → Spells tx (low_bits 13 bits) → (start : Option (List ℕ)) (all : List ℕ)
-        → Sends W.contents start block.old all → Sends W.contents start block.new (all ++ (tx_line tx ++ 10 ∷ [])) }
+    requires { (tx : Tx) × SpellsTx tx (low_bits 13 bits) }
+    ensures sends { (tx : Tx) → SpellsTx tx (low_bits 13 bits)
+        → BlockQueues W.contents (tx_line tx ++ 10 ∷ []) block.old block.new }
     ensures writer { block.new.writer.ghost_name ≡ block.old.writer.ghost_name }
 {
     let asked = (bits / 2 % 16) as usize;
@@ -145,8 +144,7 @@ fn put_refused<W: Write>(block: &mut Block<'_, W>, bits: u64)
 // Also queues the line of any transaction.
 #[inline(never)]
 fn put_any_tx<W: Write>(block: &mut Block<'_, W>, tx: Tx)
-    ensures sends { (start : Option (List ℕ)) (all : List ℕ) → Sends W.contents start block.old all
-        → Sends W.contents start block.new (all ++ (tx_line tx ++ 10 ∷ [])) }
+    ensures sends { BlockQueues W.contents (tx_line tx ++ 10 ∷ []) block.old block.new }
     ensures writer { block.new.writer.ghost_name ≡ block.old.writer.ghost_name }
 {
     block.put_line(tx.line().as_str().as_bytes());
@@ -155,11 +153,11 @@ fn put_any_tx<W: Write>(block: &mut Block<'_, W>, tx: Tx)
 /// Also queues the line of the transaction with these bits.
 #[inline(always)]
 pub(crate) fn put_tx<W: Write>(block: &mut Block<'_, W>, spelled: TxBits)
-    requires whole { IsSpelled spelled }
+    requires whole { IsWellFormedTxBits spelled }
     requires short { spelled.len ≤ 46 }
-    requires found { (tx : Tx) × Spells tx (bits_of spelled) }
-    ensures sends { (tx : Tx) → Spells tx (bits_of spelled) → (start : Option (List ℕ)) (all : List ℕ)
-        → Sends W.contents start block.old all → Sends W.contents start block.new (all ++ (tx_line tx ++ 10 ∷ [])) }
+    requires found { (tx : Tx) × SpellsTx tx (tx_bits_of spelled) }
+    ensures sends { (tx : Tx) → SpellsTx tx (tx_bits_of spelled)
+        → BlockQueues W.contents (tx_line tx ++ 10 ∷ []) block.old block.new }
     ensures writer { block.new.writer.ghost_name ≡ block.old.writer.ghost_name }
 {
     if spelled.len == MOVED_BITS {

@@ -6,11 +6,11 @@ use Rattle.swd_trace.specs.declared.decoder.fields.DecoderFields.{DecoderFields}
 use Rattle.swd_trace.specs.declared.mode.Mode.{Mode}
 use Rattle.swd_trace.specs.declared.mode.Mode.TheVariants.{Synced, AfterReset, AfterSwitch, Lost}
 use Rattle.swd_trace.specs.DecoderNumbers.{decoder_fields, rest_in}
-use Rattle.swd_trace.specs.Holding.{Holds}
-use Rattle.swd_trace.specs.Held.{rest}
-use Rattle.swd_trace.specs.Modes.{mode_at, mode_number}
+use Rattle.swd_trace.specs.Holding.{DecoderHolds}
+use Rattle.swd_trace.specs.Held.{decoder_rest}
+use Rattle.swd_trace.specs.Modes.{decoder_mode_at, decoder_mode_number}
 
-mode_back : (mode : Mode) → mode_at (mode_number mode) ≡ mode
+mode_back : (mode : Mode) → decoder_mode_at (decoder_mode_number mode) ≡ mode
 mode_back Synced = refl
 mode_back AfterReset = refl
 mode_back AfterSwitch = refl
@@ -21,17 +21,20 @@ flag_back true = refl
 flag_back false = refl
 
 -- the numbers of a decoder are what its parts always are
-pub holds_as_numbers : (d : Decoder) (fields : DecoderFields) → decoder_fields d ≡ fields →
-    Holds (mode_at fields.mode) (fields.one == 1) fields.run fields.len fields.bits d.next fields.fed
-holds_as_numbers d fields has =
-    let plain : Holds (mode_at (mode_number d.mode)) (bit d.one == 1) d.run d.len d.bits d.next d.fed =
+pub decoder_holds_as_numbers : (d : Decoder) (fields : DecoderFields) → decoder_fields d ≡ fields →
+    DecoderHolds (decoder_mode_at fields.mode) (fields.one == 1) fields.run fields.len fields.bits d.next fields.fed
+decoder_holds_as_numbers d fields has =
+    let plain : DecoderHolds (decoder_mode_at (decoder_mode_number d.mode)) (bit d.one == 1) d.run d.len d.bits d.next
+    d.fed =
     rw (mode_back d.mode, flag_back d.one) d.holds in
-    subst (λ (f : DecoderFields). Holds (mode_at f.mode) (f.one == 1) f.run f.len f.bits d.next f.fed) has plain
+    subst (λ (f : DecoderFields). DecoderHolds (decoder_mode_at f.mode) (f.one == 1) f.run f.len f.bits d.next f.fed)
+    has plain
 
 -- the reading of what is held goes by the numbers
-pub rest_is : (d : Decoder) (fields : DecoderFields) → decoder_fields d ≡ fields → (more : List Bool) →
-    rest d more ≡ rest_in fields more
+pub decoder_rest_as_numbers : (d : Decoder) (fields : DecoderFields) → decoder_fields d ≡ fields → (more : List Bool) →
+    decoder_rest d more ≡ rest_in fields more
 unfolding rest_in
-rest_is d fields has more =
-    let plain : rest d more ≡ rest_in (decoder_fields d) more = sym (rw (mode_back d.mode, flag_back d.one) refl) in
+decoder_rest_as_numbers d fields has more =
+    let plain : decoder_rest d more ≡ rest_in (decoder_fields d) more =
+    sym (rw (mode_back d.mode, flag_back d.one) refl) in
     plain ∙ ap (λ f. rest_in f more) has

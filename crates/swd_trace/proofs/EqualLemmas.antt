@@ -72,11 +72,11 @@ same_bits a b e =
     bits_by a.len a.bits b (eqb-true a.len b.len g.0) (eqb-true a.bits b.bits g.1)
 
 -- items that the test of equality finds equal are the same item
-pub same_item : (a b : Item) → (item_eq.ghosts).eq a b ≡ true → a ≡ b
-same_item (Reset m) (Reset n) e = let f : (m == n) ≡ true = e in ap Reset (eqb-true m n f)
-same_item Switch Switch e = refl
-same_item (Idle m) (Idle n) e = let f : (m == n) ≡ true = e in ap Idle (eqb-true m n f)
-same_item (Tx a) (Tx b) e = let f : (tx_eq.ghosts).eq a b ≡ true = e in ap Tx (same_tx a b f)
-same_item (Junk a) (Junk b) e = let f : beq a b ≡ true = e in ap Junk (same_bool a b f)
-same_item (Cut a) (Cut b) e = let f : ((a.len == b.len) && (a.bits == b.bits)) ≡ true = e in ap Cut (same_bits a b f)
-same_item a b e = absurd cc
+pub item_equality_sound : (a b : Item) → (item_eq.ghosts).eq a b ≡ true → a ≡ b
+item_equality_sound (Reset m) (Reset n) e = let f : (m == n) ≡ true = e in ap Reset (eqb-true m n f)
+item_equality_sound Switch Switch e = refl
+item_equality_sound (Idle m) (Idle n) e = let f : (m == n) ≡ true = e in ap Idle (eqb-true m n f)
+item_equality_sound (Tx a) (Tx b) e = let f : (tx_eq.ghosts).eq a b ≡ true = e in ap Tx (same_tx a b f)
+item_equality_sound (Junk a) (Junk b) e = let f : beq a b ≡ true = e in ap Junk (same_bool a b f)
+item_equality_sound (Cut a) (Cut b) e = let f : ((a.len == b.len) && (a.bits == b.bits)) ≡ true = e in ap Cut (same_bits a b f)
+item_equality_sound a b e = absurd cc

@@ -9,98 +9,100 @@ use Rattle.std.proofs.Math.Nat.{pow-suc}
 use lib.Count.{count_leading_zeros, count_trailing_zeros, leading_of_zero, under}
 use Rattle.std.proofs.lemmas.List.{append-nil}
 use Rattle.swd_bits.specs.Bits.{low_bits}
-use Rattle.swd_bits.proofs.BitsLemmas.{low_bits-split, length-low_bits, same_bits}
-use Rattle.swd_trace.specs.Reading.{all_ones}
-use Rattle.swd_trace.proofs.ReadingLemmas.{all_ones_is, bool_cases}
+use Rattle.swd_bits.proofs.BitsLemmas.{low_bits-split, length-low_bits, low_bits_injective}
+use Rattle.swd_trace.specs.Reading.{trace_all_ones}
+use Rattle.swd_trace.proofs.ReadingLemmas.{trace_all_ones_is_run, trace_bit_cases}
 
 -- the first of the bits
-pub next_bit : (len v : ℕ) → 0 < len → low_bits len v ≡ (v % 2 == 1) ∷ low_bits (len - 1) (v / 2)
+pub decoder_bits_next : (len v : ℕ) → 0 < len → low_bits len v ≡ (v % 2 == 1) ∷ low_bits (len - 1) (v / 2)
 unfolding low_bits
-next_bit zero v h = absurd (omega arith)
-next_bit (suc len) v h = let e : suc len - 1 ≡ len = omega arith in rw e refl
+decoder_bits_next zero v h = absurd (omega arith)
+decoder_bits_next (suc len) v h = let e : suc len - 1 ≡ len = omega arith in rw e refl
 
 -- the low 0 bits of a number are the empty list
-pub no_bits : (len v : ℕ) → len ≡ 0 → low_bits len v ≡ []
+pub decoder_bits_none : (len v : ℕ) → len ≡ 0 → low_bits len v ≡ []
 unfolding low_bits
-no_bits zero v h = refl
-no_bits (suc len) v h = absurd (omega arith)
+decoder_bits_none zero v h = refl
+decoder_bits_none (suc len) v h = absurd (omega arith)
 
 -- the low bits of what is left of a number
-pub low_mod : (m v : ℕ) → low_bits m (v % 2 ^ m) ≡ low_bits m v
-low_mod m v = sym (ap (λ k. low_bits k v) (omega arith) ∙ low_bits-split m 0 v
-    ∙ ap (λ x. low_bits m (v % 2 ^ m) ++ x) (no_bits 0 (v / 2 ^ m) refl) ∙ append-nil (low_bits m (v % 2 ^ m)))
+pub decoder_bits_mod : (m v : ℕ) → low_bits m (v % 2 ^ m) ≡ low_bits m v
+decoder_bits_mod m v = sym (ap (λ k. low_bits k v) (omega arith) ∙ low_bits-split m 0 v
+    ∙ ap (λ x. low_bits m (v % 2 ^ m) ++ x) (decoder_bits_none 0 (v / 2 ^ m) refl) ∙ append-nil
+    (low_bits m (v % 2 ^ m)))
 
 -- the first bits, and the others
-pub parted : (m len v : ℕ) → m ≤ len → low_bits len v ≡ low_bits m v ++ low_bits (len - m) (v / 2 ^ m)
-parted m len v h =
+pub decoder_bits_parted : (m len v : ℕ) → m ≤ len → low_bits len v ≡ low_bits m v ++ low_bits (len - m) (v / 2 ^ m)
+decoder_bits_parted m len v h =
     let e : len ≡ m + (len - m) = omega arith in
     ap (λ k. low_bits k v) e ∙ low_bits-split m (len - m) v
-    ∙ ap (λ x. x ++ low_bits (len - m) (v / 2 ^ m)) (low_mod m v)
+    ∙ ap (λ x. x ++ low_bits (len - m) (v / 2 ^ m)) (decoder_bits_mod m v)
 
 -- a shift within the bits
-pub shifted_lt : (m len v : ℕ) → m ≤ len → v < 2 ^ len → v / 2 ^ m < 2 ^ (len - m)
-shifted_lt m len v h k =
+pub decoder_bits_shifted_lt : (m len v : ℕ) → m ≤ len → v < 2 ^ len → v / 2 ^ m < 2 ^ (len - m)
+decoder_bits_shifted_lt m len v h k =
     let e : len - m + m ≡ len = omega arith in
     shr_lt (len - m) m (subst (λ n. v < 2 ^ n) (sym e) k)
 
 -- a mask of the low bits
-pub masked : (n v : ℕ) → n < 64 → bit_and v (1 * 2 ^ n % 2 ^ 64 - 1) ≡ v % 2 ^ n
-masked n v h = rw (one_shl n 64 h) (and_mask v n)
+pub decoder_bits_masked : (n v : ℕ) → n < 64 → bit_and v (1 * 2 ^ n % 2 ^ 64 - 1) ≡ v % 2 ^ n
+decoder_bits_masked n v h = rw (one_shl n 64 h) (and_mask v n)
 
 -- a number of ones alone
-pub low_ones : (n : ℕ) → low_bits n (2 ^ n - 1) ≡ replicate n true
+pub decoder_bits_low_ones : (n : ℕ) → low_bits n (2 ^ n - 1) ≡ replicate n true
 unfolding low_bits
-low_ones zero = refl
-low_ones (suc n) =
+decoder_bits_low_ones zero = refl
+decoder_bits_low_ones (suc n) =
     let e : 2 ^ suc n ≡ 2 ^ n * 2 = pow-suc 2 n in
     let p : 0 < 2 ^ n = pow_pos n in
     let last : (2 ^ suc n - 1) % 2 ≡ 1 = omega arith in
     let half : (2 ^ suc n - 1) / 2 ≡ 2 ^ n - 1 = omega arith in
     ap (λ d. (d == 1) ∷ low_bits n ((2 ^ suc n - 1) / 2)) last ∙ ap (λ h. true ∷ low_bits n h) half
-    ∙ ap (λ x. true ∷ x) (low_ones n)
+    ∙ ap (λ x. true ∷ x) (decoder_bits_low_ones n)
 
 -- where the bits are not that number, there is a zero among them
-pub zero_among : (n v : ℕ) → v < 2 ^ n → n < 64 → (v ≡ 1 * 2 ^ n % 2 ^ 64 - 1 → ⊥) → all_ones (low_bits n v) ≡ false
-zero_among n v h k d =
-    elim (bool_cases (all_ones (low_bits n v))) [
+pub decoder_bits_zero_among : (n v : ℕ) → v < 2 ^ n → n < 64 → (v ≡ 1 * 2 ^ n % 2 ^ 64 - 1 → ⊥)
+    → trace_all_ones (low_bits n v) ≡ false
+decoder_bits_zero_among n v h k d =
+    elim (trace_bit_cases (trace_all_ones (low_bits n v))) [
       | inl e ↦
           let p : 0 < 2 ^ n = pow_pos n in
-          let same : low_bits n v ≡ low_bits n (2 ^ n - 1) = all_ones_is (low_bits n v) e
-          ∙ ap (λ m. replicate m true) (length-low_bits n v) ∙ sym (low_ones n) in
+          let same : low_bits n v ≡ low_bits n (2 ^ n - 1) = trace_all_ones_is_run (low_bits n v) e
+          ∙ ap (λ m. replicate m true) (length-low_bits n v) ∙ sym (decoder_bits_low_ones n) in
           let shl : 1 * 2 ^ n % 2 ^ 64 ≡ 2 ^ n = one_shl n 64 k in
-          absurd (d (same_bits n v (2 ^ n - 1) h (omega arith) same ∙ ap (λ x. x - 1) (sym shl)))
+          absurd (d (low_bits_injective n v (2 ^ n - 1) h (omega arith) same ∙ ap (λ x. x - 1) (sym shl)))
       | inr e ↦ e
     ]
 
 -- the number 2 ^ n - 1, as the code computes it in 64 bits, is n ones
-pub ones_alone : (n v : ℕ) → n < 64 → v ≡ 1 * 2 ^ n % 2 ^ 64 - 1 → low_bits n v ≡ replicate n true
-ones_alone n v k e =
-    ap (low_bits n) (e ∙ ap (λ x. x - 1) (one_shl n 64 k)) ∙ low_ones n
+pub decoder_bits_ones_alone : (n v : ℕ) → n < 64 → v ≡ 1 * 2 ^ n % 2 ^ 64 - 1 → low_bits n v ≡ replicate n true
+decoder_bits_ones_alone n v k e =
+    ap (low_bits n) (e ∙ ap (λ x. x - 1) (one_shl n 64 k)) ∙ decoder_bits_low_ones n
 
-pub half_lt : (len v : ℕ) → v < 2 ^ len → 0 < len → v / 2 < 2 ^ (len - 1)
-half_lt len v h k = shifted_lt 1 len v k h
+pub decoder_bits_half_lt : (len v : ℕ) → v < 2 ^ len → 0 < len → v / 2 < 2 ^ (len - 1)
+decoder_bits_half_lt len v h k = decoder_bits_shifted_lt 1 len v k h
 
 -- the number 0 has zeros alone as its bits
-pub low_zeros : (n : ℕ) → low_bits n 0 ≡ replicate n false
+pub decoder_bits_low_zeros : (n : ℕ) → low_bits n 0 ≡ replicate n false
 unfolding low_bits
-low_zeros zero = refl
-low_zeros (suc n) = ap (λ x. false ∷ x) (low_zeros n)
+decoder_bits_low_zeros zero = refl
+decoder_bits_low_zeros (suc n) = ap (λ x. false ∷ x) (decoder_bits_low_zeros n)
 
 -- one bit
-pub first_bit : (v : ℕ) (more : List Bool) → (v % 2 == 1) ∷ more ≡ low_bits 1 v ++ more
+pub decoder_bits_one_bit : (v : ℕ) (more : List Bool) → (v % 2 == 1) ∷ more ≡ low_bits 1 v ++ more
 unfolding low_bits
-first_bit v more = refl
+decoder_bits_one_bit v more = refl
 
 -- ---- trailing zeros
 
 -- the zeros at the front, and a one
-pub record Trailing (len v z : ℕ) : Type 0 where
+pub record DecoderTrailingZeros (len v z : ℕ) : Type 0 where
   pub within : z < len
   pub one : v / 2 ^ z % 2 ≡ 1
   pub front : low_bits len v ≡ replicate z false ++ low_bits (len - z) (v / 2 ^ z)
 
-trailing_step : (len v z d : ℕ) → d ≡ v % 2 → 0 < len → 0 < v → v < 2 ^ len → (v % 2 ≡ 0 → Trailing (len - 1) (v / 2) z)
-    → Trailing len v (under d z)
+trailing_step : (len v z d : ℕ) → d ≡ v % 2 → 0 < len → 0 < v → v < 2 ^ len
+    → (v % 2 ≡ 0 → DecoderTrailingZeros (len - 1) (v / 2) z) → DecoderTrailingZeros len v (under d z)
 trailing_step len v z zero e h p k next =
     let even : v % 2 ≡ 0 = sym e in
     let r = next even in
@@ -110,7 +112,7 @@ trailing_step len v z zero e h p k next =
     record {
       within = omega arith;
       one = ap (λ n. n % 2) (sym shift) ∙ r.one;
-      front = next_bit len v h ∙ ap (λ n. (n == 1) ∷ low_bits (len - 1) (v / 2)) even
+      front = decoder_bits_next len v h ∙ ap (λ n. (n == 1) ∷ low_bits (len - 1) (v / 2)) even
           ∙ ap (λ x. false ∷ x) (r.front ∙ ap (λ n. replicate z false ++ low_bits n (v / 2 / 2 ^ z)) less)
           ∙ ap (λ n. false ∷ (replicate z false ++ low_bits (len - suc z) n)) shift;
     }
@@ -126,25 +128,26 @@ trailing_step len v z (suc zero) e h p k next =
 trailing_step len v z (suc (suc d)) e h p k next = absurd (omega arith)
 
 -- the trailing zeros that are counted in a number other than 0 are the zeros at the front, and a one follows
-pub trailing : (k len v : ℕ) → len ≤ k → 0 < v → v < 2 ^ len → Trailing len v (count_trailing_zeros k v)
+pub decoder_zeros_counted : (k len v : ℕ) → len ≤ k → 0 < v → v < 2 ^ len
+    → DecoderTrailingZeros len v (count_trailing_zeros k v)
 unfolding count_trailing_zeros
-trailing k zero v h p q = absurd (omega arith)
-trailing zero (suc len) v h p q = absurd (omega arith)
-trailing (suc k) (suc len) v h p q =
+decoder_zeros_counted k zero v h p q = absurd (omega arith)
+decoder_zeros_counted zero (suc len) v h p q = absurd (omega arith)
+decoder_zeros_counted (suc k) (suc len) v h p q =
     trailing_step (suc len) v (count_trailing_zeros k (v / 2)) (v % 2) refl (omega arith) p q
     (λ even.
     let less : suc len - 1 ≡ len = omega arith in
-    let small : v / 2 < 2 ^ (suc len - 1) = half_lt (suc len) v q (omega arith) in
-    let r : Trailing len (v / 2) (count_trailing_zeros k (v / 2)) =
-    trailing k len (v / 2) (omega arith) (omega arith) (subst (λ n. v / 2 < 2 ^ n) less small) in
-    subst (λ n. Trailing n (v / 2) (count_trailing_zeros k (v / 2))) (sym less) r)
+    let small : v / 2 < 2 ^ (suc len - 1) = decoder_bits_half_lt (suc len) v q (omega arith) in
+    let r : DecoderTrailingZeros len (v / 2) (count_trailing_zeros k (v / 2)) =
+    decoder_zeros_counted k len (v / 2) (omega arith) (omega arith) (subst (λ n. v / 2 < 2 ^ n) less small) in
+    subst (λ n. DecoderTrailingZeros n (v / 2) (count_trailing_zeros k (v / 2))) (sym less) r)
 
 -- as many zeros as are counted at the front
-pub zeros_front : (k n v : ℕ) → n ≤ count_trailing_zeros k v → low_bits n v ≡ replicate n false
+pub decoder_zeros_at_front : (k n v : ℕ) → n ≤ count_trailing_zeros k v → low_bits n v ≡ replicate n false
 unfolding low_bits count_trailing_zeros
-zeros_front k zero v h = refl
-zeros_front zero (suc n) v h = absurd (omega arith)
-zeros_front (suc k) (suc n) v h = step (v % 2) refl h (zeros_front k n (v / 2))
+decoder_zeros_at_front k zero v h = refl
+decoder_zeros_at_front zero (suc n) v h = absurd (omega arith)
+decoder_zeros_at_front (suc k) (suc n) v h = step (v % 2) refl h (decoder_zeros_at_front k n (v / 2))
   where
     step : (d : ℕ) → d ≡ v % 2 → suc n ≤ under d (count_trailing_zeros k (v / 2))
         → (n ≤ count_trailing_zeros k (v / 2) → low_bits n (v / 2) ≡ replicate n false) →
@@ -153,16 +156,17 @@ zeros_front (suc k) (suc n) v h = step (v % 2) refl h (zeros_front k n (v / 2))
     step (suc d) e h others = absurd (omega arith)
 
 -- as many ones, where the other bits' zeros are counted
-pub ones_front : (k n v : ℕ) → v < 2 ^ k → n ≤ count_trailing_zeros k (2 ^ k - 1 - v) → low_bits n v ≡ replicate n true
+pub decoder_ones_at_front : (k n v : ℕ) → v < 2 ^ k → n ≤ count_trailing_zeros k (2 ^ k - 1 - v)
+    → low_bits n v ≡ replicate n true
 unfolding low_bits count_trailing_zeros
-ones_front k zero v h c = refl
-ones_front zero (suc n) v h c = absurd (omega arith)
-ones_front (suc k) (suc n) v h c =
+decoder_ones_at_front k zero v h c = refl
+decoder_ones_at_front zero (suc n) v h c = absurd (omega arith)
+decoder_ones_at_front (suc k) (suc n) v h c =
     let e : 2 ^ suc k ≡ 2 ^ k * 2 = pow-suc 2 k in
     let half : (2 ^ suc k - 1 - v) / 2 ≡ 2 ^ k - 1 - v / 2 = omega arith in
     step ((2 ^ suc k - 1 - v) % 2) (omega arith)
     (subst (λ m. suc n ≤ under ((2 ^ suc k - 1 - v) % 2) (count_trailing_zeros k m)) half c)
-    (ones_front k n (v / 2) (omega arith))
+    (decoder_ones_at_front k n (v / 2) (omega arith))
   where
     step : (d : ℕ) → d + v % 2 ≡ 1 → suc n ≤ under d (count_trailing_zeros k (2 ^ k - 1 - v / 2)) →
         (n ≤ count_trailing_zeros k (2 ^ k - 1 - v / 2) → low_bits n (v / 2) ≡ replicate n true) →
@@ -172,15 +176,15 @@ ones_front (suc k) (suc n) v h c =
     step (suc d) e h others = absurd (omega arith)
 
 -- no more than these are at the front
-pub zeros_most : (k n v : ℕ) → n ≤ k → low_bits n v ≡ replicate n false → n ≤ count_trailing_zeros k v
+pub decoder_zeros_most : (k n v : ℕ) → n ≤ k → low_bits n v ≡ replicate n false → n ≤ count_trailing_zeros k v
 unfolding low_bits count_trailing_zeros
-zeros_most k zero v h e = omega arith
-zeros_most zero (suc n) v h e = absurd (omega arith)
-zeros_most (suc k) (suc n) v h e =
+decoder_zeros_most k zero v h e = omega arith
+decoder_zeros_most zero (suc n) v h e = absurd (omega arith)
+decoder_zeros_most (suc k) (suc n) v h e =
     let all : (v % 2 == 1) ∷ low_bits n (v / 2) ≡ false ∷ replicate n false = e in
     let here : (v % 2 == 1) ≡ false = cc in
     let others : low_bits n (v / 2) ≡ replicate n false = cc in
-    step (v % 2) refl here (zeros_most k n (v / 2) (omega arith) others)
+    step (v % 2) refl here (decoder_zeros_most k n (v / 2) (omega arith) others)
   where
     step : (d : ℕ) → d ≡ v % 2 → (v % 2 == 1) ≡ false → n ≤ count_trailing_zeros k (v / 2)
         → suc n ≤ under d (count_trailing_zeros k (v / 2))
@@ -190,20 +194,20 @@ zeros_most (suc k) (suc n) v h e =
         let odd : (1 == 1) ≡ false = ap (λ x. x == 1) (sym one) ∙ f in absurd cc
 
 -- ones at the front are at most as many as the trailing zeros that are counted in the complement
-pub ones_most : (k n v : ℕ) → v < 2 ^ k → n ≤ k → low_bits n v ≡ replicate n true
+pub decoder_ones_most : (k n v : ℕ) → v < 2 ^ k → n ≤ k → low_bits n v ≡ replicate n true
     → n ≤ count_trailing_zeros k (2 ^ k - 1 - v)
 unfolding low_bits count_trailing_zeros
-ones_most k zero v s h e = omega arith
-ones_most zero (suc n) v s h e = absurd (omega arith)
-ones_most (suc k) (suc n) v s h e =
+decoder_ones_most k zero v s h e = omega arith
+decoder_ones_most zero (suc n) v s h e = absurd (omega arith)
+decoder_ones_most (suc k) (suc n) v s h e =
     let double : 2 ^ suc k ≡ 2 ^ k * 2 = pow-suc 2 k in
     let half : (2 ^ suc k - 1 - v) / 2 ≡ 2 ^ k - 1 - v / 2 = omega arith in
     let all : (v % 2 == 1) ∷ low_bits n (v / 2) ≡ true ∷ replicate n true = e in
     let here : (v % 2 == 1) ≡ true = cc in
     let others : low_bits n (v / 2) ≡ replicate n true = cc in
     let one : v % 2 ≡ 1 = eqb-true (v % 2) 1 here in
-    let more : n ≤ count_trailing_zeros k (2 ^ k - 1 - v / 2) = ones_most k n (v / 2) (omega arith) (omega arith)
-    others in
+    let more : n ≤ count_trailing_zeros k (2 ^ k - 1 - v / 2) =
+    decoder_ones_most k n (v / 2) (omega arith) (omega arith) others in
     subst (λ m. suc n ≤ under ((2 ^ suc k - 1 - v) % 2) (count_trailing_zeros k m)) (sym half)
     (step ((2 ^ suc k - 1 - v) % 2) (omega arith) more)
   where
@@ -225,11 +229,11 @@ below (suc i) (suc len) h =
 
 -- 64 less the leading zeros of the complement is at most len, and unless it is 0, the last of that many bits or
 -- a later bit is a zero
-pub last_zero : (len v : ℕ) → len < 64 → v < 2 ^ len
+pub decoder_last_zero_bit : (len v : ℕ) → len < 64 → v < 2 ^ len
     → (64 - count_leading_zeros 64 (2 ^ len - 1 - v) ≤ len)
     × (0 < 64 - count_leading_zeros 64 (2 ^ len - 1 - v)
     → v + 2 ^ (64 - count_leading_zeros 64 (2 ^ len - 1 - v) - 1) < 2 ^ len)
-last_zero len v h k = by (2 ^ len - 1 - v) refl
+decoder_last_zero_bit len v h k = by (2 ^ len - 1 - v) refl
   where
     by : (a : ℕ) → 2 ^ len - 1 - v ≡ a → (64 - count_leading_zeros 64 a ≤ len)
         × (0 < 64 - count_leading_zeros 64 a → v + 2 ^ (64 - count_leading_zeros 64 a - 1) < 2 ^ len)

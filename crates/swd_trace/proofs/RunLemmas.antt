@@ -3,44 +3,46 @@ use Rattle.std.proofs.Common.{◌≡◌, List, Bool, [], ◌++◌, append_assoc,
 use Rattle.swd_trace.specs.declared.item.Item.{Item}
 use Rattle.swd_trace.specs.declared.decoder.Decoder.{Decoder}
 use Rattle.swd_trace.specs.Reading.{reading_of}
-use Rattle.swd_trace.specs.Decided.{IsUndecided, IsDecided}
-use Rattle.swd_trace.specs.Held.{rest, HasRead}
+use Rattle.swd_trace.specs.Decided.{DecidesNoItem, IsDecided}
+use Rattle.swd_trace.specs.Held.{decoder_rest, DecoderHasRead}
 use Rattle.swd_trace.specs.Texts.{bits_of_items}
 use Rattle.swd_trace.specs.declared.mode.Mode.TheVariants.{Synced}
-use Rattle.swd_trace.proofs.DecidedLemmas.{longest_of}
-use Rattle.swd_trace.proofs.RereadLemmas.{rereads}
+use Rattle.swd_trace.proofs.DecidedLemmas.{decided_items_are_longest}
+use Rattle.swd_trace.proofs.RereadLemmas.{item_reread_same_reading}
 use Rattle.std.proofs.lemmas.List.{append-nil}
 
 -- the items given so far are those that the bits so far decide
-pub read_decided : (d : Decoder) (bits : List Bool) (items : List Item) → HasRead d bits items → IsUndecided (rest d)
-    → IsDecided bits items
-read_decided d bits items h u = longest_of items (λ more. reading_of (bits ++ more)) (rest d) h u
+pub decoder_items_decided : (d : Decoder) (bits : List Bool) (items : List Item) → DecoderHasRead d bits items
+    → DecidesNoItem (decoder_rest d) → IsDecided bits items
+decoder_items_decided d bits items h u = decided_items_are_longest items (λ more. reading_of (bits ++ more))
+    (decoder_rest d) h u
 
 -- some bits more, which give some items more
-pub read_more : (old new : Decoder) (bits next : List Bool) (items given : List Item)
-    → ((more : List Bool) → given ++ rest new more ≡ rest old (next ++ more)) →
-    HasRead old bits items → HasRead new (bits ++ next) (items ++ given)
-read_more old new bits next items given law h = λ more.
-    append_assoc items given (rest new more) ∙ ap (λ x. items ++ x) (law more) ∙ h (next ++ more)
+pub decoder_items_more : (old new : Decoder) (bits next : List Bool) (items given : List Item)
+    → ((more : List Bool) → given ++ decoder_rest new more ≡ decoder_rest old (next ++ more)) →
+    DecoderHasRead old bits items → DecoderHasRead new (bits ++ next) (items ++ given)
+decoder_items_more old new bits next items given law h = λ more.
+    append_assoc items given (decoder_rest new more) ∙ ap (λ x. items ++ x) (law more) ∙ h (next ++ more)
     ∙ ap reading_of (sym (append_assoc bits next more))
 
 -- where bits are taken and no item is returned, the items so far and what is now held are the reading with them
-pub read_bits : (old new : List Bool → List Item) (bits next : List Bool) (items : List Item)
+pub decoder_bits_no_item : (old new : List Bool → List Item) (bits next : List Bool) (items : List Item)
     → ((more : List Bool) → new more ≡ old (next ++ more)) →
     ((more : List Bool) → items ++ old more ≡ reading_of (bits ++ more)) → (more : List Bool)
     → items ++ new more ≡ reading_of ((bits ++ next) ++ more)
-read_bits old new bits next items law h more =
+decoder_bits_no_item old new bits next items law h more =
     ap (λ x. items ++ x) (law more) ∙ h (next ++ more) ∙ ap reading_of (sym (append_assoc bits next more))
 
 -- all items of a run are the reading of all bits
-pub read_whole : (d last : Decoder) (bits : List Bool) (items given : List Item) → given ++ rest last [] ≡ rest d []
-    → rest last [] ≡ [] → HasRead d bits items →
+pub decoder_items_whole_reading : (d last : Decoder) (bits : List Bool) (items given : List Item)
+    → given ++ decoder_rest last [] ≡ decoder_rest d [] → decoder_rest last [] ≡ [] → DecoderHasRead d bits items →
     items ++ given ≡ reading_of bits
-read_whole d last bits items given law none h =
+decoder_items_whole_reading d last bits items given law none h =
     ap (λ x. items ++ x) (sym (append-nil given) ∙ ap (λ x. given ++ x) (sym none) ∙ law) ∙ h []
     ∙ ap reading_of (append-nil bits)
 
 -- items that are the reading of some bits are the reading of their own bits
-pub reads_again : (bits : List Bool) (items : List Item) → items ≡ reading_of bits
+pub reading_items_are_normal : (bits : List Bool) (items : List Item) → items ≡ reading_of bits
     → reading_of (bits_of_items items) ≡ items
-reads_again bits items e = ap (λ x. reading_of (bits_of_items x)) e ∙ rereads Synced bits ∙ sym e
+reading_items_are_normal bits items e = ap (λ x. reading_of (bits_of_items x)) e ∙ item_reread_same_reading Synced bits
+    ∙ sym e

@@ -4,41 +4,42 @@ use Rattle.std.proofs.Common.{length, take, nat_le, append_assoc, refl, sym, ap,
 use Rattle.std.specs.Prelude.{if◌then◌else◌}
 use Rattle.std.proofs.lemmas.List.{length-append, length-take-le, take_at, take-take}
 use Rattle.std.proofs.lemmas.Bool.{leb-true, le-leb}
-use Rattle.swd_bits.specs.Bits.{low_bits, number, odd}
-use Rattle.swd_bits.specs.Wire.{request}
-use Rattle.swd_bits.specs.Transactions.{spelling, ending, moved, phase_with, Spells, IsEnd}
+use Rattle.swd_bits.specs.Bits.{low_bits, bits_number, odd}
+use Rattle.swd_bits.specs.Wire.{bits_of_request}
+use Rattle.swd_bits.specs.Transactions.{tx_spelling_bits, tx_ending_bits, moved_data_phase, phase_with, SpellsTx}
+use Rattle.swd_bits.specs.Transactions.{IsTxEnd}
 use Rattle.swd_bits.specs.declared.request.Request.{Request}
 use Rattle.swd_bits.specs.declared.request.Reg4.{Reg4}
 use Rattle.swd_bits.specs.declared.request.Reg4.TheVariants.{R0, R4, R8, RC}
 use Rattle.swd_bits.specs.declared.tx.TxEnd.{TxEnd}
 use Rattle.swd_bits.specs.declared.tx.TxEnd.TheVariants.{Moved, Wait, Fault, NoAck}
 use Rattle.swd_bits.specs.declared.tx.Tx.{Tx}
-use Rattle.swd_bits.proofs.BitsLemmas.{number-low_bits, low_bits-number, number_lt, length-low_bits}
-use Rattle.swd_bits.proofs.TxLemmas.{length_request, length_phase_with}
-use Rattle.swd_trace.specs.Stands.{Whole, stands, after_ok, after_ack, after_request, after_parity, moved_in, phase_in}
-use Rattle.swd_trace.specs.Stands.{reg4_at}
-use Rattle.swd_trace.proofs.StandLemmas.{chosen}
+use Rattle.swd_bits.proofs.BitsLemmas.{number-low_bits, low_bits-number, bits_number_lt, length-low_bits}
+use Rattle.swd_bits.proofs.TxLemmas.{request_bits_length, data_phase_length_33}
+use Rattle.swd_trace.specs.Stands.{Whole, stands, stand_after_ok, stand_after_ack, stand_after_request}
+use Rattle.swd_trace.specs.Stands.{stand_after_parity, stand_moved_in, stand_phase_in, stand_reg4_at}
+use Rattle.swd_trace.proofs.StandLemmas.{stand_by_test}
 
 -- the parity with one bit more
-pub odd_push : (bits : List Bool) (p : Bool) → odd (bits ++ p ∷ []) ≡ (if p then not (odd bits) else odd bits)
-odd_push [] true = refl
-odd_push [] false = refl
-odd_push (true ∷ bits) true = ap not (odd_push bits true)
-odd_push (true ∷ bits) false = ap not (odd_push bits false)
-odd_push (false ∷ bits) p = odd_push bits p
+pub trace_odd_with_bit : (bits : List Bool) (p : Bool) → odd (bits ++ p ∷ []) ≡ (if p then not (odd bits) else odd bits)
+trace_odd_with_bit [] true = refl
+trace_odd_with_bit [] false = refl
+trace_odd_with_bit (true ∷ bits) true = ap not (trace_odd_with_bit bits true)
+trace_odd_with_bit (true ∷ bits) false = ap not (trace_odd_with_bit bits false)
+trace_odd_with_bit (false ∷ bits) p = trace_odd_with_bit bits p
 
 not_not : (b : Bool) → not (not b) ≡ b
 not_not true = refl
 not_not false = refl
 
 even_tells : (bits : List Bool) (p : Bool) → odd (bits ++ p ∷ []) ≡ false → odd bits ≡ p
-even_tells bits true e = sym (not_not (odd bits)) ∙ ap not (sym (odd_push bits true) ∙ e)
-even_tells bits false e = sym (odd_push bits false) ∙ e
+even_tells bits true e = sym (not_not (odd bits)) ∙ ap not (sym (trace_odd_with_bit bits true) ∙ e)
+even_tells bits false e = sym (trace_odd_with_bit bits false) ∙ e
 
 -- ---- requests
 
 asked_at : (ap read : Bool) (addr : Reg4) (bits : List Bool) →
-    stands (request (record { ap = ap; read = read; addr = addr }) ++ bits) ≡ after_request
+    stands (bits_of_request (record { ap = ap; read = read; addr = addr }) ++ bits) ≡ stand_after_request
     (record { ap = ap; read = read; addr = addr }) bits
 asked_at true true R0 bits = refl
 asked_at true true R4 bits = refl
@@ -58,19 +59,21 @@ asked_at false false R8 bits = refl
 asked_at false false RC bits = refl
 
 -- after a request
-pub asked : (q : Request) (bits : List Bool) → stands (request q ++ bits) ≡ after_request q bits
-asked q bits = asked_at q.ap q.read q.addr bits
+pub trace_stand_after_request : (q : Request) (bits : List Bool)
+    → stands (bits_of_request q ++ bits) ≡ stand_after_request q bits
+trace_stand_after_request q bits = asked_at q.ap q.read q.addr bits
 
 -- eight bits that are one
-pub request_is : (port read a b p : Bool) → odd (port ∷ read ∷ a ∷ b ∷ p ∷ []) ≡ false →
-    request (record { ap = port; read = read; addr = reg4_at a b }) ≡ true ∷ port ∷ read ∷ a ∷ b ∷ p ∷ false ∷ true ∷ []
-request_is port read false false p e = ap (λ x. true ∷ port ∷ read ∷ false ∷ false ∷ x ∷ false ∷ true ∷ [])
+pub trace_request_spelled : (port read a b p : Bool) → odd (port ∷ read ∷ a ∷ b ∷ p ∷ []) ≡ false →
+    bits_of_request (record { ap = port; read = read; addr = stand_reg4_at a b }) ≡ true ∷ port ∷ read ∷ a ∷ b ∷ p
+    ∷ false ∷ true ∷ []
+trace_request_spelled port read false false p e = ap (λ x. true ∷ port ∷ read ∷ false ∷ false ∷ x ∷ false ∷ true ∷ [])
     (even_tells (port ∷ read ∷ false ∷ false ∷ []) p e)
-request_is port read true false p e = ap (λ x. true ∷ port ∷ read ∷ true ∷ false ∷ x ∷ false ∷ true ∷ [])
+trace_request_spelled port read true false p e = ap (λ x. true ∷ port ∷ read ∷ true ∷ false ∷ x ∷ false ∷ true ∷ [])
     (even_tells (port ∷ read ∷ true ∷ false ∷ []) p e)
-request_is port read false true p e = ap (λ x. true ∷ port ∷ read ∷ false ∷ true ∷ x ∷ false ∷ true ∷ [])
+trace_request_spelled port read false true p e = ap (λ x. true ∷ port ∷ read ∷ false ∷ true ∷ x ∷ false ∷ true ∷ [])
     (even_tells (port ∷ read ∷ false ∷ true ∷ []) p e)
-request_is port read true true p e = ap (λ x. true ∷ port ∷ read ∷ true ∷ true ∷ x ∷ false ∷ true ∷ [])
+trace_request_spelled port read true true p e = ap (λ x. true ∷ port ∷ read ∷ true ∷ true ∷ x ∷ false ∷ true ∷ [])
     (even_tells (port ∷ read ∷ true ∷ true ∷ []) p e)
 
 -- ---- data phases
@@ -92,15 +95,16 @@ parity_tells false true = refl
 parity_tells false false = refl
 
 -- 33 bits are the phase of the word in them
-pub phase_is : (phase : List Bool) → length phase ≡ 33 → phase_with (number (take 32 phase)) (not (odd phase)) ≡ phase
+pub trace_phase_of_its_word : (phase : List Bool) → length phase ≡ 33
+    → phase_with (bits_number (take 32 phase)) (not (odd phase)) ≡ phase
 unfolding phase_with
-phase_is phase h =
+trace_phase_of_its_word phase h =
     let r = last_bit 32 phase h in
     let front = take 32 phase in
     let l : length front ≡ 32 = length-take-le 32 phase (omega arith) in
-    let word : low_bits 32 (number front) ≡ front = ap (λ n. low_bits n (number front)) (sym l)
+    let word : low_bits 32 (bits_number front) ≡ front = ap (λ n. low_bits n (bits_number front)) (sym l)
     ∙ low_bits-number front in
-    let parity : odd phase ≡ (if r.0 then not (odd front) else odd front) = ap odd r.1 ∙ odd_push front r.0 in
+    let parity : odd phase ≡ (if r.0 then not (odd front) else odd front) = ap odd r.1 ∙ trace_odd_with_bit front r.0 in
     let bit : (if not (odd phase) then odd front else not (odd front)) ≡ r.0 =
     ap (λ x. if not x then odd front else not (odd front)) parity ∙ parity_tells (odd front) r.0 in
     ap (λ w. w ++ (if not (odd phase) then odd w else not (odd w)) ∷ []) word ∙ ap (λ x. front ++ x ∷ []) bit ∙ sym r.1
@@ -115,27 +119,28 @@ abbrev moved_of : ℕ → Bool → TxEnd
 moved_of word ok = Moved word ok
 
 -- the word in a phase is the phase's
-pub moved_is : (word : ℕ) (ok : Bool) → word < 2 ^ 32 → moved_in (phase_with word ok) ≡ Moved word ok
+pub trace_moved_in_phase : (word : ℕ) (ok : Bool) → word < 2 ^ 32 → stand_moved_in (phase_with word ok) ≡ Moved word ok
 unfolding phase_with
-moved_is word ok h =
+trace_moved_in_phase word ok h =
     let front = low_bits 32 word in
     let p : Bool = if ok then odd front else not (odd front) in
-    let w : number (take 32 (front ++ p ∷ [])) ≡ word = ap number (take_at front (p ∷ []) 32 (length-low_bits 32 word))
+    let w : bits_number (take 32 (front ++ p ∷ [])) ≡ word =
+    ap bits_number (take_at front (p ∷ []) 32 (length-low_bits 32 word))
     ∙ number-low_bits 32 word h in
-    let r : not (odd (front ++ p ∷ [])) ≡ ok = ap not (odd_push front p) ∙ right_of (odd front) ok in
+    let r : not (odd (front ++ p ∷ [])) ≡ ok = ap not (trace_odd_with_bit front p) ∙ right_of (odd front) ok in
     ap (λ x. moved_of x (not (odd (front ++ p ∷ [])))) w ∙ ap (moved_of word) r
 
 -- ---- a spelling stands
 
 length_34 : (read u : Bool) (phase more : List Bool) → length phase ≡ 33
-    → length (moved read u phase ++ more) ≡ 34 + length more
+    → length (moved_data_phase read u phase ++ more) ≡ 34 + length more
 length_34 true u phase more h = length-append (phase ++ u ∷ []) more
     ∙ ap (λ n. n + length more) (length-append phase (u ∷ []) ∙ ap (λ n. n + 1) h)
 length_34 false u phase more h = let e : length (phase ++ more) ≡ 33 + length more = length-append phase more
     ∙ ap (λ n. n + length more) h in omega arith
 
 phase_found : (read u : Bool) (phase more : List Bool) → length phase ≡ 33
-    → phase_in read (moved read u phase ++ more) ≡ phase
+    → stand_phase_in read (moved_data_phase read u phase ++ more) ≡ phase
 phase_found true u phase more h = ap (take 33) (append_assoc phase (u ∷ []) more) ∙ take_at phase (u ∷ more) 33 h
 phase_found false u phase more h = take_at phase more 33 h
 
@@ -143,24 +148,24 @@ abbrev tx_of : Request → TxEnd → Tx
 tx_of q end = record { request = q; result = end }
 
 stands_ok : (q : Request) (word : ℕ) (ok u : Bool) (more : List Bool) → word < 2 ^ 32 →
-    after_ok q (moved q.read u (phase_with word ok) ++ more) ≡ Whole (tx_of q (Moved word ok)) 46
+    stand_after_ok q (moved_data_phase q.read u (phase_with word ok) ++ more) ≡ Whole (tx_of q (Moved word ok)) 46
 stands_ok q word ok u more h =
-    let l = length_34 q.read u (phase_with word ok) more (length_phase_with word ok) in
-    let t : nat_le 34 (length (moved q.read u (phase_with word ok) ++ more)) ≡ true = le-leb 34
-    (length (moved q.read u (phase_with word ok) ++ more)) (omega arith) in
-    rw t (ap (λ p. Whole (tx_of q (moved_in p)) 46)
-    (phase_found q.read u (phase_with word ok) more (length_phase_with word ok))
-    ∙ ap (λ m. Whole (tx_of q m) 46) (moved_is word ok h))
+    let l = length_34 q.read u (phase_with word ok) more (data_phase_length_33 word ok) in
+    let t : nat_le 34 (length (moved_data_phase q.read u (phase_with word ok) ++ more)) ≡ true = le-leb 34
+    (length (moved_data_phase q.read u (phase_with word ok) ++ more)) (omega arith) in
+    rw t (ap (λ p. Whole (tx_of q (stand_moved_in p)) 46)
+    (phase_found q.read u (phase_with word ok) more (data_phase_length_33 word ok))
+    ∙ ap (λ m. Whole (tx_of q m) 46) (trace_moved_in_phase word ok h))
 
 -- how many bits a transaction has after its request and a turnaround
-abbrev pub length_of : TxEnd → ℕ
-length_of (Moved word ok) = 46
-length_of Wait = 13
-length_of Fault = 13
-length_of (NoAck seen) = 12
+abbrev pub trace_tx_len : TxEnd → ℕ
+trace_tx_len (Moved word ok) = 46
+trace_tx_len Wait = 13
+trace_tx_len Fault = 13
+trace_tx_len (NoAck seen) = 12
 
-stands_none : (q : Request) (t : Bool) (seen : ℕ) (more : List Bool) → IsEnd (NoAck seen) →
-    after_request q (t ∷ (low_bits 3 seen ++ more)) ≡ Whole (tx_of q (NoAck seen)) 12
+stands_none : (q : Request) (t : Bool) (seen : ℕ) (more : List Bool) → IsTxEnd (NoAck seen) →
+    stand_after_request q (t ∷ (low_bits 3 seen ++ more)) ≡ Whole (tx_of q (NoAck seen)) 12
 unfolding low_bits
 stands_none q t seen more h = elim h [
   | inl z ↦ rw z refl
@@ -173,44 +178,45 @@ stands_none q t seen more h = elim h [
   ]
 ]
 
-stands_end : (q : Request) (end : TxEnd) (t u : Bool) (more : List Bool) → IsEnd end →
-    after_request q (t ∷ (ending q.read end u ++ more)) ≡ Whole (tx_of q end) (length_of end)
+stands_end : (q : Request) (end : TxEnd) (t u : Bool) (more : List Bool) → IsTxEnd end →
+    stand_after_request q (t ∷ (tx_ending_bits q.read end u ++ more)) ≡ Whole (tx_of q end) (trace_tx_len end)
 stands_end q (Moved word ok) t u more h = stands_ok q word ok u more h
 stands_end q Wait t u more h = refl
 stands_end q Fault t u more h = refl
 stands_end q (NoAck seen) t u more h =
-    ap (λ x. after_request q (t ∷ x)) (append_assoc (low_bits 3 seen) [] more) ∙ stands_none q t seen more h
+    ap (λ x. stand_after_request q (t ∷ x)) (append_assoc (low_bits 3 seen) [] more) ∙ stands_none q t seen more h
 
-length_ending : (read : Bool) (end : TxEnd) (u : Bool) → 9 + length (ending read end u) ≡ length_of end
-length_ending true (Moved word ok) u = let e = length-append (phase_with word ok) (u ∷ []) in let f = length_phase_with
+length_ending : (read : Bool) (end : TxEnd) (u : Bool) → 9 + length (tx_ending_bits read end u) ≡ trace_tx_len end
+length_ending true (Moved word ok) u = let e = length-append (phase_with word ok) (u ∷ []) in let f = data_phase_length_33
     word ok in omega arith
-length_ending false (Moved word ok) u = let f = length_phase_with word ok in omega arith
+length_ending false (Moved word ok) u = let f = data_phase_length_33 word ok in omega arith
 length_ending read Wait u = refl
 length_ending read Fault u = refl
 length_ending read (NoAck seen) u = let e = length-append (low_bits 3 seen) [] in let f = length-low_bits 3 seen in
     omega arith
 
 -- a transaction has 46 bits after OK, 13 after WAIT or FAULT, and 12 without an ACK
-pub length_spelling : (tx : Tx) (t u : Bool) → length (spelling tx t u) ≡ length_of tx.result
-length_spelling tx t u =
-    let e = length-append (request tx.request) (t ∷ ending tx.request.read tx.result u) in
-    let f = length_request tx.request in
+pub trace_spelling_length : (tx : Tx) (t u : Bool) → length (tx_spelling_bits tx t u) ≡ trace_tx_len tx.result
+trace_spelling_length tx t u =
+    let e = length-append (bits_of_request tx.request) (t ∷ tx_ending_bits tx.request.read tx.result u) in
+    let f = request_bits_length tx.request in
     let g = length_ending tx.request.read tx.result u in
     omega arith
 
 -- the bits of a transaction, with any turnarounds and whatever follows, are found as that transaction, whole
-pub spelling_stands : (tx : Tx) (t u : Bool) (more : List Bool) → IsEnd tx.result →
-    stands (spelling tx t u ++ more) ≡ Whole tx (length_of tx.result)
-spelling_stands tx t u more h =
-    ap stands (append_assoc (request tx.request) (t ∷ ending tx.request.read tx.result u) more)
-    ∙ asked tx.request (t ∷ (ending tx.request.read tx.result u ++ more))
+pub trace_stand_of_spelling : (tx : Tx) (t u : Bool) (more : List Bool) → IsTxEnd tx.result →
+    stands (tx_spelling_bits tx t u ++ more) ≡ Whole tx (trace_tx_len tx.result)
+trace_stand_of_spelling tx t u more h =
+    ap stands (append_assoc (bits_of_request tx.request) (t ∷ tx_ending_bits tx.request.read tx.result u) more)
+    ∙ trace_stand_after_request tx.request (t ∷ (tx_ending_bits tx.request.read tx.result u ++ more))
     ∙ stands_end tx.request tx.result t u more h
 
 -- bits that spell a transaction are found as it, whole and with their length, whatever follows
-pub spelled_stands : (tx : Tx) (bits more : List Bool) → Spells tx bits → stands (bits ++ more) ≡ Whole tx (length bits)
-spelled_stands tx bits more p =
-    ap (λ x. stands (x ++ more)) p.3 ∙ spelling_stands tx p.1 p.2 more p.0
-    ∙ ap (Whole tx) (sym (ap length p.3 ∙ length_spelling tx p.1 p.2))
+pub trace_stand_of_spelled_tx : (tx : Tx) (bits more : List Bool) → SpellsTx tx bits
+    → stands (bits ++ more) ≡ Whole tx (length bits)
+trace_stand_of_spelled_tx tx bits more p =
+    ap (λ x. stands (x ++ more)) p.3 ∙ trace_stand_of_spelling tx p.1 p.2 more p.0
+    ∙ ap (Whole tx) (sym (ap length p.3 ∙ trace_spelling_length tx p.1 p.2))
 
 -- ---- what stands is spelled
 
@@ -218,7 +224,7 @@ spelled_stands tx bits more p =
 record Found (q : Request) (t : Bool) (bits : List Bool) (tx : Tx) (n : ℕ) : Type 0 where
   pub more : ℕ
   pub long : n ≡ 9 + more
-  pub spelled : Spells tx (request q ++ t ∷ take more bits)
+  pub spelled : SpellsTx tx (bits_of_request q ++ t ∷ take more bits)
 
 one_more : (n : ℕ) (bits : List Bool) → suc n ≤ length bits → (u : Bool) × (take (suc n) bits ≡ take n bits ++ u ∷ [])
 one_more n bits h =
@@ -228,40 +234,47 @@ one_more n bits h =
     (r.0, r.1 ∙ ap (λ x. x ++ r.0 ∷ []) (take-take n (suc n) bits m))
 
 moved_found : (read : Bool) (bits : List Bool) → 34 ≤ length bits →
-    (length (phase_in read bits) ≡ 33) × ((u : Bool) × (take 34 bits ≡ moved read u (phase_in read bits)))
+    (length (stand_phase_in read bits) ≡ 33)
+    × ((u : Bool) × (take 34 bits ≡ moved_data_phase read u (stand_phase_in read bits)))
 moved_found true bits h = (length-take-le 33 bits (omega arith), one_more 33 bits h)
 moved_found false [] h = absurd (omega arith)
 moved_found false (u ∷ bits) h = let n : 33 ≤ length bits = omega arith in (length-take-le 33 bits n, (u, refl))
 
-word_lt : (phase : List Bool) → length phase ≡ 33 → number (take 32 phase) < 2 ^ 32
+word_lt : (phase : List Bool) → length phase ≡ 33 → bits_number (take 32 phase) < 2 ^ 32
 word_lt phase h =
     let l : length (take 32 phase) ≡ 32 = length-take-le 32 phase (omega arith) in
-    subst (λ n. number (take 32 phase) < 2 ^ n) l (number_lt (take 32 phase))
+    subst (λ n. bits_number (take 32 phase) < 2 ^ n) l (bits_number_lt (take 32 phase))
 
 found : (q : Request) (t : Bool) (bits : List Bool) (end : TxEnd) (tx : Tx) (m n k : ℕ) (u : Bool)
     → Whole (tx_of q end) m ≡ Whole tx n → m ≡ 9 + k →
-    IsEnd end → take k bits ≡ ending q.read end u → Found q t bits tx n
+    IsTxEnd end → take k bits ≡ tx_ending_bits q.read end u → Found q t bits tx n
 found q t bits end tx m n k u e h fits s =
     let same : tx_of q end ≡ tx = cc in
     let len : m ≡ n = cc in
-    let spelled : Spells (tx_of q end) (request q ++ t ∷ take k bits) = (fits, t, u, ap (λ x. request q ++ t ∷ x) s) in
-    record { more = k; long = omega arith; spelled = subst (λ x. Spells x (request q ++ t ∷ take k bits)) same spelled }
+    let spelled : SpellsTx (tx_of q end) (bits_of_request q ++ t ∷ take k bits) =
+    (fits, t, u, ap (λ x. bits_of_request q ++ t ∷ x) s) in
+    record {
+      more = k;
+      long = omega arith;
+      spelled = subst (λ x. SpellsTx x (bits_of_request q ++ t ∷ take k bits)) same spelled;
+    }
 
-ok_found : (q : Request) (t : Bool) (bits : List Bool) (tx : Tx) (n : ℕ) → after_ok q bits ≡ Whole tx n
+ok_found : (q : Request) (t : Bool) (bits : List Bool) (tx : Tx) (n : ℕ) → stand_after_ok q bits ≡ Whole tx n
     → Found q t (true ∷ false ∷ false ∷ bits) tx n
 ok_found q t bits tx n =
-    chosen (nat_le 34 (length bits)) _ _ (λ s. s ≡ Whole tx n → Found q t (true ∷ false ∷ false ∷ bits) tx n)
+    stand_by_test (nat_le 34 (length bits)) _ _ (λ s. s ≡ Whole tx n → Found q t (true ∷ false ∷ false ∷ bits) tx n)
     (λ test e.
     let h : 34 ≤ length bits = leb-true 34 (length bits) test in
     let parts = moved_found q.read bits h in
-    let phase = phase_in q.read bits in
-    let spelled : phase_with (number (take 32 phase)) (not (odd phase)) ≡ phase = phase_is phase parts.0 in
-    found q t (true ∷ false ∷ false ∷ bits) (moved_in phase) tx 46 n 37 parts.1.0 e refl (word_lt phase parts.0)
-    (ap (λ x. true ∷ false ∷ false ∷ x) (parts.1.1 ∙ ap (moved q.read parts.1.0) (sym spelled))))
+    let phase = stand_phase_in q.read bits in
+    let spelled : phase_with (bits_number (take 32 phase)) (not (odd phase)) ≡ phase =
+    trace_phase_of_its_word phase parts.0 in
+    found q t (true ∷ false ∷ false ∷ bits) (stand_moved_in phase) tx 46 n 37 parts.1.0 e refl (word_lt phase parts.0)
+    (ap (λ x. true ∷ false ∷ false ∷ x) (parts.1.1 ∙ ap (moved_data_phase q.read parts.1.0) (sym spelled))))
     (λ test e. absurd cc)
 
-ack_found : (q : Request) (t a b c : Bool) (bits : List Bool) (tx : Tx) (n : ℕ) → after_ack q a b c bits ≡ Whole tx n
-    → Found q t (a ∷ b ∷ c ∷ bits) tx n
+ack_found : (q : Request) (t a b c : Bool) (bits : List Bool) (tx : Tx) (n : ℕ)
+    → stand_after_ack q a b c bits ≡ Whole tx n → Found q t (a ∷ b ∷ c ∷ bits) tx n
 unfolding low_bits
 ack_found q t true false false bits tx n e = ok_found q t bits tx n e
 ack_found q t false true false [] tx n e = absurd cc
@@ -282,13 +295,13 @@ ack_found q t false false false bits tx n e = found q t (false ∷ false ∷ fal
     (inl refl) refl
 
 take_found : (q : Request) (t : Bool) (bits : List Bool) (tx : Tx) (n : ℕ) → Found q t bits tx n
-    → Spells tx (take n (request q ++ t ∷ bits))
+    → SpellsTx tx (take n (bits_of_request q ++ t ∷ bits))
 take_found q t bits tx n f =
-    let l : length (request q) ≡ 8 = length_request q in
-    let e : take n (request q ++ t ∷ bits) ≡ request q ++ t ∷ take f.more bits =
-    ap (λ k. take k (request q ++ t ∷ bits)) (f.long ∙ omega arith)
-    ∙ take_past (request q) (t ∷ bits) (suc f.more) 8 l in
-    subst (Spells tx) (sym e) f.spelled
+    let l : length (bits_of_request q) ≡ 8 = request_bits_length q in
+    let e : take n (bits_of_request q ++ t ∷ bits) ≡ bits_of_request q ++ t ∷ take f.more bits =
+    ap (λ k. take k (bits_of_request q ++ t ∷ bits)) (f.long ∙ omega arith)
+    ∙ take_past (bits_of_request q) (t ∷ bits) (suc f.more) 8 l in
+    subst (SpellsTx tx) (sym e) f.spelled
   where
     take_past : (front bits : List Bool) (k m : ℕ) → length front ≡ m
         → take (m + k) (front ++ bits) ≡ front ++ take k bits
@@ -300,8 +313,8 @@ take_found q t bits tx n f =
         ap (λ j. take j (b ∷ (front ++ bits))) e ∙ ap (λ x. b ∷ x) (take_past front bits k m l)
 
 parity_found : (q : Request) (bits : List Bool) (tx : Tx) (n : ℕ) (front : List Bool)
-    → request q ≡ front ++ false ∷ true ∷ [] → after_parity q bits ≡ Whole tx n →
-    Spells tx (take n (front ++ bits))
+    → bits_of_request q ≡ front ++ false ∷ true ∷ [] → stand_after_parity q bits ≡ Whole tx n →
+    SpellsTx tx (take n (front ++ bits))
 parity_found q [] tx n front h e = absurd cc
 parity_found q (true ∷ bits) tx n front h e = absurd cc
 parity_found q (false ∷ []) tx n front h e = absurd cc
@@ -311,22 +324,22 @@ parity_found q (false ∷ true ∷ t ∷ []) tx n front h e = absurd cc
 parity_found q (false ∷ true ∷ t ∷ a ∷ []) tx n front h e = absurd cc
 parity_found q (false ∷ true ∷ t ∷ a ∷ b ∷ []) tx n front h e = absurd cc
 parity_found q (false ∷ true ∷ t ∷ a ∷ b ∷ c ∷ bits) tx n front h e =
-    let join : request q ++ t ∷ a ∷ b ∷ c ∷ bits ≡ front ++ false ∷ true ∷ t ∷ a ∷ b ∷ c ∷ bits =
+    let join : bits_of_request q ++ t ∷ a ∷ b ∷ c ∷ bits ≡ front ++ false ∷ true ∷ t ∷ a ∷ b ∷ c ∷ bits =
     ap (λ x. x ++ t ∷ a ∷ b ∷ c ∷ bits) h ∙ append_assoc front (false ∷ true ∷ []) (t ∷ a ∷ b ∷ c ∷ bits) in
-    subst (λ x. Spells tx (take n x)) join (take_found q t (a ∷ b ∷ c ∷ bits) tx n (ack_found q t a b c bits tx n e))
+    subst (λ x. SpellsTx tx (take n x)) join (take_found q t (a ∷ b ∷ c ∷ bits) tx n (ack_found q t a b c bits tx n e))
 
 -- where a whole transaction of n bits is found at the front, the first n bits spell it
-pub stands_spelled : (bits : List Bool) (tx : Tx) (n : ℕ) → stands bits ≡ Whole tx n → Spells tx (take n bits)
-stands_spelled [] tx n e = absurd cc
-stands_spelled (false ∷ bits) tx n e = absurd cc
-stands_spelled (true ∷ []) tx n e = absurd cc
-stands_spelled (true ∷ port ∷ []) tx n e = absurd cc
-stands_spelled (true ∷ port ∷ read ∷ []) tx n e = absurd cc
-stands_spelled (true ∷ port ∷ read ∷ a ∷ []) tx n e = absurd cc
-stands_spelled (true ∷ port ∷ read ∷ a ∷ b ∷ []) tx n e = absurd cc
-stands_spelled (true ∷ port ∷ read ∷ a ∷ b ∷ parity ∷ bits) tx n e =
-    chosen (odd (port ∷ read ∷ a ∷ b ∷ parity ∷ [])) _ _
-    (λ s. s ≡ Whole tx n → Spells tx (take n (true ∷ port ∷ read ∷ a ∷ b ∷ parity ∷ bits)))
+pub trace_stand_is_spelled : (bits : List Bool) (tx : Tx) (n : ℕ) → stands bits ≡ Whole tx n → SpellsTx tx (take n bits)
+trace_stand_is_spelled [] tx n e = absurd cc
+trace_stand_is_spelled (false ∷ bits) tx n e = absurd cc
+trace_stand_is_spelled (true ∷ []) tx n e = absurd cc
+trace_stand_is_spelled (true ∷ port ∷ []) tx n e = absurd cc
+trace_stand_is_spelled (true ∷ port ∷ read ∷ []) tx n e = absurd cc
+trace_stand_is_spelled (true ∷ port ∷ read ∷ a ∷ []) tx n e = absurd cc
+trace_stand_is_spelled (true ∷ port ∷ read ∷ a ∷ b ∷ []) tx n e = absurd cc
+trace_stand_is_spelled (true ∷ port ∷ read ∷ a ∷ b ∷ parity ∷ bits) tx n e =
+    stand_by_test (odd (port ∷ read ∷ a ∷ b ∷ parity ∷ [])) _ _
+    (λ s. s ≡ Whole tx n → SpellsTx tx (take n (true ∷ port ∷ read ∷ a ∷ b ∷ parity ∷ bits)))
     (λ t e. absurd cc)
-    (λ t e. parity_found (record { ap = port; read = read; addr = reg4_at a b }) bits tx n
-    (true ∷ port ∷ read ∷ a ∷ b ∷ parity ∷ []) (request_is port read a b parity t) e) e
+    (λ t e. parity_found (record { ap = port; read = read; addr = stand_reg4_at a b }) bits tx n
+    (true ∷ port ∷ read ∷ a ∷ b ∷ parity ∷ []) (trace_request_spelled port read a b parity t) e) e

@@ -1,7 +1,7 @@
 -- Laws of the numbers and bits that stand in a listing line.
-use Rattle.std.proofs.Common.{◌≡◌, ◌≢◌, ℕ, suc, ◌+◌, ◌-◌, ◌*◌, ◌/◌, ◌%◌, ◌^◌, ◌<◌, ◌≤◌, Bool, true}
-use Rattle.std.proofs.Common.{false, List, []}
-use Rattle.std.proofs.Common.{◌∷◌, length, map, drop, get_or, refl, ap, ◌∙◌, subst, arith, Result, Ok, Err}
+use Rattle.std.proofs.Common.{◌≡◌, ◌≢◌, ℕ, suc, ◌+◌, ◌-◌, ◌*◌, ◌/◌, ◌%◌, ◌^◌, ◌<◌, ◌≤◌, Bool, true, false, List, []}
+use Rattle.std.proofs.Common.{◌∷◌, length, map, drop, get_or, refl, ap, ◌∙◌, subst, arith, Result, Ok, Err, drop-cons}
+use Rattle.std.proofs.Common.{length-drop, lit<}
 use Rattle.std.specs.Prelude.{◌==◌}
 use Rattle.std.specs.Char.{digit_value}
 use Rattle.std.specs.Str.{IsAscii}
@@ -11,22 +11,21 @@ use Rattle.std.proofs.lemmas.Str.Parse.{without_leading_plus_none}
 use Rattle.std.proofs.lemmas.Str.{digit_value-digit_char}
 use Rattle.std.proofs.lemmas.Str.Ascii.{IsAscii-nil, IsAscii-cons}
 use Rattle.std.proofs.lemmas.Bool.Decides.{nat_tests}
-use Rattle.std.proofs.Common.{drop-cons, length-drop, lit<}
 use Rattle.std.proofs.Math.ListN.{length-map}
 use Rattle.std.proofs.Math.Nat.{pow-le-pow_right}
 use mir.Val.{bool_byte}
-use Rattle.swd_bits.specs.Bits.{low_bits, number, bit}
-use Rattle.swd_bits.proofs.BitsLemmas.{number-low_bits, length-low_bits, number_lt}
-use Rattle.swd_trace.specs.Texts.{digit}
-use Rattle.swd_bits.specs.Listing.{hex_digit, hex2, hex8}
+use Rattle.swd_bits.specs.Bits.{low_bits, bits_number, bit}
+use Rattle.swd_bits.proofs.BitsLemmas.{number-low_bits, length-low_bits, bits_number_lt}
+use Rattle.swd_trace.specs.Texts.{trace_digit}
+use Rattle.swd_bits.specs.Listing.{tx_hex_digit, hex2, hex8}
 
-value_of : (d : ℕ) → d < 16 → digit_value (hex_digit d) ≡ d
+value_of : (d : ℕ) → d < 16 → digit_value (tx_hex_digit d) ≡ d
 value_of d h = digit_value-digit_char d (omega arith)
 
-glyph_lt : (d : ℕ) → d < 16 → hex_digit d < 128
+glyph_lt : (d : ℕ) → d < 16 → tx_hex_digit d < 128
 glyph_lt d h = grind (arith, nat_tests)
 
-not_plus : (d : ℕ) → d < 16 → hex_digit d ≢ 43
+not_plus : (d : ℕ) → d < 16 → tx_hex_digit d ≢ 43
 not_plus d h = grind (arith, nat_tests)
 
 eight_ascii : (a b c d e f g h : ℕ) → a < 128 → b < 128 → c < 128 → d < 128 → e < 128 → f < 128 → g < 128 → h < 128 →
@@ -41,10 +40,10 @@ eight_ascii a b c d e f g h i j k l m n o p =
 pub IsAscii-hex8 : (word : ℕ) → word < 2 ^ 32 → IsAscii (hex8 word)
 unfolding hex8 hex2
 IsAscii-hex8 word h =
-    eight_ascii (hex_digit (word / 2 ^ 24 / 16)) (hex_digit (word / 2 ^ 24 % 16)) (hex_digit (word / 2 ^ 16 % 256 / 16))
-    (hex_digit (word / 2 ^ 16 % 256 % 16))
-    (hex_digit (word / 2 ^ 8 % 256 / 16)) (hex_digit (word / 2 ^ 8 % 256 % 16)) (hex_digit (word % 256 / 16))
-    (hex_digit (word % 256 % 16))
+    eight_ascii (tx_hex_digit (word / 2 ^ 24 / 16)) (tx_hex_digit (word / 2 ^ 24 % 16))
+    (tx_hex_digit (word / 2 ^ 16 % 256 / 16)) (tx_hex_digit (word / 2 ^ 16 % 256 % 16))
+    (tx_hex_digit (word / 2 ^ 8 % 256 / 16)) (tx_hex_digit (word / 2 ^ 8 % 256 % 16)) (tx_hex_digit (word % 256 / 16))
+    (tx_hex_digit (word % 256 % 16))
     (glyph_lt (word / 2 ^ 24 / 16) (omega arith)) (glyph_lt (word / 2 ^ 24 % 16) (omega arith))
     (glyph_lt (word / 2 ^ 16 % 256 / 16) (omega arith)) (glyph_lt (word / 2 ^ 16 % 256 % 16) (omega arith))
     (glyph_lt (word / 2 ^ 8 % 256 / 16) (omega arith)) (glyph_lt (word / 2 ^ 8 % 256 % 16) (omega arith))
@@ -52,16 +51,16 @@ IsAscii-hex8 word h =
 
 -- the number of eight digits with these values
 eight : (a b c d e f g h : ℕ) → a < 16 → b < 16 → c < 16 → d < 16 → e < 16 → f < 16 → g < 16 → h < 16 →
-    digits_value 16 (hex_digit a ∷ hex_digit b ∷ hex_digit c ∷ hex_digit d ∷ hex_digit e ∷ hex_digit f ∷ hex_digit g ∷
-    hex_digit h ∷ [])
+    digits_value 16 (tx_hex_digit a ∷ tx_hex_digit b ∷ tx_hex_digit c ∷ tx_hex_digit d ∷ tx_hex_digit e ∷ tx_hex_digit f
+    ∷ tx_hex_digit g ∷ tx_hex_digit h ∷ [])
     ≡ ((a * 16 + b) * 65536 + (c * 16 + d) * 256 + (e * 16 + f)) * 256 + (g * 16 + h)
 eight a b c d e f g h i j k l m n o p =
     rw (value_of a i, value_of b j, value_of c k, value_of d l, value_of e m, value_of f n, value_of g o, value_of h p)
     (omega arith)
 
 all_eight : (a b c d e f g h : ℕ) → a < 16 → b < 16 → c < 16 → d < 16 → e < 16 → f < 16 → g < 16 → h < 16 →
-    AllDigits 16 (hex_digit a ∷ hex_digit b ∷ hex_digit c ∷ hex_digit d ∷ hex_digit e ∷ hex_digit f ∷ hex_digit g ∷
-    hex_digit h ∷ [])
+    AllDigits 16 (tx_hex_digit a ∷ tx_hex_digit b ∷ tx_hex_digit c ∷ tx_hex_digit d ∷ tx_hex_digit e ∷ tx_hex_digit f
+    ∷ tx_hex_digit g ∷ tx_hex_digit h ∷ [])
 all_eight a b c d e f g h i j k l m n o p = (
   rw (value_of a i) i,
   (
@@ -113,23 +112,24 @@ parse-hex8 word bs r h e p =
     read_as (hex8 word) word r h (IsNumeral-hex8 word h) (digits_value-hex8 word h) q
 
 -- the number that is written by these characters, the first the lowest
-abbrev pub written : List ℕ → ℕ
-written digits = number (map (λ b. b == 49) digits)
+abbrev pub listing_bits_number : List ℕ → ℕ
+listing_bits_number digits = bits_number (map (λ b. b == 49) digits)
 
 -- the number that n characters write is below 2 ^ n
-pub written_lt : (digits : List ℕ) → written digits < 2 ^ length digits
-written_lt digits = subst (λ n. written digits < 2 ^ n) (length-map digits (λ b. b == 49))
-    (number_lt (map (λ b. b == 49) digits))
+pub listing_bits_number_lt : (digits : List ℕ) → listing_bits_number digits < 2 ^ length digits
+listing_bits_number_lt digits = subst (λ n. listing_bits_number digits < 2 ^ n) (length-map digits (λ b. b == 49))
+    (bits_number_lt (map (λ b. b == 49) digits))
 
-pub byte_of_bit : (b : Bool) → bool_byte b ≡ bit b
-byte_of_bit true = refl
-byte_of_bit false = refl
+pub listing_bit_byte : (b : Bool) → bool_byte b ≡ bit b
+listing_bit_byte true = refl
+listing_bit_byte false = refl
 
 -- the number of the last i + 1 characters is twice that of the last i, plus the bit of the character before these
-pub written_more : (digits : List ℕ) (i : ℕ) → i < length digits →
-    written (drop (length digits - (i + 1)) digits) ≡ written (drop (length digits - i) digits) * 2 + bool_byte
-    (get_or digits (length digits - 1 - i) 0 == 49)
-written_more digits i h =
+pub listing_bits_number_more : (digits : List ℕ) (i : ℕ) → i < length digits →
+    listing_bits_number (drop (length digits - (i + 1)) digits)
+    ≡ listing_bits_number (drop (length digits - i) digits) * 2
+    + bool_byte (get_or digits (length digits - 1 - i) 0 == 49)
+listing_bits_number_more digits i h =
     let a : length digits - (i + 1) ≡ length digits - 1 - i = omega arith in
     let b : suc (length digits - 1 - i) ≡ length digits - i = omega arith in
     let within : length digits - 1 - i < length digits = omega arith in
@@ -137,27 +137,29 @@ written_more digits i h =
     digits =
     ap (λ n. drop n digits) a ∙ drop-cons digits (length digits - 1 - i) 0 within
     ∙ ap (λ n. get_or digits (length digits - 1 - i) 0 ∷ drop n digits) b in
-    let e : written (drop (length digits - (i + 1)) digits) ≡ bit (get_or digits (length digits - 1 - i) 0 == 49) + 2 *
-    written (drop (length digits - i) digits) = ap written d in
-    rw (byte_of_bit (get_or digits (length digits - 1 - i) 0 == 49)) (omega (arith, e))
+    let e : listing_bits_number (drop (length digits - (i + 1)) digits)
+    ≡ bit (get_or digits (length digits - 1 - i) 0 == 49) + 2 *
+    listing_bits_number (drop (length digits - i) digits) = ap listing_bits_number d in
+    rw (listing_bit_byte (get_or digits (length digits - 1 - i) 0 == 49)) (omega (arith, e))
 
 -- the number of the last i of at most 49 characters is below 2 ^ 49
-pub written_room : (digits : List ℕ) (i : ℕ) → i < length digits → length digits ≤ 49
-    → written (drop (length digits - i) digits) < 2 ^ 49
-written_room digits i h k =
+pub listing_bits_number_room : (digits : List ℕ) (i : ℕ) → i < length digits → length digits ≤ 49
+    → listing_bits_number (drop (length digits - i) digits) < 2 ^ 49
+listing_bits_number_room digits i h k =
     let n : length (drop (length digits - i) digits) ≤ 49 = omega (arith, length-drop (length digits - i) digits) in
     let m : 2 ^ length (drop (length digits - i) digits) ≤ 2 ^ 49 = pow-le-pow_right (lit< tt) n in
-    omega (arith, written_lt (drop (length digits - i) digits))
+    omega (arith, listing_bits_number_lt (drop (length digits - i) digits))
 
-read_back : (bits : List Bool) → map (λ b. b == 49) (map digit bits) ≡ bits
+read_back : (bits : List Bool) → map (λ b. b == 49) (map trace_digit bits) ≡ bits
 read_back [] = refl
 read_back (true ∷ bits) = ap (λ x. true ∷ x) (read_back bits)
 read_back (false ∷ bits) = ap (λ x. false ∷ x) (read_back bits)
 
-pub written-digits : (len bits : ℕ) (digits : List ℕ) → bits < 2 ^ len → digits ≡ map digit (low_bits len bits)
-    → written digits ≡ bits
-written-digits len bits digits h e = ap written e ∙ ap number (read_back (low_bits len bits))
+pub written-digits : (len bits : ℕ) (digits : List ℕ) → bits < 2 ^ len → digits ≡ map trace_digit (low_bits len bits)
+    → listing_bits_number digits ≡ bits
+written-digits len bits digits h e = ap listing_bits_number e ∙ ap bits_number (read_back (low_bits len bits))
     ∙ number-low_bits len bits h
 
-pub length-digits : (len bits : ℕ) (digits : List ℕ) → digits ≡ map digit (low_bits len bits) → length digits ≡ len
-length-digits len bits digits e = ap length e ∙ length-map (low_bits len bits) digit ∙ length-low_bits len bits
+pub length-digits : (len bits : ℕ) (digits : List ℕ) → digits ≡ map trace_digit (low_bits len bits)
+    → length digits ≡ len
+length-digits len bits digits e = ap length e ∙ length-map (low_bits len bits) trace_digit ∙ length-low_bits len bits

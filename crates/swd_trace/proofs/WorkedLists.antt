@@ -5,26 +5,26 @@ use Rattle.swd_bits.specs.Bits.{low_bits}
 use Rattle.swd_bits.specs.declared.request.Reg4.TheVariants.{R0}
 use Rattle.swd_bits.specs.declared.tx.TxEnd.TheVariants.{NoAck}
 use Rattle.swd_trace.specs.declared.item.Item.TheVariants.{Idle, Tx, Junk, Cut}
-use Rattle.swd_trace.specs.Listed.{lines, IsNormal}
+use Rattle.swd_trace.specs.Listed.{listing_lines, IsNormalListing}
 use Rattle.swd_trace.specs.Reading.{reading_of, items_after}
 use Rattle.swd_trace.specs.Texts.{bits_of_items}
 
-no_line : lines [] ≡ []
+no_line : listing_lines [] ≡ []
 no_line = refl
 
-one_empty_line : lines (10 ∷ []) ≡ [] ∷ []
+one_empty_line : listing_lines (10 ∷ []) ≡ [] ∷ []
 one_empty_line = refl
 
-ended : lines (codes "idle 2" ++ 10 ∷ codes "cut 1" ++ 10 ∷ []) ≡ codes "idle 2" ∷ codes "cut 1" ∷ []
+ended : listing_lines (codes "idle 2" ++ 10 ∷ codes "cut 1" ++ 10 ∷ []) ≡ codes "idle 2" ∷ codes "cut 1" ∷ []
 ended = refl
 
-unended : lines (codes "idle 2" ++ 10 ∷ codes "cut 1") ≡ codes "idle 2" ∷ codes "cut 1" ∷ []
+unended : listing_lines (codes "idle 2" ++ 10 ∷ codes "cut 1") ≡ codes "idle 2" ∷ codes "cut 1" ∷ []
 unended = refl
 
-empty_line : lines (codes "idle 1" ++ 10 ∷ 10 ∷ []) ≡ codes "idle 1" ∷ [] ∷ []
+empty_line : listing_lines (codes "idle 1" ++ 10 ∷ 10 ∷ []) ≡ codes "idle 1" ∷ [] ∷ []
 empty_line = refl
 
-normal : IsNormal (Idle 2 ∷ Cut (record { len = 1; bits = 1 }) ∷ [])
+normal : IsNormalListing (Idle 2 ∷ Cut (record { len = 1; bits = 1 }) ∷ [])
 unfolding items_after low_bits
 normal = refl
 

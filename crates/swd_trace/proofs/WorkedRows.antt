@@ -4,7 +4,7 @@ use Rattle.swd_bits.specs.Bits.{low_bits}
 use Rattle.swd_bits.specs.declared.request.Reg4.TheVariants.{R0}
 use Rattle.swd_bits.specs.declared.tx.TxEnd.TheVariants.{Moved, NoAck}
 use Rattle.swd_trace.specs.declared.item.Item.TheVariants.{Reset, Switch, Idle, Tx, Junk, Cut}
-use Rattle.swd_trace.specs.Reading.{switch, reading_of, items_after}
+use Rattle.swd_trace.specs.Reading.{switch_item, reading_of, items_after}
 
 fifty : reading_of (replicate 50 true ++ false ∷ []) ≡ Reset 50 ∷ Idle 1 ∷ []
 unfolding items_after
@@ -14,8 +14,8 @@ forty_nine : reading_of (replicate 49 true ++ false ∷ []) ≡ replicate 49 (Ju
 unfolding items_after
 forty_nine = refl
 
-switched : reading_of (replicate 56 true ++ switch ++ replicate 56 true ++ false ∷ false ∷ []) ≡ Reset 56 ∷ Switch ∷
-    Reset 56 ∷ Idle 2 ∷ []
+switched : reading_of (replicate 56 true ++ switch_item ++ replicate 56 true ++ false ∷ false ∷ []) ≡ Reset 56
+    ∷ Switch ∷ Reset 56 ∷ Idle 2 ∷ []
 unfolding items_after
 switched = refl
 

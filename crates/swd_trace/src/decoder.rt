@@ -1,6 +1,6 @@
 //! Decodes a trace bit by bit.
 ghost use Rattle.std.specs.Prelude.{◌≡◌, ◌+◌, ◌^◌, ◌<◌, ◌≤◌, List, Bool};
-ghost use Rattle.swd_trace.specs.Holding.{Holds};
+ghost use Rattle.swd_trace.specs.Holding.{DecoderHolds};
 
 mod fields;
 
@@ -43,34 +43,35 @@ pub struct Decoder {
     // with fewer than `next` of these bits nothing is decided
     next: u8,
     fed: u64,
-    ghost holds: { Holds mode one run len bits next fed },
+    ghost holds: { DecoderHolds mode one run len bits next fed },
 }
 
 impl Decoder {
     ghost use Rattle.std.specs.Prelude.{ℕ, ◌==◌, ◌/◌, ◌%◌, true, false, ◌++◌, [], ◌∷◌, ◌-◌, IfSome, IfNone, replicate};
     ghost use Rattle.std.specs.Prelude.{map};
     ghost use Rattle.swd_bits.specs.Bits.{low_bits};
-    ghost use Rattle.swd_trace.specs.Reading.{reading, reading_of, all_ones};
-    ghost use Rattle.swd_trace.specs.Decided.{IsUndecided, IsDecided};
+    ghost use Rattle.swd_trace.specs.Reading.{reading, reading_of, trace_all_ones};
+    ghost use Rattle.swd_trace.specs.Decided.{DecidesNoItem, IsDecided};
     ghost use Rattle.arrayvec.specs.ArrayVec.{array_vec_len};
     ghost use Rattle.swd_bits.specs.declared.tx.Tx.{Tx};
-    ghost use Rattle.swd_bits.specs.BitLists.{bits_of};
-    ghost use Rattle.swd_bits.specs.Transactions.{Spells};
+    ghost use Rattle.swd_bits.specs.BitLists.{tx_bits_of};
+    ghost use Rattle.swd_bits.specs.Transactions.{SpellsTx};
     ghost use Rattle.swd_trace.specs.Stands.{Whole, stands};
-    ghost use Rattle.swd_trace.specs.Spelled.{AreSpelled};
+    ghost use Rattle.swd_trace.specs.Spelled.{AreTraceTransactions};
     ghost use Rattle.swd_trace.specs.Texts.{bits_of_items};
     ghost use Rattle.swd_trace.specs.declared.mode.Mode;
     ghost use Rattle.swd_trace.specs.declared.item.Item;
-    ghost use Rattle.swd_trace.specs.Held.{rest, HasRead, held, fed_of, held_len, places, IsSettled, IsOpen, IsOpenAt};
-    ghost use Rattle.swd_trace.specs.Held.{Gives, GivesTx, Waits, Decides, Closes, ClosesWith, TakesMany, TakesTx};
-    ghost use Rattle.swd_trace.specs.Held.{GivesJunk, idle_items};
+    ghost use Rattle.swd_trace.specs.Held.{decoder_rest, DecoderHasRead, decoder_held, decoder_fed, decoder_held_len};
+    ghost use Rattle.swd_trace.specs.Held.{decoder_places, IsDecoderSettled, IsDecoderOpen, IsTraceOpenAt, GivesItem};
+    ghost use Rattle.swd_trace.specs.Held.{GivesTxItem, DecoderWaits, DecidesItem, DecoderCloses, ClosesWithItem};
+    ghost use Rattle.swd_trace.specs.Held.{DecoderTakesMany, DecoderTakesTx, GivesJunkItems, idle_items};
 
     /// Returns a decoder that was fed no bits.
     pub fn new() -> Decoder
-        ensures law { (more : List Bool) → rest result more ≡ reading_of more }
-        ensures read { HasRead result [] [] }
-        ensures fed { fed_of result ≡ 0 }
-        ensures settled { IsSettled result }
+        ensures law { (more : List Bool) → decoder_rest result more ≡ reading_of more }
+        ensures read { DecoderHasRead result [] [] }
+        ensures fed { decoder_fed result ≡ 0 }
+        ensures settled { IsDecoderSettled result }
     {
         Decoder {
             mode: Mode::Synced,
@@ -85,7 +86,7 @@ impl Decoder {
 
     /// Returns how many bits it was fed.
     pub fn fed(&self) -> u64
-        ensures { result ≡ fed_of self.now }
+        ensures { result ≡ decoder_fed self.now }
     {
         self.fed
     }
@@ -93,16 +94,17 @@ impl Decoder {
     /// Takes a bit, and returns the items that it decides, at most 64. Together with the items returned
     /// before, they are exactly the items that no later bits can change.
     pub fn feed(&mut self, bit: bool) -> ArrayVec<Item, 64>
-        requires { fed_of self.old < 2 ^ 64 - 1 }
-        ensures law { (more : List Bool) → result.items ++ rest self.new more ≡ rest self.old (bit ∷ more) }
-        ensures undecided { IsUndecided (rest self.new) }
-        ensures read { (bits : List Bool) (items : List Item) → HasRead self.old bits items
-            → HasRead self.new (bits ++ bit ∷ []) (items ++ result.items) }
-        ensures decided { (bits : List Bool) (items : List Item) → HasRead self.old bits items
+        requires { decoder_fed self.old < 2 ^ 64 - 1 }
+        ensures law { (more : List Bool) → result.items ++ decoder_rest self.new more
+            ≡ decoder_rest self.old (bit ∷ more) }
+        ensures undecided { DecidesNoItem (decoder_rest self.new) }
+        ensures read { (bits : List Bool) (items : List Item) → DecoderHasRead self.old bits items
+            → DecoderHasRead self.new (bits ++ bit ∷ []) (items ++ result.items) }
+        ensures decided { (bits : List Bool) (items : List Item) → DecoderHasRead self.old bits items
             → IsDecided (bits ++ bit ∷ []) (items ++ result.items) }
-        ensures settled { IsSettled self.new }
-        ensures held { held_len self.new < 50 }
-        ensures fed { fed_of self.new ≡ fed_of self.old + 1 }
+        ensures settled { IsDecoderSettled self.new }
+        ensures held { decoder_held_len self.new < 50 }
+        ensures fed { decoder_fed self.new ≡ decoder_fed self.old + 1 }
     {
         let mut items = ArrayVec::new();
         self.drain(&mut items);
@@ -114,15 +116,15 @@ impl Decoder {
     /// Ends the trace, and returns the remaining items, at most 64. Together with the items returned before,
     /// they are the reading of all the bits.
     pub fn finish(self) -> ArrayVec<Item, 64>
-        ensures law { result.items ≡ rest self [] }
-        ensures read { (bits : List Bool) (items : List Item) → HasRead self bits items
+        ensures law { result.items ≡ decoder_rest self [] }
+        ensures read { (bits : List Bool) (items : List Item) → DecoderHasRead self bits items
             → items ++ result.items ≡ reading_of bits }
         // The bits of all the items decode to the same items.
-        ensures again { (bits : List Bool) (items : List Item) → HasRead self bits items
+        ensures again { (bits : List Bool) (items : List Item) → DecoderHasRead self bits items
             → reading_of (bits_of_items (items ++ result.items)) ≡ items ++ result.items }
         // A trace that consists of acknowledged transactions decodes to exactly these.
-        ensures transactions { (txs : List Tx) (bits : List Bool) (items : List Item) → AreSpelled txs bits
-            → HasRead self bits items → items ++ result.items ≡ map Item.Tx txs }
+        ensures transactions { (txs : List Tx) (bits : List Bool) (items : List Item) → AreTraceTransactions txs bits
+            → DecoderHasRead self bits items → items ++ result.items ≡ map Item.Tx txs }
     {
         let mut decoder = self;
         let mut items = ArrayVec::new();
@@ -134,13 +136,14 @@ impl Decoder {
 
     // Appends every item that is due.
     fn drain(&mut self, items: &mut ArrayVec<Item, 64>)
-        requires { array_vec_len items.old + places self.old < 64 }
+        requires { array_vec_len items.old + decoder_places self.old < 64 }
         ensures law { (more : List Bool)
-            → items.new.items ++ rest self.new more ≡ items.old.items ++ rest self.old more }
-        ensures undecided { IsUndecided (rest self.new) }
-        ensures settled { IsSettled self.new }
-        ensures room { array_vec_len items.new + places self.new ≤ array_vec_len items.old + places self.old }
-        ensures fed { fed_of self.new ≡ fed_of self.old }
+            → items.new.items ++ decoder_rest self.new more ≡ items.old.items ++ decoder_rest self.old more }
+        ensures undecided { DecidesNoItem (decoder_rest self.new) }
+        ensures settled { IsDecoderSettled self.new }
+        ensures room { array_vec_len items.new + decoder_places self.new ≤ array_vec_len items.old
+            + decoder_places self.old }
+        ensures fed { decoder_fed self.new ≡ decoder_fed self.old }
     {
         while let Some(item) = self.due() {
             items.push(item);
@@ -150,13 +153,13 @@ impl Decoder {
     /// Takes a bit. Take every item that is due first: call `due` until it returns `None`.
     #[inline]
     pub fn take(&mut self, bit: bool)
-        requires settled { IsSettled self.old }
-        requires count { fed_of self.old < 2 ^ 64 - 1 }
-        ensures law { (more : List Bool) → rest self.new more ≡ rest self.old (bit ∷ more) }
-        ensures read { (bits : List Bool) (items : List Item) → HasRead self.old bits items
-            → HasRead self.new (bits ++ bit ∷ []) items }
-        ensures places { places self.new ≤ places self.old + 1 }
-        ensures fed { fed_of self.new ≡ fed_of self.old + 1 }
+        requires settled { IsDecoderSettled self.old }
+        requires count { decoder_fed self.old < 2 ^ 64 - 1 }
+        ensures law { (more : List Bool) → decoder_rest self.new more ≡ decoder_rest self.old (bit ∷ more) }
+        ensures read { (bits : List Bool) (items : List Item) → DecoderHasRead self.old bits items
+            → DecoderHasRead self.new (bits ++ bit ∷ []) items }
+        ensures places { decoder_places self.new ≤ decoder_places self.old + 1 }
+        ensures fed { decoder_fed self.new ≡ decoder_fed self.old + 1 }
     {
         self.fed += 1;
         if self.run > 0 && self.one == bit {
@@ -175,18 +178,19 @@ impl Decoder {
     /// transaction. Take every item that is due first.
     #[inline(always)]
     pub fn take_bits(&mut self, bits: u64, count: u8) -> u8
-        requires settled { IsSettled self.old }
+        requires settled { IsDecoderSettled self.old }
         requires some { 0 < count }
         requires within { count ≤ 64 }
-        requires room { fed_of self.old + count < 2 ^ 64 }
-        ensures law { (more : List Bool) → rest self.new more ≡ rest self.old (low_bits result bits ++ more) }
-        ensures read { (before : List Bool) (items : List Item) → HasRead self.old before items
-            → HasRead self.new (before ++ low_bits result bits) items }
+        requires room { decoder_fed self.old + count < 2 ^ 64 }
+        ensures law { (more : List Bool) → decoder_rest self.new more
+            ≡ decoder_rest self.old (low_bits result bits ++ more) }
+        ensures read { (before : List Bool) (items : List Item) → DecoderHasRead self.old before items
+            → DecoderHasRead self.new (before ++ low_bits result bits) items }
         ensures some { 0 < result }
         ensures most { result ≤ count }
-        ensures many { TakesMany self.old bits count result }
-        ensures places { places self.new ≤ places self.old + result }
-        ensures fed { fed_of self.new ≡ fed_of self.old + result }
+        ensures many { DecoderTakesMany self.old bits count result }
+        ensures places { decoder_places self.new ≤ decoder_places self.old + result }
+        ensures fed { decoder_fed self.new ≡ decoder_fed self.old + result }
     {
         if self.run > 0 {
             return self.continue_run(bits, count);
@@ -202,17 +206,18 @@ impl Decoder {
 
     // Takes the bits that continue the held run, or the one bit that ends it.
     fn continue_run(&mut self, bits: u64, count: u8) -> u8
-        requires settled { IsSettled self.old }
+        requires settled { IsDecoderSettled self.old }
         requires run { 0 < self.old.run }
         requires some { 0 < count }
         requires within { count ≤ 64 }
-        requires room { fed_of self.old + count < 2 ^ 64 }
-        ensures law { (more : List Bool) → rest self.new more ≡ rest self.old (low_bits result bits ++ more) }
+        requires room { decoder_fed self.old + count < 2 ^ 64 }
+        ensures law { (more : List Bool) → decoder_rest self.new more
+            ≡ decoder_rest self.old (low_bits result bits ++ more) }
         ensures some { 0 < result }
         ensures most { result ≤ count }
         ensures many { (n : ℕ) → n ≤ count → low_bits n bits ≡ replicate n self.old.one → n ≤ result }
-        ensures places { places self.new ≤ places self.old + result }
-        ensures fed { fed_of self.new ≡ fed_of self.old + result }
+        ensures places { decoder_places self.new ≤ decoder_places self.old + result }
+        ensures fed { decoder_fed self.new ≡ decoder_fed self.old + result }
     {
         let others = if self.one { !bits } else { bits };
         let same = others.trailing_zeros().min(u32::from(count)) as u8;
@@ -230,10 +235,11 @@ impl Decoder {
         requires some { 0 < count }
         requires short { self.old.len + count ≤ 50 }
         requires whole { bits < 2 ^ count }
-        requires room { fed_of self.old + count < 2 ^ 64 }
-        ensures law { (more : List Bool) → rest self.new more ≡ rest self.old (low_bits count bits ++ more) }
-        ensures places { places self.new ≡ places self.old + count }
-        ensures fed { fed_of self.new ≡ fed_of self.old + count }
+        requires room { decoder_fed self.old + count < 2 ^ 64 }
+        ensures law { (more : List Bool) → decoder_rest self.new more
+            ≡ decoder_rest self.old (low_bits count bits ++ more) }
+        ensures places { decoder_places self.new ≡ decoder_places self.old + count }
+        ensures fed { decoder_fed self.new ≡ decoder_fed self.old + count }
     {
         self.bits = bits << self.len | self.bits;
         self.len += count;
@@ -244,17 +250,18 @@ impl Decoder {
     /// Takes one or more of `count` bits that all equal `bit`, and returns how many. It takes all of them if
     /// every held bit equals `bit` and at least one is held. Take every item that is due first.
     pub fn take_run(&mut self, bit: bool, count: u64) -> u64
-        requires settled { IsSettled self.old }
+        requires settled { IsDecoderSettled self.old }
         requires some { 0 < count }
-        requires room { fed_of self.old + count < 2 ^ 64 }
-        ensures law { (more : List Bool) → rest self.new more ≡ rest self.old (replicate result bit ++ more) }
-        ensures read { (bits : List Bool) (items : List Item) → HasRead self.old bits items
-            → HasRead self.new (bits ++ replicate result bit) items }
+        requires room { decoder_fed self.old + count < 2 ^ 64 }
+        ensures law { (more : List Bool) → decoder_rest self.new more
+            ≡ decoder_rest self.old (replicate result bit ++ more) }
+        ensures read { (bits : List Bool) (items : List Item) → DecoderHasRead self.old bits items
+            → DecoderHasRead self.new (bits ++ replicate result bit) items }
         ensures some { 0 < result }
         ensures most { result ≤ count }
-        ensures all { (n : ℕ) → 0 < n → held self.old ≡ replicate n bit → result ≡ count }
-        ensures places { places self.new ≤ places self.old + result }
-        ensures fed { fed_of self.new ≡ fed_of self.old + result }
+        ensures all { (n : ℕ) → 0 < n → decoder_held self.old ≡ replicate n bit → result ≡ count }
+        ensures places { decoder_places self.new ≤ decoder_places self.old + result }
+        ensures fed { decoder_fed self.new ≡ decoder_fed self.old + result }
     {
         if self.holds_run_of(bit) {
             self.extend_run(bit, count);
@@ -267,9 +274,9 @@ impl Decoder {
 
     // Returns whether the held bits are a run of `bit` alone.
     fn holds_run_of(&self, bit: bool) -> bool
-        requires { IsSettled self.now }
-        ensures run { result ≡ true → (n : ℕ) × (0 < n) × (held self.now ≡ replicate n bit) }
-        ensures none { result ≡ false → (n : ℕ) → 0 < n → held self.now ≡ replicate n bit → ⊥ }
+        requires { IsDecoderSettled self.now }
+        ensures run { result ≡ true → (n : ℕ) × (0 < n) × (decoder_held self.now ≡ replicate n bit) }
+        ensures none { result ≡ false → (n : ℕ) → 0 < n → decoder_held self.now ≡ replicate n bit → ⊥ }
     {
         if self.run > 0 {
             return self.one == bit;
@@ -286,13 +293,14 @@ impl Decoder {
 
     // Takes `count` more bits of the held run.
     fn extend_run(&mut self, bit: bool, count: u64)
-        requires settled { IsSettled self.old }
+        requires settled { IsDecoderSettled self.old }
         requires some { 0 < count }
-        requires room { fed_of self.old + count < 2 ^ 64 }
-        requires run { (n : ℕ) × (0 < n) × (held self.old ≡ replicate n bit) }
-        ensures law { (more : List Bool) → rest self.new more ≡ rest self.old (replicate count bit ++ more) }
-        ensures places { places self.new ≤ places self.old + count }
-        ensures fed { fed_of self.new ≡ fed_of self.old + count }
+        requires room { decoder_fed self.old + count < 2 ^ 64 }
+        requires run { (n : ℕ) × (0 < n) × (decoder_held self.old ≡ replicate n bit) }
+        ensures law { (more : List Bool) → decoder_rest self.new more
+            ≡ decoder_rest self.old (replicate count bit ++ more) }
+        ensures places { decoder_places self.new ≤ decoder_places self.old + count }
+        ensures fed { decoder_fed self.new ≡ decoder_fed self.old + count }
     {
         self.run += u64::from(self.len) + count;
         self.one = bit;
@@ -315,11 +323,11 @@ impl Decoder {
     #[inline(always)]
     pub fn take_tx(&mut self, bits: u64, count: u8) -> Option<FoundTx>
         requires within { count ≤ 64 }
-        requires room { fed_of self.old + count < 2 ^ 64 }
-        ensures tx { IfSome result (λ found. TakesTx self.old self.new bits count found) }
+        requires room { decoder_fed self.old + count < 2 ^ 64 }
+        ensures tx { IfSome result (λ found. DecoderTakesTx self.old self.new bits count found) }
         ensures read { IfSome result (λ found. (tx : Tx) (before : List Bool) (items : List Item)
-            → Spells tx (bits_of found.tx) → HasRead self.old before items
-            → HasRead self.new (before ++ low_bits found.taken bits)
+            → SpellsTx tx (tx_bits_of found.tx) → DecoderHasRead self.old before items
+            → DecoderHasRead self.new (before ++ low_bits found.taken bits)
             (items ++ (idle_items found.idle ++ Item.Tx tx ∷ []))) }
         ensures none { IfNone result (self.new ≡ self.old) }
     {
@@ -360,10 +368,10 @@ impl Decoder {
     /// `due` returns the same item. This call is faster where the transaction is needed as a number.
     #[inline(always)]
     pub fn due_tx(&mut self) -> Option<TxBits>
-        ensures tx { IfSome result (λ spelled. GivesTx self.old self.new spelled) }
+        ensures tx { IfSome result (λ spelled. GivesTxItem self.old self.new spelled) }
         ensures read { IfSome result (λ spelled. (tx : Tx) (bits : List Bool) (items : List Item)
-            → Spells tx (bits_of spelled) → HasRead self.old bits items
-            → HasRead self.new bits (items ++ Item.Tx tx ∷ [])) }
+            → SpellsTx tx (tx_bits_of spelled) → DecoderHasRead self.old bits items
+            → DecoderHasRead self.new bits (items ++ Item.Tx tx ∷ [])) }
         ensures none { IfNone result (self.new ≡ self.old) }
     {
         if self.len < self.next || self.run > 0 || self.bits % 2 == 0 {
@@ -390,7 +398,7 @@ impl Decoder {
         requires mode { self.old.mode ≡ Mode.Synced }
         requires stands { stands (low_bits self.old.len self.old.bits) ≡ Whole tx len }
         requires some { 12 ≤ len }
-        ensures { Gives self.old self.new (Item.Tx tx) }
+        ensures { GivesItem self.old self.new (Item.Tx tx) }
     {
         self.bits >>= len;
         self.len -= len;
@@ -407,9 +415,10 @@ impl Decoder {
     /// `due` returns the same items one by one. This call is faster where there are many.
     #[inline(always)]
     pub fn due_junk(&mut self) -> Option<TxBits>
-        ensures junk { IfSome result (λ found. GivesJunk self.old self.new found) }
-        ensures read { IfSome result (λ found. (bits : List Bool) (items : List Item) → HasRead self.old bits items
-            → HasRead self.new bits (items ++ map Item.Junk (bits_of found))) }
+        ensures junk { IfSome result (λ found. GivesJunkItems self.old self.new found) }
+        ensures read { IfSome result (λ found. (bits : List Bool) (items : List Item)
+            → DecoderHasRead self.old bits items
+            → DecoderHasRead self.new bits (items ++ map Item.Junk (tx_bits_of found))) }
         ensures none { IfNone result (self.new ≡ self.old) }
     {
         let Mode::Lost = self.mode else {
@@ -446,17 +455,18 @@ impl Decoder {
     /// item.
     #[inline(always)]
     pub fn due(&mut self) -> Option<Item>
-        ensures item { IfSome result (λ item. (more : List Bool) → rest self.old more ≡ item ∷ rest self.new more) }
+        ensures item { IfSome result (λ item. (more : List Bool)
+            → decoder_rest self.old more ≡ item ∷ decoder_rest self.new more) }
         ensures read { IfSome result (λ item. (bits : List Bool) (items : List Item)
-            → HasRead self.old bits items → HasRead self.new bits (items ++ item ∷ [])) }
-        ensures fewer { IfSome result (λ item. places self.new < places self.old) }
-        ensures none { IfNone result ((more : List Bool) → rest self.old more ≡ rest self.new more) }
-        ensures decided { IfNone result ((bits : List Bool) (items : List Item) → HasRead self.old bits items
-            → HasRead self.new bits items × IsDecided bits items) }
-        ensures undecided { IfNone result (IsUndecided (rest self.new)) }
-        ensures settled { IfNone result (IsSettled self.new) }
-        ensures places { IfNone result (places self.new ≤ places self.old) }
-        ensures fed { fed_of self.new ≡ fed_of self.old }
+            → DecoderHasRead self.old bits items → DecoderHasRead self.new bits (items ++ item ∷ [])) }
+        ensures fewer { IfSome result (λ item. decoder_places self.new < decoder_places self.old) }
+        ensures none { IfNone result ((more : List Bool) → decoder_rest self.old more ≡ decoder_rest self.new more) }
+        ensures decided { IfNone result ((bits : List Bool) (items : List Item) → DecoderHasRead self.old bits items
+            → DecoderHasRead self.new bits items × IsDecided bits items) }
+        ensures undecided { IfNone result (DecidesNoItem (decoder_rest self.new)) }
+        ensures settled { IfNone result (IsDecoderSettled self.new) }
+        ensures places { IfNone result (decoder_places self.new ≤ decoder_places self.old) }
+        ensures fed { decoder_fed self.new ≡ decoder_fed self.old }
     {
         if self.len < self.next {
             return None;
@@ -467,7 +477,7 @@ impl Decoder {
     // Returns the next decided item, by all held bits.
     #[inline(always)]
     fn decide(&mut self) -> Option<Item>
-        ensures { Decides self.old self.new result }
+        ensures { DecidesItem self.old self.new result }
     {
         if self.run > 0 {
             if self.len == 0 {
@@ -485,10 +495,11 @@ impl Decoder {
     fn end_run(&mut self) -> Item
         requires run { 0 < self.old.run }
         requires long { self.old.one ≡ true → 50 ≤ self.old.run }
-        ensures law { 0 < self.old.len → (more : List Bool) → rest self.old more ≡ result ∷ rest self.new more }
-        ensures last { self.old.len ≡ 0 → rest self.old [] ≡ result ∷ rest self.new [] }
-        ensures fewer { places self.new < places self.old }
-        ensures fed { fed_of self.new ≡ fed_of self.old }
+        ensures law { 0 < self.old.len → (more : List Bool)
+            → decoder_rest self.old more ≡ result ∷ decoder_rest self.new more }
+        ensures last { self.old.len ≡ 0 → decoder_rest self.old [] ≡ result ∷ decoder_rest self.new [] }
+        ensures fewer { decoder_places self.new < decoder_places self.old }
+        ensures fed { decoder_fed self.new ≡ decoder_fed self.old }
     {
         let run = self.run;
         self.run = 0;
@@ -506,10 +517,10 @@ impl Decoder {
         requires ones { self.old.one ≡ true }
         requires few { self.old.run < 50 }
         requires ended { 0 < self.old.len }
-        ensures law { (more : List Bool) → rest self.old more ≡ rest self.new more }
+        ensures law { (more : List Bool) → decoder_rest self.old more ≡ decoder_rest self.new more }
         ensures run { self.new.run ≡ 0 }
-        ensures places { places self.new ≡ places self.old }
-        ensures fed { fed_of self.new ≡ fed_of self.old }
+        ensures places { decoder_places self.new ≡ decoder_places self.old }
+        ensures fed { decoder_fed self.new ≡ decoder_fed self.old }
     {
         let run = self.run as u8;
         self.bits = self.bits << run | ((1 << run) - 1);
@@ -523,7 +534,7 @@ impl Decoder {
         requires some { 0 < self.old.len }
         requires same { low_bits self.old.len self.old.bits ≡ replicate self.old.len bit }
         requires idle { bit ≡ false → self.old.mode ≡ Mode.Synced }
-        ensures { Waits self.old self.new }
+        ensures { DecoderWaits self.old self.new }
     {
         self.run = u64::from(self.len);
         self.one = bit;
@@ -536,7 +547,7 @@ impl Decoder {
     #[inline(always)]
     fn decide_bits(&mut self) -> Option<Item>
         requires { self.old.run ≡ 0 }
-        ensures { Decides self.old self.new result }
+        ensures { DecidesItem self.old self.new result }
     {
         self.next = 1;
         if self.len == 0 {
@@ -561,7 +572,7 @@ impl Decoder {
             → reading self.old.mode (low_bits self.old.len self.old.bits ++ more)
             ≡ Item.Junk (self.old.bits % 2 == 1)
             ∷ reading Mode.Lost (low_bits (self.old.len - 1) (self.old.bits / 2) ++ more) }
-        ensures { Gives self.old self.new result }
+        ensures { GivesItem self.old self.new result }
     {
         let bit = self.bits % 2 == 1;
         self.bits /= 2;
@@ -577,8 +588,8 @@ impl Decoder {
         requires run { self.old.run ≡ 0 }
         requires some { 0 < self.old.len }
         requires mode { self.old.mode ≡ Mode.Synced }
-        requires zero { all_ones (low_bits self.old.len self.old.bits) ≡ false }
-        ensures { Decides self.old self.new result }
+        requires zero { trace_all_ones (low_bits self.old.len self.old.bits) ≡ false }
+        ensures { DecidesItem self.old self.new result }
     {
         if self.bits % 2 == 0 {
             return self.idle();
@@ -602,7 +613,7 @@ impl Decoder {
         requires some { 0 < self.old.len }
         requires mode { self.old.mode ≡ Mode.Synced }
         requires first { self.old.bits % 2 ≡ 0 }
-        ensures { Decides self.old self.new result }
+        ensures { DecidesItem self.old self.new result }
     {
         if self.bits == 0 {
             self.pack(false);
@@ -620,8 +631,8 @@ impl Decoder {
         requires run { self.old.run ≡ 0 }
         requires some { 0 < self.old.len }
         requires mode { self.old.mode ≡ Mode.AfterReset }
-        requires zero { all_ones (low_bits self.old.len self.old.bits) ≡ false }
-        ensures { Decides self.old self.new result }
+        requires zero { trace_all_ones (low_bits self.old.len self.old.bits) ≡ false }
+        ensures { DecidesItem self.old self.new result }
     {
         let seen = self.len.min(SWITCH_BITS);
         let mask = (1 << seen) - 1;
@@ -644,10 +655,10 @@ impl Decoder {
     /// Returns the next item of a trace that ends here. Returns `None` if all items were returned.
     #[inline]
     pub fn last(&mut self) -> Option<Item>
-        ensures item { IfSome result (λ item. rest self.old [] ≡ item ∷ rest self.new []) }
-        ensures fewer { IfSome result (λ item. places self.new < places self.old) }
-        ensures none { IfNone result (rest self.old [] ≡ []) }
-        ensures fed { fed_of self.new ≡ fed_of self.old }
+        ensures item { IfSome result (λ item. decoder_rest self.old [] ≡ item ∷ decoder_rest self.new []) }
+        ensures fewer { IfSome result (λ item. decoder_places self.new < decoder_places self.old) }
+        ensures none { IfNone result (decoder_rest self.old [] ≡ []) }
+        ensures fed { decoder_fed self.new ≡ decoder_fed self.old }
     {
         match self.decide() {
             Some(item) => Some(item),
@@ -657,8 +668,8 @@ impl Decoder {
 
     // Returns the item that the end of the trace makes of undecided bits.
     fn close(&mut self) -> Option<Item>
-        requires { IsOpen self.old }
-        ensures { Closes self.old self.new result }
+        requires { IsDecoderOpen self.old }
+        ensures { DecoderCloses self.old self.new result }
     {
         if self.run > 0 {
             return Some(self.close_run());
@@ -673,7 +684,7 @@ impl Decoder {
     fn close_run(&mut self) -> Item
         requires run { 0 < self.old.run }
         requires alone { self.old.len ≡ 0 }
-        ensures { ClosesWith self.old self.new result }
+        ensures { ClosesWithItem self.old self.new result }
     {
         if !self.one || self.run >= RESET_ONES {
             return self.end_run();
@@ -694,8 +705,8 @@ impl Decoder {
     fn close_bits(&mut self) -> Item
         requires run { self.old.run ≡ 0 }
         requires some { 0 < self.old.len }
-        requires open_end { IsOpenAt self.old.mode (low_bits self.old.len self.old.bits) }
-        ensures { ClosesWith self.old self.new result }
+        requires open_end { IsTraceOpenAt self.old.mode (low_bits self.old.len self.old.bits) }
+        ensures { ClosesWithItem self.old self.new result }
     {
         self.next = 1;
         if let Mode::AfterReset = self.mode {

@@ -1,7 +1,7 @@
 //! Writes the trace text of an item.
 ghost use Rattle.std.specs.Prelude.{ℕ, ◌<◌, length, take, OnOk, OnErr};
 ghost use Rattle.std.specs.Io.KnownBytes.{Appends};
-ghost use Rattle.swd_trace.specs.Listed.{IsEncodable};
+ghost use Rattle.swd_trace.specs.Listed.{IsEncodableItem};
 ghost use Rattle.swd_trace.specs.Texts.{item_text};
 
 use crate::item::Item;
@@ -19,7 +19,7 @@ use swd_io::send;
 /// Returns the writer's error, without a retry, or `WriteZero` if a write takes no bytes. A proper prefix of
 /// the text was written then.
 pub fn encode<W: Write>(item: &Item, writer: &mut W) -> io::Result<()>
-    requires { IsEncodable item.now }
+    requires { IsEncodableItem item.now }
     ensures ok { OnOk result (Appends (W.contents writer.old) (W.contents writer.new) (item_text item.now)) }
     ensures err { OnErr result ((k : ℕ) × (k < length (item_text item.now))
         × Appends (W.contents writer.old) (W.contents writer.new) (take k (item_text item.now))) }

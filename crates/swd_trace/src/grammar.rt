@@ -2,8 +2,8 @@
 ghost use Rattle.std.specs.Prelude.{◌≡◌, ◌-◌, ◌/◌, ◌%◌, ◌^◌, ◌<◌, ◌≤◌, List, Bool, ◌++◌, IfSome};
 ghost use Rattle.swd_bits.specs.Bits.{low_bits};
 ghost use Rattle.swd_bits.specs.declared.request.Request.{Request};
-ghost use Rattle.swd_trace.specs.Stands.{stands, after_request, len_of};
-ghost use Rattle.swd_trace.specs.Fronts.{IsFront, IsAtFront};
+ghost use Rattle.swd_trace.specs.Stands.{stands, stand_after_request, stand_tx_len};
+ghost use Rattle.swd_trace.specs.Fronts.{IsDecoderFront, IsTxAtDecoderFront};
 
 use crate::front::Front;
 use swd_bits::{MOVED_BITS, REFUSED_BITS, Request, Tx, TxBits, UNACKNOWLEDGED_BITS};
@@ -16,7 +16,7 @@ pub fn front_of(bits: u64, len: u8) -> Front
     requires started { bits % 2 ≡ 1 }
     requires some { 0 < len }
     requires short { len ≤ 50 }
-    ensures { IsFront result (low_bits len bits) }
+    ensures { IsDecoderFront result (low_bits len bits) }
 {
     if len < 6 {
         return Front::Begun(6);
@@ -46,8 +46,8 @@ fn front_of_request(bits: u64, len: u8) -> Front
     requires asked { 8 ≤ len }
     requires short { len ≤ 50 }
     requires request { (q : Request) × ((more : List Bool)
-        → stands (low_bits len bits ++ more) ≡ after_request q (low_bits (len - 8) (bits / 2 ^ 8) ++ more)) }
-    ensures { IsFront result (low_bits len bits) }
+        → stands (low_bits len bits ++ more) ≡ stand_after_request q (low_bits (len - 8) (bits / 2 ^ 8) ++ more)) }
+    ensures { IsDecoderFront result (low_bits len bits) }
 {
     if len < UNACKNOWLEDGED_BITS {
         return Front::Begun(UNACKNOWLEDGED_BITS);
@@ -69,7 +69,7 @@ fn front_of_request(bits: u64, len: u8) -> Front
 /// Returns the bits of an acknowledged transaction at the front of 64 bits, if it finds one.
 #[inline(always)]
 pub(crate) fn acknowledged(bits: u64) -> Option<TxBits>
-    ensures { IfSome result (λ spelled. IsAtFront bits spelled) }
+    ensures { IfSome result (λ spelled. IsTxAtDecoderFront bits spelled) }
 {
     let Some(_) = Request::of((bits % 256) as u8) else {
         return None;
@@ -88,7 +88,7 @@ pub(crate) fn acknowledged(bits: u64) -> Option<TxBits>
 #[inline(always)]
 fn whole_len(seen: u64) -> u8
     requires { seen < 8 }
-    ensures { result ≡ len_of seen }
+    ensures { result ≡ stand_tx_len seen }
 {
     match seen {
         1 => MOVED_BITS,

@@ -18,15 +18,15 @@ pub(crate) struct ItemBits {
 }
 
 impl ItemBits {
-    ghost use Rattle.swd_trace.specs.Held.{rest, fed_of, IsSettled};
-    ghost use Rattle.swd_trace.specs.ItemBits.{bits_left};
-    ghost use Rattle.swd_trace.specs.Listed.{IsEncodable};
+    ghost use Rattle.swd_trace.specs.Held.{decoder_rest, decoder_fed, IsDecoderSettled};
+    ghost use Rattle.swd_trace.specs.ItemBits.{item_bits_left};
+    ghost use Rattle.swd_trace.specs.Listed.{IsEncodableItem};
     ghost use Rattle.swd_trace.specs.Texts.{item_bits};
 
     /// Returns the bits of an item, turnarounds as 1.
     pub(crate) fn of(item: &Item) -> ItemBits
-        requires { IsEncodable item.now }
-        ensures bits { bits_left result ≡ item_bits item.now }
+        requires { IsEncodableItem item.now }
+        ensures bits { item_bits_left result ≡ item_bits item.now }
         ensures short { result.len ≤ 63 }
     {
         match item {
@@ -66,7 +66,7 @@ impl ItemBits {
 
     /// Returns whether no bits remain.
     pub(crate) fn is_empty(&self) -> bool
-        ensures { IsTrue result ↔ (length (bits_left self.now) ≡ 0) }
+        ensures { IsTrue result ↔ (length (item_bits_left self.now) ≡ 0) }
     {
         self.run == 0 && self.len == 0
     }
@@ -74,8 +74,8 @@ impl ItemBits {
     /// Takes the next bit. Returns `None` if no bits remain.
     #[inline]
     pub(crate) fn take_bit(&mut self) -> Option<bool>
-        ensures bit { IfSome result (λ bit. bits_left self.old ≡ bit ∷ bits_left self.new) }
-        ensures none { IfNone result ((bits_left self.old ≡ []) × (self.new ≡ self.old)) }
+        ensures bit { IfSome result (λ bit. item_bits_left self.old ≡ bit ∷ item_bits_left self.new) }
+        ensures none { IfNone result ((item_bits_left self.old ≡ []) × (self.new ≡ self.old)) }
     {
         if self.run > 0 {
             self.run -= 1;
@@ -92,16 +92,17 @@ impl ItemBits {
 
     /// Feeds one or more of the next bits to a decoder.
     pub(crate) fn feed(&mut self, decoder: &mut Decoder)
-        requires some { 0 < length (bits_left self.old) }
+        requires some { 0 < length (item_bits_left self.old) }
         requires short { self.old.len ≤ 63 }
-        requires settled { IsSettled decoder.old }
-        requires room { fed_of decoder.old + length (bits_left self.old) < 2 ^ 64 }
+        requires settled { IsDecoderSettled decoder.old }
+        requires room { decoder_fed decoder.old + length (item_bits_left self.old) < 2 ^ 64 }
         ensures law { (more : List Bool)
-            → rest decoder.new (bits_left self.new ++ more) ≡ rest decoder.old (bits_left self.old ++ more) }
+            → decoder_rest decoder.new (item_bits_left self.new ++ more)
+            ≡ decoder_rest decoder.old (item_bits_left self.old ++ more) }
         ensures short { self.new.len ≤ 63 }
-        ensures fewer { length (bits_left self.new) < length (bits_left self.old) }
-        ensures fed { fed_of decoder.new + length (bits_left self.new)
-            ≡ fed_of decoder.old + length (bits_left self.old) }
+        ensures fewer { length (item_bits_left self.new) < length (item_bits_left self.old) }
+        ensures fed { decoder_fed decoder.new + length (item_bits_left self.new)
+            ≡ decoder_fed decoder.old + length (item_bits_left self.old) }
     {
         if self.run > 0 {
             self.run -= decoder.take_run(self.one, self.run);

@@ -1,10 +1,10 @@
 //! The trace text of an item, byte by byte.
 ghost use Rattle.std.specs.Prelude.{◌≡◌, ◌<◌, ◌≤◌, ◌++◌, ◌∷◌, [], length, take, map, true, false};
 ghost use Rattle.std.specs.Iterator.{YieldsFirst, item_count};
-ghost use Rattle.swd_trace.specs.Listed.{IsLegal};
-ghost use Rattle.swd_trace.specs.Texts.{item_text, digit as digit_of};
-ghost use Rattle.swd_trace.specs.ItemBits.{bits_left};
-ghost use Rattle.swd_trace.specs.ItemBytes.{bytes_left};
+ghost use Rattle.swd_trace.specs.Listed.{IsLegalItem};
+ghost use Rattle.swd_trace.specs.Texts.{item_text, trace_digit as digit_of};
+ghost use Rattle.swd_trace.specs.ItemBits.{item_bits_left};
+ghost use Rattle.swd_trace.specs.ItemBytes.{item_bytes_left};
 
 use crate::item::Item;
 use crate::item_bits::ItemBits;
@@ -21,15 +21,15 @@ pub struct ItemBytes {
 impl ItemBytes {
     /// Returns the bytes of an item.
     pub fn of(item: &Item) -> ItemBytes
-        requires { IsLegal item.now }
-        ensures { bytes_left result ≡ item_text item.now }
+        requires { IsLegalItem item.now }
+        ensures { item_bytes_left result ≡ item_text item.now }
     {
         ItemBytes::with_end(ItemBits::of(item))
     }
 
     // Returns the characters of these bits and a line feed.
     pub(crate) fn with_end(left: ItemBits) -> ItemBytes
-        ensures { bytes_left result ≡ map digit_of (bits_left left) ++ 10 ∷ [] }
+        ensures { item_bytes_left result ≡ map digit_of (item_bits_left left) ++ 10 ∷ [] }
     {
         ItemBytes {
             left,
@@ -41,8 +41,8 @@ impl ItemBytes {
     #[inline]
     pub fn fill(&mut self, piece: &mut [u8]) -> usize
         ensures within { result ≤ length piece.new }
-        ensures bytes { bytes_left self.old ≡ take result piece.new ++ bytes_left self.new }
-        ensures end { result < length piece.new → bytes_left self.new ≡ [] }
+        ensures bytes { item_bytes_left self.old ≡ take result piece.new ++ item_bytes_left self.new }
+        ensures end { result < length piece.new → item_bytes_left self.new ≡ [] }
     {
         let (filled, left) = put(*self, piece);
         *self = left;
@@ -55,8 +55,8 @@ impl ItemBytes {
 #[inline(never)]
 fn put(bytes: ItemBytes, piece: &mut [u8]) -> (usize, ItemBytes)
     ensures within { result.0 ≤ length piece.new }
-    ensures bytes { bytes_left bytes ≡ take result.0 piece.new ++ bytes_left result.1 }
-    ensures end { result.0 < length piece.new → bytes_left result.1 ≡ [] }
+    ensures bytes { item_bytes_left bytes ≡ take result.0 piece.new ++ item_bytes_left result.1 }
+    ensures end { result.0 < length piece.new → item_bytes_left result.1 ≡ [] }
 {
     let mut left = bytes;
     let mut filled = 0;
@@ -81,9 +81,9 @@ fn digit(bit: bool) -> u8
 impl Iterator for ItemBytes {
     type Item = u8;
 
-    ghost next_gives = { YieldsFirst bytes_left };
+    ghost next_gives = { YieldsFirst item_bytes_left };
 
-    ghost remaining = { item_count bytes_left };
+    ghost remaining = { item_count item_bytes_left };
 
     #[inline]
     fn next(&mut self) -> Option<u8> {

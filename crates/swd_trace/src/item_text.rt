@@ -2,8 +2,8 @@
 ghost use Rattle.std.specs.Prelude.{◌≡◌, ◌+◌, ◌-◌, ◌<◌, ◌≤◌, ◌++◌, ◌∷◌, [], map};
 ghost use Rattle.std.specs.Fmt.{decimal};
 ghost use Rattle.arrayvec.specs.ArrayString.{array_string_len};
-ghost use Rattle.swd_bits.specs.BitLists.{bits_of};
-ghost use Rattle.swd_trace.specs.Texts.{digit, item_line};
+ghost use Rattle.swd_bits.specs.BitLists.{tx_bits_of};
+ghost use Rattle.swd_trace.specs.Texts.{trace_digit, item_line};
 
 use crate::item::Item;
 use arrayvec::ArrayString;
@@ -77,14 +77,14 @@ fn push_count<const N: usize>(text: &mut ArrayString<N>, count: u64)
 }
 
 fn bit_text(bit: bool) -> &'static str
-    ensures { result.now ≡ digit bit ∷ [] }
+    ensures { result.now ≡ trace_digit bit ∷ [] }
 {
     if bit { "1" } else { "0" }
 }
 
 fn push_bits<const N: usize>(text: &mut ArrayString<N>, bits: TxBits)
     requires { array_string_len text.old + 255 ≤ N }
-    ensures bytes { text.new.bytes ≡ text.old.bytes ++ map digit (bits_of bits) }
+    ensures bytes { text.new.bytes ≡ text.old.bytes ++ map trace_digit (tx_bits_of bits) }
     ensures len { array_string_len text.new ≤ array_string_len text.old + 255 }
 {
     let mut rest = bits.bits;

@@ -1,13 +1,13 @@
 //! Laws of the reading of a list of bits. The functions do nothing: their contracts are the laws.
 ghost use Rattle.std.specs.Prelude.{◌≡◌, ◌≢◌, ◌↔◌, ℕ, ◌≤◌, Bool, true, false, List, [], ◌++◌, length, map};
 ghost use Rattle.std.specs.Prelude.{take, nat_le, replicate};
-ghost use Rattle.swd_bits.specs.Transactions.{Spells};
+ghost use Rattle.swd_bits.specs.Transactions.{SpellsTx};
 ghost use Rattle.swd_bits.specs.declared.tx.Tx.{Tx};
 ghost use Rattle.swd_trace.specs.declared.item.Item.{Item};
 ghost use Rattle.swd_trace.specs.Stands.{Whole, Begun, stands};
-ghost use Rattle.swd_trace.specs.Reading.{ones, all_ones, begins_with, switch, reading_of};
+ghost use Rattle.swd_trace.specs.Reading.{trace_ones, trace_all_ones, trace_begins_with, switch_item, reading_of};
 ghost use Rattle.swd_trace.specs.Decided.{IsDecided};
-ghost use Rattle.swd_trace.specs.Spelled.{AreSpelled};
+ghost use Rattle.swd_trace.specs.Spelled.{AreTraceTransactions};
 ghost use Rattle.swd_trace.specs.Texts.{bits_of_items};
 
 /// States what the tests of the reading mean. `stands` finds a whole transaction exactly where the first bits
@@ -15,15 +15,15 @@ ghost use Rattle.swd_trace.specs.Texts.{bits_of_items};
 /// fifty ones, whole and partial, and for the whole switch.
 pub fn tests_of_the_reading()
     ensures transaction { (bits : List Bool) (tx : Tx) (n : ℕ) → (stands bits ≡ Whole tx n)
-        ↔ ((n ≤ length bits) × Spells tx (take n bits)) }
+        ↔ ((n ≤ length bits) × SpellsTx tx (take n bits)) }
     ensures begun { (bits : List Bool) → (stands bits ≡ Begun)
-        ↔ ((tx : Tx) × (more : List Bool) × (more ≢ []) × Spells tx (bits ++ more)) }
-    ensures fifty { (bits : List Bool) → (nat_le 50 (ones bits) ≡ true)
+        ↔ ((tx : Tx) × (more : List Bool) × (more ≢ []) × SpellsTx tx (bits ++ more)) }
+    ensures fifty { (bits : List Bool) → (nat_le 50 (trace_ones bits) ≡ true)
         ↔ ((more : List Bool) × (bits ≡ replicate 50 true ++ more)) }
-    ensures fewer { (bits : List Bool) → ((nat_le 50 (ones bits) ≡ false) × (all_ones bits ≡ true))
+    ensures fewer { (bits : List Bool) → ((nat_le 50 (trace_ones bits) ≡ false) × (trace_all_ones bits ≡ true))
         ↔ ((more : List Bool) × (more ≢ []) × (replicate 50 true ≡ bits ++ more)) }
-    ensures switch { (bits : List Bool) → (begins_with switch bits ≡ true)
-        ↔ ((more : List Bool) × (bits ≡ switch ++ more)) }
+    ensures switch { (bits : List Bool) → (trace_begins_with switch_item bits ≡ true)
+        ↔ ((more : List Bool) × (bits ≡ switch_item ++ more)) }
 {}
 
 /// States that the same bits decide only one list of items.
@@ -39,7 +39,8 @@ pub fn readings_are_read_again()
 /// States that a sequence of acknowledged transactions is read as these transactions. Their bits never
 /// contain fifty ones in a row.
 pub fn transactions_are_read()
-    ensures read { (txs : List Tx) (bits : List Bool) → AreSpelled txs bits → reading_of bits ≡ map Item.Tx txs }
-    ensures no_reset { (txs : List Tx) (bits front back : List Bool) → AreSpelled txs bits
+    ensures read { (txs : List Tx) (bits : List Bool) → AreTraceTransactions txs bits
+        → reading_of bits ≡ map Item.Tx txs }
+    ensures no_reset { (txs : List Tx) (bits front back : List Bool) → AreTraceTransactions txs bits
         → bits ≢ front ++ (replicate 50 true ++ back) }
 {}

@@ -9,18 +9,18 @@ use Rattle.clap.specs.declared.parser.matches.ArgMatches.TheViews.{out-ArgMatche
 use Rattle.clap.specs.Words.{HasKind, IsAmong, Kinds, kind_of}
 use Rattle.clap.specs.declared.error.Error.{Error}
 use Rattle.clap.specs.declared.error.kind.ErrorKind.TheVariants as kind
-use Rattle.swd_words.specs.declared.command.Line.{Line}
+use Rattle.swd_words.specs.declared.command.CommandLine.{CommandLine}
 use Rattle.swd_words.specs.declared.command.LineFault.{LineFault}
 use Rattle.swd_words.specs.declared.command.LineFault.TheVariants.{Clap, Memory}
-use Rattle.swd_words.specs.Commands.{IsOfKind, IsRefusal, swd_app}
+use Rattle.swd_words.specs.Commands.{IsArgumentsErrorKind, IsArgumentsRefusal, swd_app}
 
 -- one row's part, from the name and the rows
-pub from_rows : (rows : Option (Text × List Row)) (name want id : Text) (own : List Row) (value : Option Text) →
-    Some name ≡ option_map (λ p. p.0) rows → Some own ≡ option_map (λ p. p.1) rows → name ≡ want
+pub argument_from_rows : (rows : Option (Text × List Row)) (name want id : Text) (own : List Row) (value : Option Text)
+    → Some name ≡ option_map (λ p. p.0) rows → Some own ≡ option_map (λ p. p.1) rows → name ≡ want
     → value ≡ first_of id own →
     IsSomeAnd rows (λ p. (p.0 ≡ want) × (value ≡ first_of id p.1))
-from_rows None name want id own value e f g h = absurd cc
-from_rows (Some p) name want id own value e f g h =
+argument_from_rows None name want id own value e f g h = absurd cc
+argument_from_rows (Some p) name want id own value e f g h =
     let n : name ≡ p.0 = cc in
     let r : own ≡ p.1 = cc in
     (sym n ∙ g, h ∙ ap (first_of id) r)
@@ -31,29 +31,29 @@ map_map f g None = refl
 map_map f g (Some x) = refl
 
 -- the name of the subcommand is that of its rows
-pub name_in_rows : (m : ArgMatches) → subcommand_name_of m ≡ option_map (λ p. p.0) (subcommand_rows_of m)
-name_in_rows m = map_map _ (λ p. p.0) (out-ArgMatches m).subcommand
+pub argument_name_in_rows : (m : ArgMatches) → subcommand_name_of m ≡ option_map (λ p. p.0) (subcommand_rows_of m)
+argument_name_in_rows m = map_map _ (λ p. p.0) (out-ArgMatches m).subcommand
 
 -- the command is one whose matches are exact, and whose faults are
-pub simple : is_simple swd_app ≡ true
+pub swd_app_simple : is_simple swd_app ≡ true
 unfolding clap_on_literals
-simple = refl
+swd_app_simple = refl
 
 -- the command is simple, and no argument has a rule on another
-pub simple_and_free : is_simple_and_free swd_app ≡ true
+pub swd_app_simple_and_free : is_simple_and_free swd_app ≡ true
 unfolding clap_on_literals
-simple_and_free = refl
+swd_app_simple_and_free = refl
 
 -- where nothing is wrong with the words, any refusal is out of memory
-pub refused_for_memory : (kinds : Kinds) (answer : Result Line LineFault) → kinds ≡ [] → IfErr answer (IsRefusal kinds)
-refused_for_memory kinds (Ok line) none = tt
-refused_for_memory kinds (Err Memory) none = tt
-refused_for_memory kinds (Err (Clap error)) none = inr none
+pub arguments_refused_memory : (kinds : Kinds) (answer : Result CommandLine LineFault) → kinds ≡ []
+    → IfErr answer (IsArgumentsRefusal kinds)
+arguments_refused_memory kinds (Ok line) none = tt
+arguments_refused_memory kinds (Err Memory) none = tt
+arguments_refused_memory kinds (Err (Clap error)) none = inr none
 
 -- another fault of the same kind tells the same mistake
-pub refused_alike : (kinds : Kinds) (error : Error) (fault : LineFault) → HasKind kinds error
-    → IsOfKind (kind_of error) fault →
-    IsRefusal kinds fault
-refused_alike kinds error Memory has same = tt
-refused_alike kinds error (Clap other) has same = inl
+pub arguments_refused_alike : (kinds : Kinds) (error : Error) (fault : LineFault) → HasKind kinds error
+    → IsArgumentsErrorKind (kind_of error) fault → IsArgumentsRefusal kinds fault
+arguments_refused_alike kinds error Memory has same = tt
+arguments_refused_alike kinds error (Clap other) has same = inl
     (subst (λ k. (k ≡ kind.OutOfMemory) ⊎ IsAmong k kinds) (sym same) has)

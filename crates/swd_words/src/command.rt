@@ -6,7 +6,7 @@ use swd_image_files::Format;
 
 /// A command of the program, with its arguments.
 #[derive(Drop)]
-pub enum Line {
+pub enum CommandLine {
     /// `swd one [FILE]`. Without a file it reads standard input.
     One(Option<String>),
     /// `swd decode [FILE] [--places] [--names]`, `swd decode [FILE] --count`, or

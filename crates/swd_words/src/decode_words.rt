@@ -2,8 +2,9 @@
 ghost use Rattle.std.specs.Prelude.{◌≡◌, IfOk, false};
 ghost use Rattle.clap.specs.Words.{app_of, found_of, rows_of, rule_of};
 ghost use Rattle.clap.specs.declared.builder.command.Command.TheViews.{out-Command};
-ghost use Rattle.swd_words.specs.Commands.{accesses_rule, count_rule, decode_app, listing_app, made_rule, names_rule};
-ghost use Rattle.swd_words.specs.Commands.{overrun_rule, places_rule, resync_rule, telling_app, IsDecodeOf};
+ghost use Rattle.swd_words.specs.Commands.{accesses_rule, count_rule, decode_args_app, listing_args_app, made_rule};
+ghost use Rattle.swd_words.specs.Commands.{names_rule, overrun_rule, places_rule, resync_rule, accesses_args_app};
+ghost use Rattle.swd_words.specs.Commands.{AreDecodeArguments};
 
 use crate::command::{DecodeLine, LineFault};
 use crate::words::{file_arg, is_asked_for, owned, refused, with_arg};
@@ -138,7 +139,7 @@ pub(crate) fn overrun_arg<'a>(alloc: Global) -> Arg<'a>
 
 // Returns the command `decode` without the flags for accesses and captures.
 fn listing_command<'a>(alloc: Global) -> Result<Command<'a>, AllocError>
-    ensures app { IfOk result (λ c. app_of c ≡ listing_app) }
+    ensures app { IfOk result (λ c. app_of c ≡ listing_args_app) }
     ensures local { IfOk result (λ c. (out-Command c).has_globals ≡ false) }
 {
     let bare = Command::new(alloc, "decode")
@@ -152,7 +153,7 @@ fn listing_command<'a>(alloc: Global) -> Result<Command<'a>, AllocError>
 
 // Returns the command `decode` without the flags for captures.
 fn telling_command<'a>(alloc: Global) -> Result<Command<'a>, AllocError>
-    ensures app { IfOk result (λ c. app_of c ≡ telling_app) }
+    ensures app { IfOk result (λ c. app_of c ≡ accesses_args_app) }
     ensures local { IfOk result (λ c. (out-Command c).has_globals ≡ false) }
 {
     let listing = listing_command(alloc)?;
@@ -162,7 +163,7 @@ fn telling_command<'a>(alloc: Global) -> Result<Command<'a>, AllocError>
 
 /// Returns the command `decode`.
 pub(crate) fn decode_command<'a>(alloc: Global) -> Result<Command<'a>, AllocError>
-    ensures app { IfOk result (λ c. app_of c ≡ decode_app) }
+    ensures app { IfOk result (λ c. app_of c ≡ decode_args_app) }
     ensures local { IfOk result (λ c. (out-Command c).has_globals ≡ false) }
 {
     let telling = telling_command(alloc)?;
@@ -173,7 +174,7 @@ pub(crate) fn decode_command<'a>(alloc: Global) -> Result<Command<'a>, AllocErro
 /// Returns the arguments of `swd decode`. Rejects flags that exclude each other, and a flag without the one that it
 /// needs.
 pub(crate) fn decode_line(alloc: Global, matches: &ArgMatches<'_>) -> Result<DecodeLine, LineFault>
-    ensures { IfOk result (λ decode. IsDecodeOf decode (rows_of (found_of matches.now))) }
+    ensures { IfOk result (λ decode. AreDecodeArguments decode (rows_of (found_of matches.now))) }
 {
     let Ok(file) = owned(alloc, matches.get_str("FILE")) else {
         return Err(LineFault::Memory);

@@ -2,7 +2,7 @@
 ghost use Rattle.std.specs.Prelude.{◌≡◌, IfOk, false};
 ghost use Rattle.clap.specs.Words.{app_of, found_of, rows_of};
 ghost use Rattle.clap.specs.declared.builder.command.Command.TheViews.{out-Command};
-ghost use Rattle.swd_words.specs.Commands.{draw_app, IsDrawOf};
+ghost use Rattle.swd_words.specs.Commands.{draw_args_app, AreDrawArguments};
 
 use crate::command::{DrawLine, LineFault};
 use crate::decode_words::{OVERRUN_WITH_RESYNC, overrun_arg, resync_arg};
@@ -30,7 +30,7 @@ it is invalid there is no picture.";
 
 /// Returns the command `draw`.
 pub(crate) fn draw_command<'a>(alloc: Global) -> Result<Command<'a>, AllocError>
-    ensures app { IfOk result (λ c. app_of c ≡ draw_app) }
+    ensures app { IfOk result (λ c. app_of c ≡ draw_args_app) }
     ensures local { IfOk result (λ c. (out-Command c).has_globals ≡ false) }
 {
     let bare = Command::new(alloc, "draw")
@@ -43,7 +43,7 @@ pub(crate) fn draw_command<'a>(alloc: Global) -> Result<Command<'a>, AllocError>
 
 /// Returns the arguments of `swd draw`. Rejects `--overrun` without `--resync`.
 pub(crate) fn draw_line(alloc: Global, matches: &ArgMatches<'_>) -> Result<DrawLine, LineFault>
-    ensures { IfOk result (λ draw. IsDrawOf draw (rows_of (found_of matches.now))) }
+    ensures { IfOk result (λ draw. AreDrawArguments draw (rows_of (found_of matches.now))) }
 {
     let Ok(file) = owned(alloc, matches.get_str("FILE")) else {
         return Err(LineFault::Memory);

@@ -2,7 +2,7 @@
 ghost use Rattle.std.specs.Prelude.{◌≡◌, IfSome, false};
 ghost use Rattle.std.specs.Option.{option_map};
 ghost use Rattle.clap.specs.Words.{rule_of};
-ghost use Rattle.swd_words.specs.Commands.{format_rule, IsFormatOf};
+ghost use Rattle.swd_words.specs.Commands.{format_rule, IsFormatArgument};
 
 use clap::Arg;
 use std::alloc::Global;
@@ -25,7 +25,7 @@ pub(crate) fn format_arg<'a>(alloc: Global) -> Arg<'a>
 /// Returns the format of the word after `--format`, if there is one, and otherwise that of the file's name. Returns
 /// `None` for a word that is no format.
 pub(crate) fn format_in(word: Option<&str>, file: &str) -> Option<Format>
-    ensures { IfSome result (λ format. IsFormatOf format file.now (option_map (λ s. s.now) word.entry)) }
+    ensures { IfSome result (λ format. IsFormatArgument format file.now (option_map (λ s. s.now) word.entry)) }
 {
     match word {
         Some(word) => Format::of_word(word),

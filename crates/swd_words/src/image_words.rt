@@ -3,9 +3,10 @@ ghost use Rattle.std.specs.Prelude.{◌≡◌, IfOk, IfSome, Some, false};
 ghost use Rattle.std.specs.Option.{option_and_then, option_map};
 ghost use Rattle.clap.specs.Words.{app_of, found_of, rows_of, rule_of};
 ghost use Rattle.clap.specs.declared.builder.command.Command.TheViews.{out-Command};
-ghost use Rattle.swd_script.specs.Numerals.{decimal_of, hex_of};
-ghost use Rattle.swd_words.specs.Commands.{addr_rule, bytes_rule, dump_app, image_rule, over_image};
-ghost use Rattle.swd_words.specs.Commands.{with_image_options, with_images as images_of, IsActionOf, IsImageOf};
+ghost use Rattle.swd_script.specs.Numerals.{script_decimal_number, script_hex_number};
+ghost use Rattle.swd_words.specs.Commands.{addr_rule, bytes_rule, dump_args_app, image_rule, image_args_app};
+ghost use Rattle.swd_words.specs.Commands.{with_image_args, with_image_args_apps as images_of, IsActionArgument};
+ghost use Rattle.swd_words.specs.Commands.{AreImageArguments};
 
 use crate::command::{ImageAction, ImageLine, LineFault};
 use crate::format_words::{FORMAT_FORM, format_arg, format_in};
@@ -120,7 +121,7 @@ fn image_arg<'a>(alloc: Global, help: &'a str) -> Arg<'a>
 // Adds the options of each command over an image.
 fn with_options<'a>(alloc: Global, command: Command<'a>) -> Result<Command<'a>, AllocError>
     requires local { (out-Command command).has_globals ≡ false }
-    ensures app { IfOk result (λ c. app_of c ≡ with_image_options (app_of command.entry)) }
+    ensures app { IfOk result (λ c. app_of c ≡ with_image_args (app_of command.entry)) }
     ensures local { IfOk result (λ c. (out-Command c).has_globals ≡ false) }
 {
     let format = with_arg(command, format_arg(alloc))?;
@@ -138,7 +139,7 @@ fn over_an_image<'a>(
     about: &'a str,
     after: &'a str,
 ) -> Result<Command<'a>, AllocError>
-    ensures app { IfOk result (λ c. app_of c ≡ over_image name.entry.now) }
+    ensures app { IfOk result (λ c. app_of c ≡ image_args_app name.entry.now) }
     ensures local { IfOk result (λ c. (out-Command c).has_globals ≡ false) }
 {
     let bare = Command::new(alloc, name).about(about).after_help(after);
@@ -155,7 +156,7 @@ fn over_an_image<'a>(
 
 // Returns the command `dump`.
 fn dump_command<'a>(alloc: Global) -> Result<Command<'a>, AllocError>
-    ensures app { IfOk result (λ c. app_of c ≡ dump_app) }
+    ensures app { IfOk result (λ c. app_of c ≡ dump_args_app) }
     ensures local { IfOk result (λ c. (out-Command c).has_globals ≡ false) }
 {
     let bare = Command::new(alloc, "dump")
@@ -193,7 +194,7 @@ pub(crate) fn with_images<'a>(
 // Returns the address of an argument, or `None` if it isn't one.
 fn addr_in(word: Option<&str>) -> Option<u32>
     ensures { IfSome result (λ addr. Some addr
-        ≡ option_and_then (λ text. hex_of text) (option_map (λ s. s.now) word.entry)) }
+        ≡ option_and_then (λ text. script_hex_number text) (option_map (λ s. s.now) word.entry)) }
 {
     match word {
         Some(word) => hex_of(word.as_bytes()),
@@ -204,7 +205,7 @@ fn addr_in(word: Option<&str>) -> Option<u32>
 // Returns the number of an argument, or `None` if it isn't one of 32 bits.
 fn count_in(word: Option<&str>) -> Option<u32>
     ensures { IfSome result (λ count. Some count
-        ≡ option_and_then decimal_of (option_map (λ s. s.now) word.entry)) }
+        ≡ option_and_then script_decimal_number (option_map (λ s. s.now) word.entry)) }
 {
     match word {
         Some(word) => decimal_of(word.as_bytes()),
@@ -214,7 +215,7 @@ fn count_in(word: Option<&str>) -> Option<u32>
 
 // Returns what the command of this name does with an image.
 fn action_of(alloc: Global, name: &str, matches: &ArgMatches<'_>) -> Result<ImageAction, LineFault>
-    ensures { IfOk result (λ action. IsActionOf action name.now (rows_of (found_of matches.now))) }
+    ensures { IfOk result (λ action. IsActionArgument action name.now (rows_of (found_of matches.now))) }
 {
     match name {
         "load" => Ok(ImageAction::Load),
@@ -233,7 +234,7 @@ pub(crate) fn image_line(
     name: &str,
     matches: &ArgMatches<'_>,
 ) -> Result<ImageLine, LineFault>
-    ensures { IfOk result (λ image. IsImageOf image name.now (rows_of (found_of matches.now))) }
+    ensures { IfOk result (λ image. AreImageArguments image name.now (rows_of (found_of matches.now))) }
 {
     let action = action_of(alloc, name, matches)?;
     let Some(addr) = addr_in(matches.get_str("ADDR")) else {

@@ -11,7 +11,7 @@ mod target_words;
 mod words;
 
 pub use command::{
-    DecodeLine, DrawLine, ImageAction, ImageLine, Line, LineFault, MemoryLine, RunLine, ScriptLine,
-    ServedMemory, TargetLine,
+    CommandLine, DecodeLine, DrawLine, ImageAction, ImageLine, LineFault, MemoryLine, RunLine,
+    ScriptLine, ServedMemory, TargetLine,
 };
 pub use words::line;

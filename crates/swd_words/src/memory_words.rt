@@ -4,8 +4,8 @@ ghost use Rattle.std.specs.Prelude.{◌≡◌, ◌%◌, IfOk, IfSome, None, fals
 ghost use Rattle.std.specs.Option.{option_map};
 ghost use Rattle.clap.specs.Words.{app_of, found_of, rows_of, rule_of};
 ghost use Rattle.clap.specs.declared.builder.command.Command.TheViews.{out-Command};
-ghost use Rattle.swd_words.specs.Commands.{base_rule, memory_rule, with_target_options as with_options_of};
-ghost use Rattle.swd_words.specs.Commands.{IsBase, IsMemoryOf, IsTargetIn};
+ghost use Rattle.swd_words.specs.Commands.{base_rule, memory_rule, with_target_args as with_options_of};
+ghost use Rattle.swd_words.specs.Commands.{IsBaseArgument, AreMemoryArguments, IsTargetArgument};
 
 use crate::command::{LineFault, MemoryLine};
 use crate::words::{is_asked_for, owned, plan_arg, refused, remote_arg, with_arg};
@@ -73,7 +73,7 @@ pub(crate) fn is_missing(word: Option<&str>) -> bool
 
 // Returns the address of a simulated memory, or `None` if it is no address of a word.
 fn base_in(word: Option<&str>) -> Option<u32>
-    ensures base { IfSome result (λ base. IsBase base (option_map (λ s. s.now) word.entry)) }
+    ensures base { IfSome result (λ base. IsBaseArgument base (option_map (λ s. s.now) word.entry)) }
     ensures aligned { IfSome result (λ base. base % 4 ≡ 0) }
 {
     match word {
@@ -91,7 +91,7 @@ pub(crate) fn memory_line(
     matches: &ArgMatches<'_>,
     missing: &str,
 ) -> Result<MemoryLine, LineFault>
-    ensures { IfOk result (λ memory. IsMemoryOf memory (rows_of (found_of matches.now))) }
+    ensures { IfOk result (λ memory. AreMemoryArguments memory (rows_of (found_of matches.now))) }
 {
     let Ok(memory) = owned(alloc, matches.get_str("memory")) else {
         return Err(LineFault::Memory);
@@ -115,7 +115,7 @@ pub(crate) fn target_in(
     alloc: Global,
     matches: &ArgMatches<'_>,
 ) -> Result<Option<MemoryLine>, LineFault>
-    ensures { IfOk result (λ memory. IsTargetIn memory (rows_of (found_of matches.now))) }
+    ensures { IfOk result (λ memory. IsTargetArgument memory (rows_of (found_of matches.now))) }
 {
     if !is_asked_for(matches.get_str("remote")) {
         return match memory_line(alloc, matches, NO_TARGET) {

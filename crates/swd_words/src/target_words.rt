@@ -2,8 +2,8 @@
 ghost use Rattle.std.specs.Prelude.{◌≡◌, IfOk, false};
 ghost use Rattle.clap.specs.Words.{app_of, found_of, rows_of, rule_of};
 ghost use Rattle.clap.specs.declared.builder.command.Command.TheViews.{out-Command};
-ghost use Rattle.swd_words.specs.Commands.{log_rule, over_memory, served_script_rule, target_app};
-ghost use Rattle.swd_words.specs.Commands.{IsServed, IsTargetOf};
+ghost use Rattle.swd_words.specs.Commands.{log_rule, memory_args_app, served_script_rule, target_args_app};
+ghost use Rattle.swd_words.specs.Commands.{AreServedArguments, AreTargetArguments};
 
 use crate::command::{LineFault, ScriptLine, ServedMemory, TargetLine};
 use crate::memory_words::{base_arg, is_missing, memory_arg, memory_line};
@@ -65,7 +65,7 @@ fn log_arg<'a>(alloc: Global) -> Arg<'a>
 
 // Returns the command `target` with the arguments for its memory.
 fn over_memory<'a>(alloc: Global) -> Result<Command<'a>, AllocError>
-    ensures app { IfOk result (λ c. app_of c ≡ over_memory) }
+    ensures app { IfOk result (λ c. app_of c ≡ memory_args_app) }
     ensures local { IfOk result (λ c. (out-Command c).has_globals ≡ false) }
 {
     let bare = Command::new(alloc, "target")
@@ -79,7 +79,7 @@ fn over_memory<'a>(alloc: Global) -> Result<Command<'a>, AllocError>
 
 /// Returns the command `target`.
 pub(crate) fn target_command<'a>(alloc: Global) -> Result<Command<'a>, AllocError>
-    ensures app { IfOk result (λ c. app_of c ≡ target_app) }
+    ensures app { IfOk result (λ c. app_of c ≡ target_args_app) }
     ensures local { IfOk result (λ c. (out-Command c).has_globals ≡ false) }
 {
     let plan = with_arg(over_memory(alloc)?, plan_arg(alloc))?;
@@ -89,7 +89,7 @@ pub(crate) fn target_command<'a>(alloc: Global) -> Result<Command<'a>, AllocErro
 
 // Returns the memory that the arguments name.
 fn served_memory(alloc: Global, matches: &ArgMatches<'_>) -> Result<ServedMemory, LineFault>
-    ensures { IfOk result (λ memory. IsServed memory (rows_of (found_of matches.now))) }
+    ensures { IfOk result (λ memory. AreServedArguments memory (rows_of (found_of matches.now))) }
 {
     let Ok(script) = owned(alloc, matches.get_str("SCRIPT")) else {
         return Err(LineFault::Memory);
@@ -114,7 +114,7 @@ fn served_memory(alloc: Global, matches: &ArgMatches<'_>) -> Result<ServedMemory
 
 /// Returns the arguments of `swd target`.
 pub(crate) fn target_line(alloc: Global, matches: &ArgMatches<'_>) -> Result<TargetLine, LineFault>
-    ensures { IfOk result (λ target. IsTargetOf target (rows_of (found_of matches.now))) }
+    ensures { IfOk result (λ target. AreTargetArguments target (rows_of (found_of matches.now))) }
 {
     let memory = served_memory(alloc, matches)?;
     let Ok(log) = owned(alloc, matches.get_str("log")) else {

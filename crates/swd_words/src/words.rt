@@ -6,12 +6,12 @@ ghost use Rattle.clap.specs.Words.{app_of, found_of, rows_of, subcommand_of, sub
 ghost use Rattle.clap.specs.Words.{fault_of, kind_of, with_rule, with_subcommand};
 ghost use Rattle.clap.specs.declared.builder.command.Command.TheViews.{out-Command};
 ghost use Rattle.swd_words.specs.Commands.{file_rule, plan_rule, resume_rule, script_rule, strict_rule, trace_rule};
-ghost use Rattle.swd_words.specs.Commands.{accesses_file_rule, tries_rule};
-ghost use Rattle.swd_words.specs.Commands.{progress_rule, remote_rule, report_rule, run_here_app};
-ghost use Rattle.swd_words.specs.Commands.{bare_app, over_a_script, over_file, run_app, swd_app, AreResumes, AreTries};
-ghost use Rattle.swd_words.specs.Commands.{IsLineOf, IsOfKind, IsRunOf, IsRefusal};
+ghost use Rattle.swd_words.specs.Commands.{accesses_file_rule, tries_rule, progress_rule, remote_rule, report_rule};
+ghost use Rattle.swd_words.specs.Commands.{run_here_args_app, bare_args_app, script_args_app, file_args_app};
+ghost use Rattle.swd_words.specs.Commands.{run_args_app, swd_app, IsResumeArgument, IsTriesArgument, IsLineOfArguments};
+ghost use Rattle.swd_words.specs.Commands.{IsArgumentsErrorKind, AreRunArguments, IsArgumentsRefusal};
 
-use crate::command::{Line, LineFault, RunLine};
+use crate::command::{CommandLine, LineFault, RunLine};
 use crate::decode_words::{decode_command, decode_line};
 use crate::draw_words::{draw_command, draw_line};
 use crate::image_words::{image_line, with_images};
@@ -313,7 +313,7 @@ pub(crate) fn with_sub<'a>(
 
 // Returns a command with a file as its argument.
 fn over_a_file<'a>(alloc: Global, name: &'a str, about: &'a str) -> Result<Command<'a>, AllocError>
-    ensures app { IfOk result (λ c. app_of c ≡ over_file name.entry.now) }
+    ensures app { IfOk result (λ c. app_of c ≡ file_args_app name.entry.now) }
     ensures local { IfOk result (λ c. (out-Command c).has_globals ≡ false) }
 {
     let bare = Command::new(alloc, name).about(about);
@@ -322,7 +322,7 @@ fn over_a_file<'a>(alloc: Global, name: &'a str, about: &'a str) -> Result<Comma
 
 // Returns the command `run` with the files that it reads.
 fn over_a_script<'a>(alloc: Global) -> Result<Command<'a>, AllocError>
-    ensures app { IfOk result (λ c. app_of c ≡ over_a_script) }
+    ensures app { IfOk result (λ c. app_of c ≡ script_args_app) }
     ensures local { IfOk result (λ c. (out-Command c).has_globals ≡ false) }
 {
     let bare = Command::new(alloc, "run")
@@ -334,7 +334,7 @@ fn over_a_script<'a>(alloc: Global) -> Result<Command<'a>, AllocError>
 
 // Adds the other options of a run at a simulated target.
 fn run_here<'a>(alloc: Global) -> Result<Command<'a>, AllocError>
-    ensures app { IfOk result (λ c. app_of c ≡ run_here_app) }
+    ensures app { IfOk result (λ c. app_of c ≡ run_here_args_app) }
     ensures local { IfOk result (λ c. (out-Command c).has_globals ≡ false) }
 {
     let bare = over_a_script(alloc)?;
@@ -347,7 +347,7 @@ fn run_here<'a>(alloc: Global) -> Result<Command<'a>, AllocError>
 
 // Adds the options of a run at a remote target, and of the progress: the whole command `run`.
 fn run_command<'a>(alloc: Global) -> Result<Command<'a>, AllocError>
-    ensures app { IfOk result (λ c. app_of c ≡ run_app) }
+    ensures app { IfOk result (λ c. app_of c ≡ run_args_app) }
     ensures local { IfOk result (λ c. (out-Command c).has_globals ≡ false) }
 {
     let here = run_here(alloc)?;
@@ -359,7 +359,7 @@ fn run_command<'a>(alloc: Global) -> Result<Command<'a>, AllocError>
 
 // Returns the program without its commands. One of them is required.
 fn bare_command<'a>(alloc: Global) -> Command<'a>
-    ensures app { app_of result ≡ bare_app }
+    ensures app { app_of result ≡ bare_args_app }
     ensures local { (out-Command result).has_globals ≡ false }
 {
     Command::new(alloc, "swd")
@@ -386,7 +386,7 @@ fn swd_command<'a>(alloc: Global) -> Result<Command<'a>, AllocError>
 
 // Returns the error of arguments that `clap` accepted and that aren't allowed.
 pub(crate) fn refused(alloc: Global, kind: ErrorKind, why: &str) -> LineFault
-    ensures { IsOfKind kind result }
+    ensures { IsArgumentsErrorKind kind result }
 {
     let mut command = Command::new(alloc, "swd");
     match command.error(kind, why) {
@@ -418,7 +418,7 @@ fn has_tries(words: &[&str]) -> bool {
 
 // Returns the error for a mistake that `clap` found. For a negative number it names the range.
 fn line_fault(alloc: Global, words: &[&str], fault: Error) -> LineFault
-    ensures { IsOfKind (kind_of fault) result }
+    ensures { IsArgumentsErrorKind (kind_of fault) result }
 {
     if fault.kind() == ErrorKind::UnknownArgument && asks_for_negative(words, "--tries") {
         refused(alloc, fault.kind(), TRIES_RANGE)
@@ -431,7 +431,7 @@ fn line_fault(alloc: Global, words: &[&str], fault: Error) -> LineFault
 
 // Returns the number of an argument, or `None` if it isn't one of 0 to 1,000.
 fn number_in(word: &str) -> Option<u32>
-    ensures { IfSome result (λ tries. AreTries tries (Some word.now)) }
+    ensures { IfSome result (λ tries. IsTriesArgument tries (Some word.now)) }
 {
     let Ok(number) = word.parse::<i64>() else {
         return None;
@@ -445,7 +445,7 @@ fn number_in(word: &str) -> Option<u32>
 
 /// Returns the number of tries, 8 without an argument. Returns `None` if it isn't one of 0 to 1,000.
 pub(crate) fn tries_in(word: Option<&str>) -> Option<u32>
-    ensures { IfSome result (λ tries. AreTries tries (option_map (λ s. s.now) word.entry)) }
+    ensures { IfSome result (λ tries. IsTriesArgument tries (option_map (λ s. s.now) word.entry)) }
 {
     match word {
         Some(word) => number_in(word),
@@ -455,7 +455,7 @@ pub(crate) fn tries_in(word: Option<&str>) -> Option<u32>
 
 /// Returns how often a call is resumed, 0 without an argument. Returns `None` if it isn't one of 0 to 1,000.
 pub(crate) fn resumes_in(word: Option<&str>) -> Option<u32>
-    ensures { IfSome result (λ resumes. AreResumes resumes (option_map (λ s. s.now) word.entry)) }
+    ensures { IfSome result (λ resumes. IsResumeArgument resumes (option_map (λ s. s.now) word.entry)) }
 {
     match word {
         Some(word) => number_in(word),
@@ -472,7 +472,7 @@ pub(crate) fn is_asked_for(word: Option<&str>) -> bool
 
 // Returns the arguments of `swd run`.
 fn run_line(alloc: Global, matches: &ArgMatches<'_>) -> Result<RunLine, LineFault>
-    ensures { IfOk result (λ run. IsRunOf run (rows_of (found_of matches.now))) }
+    ensures { IfOk result (λ run. AreRunArguments run (rows_of (found_of matches.now))) }
 {
     let Ok(Some(script)) = owned(alloc, matches.get_str("SCRIPT")) else {
         return Err(LineFault::Memory);
@@ -511,7 +511,7 @@ fn run_line(alloc: Global, matches: &ArgMatches<'_>) -> Result<RunLine, LineFaul
 
 // Returns the arguments of `swd run`. Rejects options that can't be combined.
 fn matched_line(alloc: Global, matches: &ArgMatches<'_>) -> Result<RunLine, LineFault>
-    ensures { IfOk result (λ run. IsRunOf run (rows_of (found_of matches.now))) }
+    ensures { IfOk result (λ run. AreRunArguments run (rows_of (found_of matches.now))) }
 {
     let run = match run_line(alloc, matches) {
         Ok(run) => run,
@@ -537,8 +537,8 @@ fn why_unmatched(run: &RunLine) -> Option<&'static str> {
 }
 
 // Returns the command that was matched.
-fn line_of(alloc: Global, matches: &ArgMatches<'_>) -> Result<Line, LineFault>
-    ensures { IfOk result (λ l. IsLineOf l (subcommand_rows_of matches.now)) }
+fn line_of(alloc: Global, matches: &ArgMatches<'_>) -> Result<CommandLine, LineFault>
+    ensures { IfOk result (λ l. IsLineOfArguments l (subcommand_rows_of matches.now)) }
 {
     let Some((name, rest)) = matches.subcommand() else {
         return Err(unknown(alloc));
@@ -547,26 +547,26 @@ fn line_of(alloc: Global, matches: &ArgMatches<'_>) -> Result<Line, LineFault>
         return Err(LineFault::Memory);
     };
     match name {
-        "one" => Ok(Line::One(file)),
+        "one" => Ok(CommandLine::One(file)),
         "decode" => match decode_line(alloc, rest) {
-            Ok(decode) => Ok(Line::Decode(decode)),
+            Ok(decode) => Ok(CommandLine::Decode(decode)),
             Err(fault) => Err(fault),
         },
         "draw" => match draw_line(alloc, rest) {
-            Ok(draw) => Ok(Line::Draw(draw)),
+            Ok(draw) => Ok(CommandLine::Draw(draw)),
             Err(fault) => Err(fault),
         },
-        "encode" => Ok(Line::Encode(file)),
+        "encode" => Ok(CommandLine::Encode(file)),
         "run" => match matched_line(alloc, rest) {
-            Ok(run) => Ok(Line::Run(run)),
+            Ok(run) => Ok(CommandLine::Run(run)),
             Err(fault) => Err(fault),
         },
         "target" => match target_line(alloc, rest) {
-            Ok(target) => Ok(Line::Target(target)),
+            Ok(target) => Ok(CommandLine::Target(target)),
             Err(fault) => Err(fault),
         },
         _ => match image_line(alloc, name, rest) {
-            Ok(image) => Ok(Line::Image(image)),
+            Ok(image) => Ok(CommandLine::Image(image)),
             Err(fault) => Err(fault),
         },
     }
@@ -580,10 +580,10 @@ fn line_of(alloc: Global, matches: &ArgMatches<'_>) -> Result<Line, LineFault>
 ///
 /// - `Clap`: a usage error, the help or the version. If `clap`'s rules find errors, its kind is one of theirs.
 /// - `Memory`: out of memory.
-pub fn line<'a>(alloc: Global, words: &'a [&'a str]) -> Result<Line, LineFault>
-    ensures line { IfOk result (λ l. IsLineOf l (subcommand_of swd_app (map (λ w. w.now) words.entry.now))) }
+pub fn line<'a>(alloc: Global, words: &'a [&'a str]) -> Result<CommandLine, LineFault>
+    ensures line { IfOk result (λ l. IsLineOfArguments l (subcommand_of swd_app (map (λ w. w.now) words.entry.now))) }
     ensures right { IfOk result (λ _. fault_of swd_app (map (λ w. w.now) words.entry.now) ≡ []) }
-    ensures wrong { IfErr result (IsRefusal (fault_of swd_app (map (λ w. w.now) words.entry.now))) }
+    ensures wrong { IfErr result (IsArgumentsRefusal (fault_of swd_app (map (λ w. w.now) words.entry.now))) }
 {
     let Ok(command) = swd_command(alloc) else {
         return Err(LineFault::Memory);

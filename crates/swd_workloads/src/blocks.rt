@@ -1,5 +1,5 @@
 //! Reads one by one, and the same reads as a block.
-ghost use Rattle.swd_target.specs.Marks.{IsPlan};
+ghost use Rattle.swd_target.specs.Marks.{IsLegalPlan};
 
 use crate::random::{Random, SEED};
 use crate::workload::{ACCESSES, BASE, QUIRKS, ROUNDS, TRIES, add_report, plan};
@@ -21,7 +21,7 @@ fn reads(alloc: Global) -> Result<Vec<Access>, AllocError> {
 
 // One run under these marks. None when out of memory.
 fn one_run(alloc: Global, plan: Vec<Mark>, block: bool) -> Option<Report>
-    requires { IsPlan plan.items }
+    requires { IsLegalPlan plan.items }
 {
     let memory = Memory::new(alloc, BASE, WORDS, ACCESSES).ok()?;
     let mut bench = Bench::new(memory, QUIRKS, plan);

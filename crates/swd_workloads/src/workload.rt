@@ -1,7 +1,7 @@
 //! What is measured.
 ghost use Rattle.std.specs.Prelude.{IfOk};
-ghost use Rattle.swd_port.specs.Choices.{IsMark};
-ghost use Rattle.swd_target.specs.Marks.{IsPlan};
+ghost use Rattle.swd_port.specs.Choices.{IsPortMark};
+ghost use Rattle.swd_target.specs.Marks.{IsLegalPlan};
 
 use crate::random::{Random, SEED};
 use std::alloc::{AllocError, Global};
@@ -77,7 +77,7 @@ fn accesses(alloc: Global, random: Random) -> Result<Vec<Access>, AllocError> {
 
 // The mark of a request: mostly none.
 fn next_mark(random: &mut Random) -> Mark
-    ensures { IsMark result }
+    ensures { IsPortMark result }
 {
     match random.below(128) {
         0 | 1 => Mark::Wait,
@@ -88,7 +88,7 @@ fn next_mark(random: &mut Random) -> Mark
 
 /// The marks of a run.
 pub fn plan(alloc: Global, random: &mut Random) -> Result<Vec<Mark>, AllocError>
-    ensures { IfOk result (λ plan. IsPlan plan.items) }
+    ensures { IfOk result (λ plan. IsLegalPlan plan.items) }
 {
     let mut plan = Vec::with_capacity(alloc, MARKS as usize)?;
     for _ in 0..MARKS {

@@ -1,6 +1,6 @@
 //! Runs by the exports over both simulated targets, with worked results.
 ghost use Rattle.std.specs.Prelude.{IsTrue};
-ghost use Rattle.swd_target.specs.Marks.{IsPlan};
+ghost use Rattle.swd_target.specs.Marks.{IsLegalPlan};
 
 use super::driver::{
     ALL, BUS_FAULT, LOST, NO_RUN, TRIES_OUT, Told, WRITTEN, ZEROS, plain, read, run_from,
@@ -80,7 +80,7 @@ fn write_of(addr: u32, word: u32) -> Transfer {
 }
 
 fn are_legal(marks: &[Mark]) -> bool
-    ensures { IsTrue result → IsPlan marks.now }
+    ensures { IsTrue result → IsLegalPlan marks.now }
 {
     marks.iter().all(|mark| mark.legal())
 }

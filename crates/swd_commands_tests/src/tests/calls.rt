@@ -199,9 +199,9 @@ const RUNS: [Call; 16] = [
         b"end lost 0 begun 1\n",
         b"",
     ),
-    // A strict run fails where a bus fault was answered. Its report is that of any run.
+    // A strict run fails where a bus error was answered. Its report is that of any run.
     (
-        "a strict run with a bus fault",
+        "a strict run with a bus error",
         &["swd", "run", "-", "--strict"],
         SCRIPT,
         1,
@@ -209,7 +209,7 @@ const RUNS: [Call; 16] = [
         b"",
     ),
     (
-        "a strict run with a bus fault at a write",
+        "a strict run with a bus error at a write",
         &["swd", "run", "-", "--strict"],
         b"memory 0 1\nw 4 0\nr 0\n",
         1,
@@ -217,7 +217,7 @@ const RUNS: [Call; 16] = [
         b"",
     ),
     (
-        "a strict run without a bus fault",
+        "a strict run without a bus error",
         &["swd", "run", "-", "--strict"],
         b"memory 0 1\nw 0 0\nr 0\n",
         0,

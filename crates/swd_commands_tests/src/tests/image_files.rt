@@ -3,7 +3,7 @@ use super::expect::{expect_eq, expect_eq_at};
 use super::run_on;
 use std::test::Fail;
 use swd_image_files::Format;
-use swd_words::{Line, line};
+use swd_words::{CommandLine, line};
 
 // Only Q is sent for a file without bytes, and a dump of no bytes is the end record alone.
 #[test]
@@ -135,7 +135,7 @@ fn the_format_of_a_file_is_that_of_its_name_or_of_the_option(rt: HostRuntime) ->
             word.unwrap_or("--tries=8"),
         ];
         match line(rt.alloc(), words.as_slice()) {
-            Ok(Line::Image(image)) => expect_eq_at(&rt, &name, &image.format, &format),
+            Ok(CommandLine::Image(image)) => expect_eq_at(&rt, &name, &image.format, &format),
             _ => return Err(Fail::from("another command")),
         }
     }

@@ -2,7 +2,7 @@
 use super::expect::{expect_at, expect_eq, expect_eq_at};
 use super::run_on;
 use std::test::Fail;
-use swd_words::{ImageAction, Line, line};
+use swd_words::{CommandLine, ImageAction, line};
 
 // No bytes take no call: only Q is sent.
 #[test]
@@ -143,7 +143,7 @@ fn a_file_that_is_refused_leaves_the_line_unused(rt: HostRuntime) {
 // The action and the address of the arguments.
 fn parsed(rt: &HostRuntime, words: &[&str]) -> Result<Option<(ImageAction, u32)>, Fail> {
     match line(rt.alloc(), words) {
-        Ok(Line::Image(image)) => Ok(Some((image.action, image.addr))),
+        Ok(CommandLine::Image(image)) => Ok(Some((image.action, image.addr))),
         Ok(_) => Err(Fail::from("another command")),
         Err(_) => Ok(None),
     }

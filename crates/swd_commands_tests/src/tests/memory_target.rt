@@ -8,7 +8,7 @@ use std::io;
 use std::io::ErrorKind;
 use std::test::Fail;
 use swd_commands::{Files, Identity, Opened, run_words};
-use swd_words::{Line, LineFault, ServedMemory, line};
+use swd_words::{CommandLine, LineFault, ServedMemory, line};
 
 // A host in another language, against a target in another language: deadbeef is written at 20000000, and read back.
 const SESSION: &[u8] = b"\
@@ -410,7 +410,7 @@ fn said_of(alloc: Global, words: &[&str]) -> Result<String, Fail> {
 // Whether these words are a target with the memory `ram` from 1000 on, and the plan `p`.
 fn has_that_memory(alloc: Global, words: &[&str]) -> bool {
     match line(alloc, words) {
-        Ok(Line::Target(target)) => match &target.memory {
+        Ok(CommandLine::Target(target)) => match &target.memory {
             ServedMemory::File(memory) => {
                 let is_planned = matches!(&memory.plan, Some(plan) if plan.as_str() == "p");
                 memory.file.as_str() == "ram" && memory.base == 0x1000 && is_planned

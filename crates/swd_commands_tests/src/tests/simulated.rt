@@ -7,7 +7,7 @@ use std::io;
 use std::io::{ErrorKind, Read, Write};
 use std::test::Fail;
 use swd_commands::{Files, Identity, Opened, run_words};
-use swd_words::{ImageAction, Line, line};
+use swd_words::{CommandLine, ImageAction, line};
 
 // Five bytes from 20000002 on, and two from 20000011 on.
 const PIECES: &[u8] = b":020000042000DA\n:050002001122334455FA\n:02001100AABB88\n:00000001FF\n";
@@ -749,7 +749,7 @@ fn a_file_that_is_refused_changes_nothing(rt: HostRuntime) {
 
 // The address of the memory that these arguments name.
 fn base_in(alloc: Global, words: &[&str]) -> Option<u32> {
-    let Ok(Line::Image(image)) = line(alloc, words) else {
+    let Ok(CommandLine::Image(image)) = line(alloc, words) else {
         return None;
     };
     let memory = image.memory?;
@@ -778,7 +778,7 @@ fn a_base_is_the_address_of_a_word(rt: HostRuntime) -> Result<(), Fail> {
     let words = [
         "swd", "dump", "1", "2", "to", "--plan", "p", "--memory", "ram",
     ];
-    let Ok(Line::Image(image)) = line(rt.alloc(), words.as_slice()) else {
+    let Ok(CommandLine::Image(image)) = line(rt.alloc(), words.as_slice()) else {
         return Err(Fail::from("no command"));
     };
     expect_eq(&rt, &image.action, &ImageAction::Dump(2));

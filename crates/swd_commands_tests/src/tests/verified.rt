@@ -21,7 +21,7 @@ fn a_word_that_differs_takes_one_line(rt: HostRuntime) {
         ),
         (
             b"memory 20000000 1\nverify 30000000 deadbeef\n",
-            b"swd: script line 2: 30000000 gave a bus fault, not deadbeef\n",
+            b"swd: script line 2: 30000000 gave a bus error, not deadbeef\n",
             1,
         ),
         (b"memory 20000000 1\nuntil 20000000 1 0 3\n", b"", 0),

@@ -2,7 +2,7 @@
 use super::expect::expect_eq;
 use std::alloc::Global;
 use std::test::Fail;
-use swd_words::{DecodeLine, Line, LineFault, line};
+use swd_words::{CommandLine, DecodeLine, LineFault, line};
 
 // What `clap` says of the words: its help, or what is wrong with them.
 fn said_of(alloc: Global, words: &[&str]) -> Result<String, Fail> {
@@ -111,11 +111,16 @@ fn help_tells_each_word(rt: HostRuntime) -> Result<(), Fail> {
 #[test]
 fn words_without_a_file(rt: HostRuntime) {
     let one = line(rt.alloc(), ["swd", "one"].as_slice());
-    assert!(rt; matches!(one, Ok(Line::One(None))));
+    assert!(rt; matches!(one, Ok(CommandLine::One(None))));
     let decode = line(rt.alloc(), ["swd", "decode"].as_slice());
-    assert!(rt; matches!(decode, Ok(Line::Decode(DecodeLine { file: None, .. }))));
+    assert!(rt;
+        matches!(
+            decode,
+            Ok(CommandLine::Decode(DecodeLine { file: None, .. }))
+        )
+    );
     let encode = line(rt.alloc(), ["swd", "encode"].as_slice());
-    assert!(rt; matches!(encode, Ok(Line::Encode(None))));
+    assert!(rt; matches!(encode, Ok(CommandLine::Encode(None))));
 }
 
 #[test]
@@ -123,9 +128,9 @@ fn words_with_a_file(rt: HostRuntime) -> Result<(), Fail> {
     for command in ["one", "decode", "encode"] {
         let words = ["swd", command, "a"];
         let file = match (command, line(rt.alloc(), words.as_slice())) {
-            ("one", Ok(Line::One(file))) => file,
-            ("decode", Ok(Line::Decode(decode))) => decode.file,
-            ("encode", Ok(Line::Encode(file))) => file,
+            ("one", Ok(CommandLine::One(file))) => file,
+            ("decode", Ok(CommandLine::Decode(decode))) => decode.file,
+            ("encode", Ok(CommandLine::Encode(file))) => file,
             _ => None,
         };
         let name = file.ok_or("no name")?;
@@ -136,14 +141,14 @@ fn words_with_a_file(rt: HostRuntime) -> Result<(), Fail> {
 
 fn resumes_in(alloc: Global, words: &[&str]) -> Option<u32> {
     match line(alloc, words) {
-        Ok(Line::Run(run)) => Some(run.resumes),
+        Ok(CommandLine::Run(run)) => Some(run.resumes),
         _ => None,
     }
 }
 
 fn tries_in(alloc: Global, words: &[&str]) -> Option<u32> {
     match line(alloc, words) {
-        Ok(Line::Run(run)) => Some(run.tries),
+        Ok(CommandLine::Run(run)) => Some(run.tries),
         _ => None,
     }
 }
@@ -151,7 +156,7 @@ fn tries_in(alloc: Global, words: &[&str]) -> Option<u32> {
 #[test]
 fn words_of_a_run(rt: HostRuntime) -> Result<(), Fail> {
     let words = ["swd", "run", "s", "--plan", "p"];
-    let Ok(Line::Run(run)) = line(rt.alloc(), words.as_slice()) else {
+    let Ok(CommandLine::Run(run)) = line(rt.alloc(), words.as_slice()) else {
         return Err(Fail::from("no run"));
     };
     expect_eq(&rt, &run.script.as_str(), &"s");
@@ -169,7 +174,7 @@ fn words_of_a_run(rt: HostRuntime) -> Result<(), Fail> {
         "--accesses",
         "a",
     ];
-    let Ok(Line::Run(run)) = line(rt.alloc(), words.as_slice()) else {
+    let Ok(CommandLine::Run(run)) = line(rt.alloc(), words.as_slice()) else {
         return Err(Fail::from("no run"));
     };
     expect_eq(&rt, &run.script.as_str(), &"s");
@@ -179,12 +184,12 @@ fn words_of_a_run(rt: HostRuntime) -> Result<(), Fail> {
     expect_eq(&rt, &run.accesses.ok_or("no accesses")?.as_str(), &"a");
     assert!(rt; !run.strict && !run.progress);
     let words = ["swd", "run", "--strict", "s"];
-    let Ok(Line::Run(run)) = line(rt.alloc(), words.as_slice()) else {
+    let Ok(CommandLine::Run(run)) = line(rt.alloc(), words.as_slice()) else {
         return Err(Fail::from("no run"));
     };
     assert!(rt; run.strict && !run.progress);
     let words = ["swd", "run", "s", "--progress"];
-    let Ok(Line::Run(run)) = line(rt.alloc(), words.as_slice()) else {
+    let Ok(CommandLine::Run(run)) = line(rt.alloc(), words.as_slice()) else {
         return Err(Fail::from("no run"));
     };
     assert!(rt; run.progress && !run.strict);

@@ -1,6 +1,6 @@
 //! Texts at fault, and readers and writers that fail at each place.
 use super::expect::expect_eq_at;
-use super::told::{observe, trace_of};
+use super::observed::{observe, trace_of};
 use std::alloc::Global;
 use std::test::Fail;
 use swd_fakes::{FailingReader, OneByteReader, OneByteWriter, ShortWriter};

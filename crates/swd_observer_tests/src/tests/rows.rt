@@ -1,6 +1,6 @@
 //! What each transaction shows of the accesses before it, and of its own.
 use super::expect::expect_eq_at;
-use super::told::told_of;
+use super::observed::told_of;
 use std::test::Fail;
 
 // A listing, whether its target was just made, and the lines that are told.

@@ -2,38 +2,40 @@
 use Rattle.std.specs.Prelude.{ℕ, ◌≡◌, ◌<◌, ◌^◌, true, false}
 use Rattle.swd_port.specs.declared.access.Access.TheVariants.{Read, Write}
 use Rattle.swd_port.specs.declared.access.Answer.TheVariants.{Value}
-use Rattle.swd_port.specs.Registers.{no_select}
-use Rattle.swd_bits.specs.Phases.{IsPhaseOf}
-use Rattle.swd_port.specs.PlainMemory.{PlainMemory, word_at, plain_answer, plain_after}
-use Rattle.swd_port.specs.Port.{Port, Target, Live, RdbuffRead, DrwRead, DrwWrite, request_of}
-use Rattle.swd_port.specs.Asking.{Asks, has_power}
-use Rattle.swd_port.specs.Moving.{Takes, Gives}
-use Rattle.swd_port.specs.Transfers.{Aimed, Succeeded}
+use Rattle.swd_port.specs.Registers.{port_select_zero}
+use Rattle.swd_bits.specs.Phases.{IsDataPhaseOf}
+use Rattle.swd_port.specs.PlainMemory.{PlainMemory, plain_word_at, plain_answer, plain_after}
+use Rattle.swd_port.specs.Port.{Port, Target, Live, RdbuffRead, DrwRead, DrwWrite, port_request_for}
+use Rattle.swd_port.specs.Asking.{PortAsks, port_has_power}
+use Rattle.swd_port.specs.Moving.{PortTakes, PortGives}
+use Rattle.swd_port.specs.Transfers.{PortAimed, PortSucceeded}
 
 -- a target that is ready for transfers: live and powered, SELECT is 0, AddrInc is single, and WDATAERR is clear
-pub record Ready (x : Target) : Type 0 where
+pub record PortReady (x : Target) : Type 0 where
   pub live : x.reset ≡ Live
-  pub power : has_power x ≡ true
-  pub select : x.select ≡ no_select
+  pub power : port_has_power x ≡ true
+  pub select : x.select ≡ port_select_zero
   pub increments : x.increments ≡ true
   pub write_error : x.write_error ≡ false
 
 -- the request wasn't disturbed
-abbrev pub IsUndisturbed : Port → Port → Type 0
-IsUndisturbed s t = t.tally.disturbed ≡ s.tally.disturbed
+abbrev pub PortUndisturbed : Port → Port → Type 0
+PortUndisturbed s t = t.tally.disturbed ≡ s.tally.disturbed
 
 -- the requests of a word's write, each answered OK, with DRW's undisturbed: the write was done once
-abbrev pub WordWritten : Type 0
-WordWritten = (at word sent bits : ℕ) (m : PlainMemory) (s asked given confirmed t : Port) → Ready s.target →
-    Aimed at m s.target → word < 2 ^ 32 → sent < 2 ^ 33 → IsPhaseOf word sent → Asks s (request_of DrwWrite) 1 asked →
-    IsUndisturbed s asked → Gives asked sent given → Asks given (request_of RdbuffRead) 1 confirmed →
-    Takes confirmed bits t → Succeeded (Write at word) m t.target
+abbrev pub PortWordWritten : Type 0
+PortWordWritten = (at word sent bits : ℕ) (m : PlainMemory) (s asked given confirmed t : Port) → PortReady s.target →
+    PortAimed at m s.target → word < 2 ^ 32 → sent < 2 ^ 33 → IsDataPhaseOf word sent
+    → PortAsks s (port_request_for DrwWrite) 1 asked → PortUndisturbed s asked → PortGives asked sent given
+    → PortAsks given (port_request_for RdbuffRead) 1 confirmed →
+    PortTakes confirmed bits t → PortSucceeded (Write at word) m t.target
 
 -- The requests of a word's read, each answered OK, with the confirming one undisturbed: the read was done once, and
 -- RDBUFF returns its word.
-abbrev pub WordRead : Type 0
-WordRead = (at first_bits bits : ℕ) (m : PlainMemory) (s asked taken confirmed t : Port) → Ready s.target →
-    Aimed at m s.target → bits < 2 ^ 33 → Asks s (request_of DrwRead) 1 asked → Takes asked first_bits taken →
-    Asks taken (request_of RdbuffRead) 1 confirmed → IsUndisturbed taken confirmed → Takes confirmed bits t →
-    IsPhaseOf (word_at at m) bits × (plain_answer (Read at) m ≡ Value (word_at at m)) ×
+abbrev pub PortWordRead : Type 0
+PortWordRead = (at first_bits bits : ℕ) (m : PlainMemory) (s asked taken confirmed t : Port) → PortReady s.target →
+    PortAimed at m s.target → bits < 2 ^ 33 → PortAsks s (port_request_for DrwRead) 1 asked
+    → PortTakes asked first_bits taken → PortAsks taken (port_request_for RdbuffRead) 1 confirmed
+    → PortUndisturbed taken confirmed → PortTakes confirmed bits t →
+    IsDataPhaseOf (plain_word_at at m) bits × (plain_answer (Read at) m ≡ Value (plain_word_at at m)) ×
     (t.target.memory ≡ plain_after (Read at) m)

@@ -2,32 +2,32 @@
 use Rattle.std.specs.Prelude.{ℕ, ◌≡◌, ◌≢◌, ◌<◌, ◌≤◌, ◌+◌, ◌↔◌, Bool, false}
 use Rattle.swd_bits.specs.declared.request.Request.{Request}
 use Rattle.swd_bits.specs.declared.ack.Ack.{Ack}
-use Rattle.swd_bits.specs.Bits.{bit, low_bits, number}
-use Rattle.swd_bits.specs.Wire.{ack}
+use Rattle.swd_bits.specs.Bits.{bit, low_bits, bits_number}
+use Rattle.swd_bits.specs.Wire.{bits_of_ack}
 use Rattle.swd_port.specs.declared.wire.Due.TheVariants.{Lost}
 use Rattle.swd_port.specs.declared.cue.Cue.{Cue}
 use Rattle.swd_port.specs.Port.{Port, Seen}
-use Rattle.swd_port.specs.Answers.{due_after}
-use Rattle.swd_port.specs.Asking.{Asks}
-use Rattle.swd_port.specs.Stories.{IsStep, due_once, is_ask}
-use Rattle.swd_port.specs.Outcomes.{IsNoAcknowledgement}
+use Rattle.swd_port.specs.Answers.{port_due_after}
+use Rattle.swd_port.specs.Asking.{PortAsks}
+use Rattle.swd_port.specs.Stories.{IsPortStep, port_due_once, is_port_ask}
+use Rattle.swd_port.specs.Outcomes.{IsPortNoAck}
 
 -- what is due after a call follows from the cue and what was seen
-abbrev pub DueAfterStep : Type 0
-DueAfterStep = (cue : Cue) (seen : ℕ) (s t : Port) → IsStep cue seen s t → t.link.due ≡ due_once cue seen
+abbrev pub PortDueAfterStep : Type 0
+PortDueAfterStep = (cue : Cue) (seen : ℕ) (s t : Port) → IsPortStep cue seen s t → t.link.due ≡ port_due_once cue seen
 
 -- the three bits that were seen are an acknowledgement exactly if their number is its number, 1, 2 or 4
-abbrev pub AcknowledgementSeen : Type 0
-AcknowledgementSeen = (seen : ℕ) (a : Ack) → seen < 8 → (ack a ≡ low_bits 3 seen) ↔ (seen ≡ number (ack a))
+abbrev pub PortAckSeen : Type 0
+PortAckSeen = (seen : ℕ) (a : Ack) → seen < 8 → (bits_of_ack a ≡ low_bits 3 seen) ↔ (seen ≡ bits_number (bits_of_ack a))
 
 -- with any other number they aren't an acknowledgement, and only a line reset may follow
-abbrev pub NoAcknowledgementSeen : Type 0
-NoAcknowledgementSeen = (seen : ℕ) (read : Bool) → seen < 8 → ((a : Ack) → ack a ≢ low_bits 3 seen) →
-    IsNoAcknowledgement seen × (due_after read seen ≡ Lost)
+abbrev pub PortNoAckSeen : Type 0
+PortNoAckSeen = (seen : ℕ) (read : Bool) → seen < 8 → ((a : Ack) → bits_of_ack a ≢ low_bits 3 seen) →
+    IsPortNoAck seen × (port_due_after read seen ≡ Lost)
 
 -- a request adds one to the count of requests, and at most one to those of disturbed and of lost ones; what only hosts
 -- write is unchanged
-pub record Asked (s t : Port) : Type 0 where
+pub record PortAsked (s t : Port) : Type 0 where
   pub asked : t.tally.asked ≡ s.tally.asked + 1
   pub disturbed_least : s.tally.disturbed ≤ t.tally.disturbed
   pub disturbed_most : t.tally.disturbed ≤ s.tally.disturbed + 1
@@ -42,24 +42,25 @@ pub record Asked (s t : Port) : Type 0 where
   pub csw_upper : t.target.csw_upper ≡ s.target.csw_upper
   pub identification : t.target.identification ≡ s.target.identification
 
-abbrev pub RequestCounted : Type 0
-RequestCounted = (q : Request) (seen : ℕ) (s t : Port) → Asks s q seen t → Asked s t
+abbrev pub PortRequestCounted : Type 0
+PortRequestCounted = (q : Request) (seen : ℕ) (s t : Port) → PortAsks s q seen t → PortAsked s t
 
 -- no other call changes the counts
-abbrev pub OthersUncounted : Type 0
-OthersUncounted = (cue : Cue) (seen : ℕ) (s t : Port) → is_ask cue ≡ false → IsStep cue seen s t → t.tally ≡ s.tally
+abbrev pub PortOthersUncounted : Type 0
+PortOthersUncounted = (cue : Cue) (seen : ℕ) (s t : Port) → is_port_ask cue ≡ false → IsPortStep cue seen s t
+    → t.tally ≡ s.tally
 
 -- no call changes what DPIDR returns
-abbrev pub IdentificationKept : Type 0
-IdentificationKept = (cue : Cue) (seen : ℕ) (s t : Port) → IsStep cue seen s t
+abbrev pub PortIdentificationKept : Type 0
+PortIdentificationKept = (cue : Cue) (seen : ℕ) (s t : Port) → IsPortStep cue seen s t
     → t.target.identification ≡ s.target.identification
 
 -- a state with another count of requests
-abbrev pub with_asked : ℕ → Port → Port
-with_asked n s = record s { tally = record s.tally { asked = n } }
+abbrev pub port_with_asked : ℕ → Port → Port
+port_with_asked n s = record s { tally = record s.tally { asked = n } }
 
 -- The steps don't depend on that count: with another count, which each request raises by one, every call is a step
 -- again. So a wire that forwards calls conforms to the model with a count of its own.
-abbrev pub CountedApart : Type 0
-CountedApart = (n : ℕ) (cue : Cue) (seen : ℕ) (s t : Port) → IsStep cue seen s t
-    → IsStep cue seen (with_asked n s) (with_asked (n + bit (is_ask cue)) t)
+abbrev pub PortCountedApart : Type 0
+PortCountedApart = (n : ℕ) (cue : Cue) (seen : ℕ) (s t : Port) → IsPortStep cue seen s t
+    → IsPortStep cue seen (port_with_asked n s) (port_with_asked (n + bit (is_port_ask cue)) t)

@@ -3,25 +3,26 @@
 use Rattle.std.specs.Prelude.{ℕ, ◌≡◌, ◌<◌, ◌^◌, IfSome, false}
 use Rattle.swd_bits.specs.declared.request.Request.{Request}
 use Rattle.swd_port.specs.declared.cue.Cue.{Cue}
-use Rattle.swd_port.specs.PlainMemory.{word_at}
+use Rattle.swd_port.specs.PlainMemory.{plain_word_at}
 use Rattle.swd_port.specs.Port.{Port, Target}
-use Rattle.swd_port.specs.Choices.{Mark, IsMark, Choice}
-use Rattle.swd_port.specs.Completion.{Completes}
-use Rattle.swd_port.specs.Asking.{AsksNow}
-use Rattle.swd_port.specs.Stories.{IsStep, is_ask}
+use Rattle.swd_port.specs.Choices.{Mark, IsPortMark, Choice}
+use Rattle.swd_port.specs.Completion.{PortCompletes}
+use Rattle.swd_port.specs.Asking.{PortAsksNow}
+use Rattle.swd_port.specs.Stories.{IsPortStep, is_port_ask}
 
 -- each value that a read may return has 32 bits
-pub record IsOfWords (x : Target) : Type 0 where
+pub record PortReadsWords (x : Target) : Type 0 where
   pub identification : x.identification < 2 ^ 32
   pub buffer : IfSome x.buffer (λ word. word < 2 ^ 32)
   pub last_returned : IfSome x.last_returned (λ word. word < 2 ^ 32)
-  pub memory : (at : ℕ) → word_at at x.memory < 2 ^ 32
+  pub memory : (at : ℕ) → plain_word_at at x.memory < 2 ^ 32
 
 -- every request has a step under every mark, with some choice, after the pending transfer took effect or not
-abbrev pub EachRequestGoes : Type 0
-EachRequestGoes = (mark : Mark) (s : Port) (q : Request) → IsMark mark → IsOfWords s.target →
-    (seen : ℕ) × (t : Port) × (a : Port) × (c : Choice) × Completes s a × AsksNow mark c a q seen t
+abbrev pub PortRequestNeverStuck : Type 0
+PortRequestNeverStuck = (mark : Mark) (s : Port) (q : Request) → IsPortMark mark → PortReadsWords s.target →
+    (seen : ℕ) × (t : Port) × (a : Port) × (c : Choice) × PortCompletes s a × PortAsksNow mark c a q seen t
 
 -- every other call has a step
-abbrev pub EachCallGoes : Type 0
-EachCallGoes = (cue : Cue) (s : Port) → is_ask cue ≡ false → (seen : ℕ) × (t : Port) × IsStep cue seen s t
+abbrev pub PortCallNeverStuck : Type 0
+PortCallNeverStuck = (cue : Cue) (s : Port) → is_port_ask cue ≡ false → (seen : ℕ) × (t : Port)
+    × IsPortStep cue seen s t

@@ -1,6 +1,6 @@
 //! Lines that fail at each place.
 use super::expect::expect_eq;
-use super::line::{BASE, Cut, End, over, plain, server_of};
+use super::memory_server::{BASE, Cut, End, over, plain, server_of};
 use std::alloc::Global;
 use std::process::Abort;
 use std::test::Fail;

@@ -1,6 +1,6 @@
 //! Images over a served line, and the files that they come from.
 use super::expect::{expect_at, expect_eq, expect_eq_at};
-use super::line::{BASE, Cut, End, Task, Untold, plain, server_of, transfers};
+use super::memory_server::{BASE, Cut, End, Task, Untold, plain, server_of, transfers};
 use super::no_report;
 use linked_list_allocator::LocalHeap;
 use std::test::Fail;

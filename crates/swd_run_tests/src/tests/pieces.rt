@@ -1,6 +1,6 @@
 //! Images of several pieces over a served line. The checksums of the files were added up by hand.
 use super::expect::{expect_eq, expect_eq_at};
-use super::line::{BASE, Cut, End, Untold, plain, server_of, transfers};
+use super::memory_server::{BASE, Cut, End, Untold, plain, server_of, transfers};
 use super::no_report;
 use std::alloc::Global;
 use std::test::Fail;

@@ -7,7 +7,7 @@ use std::io::{Read, Write};
 use std::process::Abort;
 use std::test::Fail;
 use swd_bitbang::{Pins, Served, Trace, serve};
-use swd_clocked::MarkedClocked;
+use swd_clocked::FaultyClocked;
 use swd_fakes::{CountingWriter, FailingReader, ShortWriter, WatchingReader};
 use swd_port::Mark;
 use swd_target::{Memory, Quirks};
@@ -53,7 +53,7 @@ pub(super) fn pins_under(alloc: Global, request: usize, mark: Mark) -> Result<Pi
     if !plan.iter().all(|mark| mark.legal()) {
         return Err(Fail::from("a mark is not legal"));
     }
-    let target = MarkedClocked::new(memory, QUIRKS, plan);
+    let target = FaultyClocked::new(memory, QUIRKS, plan);
     Ok(Pins::new(target, Trace::new(alloc)))
 }
 

@@ -1,7 +1,7 @@
 //! Reports that are written while their calls go on. Each read of address 0 is three requests after the nine of the opening,
 //! and its line has 20 bytes.
 ghost use Rattle.std.specs.Prelude.{IfOk};
-ghost use Rattle.swd_target.specs.Marks.{IsPlan};
+ghost use Rattle.swd_target.specs.Marks.{IsLegalPlan};
 
 use super::TRIES;
 use super::expect::expect_eq_at;
@@ -79,7 +79,7 @@ struct Streamed {
 
 // The marks of a plan.
 pub(super) fn marks_of(alloc: Global, plan: &[u8]) -> Result<Vec<Mark>, Fail>
-    ensures { IfOk result (λ marks. IsPlan marks.items) }
+    ensures { IfOk result (λ marks. IsLegalPlan marks.items) }
 {
     let mut text = plan;
     match read_plan(alloc, &mut text) {

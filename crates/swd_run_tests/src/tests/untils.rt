@@ -1,7 +1,7 @@
 //! Reads that wait for a word: of a memory that stays, and of a target whose words change.
 ghost use Rattle.std.specs.FinMap.{empty};
 ghost use Rattle.std.specs.Prelude.{[]};
-ghost use Rattle.swd_port.specs.Port.{made};
+ghost use Rattle.swd_port.specs.Port.{port_made};
 
 use super::expect::{expect_eq, expect_eq_at};
 use super::{Ran, TRIES, only_trace, resumed_on};
@@ -10,7 +10,7 @@ use std::alloc::Global;
 use std::test::Fail;
 use swd_fakes::ShortWriter;
 use swd_host::End;
-use swd_port::{Cue, Disconnected, Due, Outside, Register, Story, Transport, Wire};
+use swd_port::{Cue, Disconnected, Due, Register, Story, Transport, TransportWire, Wire};
 use swd_run::{EngineFault, Finished, QUIRKS, Records, RunFault, run_batches, run_text};
 use swd_script::read_script;
 use swd_target::{Bench, Memory};
@@ -253,7 +253,7 @@ fn passed_on(bench: &mut Bench, cue: Cue) -> Result<u64, Disconnected> {
 struct Untold;
 
 impl Story for Untold {
-    ghost at = { λ _. made 0 (record { words = empty; log = []; room = 0 }) };
+    ghost at = { λ _. port_made 0 (record { words = empty; log = []; room = 0 }) };
 }
 
 // The calls of a script at a target whose reads give these words, and their report.
@@ -274,7 +274,7 @@ fn run_at(
         posted: false,
         returned: false,
     };
-    let wire: Outside<Changing, Untold> = Outside::new(changing);
+    let wire: TransportWire<Changing, Untold> = TransportWire::new(changing);
     let batches = script.batches.as_slice();
     let mut report = Vec::new(alloc);
     let (answer, _) = run_batches(

@@ -1,6 +1,6 @@
 //! Cycles, one after the other.
+use super::cycle_texts::{Part, failing};
 use super::expect::{expect_eq, expect_eq_at};
-use super::parts::{Part, failing};
 use super::recorded::RUN;
 use std::alloc::Global;
 use std::test::Fail;

@@ -1,6 +1,6 @@
 //! Cycles with FAULT, with damaged data, and with ones where they are no line reset of their own.
+use super::cycle_texts::{Part, failing};
 use super::expect::{expect_eq, expect_eq_at};
-use super::parts::{Part, failing};
 use std::alloc::Global;
 use std::test::Fail;
 use swd_clocked::Clocked;

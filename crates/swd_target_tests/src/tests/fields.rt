@@ -1,6 +1,6 @@
 //! A clocked target goes by its numbers alone.
+use super::cycle_texts::{Part, failing};
 use super::expect::expect_eq;
-use super::parts::{Part, failing};
 use super::recorded::RUN;
 use std::alloc::Global;
 use std::process::Abort;

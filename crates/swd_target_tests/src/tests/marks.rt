@@ -1,6 +1,6 @@
 //! Plans of a clocked bench.
 ghost use Rattle.std.specs.Prelude.{IsTrue};
-ghost use Rattle.swd_target.specs.Marks.{IsPlan};
+ghost use Rattle.swd_target.specs.Marks.{IsLegalPlan};
 
 use super::expect::expect_eq;
 use std::alloc::Global;
@@ -12,7 +12,7 @@ use swd_target::{Mark, Memory, Quirks};
 
 /// Each mark is legal.
 pub(super) fn are_legal(marks: &[Mark]) -> bool
-    ensures { IsTrue result → IsPlan marks.now }
+    ensures { IsTrue result → IsLegalPlan marks.now }
 {
     marks.iter().all(|mark| mark.legal())
 }

@@ -1,5 +1,5 @@
 //! A run that was recorded: the opening of a host, with no access after it.
-use super::parts::Part;
+use super::cycle_texts::Part;
 
 /// The cycles of the run, 552 of them: those that the host drives, and those that it doesn't. In a
 /// turnaround nobody drives the line, which reads 1.

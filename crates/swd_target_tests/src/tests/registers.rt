@@ -5,7 +5,7 @@ use std::fmt::Debug;
 use std::process::Abort;
 use std::test::Fail;
 use swd_bits::{Request, data_bits, word_of};
-use swd_port::{Line, Reply};
+use swd_port::{AfterAck, Reply};
 use swd_target::port::{Target, flip_bit};
 use swd_target::{Memory, Quirks};
 
@@ -88,7 +88,7 @@ fn read(target: &mut Target, byte: u8) -> Option<u32> {
     let request = Request::of(byte)?;
     let (_, phase) = target.request(false, request);
     match phase {
-        Line::Drives(bits) => word_of(bits),
+        AfterAck::Drives(bits) => word_of(bits),
         _ => None,
     }
 }
@@ -98,7 +98,7 @@ fn write(target: &mut Target, byte: u8, word: u32, flip: Option<u8>) -> bool {
         return false;
     };
     let (_, phase) = target.request(false, request);
-    let Line::Awaits(register, _) = phase else {
+    let AfterAck::Awaits(register, _) = phase else {
         return false;
     };
     let place = flip.unwrap_or(0);

@@ -1,6 +1,6 @@
 //! Runs over wires that damage and lose nothing.
 use super::expect::expect_eq;
-use super::row::{
+use super::host_runs::{
     BASE, QUIRKS, READ, READ_WORD, READ_ZERO, RUN, Row, Run, WHOLE, WORD, WRITE, WRITTEN, Wanted,
     all_come_out, report_of, target_of,
 };

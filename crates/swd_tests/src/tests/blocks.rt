@@ -1,7 +1,9 @@
 //! Blocks of reads: each word comes with the request for the next one.
 use super::engine::{opened, passed, seen, taken};
 use super::expect::expect_eq;
-use super::row::{ALL_QUIRKS, BASE, QUIRKS, READ_ZERO, RUN, Run, WHOLE, Wanted, leaves, target_of};
+use super::host_runs::{
+    ALL_QUIRKS, BASE, QUIRKS, READ_ZERO, RUN, Run, WHOLE, Wanted, leaves, target_of,
+};
 use crate::Simulated;
 use std::alloc::Global;
 use std::process::Abort;

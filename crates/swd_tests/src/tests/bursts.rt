@@ -1,5 +1,5 @@
 //! Runs of writes at addresses that follow each other: each is confirmed by the next one's request.
-use super::row::{BURST, BURST_LOG, RUN, Row, Run, WHOLE, WRITTEN, Wanted, all_come_out};
+use super::host_runs::{BURST, BURST_LOG, RUN, Row, Run, WHOLE, WRITTEN, Wanted, all_come_out};
 use std::test::Fail;
 use swd_host::End;
 use swd_port::{Answer, Transfer};

@@ -1,5 +1,7 @@
 //! Runs over wires that change a bit of a data phase.
-use super::row::{READ, READ_ZERO, RUN, Row, Run, WHOLE, WRITE, WRITTEN, Wanted, all_come_out};
+use super::host_runs::{
+    READ, READ_ZERO, RUN, Row, Run, WHOLE, WRITE, WRITTEN, Wanted, all_come_out,
+};
 use std::test::Fail;
 use swd_host::End;
 use swd_port::{Access, Answer, Transfer};

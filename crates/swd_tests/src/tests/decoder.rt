@@ -1,6 +1,6 @@
 //! Worked traces, bit by bit and in two pieces at every cut.
 ghost use Rattle.std.specs.Prelude.{OnOk};
-ghost use Rattle.swd_trace.specs.Held.{IsSettled};
+ghost use Rattle.swd_trace.specs.Held.{IsDecoderSettled};
 
 use super::expect::{expect_eq, expect_eq_at};
 use std::alloc::{AllocError, Global};
@@ -101,7 +101,7 @@ fn number_of(bits: &[bool]) -> u64 {
 }
 
 fn list_due(decoder: &mut Decoder, text: &mut String) -> Result<(), AllocError>
-    ensures { OnOk result (IsSettled decoder.new) }
+    ensures { OnOk result (IsDecoderSettled decoder.new) }
 {
     while let Some(item) = decoder.due() {
         list(text, &item)?;
@@ -111,8 +111,8 @@ fn list_due(decoder: &mut Decoder, text: &mut String) -> Result<(), AllocError>
 
 // Takes one piece, as many bits at once as the decoder does.
 fn take_piece(decoder: &mut Decoder, bits: &[bool], text: &mut String) -> Result<(), AllocError>
-    requires { IsSettled decoder.old }
-    ensures { OnOk result (IsSettled decoder.new) }
+    requires { IsDecoderSettled decoder.old }
+    ensures { OnOk result (IsDecoderSettled decoder.new) }
 {
     let mut rest = bits;
     while !rest.is_empty() && decoder.fed() < u64::MAX - 64 {

@@ -1,6 +1,6 @@
 //! An engine driven by hand.
 use super::expect::{expect_at, expect_eq, expect_eq_at};
-use super::row::{QUIRKS, READ, WRITE, run_of, target_of};
+use super::host_runs::{QUIRKS, READ, WRITE, run_of, target_of};
 use std::alloc::Global;
 use std::process::Abort;
 use std::test::Fail;

@@ -1,7 +1,7 @@
 //! Every changed bit, every pair of them and every lost acknowledgement, at each request of two lists: a
 //! write and a read of a word, and a burst of four writes.
 use super::expect::{expect_at, expect_eq_at};
-use super::row::{
+use super::host_runs::{
     QUIRKS, READ, READ_WORD, WHOLE, WORD, WRITE, WRITTEN, Wanted, report_of, run_of, target_of,
 };
 use crate::Simulated;

@@ -1,7 +1,9 @@
 //! Power that isn't there yet when a host looks for it: a `Wait` mark at a read of CTRL/STAT.
+use super::bench_steps::{Step, failing, make};
 use super::expect::expect_eq_at;
-use super::row::{FILLER, QUIRKS, RUN, Row, Run, WHOLE, WRITE, WRITTEN, Wanted, all_come_out};
-use super::steps::{Step, failing, make};
+use super::host_runs::{
+    FILLER, QUIRKS, RUN, Row, Run, WHOLE, WRITE, WRITTEN, Wanted, all_come_out,
+};
 use crate::Simulated;
 use std::alloc::Global;
 use std::process::Abort;

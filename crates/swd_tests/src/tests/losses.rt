@@ -1,9 +1,9 @@
 //! Runs over wires that lose an acknowledgement.
 use super::expect::expect_eq;
-use super::items::{lost, recorder_over};
-use super::row::{
+use super::host_runs::{
     QUIRKS, RUN, Row, Run, WRITE, WRITTEN, Wanted, all_come_out, report_of, target_of,
 };
+use super::items::{lost, recorder_over};
 use crate::Simulated;
 use std::alloc::Global;
 use std::process::Abort;

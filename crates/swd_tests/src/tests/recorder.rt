@@ -1,7 +1,7 @@
 //! A recorder over a simulated target, call by call.
 use super::expect::expect_eq;
+use super::host_runs::{QUIRKS, run_of, target_of};
 use super::items::{lost, moved, recorder_over};
-use super::row::{QUIRKS, run_of, target_of};
 use crate::Simulated;
 use std::test::Fail;
 use swd_bits::Request;

@@ -1,9 +1,9 @@
 //! Lists that a host doesn't do, and out of memory.
 use super::expect::{expect_eq, expect_eq_at};
-use super::items::recorder_over;
-use super::row::{
+use super::host_runs::{
     BASE, QUIRKS, READ, READ_WORD, RUN, Run, WORD, WRITE, WRITTEN, report_of, run_of, target_of,
 };
+use super::items::recorder_over;
 use crate::Simulated;
 use linked_list_allocator::LocalHeap;
 use std::alloc::{Allocator, Global};

@@ -1,7 +1,7 @@
 //! An engine driven through a write and a read, and given each other reply at each of their requests.
 use super::engine::{goes_on, passed, seen, starts, taken};
 use super::expect::expect_eq_at;
-use super::row::{QUIRKS, READ, WRITE, run_of, target_of};
+use super::host_runs::{QUIRKS, READ, WRITE, run_of, target_of};
 use std::alloc::Global;
 use std::test::Fail;
 use swd_host::{End, Engine, Outcome};

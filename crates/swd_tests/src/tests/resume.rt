@@ -1,10 +1,10 @@
 //! Going on after a lost acknowledgement.
 ghost use Rattle.std.specs.Prelude.{◌≤◌, IfOk, IfSome, length};
-ghost use Rattle.swd_host.specs.Plain.{AreAccesses};
-ghost use Rattle.swd_host.specs.Reports.{told_of};
+ghost use Rattle.swd_host.specs.Plain.{AreHostAccesses};
+ghost use Rattle.swd_host.specs.Reports.{host_report_of};
 
 use super::expect::{expect_at, expect_eq, expect_eq_at};
-use super::row::{
+use super::host_runs::{
     QUIRKS, READ, READ_WORD, READ_ZERO, RUN, Run, WHOLE, WORD, WRITE, WRITTEN, Wanted, run_of,
     target_of, tells,
 };
@@ -33,8 +33,8 @@ fn begun<S: Simulated + Drop>(
     late: bool,
 ) -> Result<Option<Stage<S>>, Fail>
     ensures { IfOk result (λ found. IfSome found (λ stage. (length run.now.accesses.now ≤ 65536)
-        × AreAccesses run.now.accesses.now
-        × (length (told_of stage.report).answers ≤ length run.now.accesses.now))) }
+        × AreHostAccesses run.now.accesses.now
+        × (length (host_report_of stage.report).answers ≤ length run.now.accesses.now))) }
 {
     begun_on(alloc, alloc, run, late)
 }
@@ -47,8 +47,8 @@ fn begun_on<S: Simulated + Drop, A: Allocator>(
     late: bool,
 ) -> Result<Option<Stage<S, A>>, Fail>
     ensures { IfOk result (λ found. IfSome found (λ stage. (length run.now.accesses.now ≤ 65536)
-        × AreAccesses run.now.accesses.now
-        × (length (told_of stage.report).answers ≤ length run.now.accesses.now))) }
+        × AreHostAccesses run.now.accesses.now
+        × (length (host_report_of stage.report).answers ≤ length run.now.accesses.now))) }
 {
     let quirks = Quirks { late, ..QUIRKS };
     let Some(mut target) = target_of::<S>(global, run, quirks)? else {
@@ -65,9 +65,9 @@ fn gone_on<S: Simulated + Drop>(
     stage: Stage<S>,
     tries: u32,
 ) -> Result<Stage<S>, Fail>
-    requires accepted { (length accesses.now ≤ 65536) × AreAccesses accesses.now }
-    requires reported { length (told_of stage.report).answers ≤ length accesses.now }
-    ensures { IfOk result (λ stage. length (told_of stage.report).answers ≤ length accesses.now) }
+    requires accepted { (length accesses.now ≤ 65536) × AreHostAccesses accesses.now }
+    requires reported { length (host_report_of stage.report).answers ≤ length accesses.now }
+    ensures { IfOk result (λ stage. length (host_report_of stage.report).answers ≤ length accesses.now) }
 {
     let Stage { mut target, report } = stage;
     match report.ended {
@@ -342,9 +342,9 @@ fn tried_on<S: Simulated + Drop, A: Allocator>(
     accesses: &[Access],
     stage: Stage<S, A>,
 ) -> (Stage<S, A>, Option<Refused>)
-    requires accepted { (length accesses.now ≤ 65536) × AreAccesses accesses.now }
-    requires reported { length (told_of stage.report).answers ≤ length accesses.now }
-    ensures { length (told_of result.0.report).answers ≤ length accesses.now }
+    requires accepted { (length accesses.now ≤ 65536) × AreHostAccesses accesses.now }
+    requires reported { length (host_report_of stage.report).answers ≤ length accesses.now }
+    ensures { length (host_report_of result.0.report).answers ≤ length accesses.now }
 {
     let Stage { mut target, report } = stage;
     match report.ended {

@@ -1,11 +1,11 @@
 //! What going on sends, request by request.
 use super::expect::expect_eq_at;
+use super::host_runs::{BASE, FILLER, QUIRKS, READ, RUN, Run, WORD, WRITE, target_of};
 use super::items::recorder_over;
-use super::order::{
+use super::request_order::{
     ABORT, CSW, CSW_WRITE, CTRL_STAT, CTRL_STAT_WRITE, DPIDR, DRW, DRW_WRITE, IDLE, RDBUFF, SELECT,
     Sent, TAR, items_of,
 };
-use super::row::{BASE, FILLER, QUIRKS, READ, RUN, Run, WORD, WRITE, target_of};
 use crate::Simulated;
 use std::alloc::Global;
 use std::process::Abort;

@@ -1,11 +1,11 @@
 //! Blocks that are resumed, over words of which none is zero: wherever acknowledgements are lost, each word comes as it
 //! is in the memory, and a report tells every access that may have taken place.
 ghost use Rattle.std.specs.Prelude.{◌≤◌, IfOk, IfSome, length};
-ghost use Rattle.swd_host.specs.Plain.{AreAccesses};
-ghost use Rattle.swd_host.specs.Reports.{told_of};
+ghost use Rattle.swd_host.specs.Plain.{AreHostAccesses};
+ghost use Rattle.swd_host.specs.Reports.{host_report_of};
 
 use super::expect::{expect_at, expect_eq_at};
-use super::row::{BASE, QUIRKS, RUN, Run, target_of};
+use super::host_runs::{BASE, QUIRKS, RUN, Run, target_of};
 use crate::Simulated;
 use std::alloc::Global;
 use std::process::Abort;
@@ -56,8 +56,8 @@ fn filled<S: Simulated>(alloc: Global, target: &mut S) -> Result<Option<Report>,
 // Reads them as a block.
 fn read_as_block<S: Simulated + Drop>(alloc: Global, target: S) -> Result<Option<Stage<S>>, Fail>
     ensures { IfOk result (λ found. IfSome found (λ stage. (length stage.accesses.items ≤ 65536)
-        × AreAccesses stage.accesses.items
-        × (length (told_of stage.report).answers ≤ length stage.accesses.items))) }
+        × AreHostAccesses stage.accesses.items
+        × (length (host_report_of stage.report).answers ≤ length stage.accesses.items))) }
 {
     let mut target = target;
     let Due::Nothing = target.due() else {
@@ -75,10 +75,10 @@ fn read_as_block<S: Simulated + Drop>(alloc: Global, target: S) -> Result<Option
 
 // Goes on with them, where an acknowledgement was lost.
 fn gone_on<S: Simulated + Drop>(alloc: Global, stage: Stage<S>) -> Result<Stage<S>, Fail>
-    requires { (length stage.accesses.items ≤ 65536) × AreAccesses stage.accesses.items
-        × (length (told_of stage.report).answers ≤ length stage.accesses.items) }
-    ensures { IfOk result (λ stage. (length stage.accesses.items ≤ 65536) × AreAccesses stage.accesses.items
-        × (length (told_of stage.report).answers ≤ length stage.accesses.items)) }
+    requires { (length stage.accesses.items ≤ 65536) × AreHostAccesses stage.accesses.items
+        × (length (host_report_of stage.report).answers ≤ length stage.accesses.items) }
+    ensures { IfOk result (λ stage. (length stage.accesses.items ≤ 65536) × AreHostAccesses stage.accesses.items
+        × (length (host_report_of stage.report).answers ≤ length stage.accesses.items)) }
 {
     let Stage {
         mut target,

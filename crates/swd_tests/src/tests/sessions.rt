@@ -1,5 +1,5 @@
 //! Calls one after the other over one target: an image that is longer than a call takes, and its verification.
-use super::row::{BASE, QUIRKS, are_legal};
+use super::host_runs::{BASE, QUIRKS, are_legal};
 use crate::Simulated;
 use std::alloc::Global;
 use std::process::Abort;

@@ -2,12 +2,12 @@
 ghost use Rattle.std.specs.Vec.{vec_capacity};
 
 use super::expect::expect_eq_at;
-use super::outside::{Bridge, Untold, behind};
-use super::row::WRITE;
+use super::host_runs::WRITE;
+use super::transports::{Bridge, Untold, behind};
 use std::cell::Cell;
 use std::test::Fail;
 use swd_host::{AnswerSink, Bursts, End, Ending, Refused, run_to};
-use swd_port::{Access, Answer, Cue, Disconnected, Outside, Transport};
+use swd_port::{Access, Answer, Cue, Disconnected, Transport, TransportWire};
 
 // A target whose calls are counted.
 #[derive(Drop)]
@@ -137,7 +137,7 @@ fn answers_come_when_their_access_is_confirmed(rt: HostRuntime) -> Result<(), Fa
         let Some(bridge) = behind(alloc, reaching)? else {
             panic!(rt; "a mark isn't legal");
         };
-        let mut wire: Outside<Watched, Untold> = Outside::new(Watched {
+        let mut wire: TransportWire<Watched, Untold> = TransportWire::new(Watched {
             bridge,
             calls: &calls,
         });

@@ -1,6 +1,6 @@
 //! What each simulated end of a wire has to do, by the tables of the debug port and the access port.
-use super::row::FILLER;
-use super::steps::Step;
+use super::bench_steps::Step;
+use super::host_runs::FILLER;
 use swd_port::Register;
 use swd_target::Mark;
 

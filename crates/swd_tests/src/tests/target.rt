@@ -1,7 +1,7 @@
 //! The tables over each simulated target.
+use super::bench_steps::{Step, failing, make};
 use super::expect::{expect_at, expect_eq_at};
-use super::row::FILLER;
-use super::steps::{Step, failing, make};
+use super::host_runs::FILLER;
 use super::tables::{MARKED, ROWS, Row};
 use crate::Simulated;
 use std::alloc::Global;

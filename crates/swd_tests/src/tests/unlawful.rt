@@ -1,7 +1,9 @@
 //! Which request follows a reply that no target gives that keeps the law: an engine driven by hand.
 use super::engine::{CONFUSED, Row, Turn, all_go};
-use super::order::{ABORT, CSW_WRITE, CTRL_STAT, DRW, DRW_WRITE, RDBUFF, RESEND, SELECT, TAR};
-use super::row::{BASE, READ, WORD, WRITE};
+use super::host_runs::{BASE, READ, WORD, WRITE};
+use super::request_order::{
+    ABORT, CSW_WRITE, CTRL_STAT, DRW, DRW_WRITE, RDBUFF, RESEND, SELECT, TAR,
+};
 use swd_host::{End, Outcome};
 use swd_port::{Access, Answer};
 

@@ -1,7 +1,7 @@
 //! A decoder as a struct of numbers, for callers that keep it in their own memory, such as C programs.
 ghost use Rattle.std.specs.Prelude.{◌≡◌, ℕ, Bool, List, IsSome, IfSome, IsTrue};
-ghost use Rattle.swd_trace.specs.Holding.{Holds};
-ghost use Rattle.swd_trace.specs.Modes.{IsRun, mode_at, mode_number};
+ghost use Rattle.swd_trace.specs.Holding.{DecoderHolds};
+ghost use Rattle.swd_trace.specs.Modes.{IsDecoderRun, decoder_mode_at, decoder_mode_number};
 
 use super::Decoder;
 use crate::mode::Mode;
@@ -23,7 +23,7 @@ pub struct DecoderFields {
 }
 
 fn number_of_mode(mode: Mode) -> u8
-    ensures { result ≡ mode_number mode }
+    ensures { result ≡ decoder_mode_number mode }
 {
     match mode {
         Mode::Synced => 1,
@@ -36,7 +36,7 @@ fn number_of_mode(mode: Mode) -> u8
 // Any other number gives some mode, and `DecoderFields::decoder` then rejects it, since that mode has another
 // number.
 fn mode_with(number: u8) -> Mode
-    ensures { result ≡ mode_at number }
+    ensures { result ≡ decoder_mode_at number }
 {
     match number {
         1 => Mode::Synced,
@@ -48,13 +48,13 @@ fn mode_with(number: u8) -> Mode
 
 impl DecoderFields {
     ghost use Rattle.swd_trace.specs.DecoderNumbers.{IsDecoder, decoder_fields, rest_in};
-    ghost use Rattle.swd_trace.specs.Held.{rest};
+    ghost use Rattle.swd_trace.specs.Held.{decoder_rest};
 
     /// Restores the decoder with these numbers. Returns `None` if no decoder has them.
     pub fn decoder(&self) -> Option<Decoder>
         ensures found { IsDecoder self.now → IsSome result }
         ensures same { IfSome result (λ d. decoder_fields d ≡ self.now) }
-        ensures rest { IfSome result (λ d. (more : List Bool) → rest d more ≡ rest_in self.now more) }
+        ensures rest { IfSome result (λ d. (more : List Bool) → decoder_rest d more ≡ rest_in self.now more) }
     {
         let mode = mode_with(self.mode);
         let one = self.one == 1;
@@ -79,8 +79,8 @@ impl DecoderFields {
 
     // Returns whether these can be the parts of a decoder.
     fn is_sound(&self, mode: Mode, one: bool) -> bool
-        ensures sound { IsTrue result → Holds mode one self.now.run self.now.len self.now.bits 1 self.now.fed }
-        ensures all { (next : ℕ) → Holds mode one self.now.run self.now.len self.now.bits next self.now.fed
+        ensures sound { IsTrue result → DecoderHolds mode one self.now.run self.now.len self.now.bits 1 self.now.fed }
+        ensures all { (next : ℕ) → DecoderHolds mode one self.now.run self.now.len self.now.bits next self.now.fed
             → IsTrue result }
     {
         if self.len > 50 || self.bits >> self.len != 0 {
@@ -95,8 +95,8 @@ impl DecoderFields {
     // Returns whether this is a run, and at most one bit after it, which ends it. A run of zeros needs mode
     // synced.
     fn is_run(&self, mode: Mode, one: bool) -> bool
-        ensures sound { IsTrue result → IsRun mode one self.now.run self.now.len self.now.bits self.now.fed }
-        ensures all { IsRun mode one self.now.run self.now.len self.now.bits self.now.fed → IsTrue result }
+        ensures sound { IsTrue result → IsDecoderRun mode one self.now.run self.now.len self.now.bits self.now.fed }
+        ensures all { IsDecoderRun mode one self.now.run self.now.len self.now.bits self.now.fed → IsTrue result }
     {
         let room = self.fed.saturating_sub(self.run);
         if self.run > self.fed || u64::from(self.len) > room || self.len > 1 {
@@ -111,12 +111,12 @@ impl DecoderFields {
 
 impl Decoder {
     ghost use Rattle.swd_trace.specs.DecoderNumbers.{decoder_fields, rest_in};
-    ghost use Rattle.swd_trace.specs.Held.{rest};
+    ghost use Rattle.swd_trace.specs.Held.{decoder_rest};
 
     /// Returns the state of the decoder as numbers.
     pub fn fields(&self) -> DecoderFields
         ensures fields { result ≡ decoder_fields self.now }
-        ensures rest { (more : List Bool) → rest_in result more ≡ rest self.now more }
+        ensures rest { (more : List Bool) → rest_in result more ≡ decoder_rest self.now more }
     {
         DecoderFields {
             fed: self.fed,

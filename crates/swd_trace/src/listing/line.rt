@@ -1,13 +1,13 @@
 //! Parses one line of a listing.
 ghost use Rattle.std.specs.Prelude.{◌≡◌, ℕ, ◌++◌, List, Bool, Some, IfSome, IsSomeAnd};
 ghost use Rattle.std.specs.Fmt.{decimal};
-ghost use Rattle.swd_bits.specs.Listing.{port, address, direction, outcome, tx_line};
-ghost use Rattle.swd_bits.specs.Transactions.{IsEnd, IsTx};
+ghost use Rattle.swd_bits.specs.Listing.{tx_line_port, tx_line_address, tx_line_direction, tx_line_outcome, tx_line};
+ghost use Rattle.swd_bits.specs.Transactions.{IsTxEnd, IsTx};
 ghost use Rattle.swd_bits.specs.declared.request.Reg4.{Reg4};
 ghost use Rattle.swd_bits.specs.declared.tx.Tx.{Tx};
 ghost use Rattle.swd_bits.specs.declared.tx.TxEnd.{TxEnd};
 ghost use Rattle.swd_trace.specs.declared.item.Item.{Item};
-ghost use Rattle.swd_trace.specs.Listed.{IsLegal, IsLine};
+ghost use Rattle.swd_trace.specs.Listed.{IsLegalItem, IsItemLine};
 ghost use Rattle.swd_trace.specs.Texts.{item_line};
 
 use crate::item::Item;
@@ -17,8 +17,8 @@ use swd_bits::{Reg4, Request, Tx, TxEnd};
 /// Returns the item whose line, without the line feed, is exactly this. Returns `None` if there is no such
 /// item: leading zeros, upper case and extra spaces are rejected.
 pub(crate) fn item_of(line: &[u8]) -> Option<Item>
-    ensures found { IfSome result (λ item. IsLine line.now item) }
-    ensures only { (item : Item) → IsLine line.now item → result ≡ Some item }
+    ensures found { IfSome result (λ item. IsItemLine line.now item) }
+    ensures only { (item : Item) → IsItemLine line.now item → result ≡ Some item }
 {
     let item = candidate(line)?;
     // accepts only the exact line of the item
@@ -32,8 +32,8 @@ pub(crate) fn item_of(line: &[u8]) -> Option<Item>
 
 // Returns the item of its line. Of any other line it may return some item.
 fn candidate(line: &[u8]) -> Option<Item>
-    ensures legal { IfSome result IsLegal }
-    ensures found { (item : Item) → IsLegal item → line.now ≡ item_line item → result ≡ Some item }
+    ensures legal { IfSome result IsLegalItem }
+    ensures found { (item : Item) → IsLegalItem item → line.now ≡ item_line item → result ≡ Some item }
 {
     if line == b"switch".as_slice() {
         return Some(Item::Switch);
@@ -70,7 +70,7 @@ fn transaction_of(line: &[u8]) -> Option<Tx>
 
 // Returns whether the port is the AP, and the rest.
 fn port_of(line: &[u8]) -> Option<(bool, &[u8])>
-    ensures { (ap : Bool) (rest : List ℕ) → line.now ≡ port ap ++ rest
+    ensures { (ap : Bool) (rest : List ℕ) → line.now ≡ tx_line_port ap ++ rest
         → IsSomeAnd result (λ r. (r.0 ≡ ap) × (r.1.now ≡ rest)) }
 {
     if let Some(rest) = line.strip_prefix(b"ap ") {
@@ -81,7 +81,7 @@ fn port_of(line: &[u8]) -> Option<(bool, &[u8])>
 
 // Returns the register address, and the rest.
 fn address_of(line: &[u8]) -> Option<(Reg4, &[u8])>
-    ensures { (addr : Reg4) (rest : List ℕ) → line.now ≡ address addr ++ rest
+    ensures { (addr : Reg4) (rest : List ℕ) → line.now ≡ tx_line_address addr ++ rest
         → IsSomeAnd result (λ r. (r.0 ≡ addr) × (r.1.now ≡ rest)) }
 {
     if let Some(rest) = line.strip_prefix(b"0 ") {
@@ -98,7 +98,7 @@ fn address_of(line: &[u8]) -> Option<(Reg4, &[u8])>
 
 // Returns whether the direction is a read, and the rest.
 fn direction_of(line: &[u8]) -> Option<(bool, &[u8])>
-    ensures { (read : Bool) (rest : List ℕ) → line.now ≡ direction read ++ rest
+    ensures { (read : Bool) (rest : List ℕ) → line.now ≡ tx_line_direction read ++ rest
         → IsSomeAnd result (λ r. (r.0 ≡ read) × (r.1.now ≡ rest)) }
 {
     if let Some(rest) = line.strip_prefix(b"read ") {
@@ -109,8 +109,8 @@ fn direction_of(line: &[u8]) -> Option<(bool, &[u8])>
 
 // Returns the result with this name. Of any other bytes it may return some result.
 fn result_of(text: &[u8]) -> Option<TxEnd>
-    ensures legal { IfSome result IsEnd }
-    ensures found { (end : TxEnd) → IsEnd end → text.now ≡ outcome end → result ≡ Some end }
+    ensures legal { IfSome result IsTxEnd }
+    ensures found { (end : TxEnd) → IsTxEnd end → text.now ≡ tx_line_outcome end → result ≡ Some end }
 {
     if text == b"wait".as_slice() {
         return Some(TxEnd::Wait);
@@ -135,8 +135,8 @@ fn result_of(text: &[u8]) -> Option<TxEnd>
 
 // Returns the result for the number of three bits that aren't OK, WAIT or FAULT.
 fn no_ack_of(digits: &[u8]) -> Option<TxEnd>
-    ensures legal { IfSome result IsEnd }
-    ensures found { (seen : ℕ) → IsEnd (TxEnd.NoAck seen) → digits.now ≡ decimal seen
+    ensures legal { IfSome result IsTxEnd }
+    ensures found { (seen : ℕ) → IsTxEnd (TxEnd.NoAck seen) → digits.now ≡ decimal seen
         → result ≡ Some (TxEnd.NoAck seen) }
 {
     match seen_in(digits) {

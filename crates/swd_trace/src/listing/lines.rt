@@ -1,9 +1,8 @@
 //! Collects the lines of a listing, byte by byte.
 ghost use Rattle.std.specs.Prelude.{◌≡◌, ◌+◌, ◌^◌, ◌<◌, ◌∷◌, ◌++◌, [], ℕ, List, length, true, OnOk, IfOk, IfErr};
-ghost use Rattle.swd_bits.specs.Transactions.{spelling};
-ghost use Rattle.swd_trace.specs.Listed.{AreLegal};
-ghost use Rattle.swd_trace.specs.Listed.{lines, Lists, Refuses};
-ghost use Rattle.swd_trace.specs.Taken.{Takes};
+ghost use Rattle.swd_bits.specs.Transactions.{tx_spelling_bits};
+ghost use Rattle.swd_trace.specs.Listed.{AreLegalItems, listing_lines, ListsItems, RefusesListing};
+ghost use Rattle.swd_trace.specs.Taken.{ListingTakes};
 ghost use Rattle.swd_trace.specs.Texts.{item_bits, bits_of_items};
 
 use crate::item::Item;
@@ -18,19 +17,19 @@ const LONGEST: usize = 64;
 
 /// The items of the complete lines, and the bytes of the current line.
 #[derive(Drop)]
-pub(crate) struct Lines<A: Allocator> {
+pub(crate) struct ListingLines<A: Allocator> {
     pub(crate) items: Vec<Item, A>,
     // the number of bits of these items
     pub(crate) total: u64,
     pub(crate) line: ArrayVec<u8, LONGEST>,
 }
 
-impl<A: Allocator> Lines<A> {
+impl<A: Allocator> ListingLines<A> {
     /// Returns the state before the first byte.
-    pub(crate) fn new(alloc: A) -> Lines<A>
-        ensures { Takes [] result.items.items result.line.items result.total }
+    pub(crate) fn new(alloc: A) -> ListingLines<A>
+        ensures { ListingTakes [] result.items.items result.line.items result.total }
     {
-        Lines {
+        ListingLines {
             items: Vec::new(alloc),
             total: 0,
             line: ArrayVec::new(),
@@ -41,11 +40,11 @@ impl<A: Allocator> Lines<A> {
     #[inline]
     pub(crate) fn byte(&mut self, byte: u8) -> Result<(), ListFault>
         ensures ok { OnOk result ((seen : List ℕ)
-            → Takes seen self.old.items.items self.old.line.items self.old.total
-            → Takes (seen ++ byte ∷ []) self.new.items.items self.new.line.items self.new.total) }
+            → ListingTakes seen self.old.items.items self.old.line.items self.old.total
+            → ListingTakes (seen ++ byte ∷ []) self.new.items.items self.new.line.items self.new.total) }
         ensures err { IfErr result (λ fault. (seen more : List ℕ)
-            → Takes seen self.old.items.items self.old.line.items self.old.total
-            → Refuses fault (lines (seen ++ byte ∷ more))) }
+            → ListingTakes seen self.old.items.items self.old.line.items self.old.total
+            → RefusesListing fault (listing_lines (seen ++ byte ∷ more))) }
     {
         if byte == b'\n' {
             return self.end_line();
@@ -69,12 +68,12 @@ impl<A: Allocator> Lines<A> {
     // Ends the current line.
     fn end_line(&mut self) -> Result<(), ListFault>
         ensures ok { OnOk result ((seen : List ℕ)
-            → Takes seen self.old.items.items self.old.line.items self.old.total
-            → Takes (seen ++ 10 ∷ []) self.new.items.items self.new.line.items self.new.total) }
+            → ListingTakes seen self.old.items.items self.old.line.items self.old.total
+            → ListingTakes (seen ++ 10 ∷ []) self.new.items.items self.new.line.items self.new.total) }
         ensures empty { OnOk result (self.new.line.items ≡ []) }
         ensures err { IfErr result (λ fault. (seen more : List ℕ)
-            → Takes seen self.old.items.items self.old.line.items self.old.total
-            → Refuses fault (lines (seen ++ 10 ∷ more))) }
+            → ListingTakes seen self.old.items.items self.old.line.items self.old.total
+            → RefusesListing fault (listing_lines (seen ++ 10 ∷ more))) }
     {
         let Some(item) = item_of(self.line.as_slice()) else {
             return Err(self.bad_line());
@@ -93,13 +92,15 @@ impl<A: Allocator> Lines<A> {
     /// Returns the items of the whole input, the last line of which may lack its line feed.
     pub(crate) fn finish(mut self) -> Result<Vec<Item, A>, ListFault>
         ensures legal { IfOk result (λ items. (seen : List ℕ)
-            → Takes seen self.items.items self.line.items self.total → AreLegal items.items) }
+            → ListingTakes seen self.items.items self.line.items self.total → AreLegalItems items.items) }
         ensures counted { IfOk result (λ items. (seen : List ℕ)
-            → Takes seen self.items.items self.line.items self.total → length (bits_of_items items.items) < 2 ^ 64) }
+            → ListingTakes seen self.items.items self.line.items self.total
+            → length (bits_of_items items.items) < 2 ^ 64) }
         ensures ok { IfOk result (λ items. (seen : List ℕ)
-            → Takes seen self.items.items self.line.items self.total → Lists (lines seen) items.items) }
+            → ListingTakes seen self.items.items self.line.items self.total
+            → ListsItems (listing_lines seen) items.items) }
         ensures err { IfErr result (λ fault. (seen : List ℕ)
-            → Takes seen self.items.items self.line.items self.total → Refuses fault (lines seen)) }
+            → ListingTakes seen self.items.items self.line.items self.total → RefusesListing fault (listing_lines seen)) }
     {
         if self.line.is_empty() {
             return Ok(self.items);
@@ -126,7 +127,7 @@ fn bit_count(item: &Item) -> u64
 
 // Returns how many bits a transaction has.
 fn tx_bit_count(tx: &Tx) -> u8
-    ensures { result ≡ length (spelling tx.now true true) }
+    ensures { result ≡ length (tx_spelling_bits tx.now true true) }
 {
     match tx.result {
         TxEnd::Moved { .. } => MOVED_BITS,

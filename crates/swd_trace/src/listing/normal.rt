@@ -1,8 +1,8 @@
 //! Checks whether a list of items is the reading of its own bits.
 ghost use Rattle.std.specs.Prelude.{◌≡◌, ◌+◌, ◌^◌, ◌<◌, ◌≤◌, ◌++◌, [], List, Bool, length, IsTrue, IsFalse, IfSome};
-ghost use Rattle.swd_trace.specs.Held.{fed_of, IsSettled};
-ghost use Rattle.swd_trace.specs.Listed.{IsLegal, AreLegal};
-ghost use Rattle.swd_trace.specs.Normality.{Agrees, Differs, HasNext, TellsDifference};
+ghost use Rattle.swd_trace.specs.Held.{decoder_fed, IsDecoderSettled};
+ghost use Rattle.swd_trace.specs.Listed.{IsLegalItem, AreLegalItems};
+ghost use Rattle.swd_trace.specs.Normality.{ListingAgrees, ListingDiffers, HasNextItem, IsListingDifference};
 ghost use Rattle.swd_trace.specs.Texts.{item_bits, bits_of_items};
 
 use crate::decoder::Decoder;
@@ -14,9 +14,9 @@ use crate::item_bits::ItemBits;
 ///
 /// A decoder reads the bits, each run in one step, so the time doesn't depend on the counts.
 pub(crate) fn first_difference(items: &[Item]) -> Option<usize>
-    requires legal { AreLegal items.now }
+    requires legal { AreLegalItems items.now }
     requires counted { length (bits_of_items items.now) < 2 ^ 64 }
-    ensures tells { TellsDifference items.now result }
+    ensures tells { IsListingDifference items.now result }
     ensures within { IfSome result (λ at. at ≤ length items.now) }
 {
     let mut decoder = Decoder::new();
@@ -32,17 +32,17 @@ pub(crate) fn first_difference(items: &[Item]) -> Option<usize>
 // Feeds an item's bits to a decoder, and returns whether the items decoded by then are the next ones of the
 // list.
 fn take_item(decoder: &mut Decoder, item: &Item, items: &[Item], same: &mut usize) -> bool
-    requires settled { IsSettled decoder.old }
-    requires legal { IsLegal item.now }
-    requires room { fed_of decoder.old + length (item_bits item.now) < 2 ^ 64 }
+    requires settled { IsDecoderSettled decoder.old }
+    requires legal { IsLegalItem item.now }
+    requires room { decoder_fed decoder.old + length (item_bits item.now) < 2 ^ 64 }
     ensures yes { IsTrue result → (ahead : List Bool)
-        → Agrees items.now same.old decoder.old (item_bits item.now ++ ahead)
-        → Agrees items.now same.new decoder.new ahead }
-    ensures settled { IsTrue result → IsSettled decoder.new }
-    ensures fed { IsTrue result → fed_of decoder.new ≡ fed_of decoder.old + length (item_bits item.now) }
+        → ListingAgrees items.now same.old decoder.old (item_bits item.now ++ ahead)
+        → ListingAgrees items.now same.new decoder.new ahead }
+    ensures settled { IsTrue result → IsDecoderSettled decoder.new }
+    ensures fed { IsTrue result → decoder_fed decoder.new ≡ decoder_fed decoder.old + length (item_bits item.now) }
     ensures no { IsFalse result → (ahead : List Bool)
-        → Agrees items.now same.old decoder.old (item_bits item.now ++ ahead)
-        → Differs items.now same.new }
+        → ListingAgrees items.now same.old decoder.old (item_bits item.now ++ ahead)
+        → ListingDiffers items.now same.new }
 {
     let mut left = ItemBits::of(item);
     while !left.is_empty() {
@@ -56,12 +56,12 @@ fn take_item(decoder: &mut Decoder, item: &Item, items: &[Item], same: &mut usiz
 
 // Takes the items that are due, and returns whether they are the next ones of the list.
 fn take_due(decoder: &mut Decoder, items: &[Item], same: &mut usize) -> bool
-    ensures yes { IsTrue result → (ahead : List Bool) → Agrees items.now same.old decoder.old ahead
-        → Agrees items.now same.new decoder.new ahead }
-    ensures settled { IsTrue result → IsSettled decoder.new }
-    ensures fed { fed_of decoder.new ≡ fed_of decoder.old }
-    ensures no { IsFalse result → (ahead : List Bool) → Agrees items.now same.old decoder.old ahead
-        → Differs items.now same.new }
+    ensures yes { IsTrue result → (ahead : List Bool) → ListingAgrees items.now same.old decoder.old ahead
+        → ListingAgrees items.now same.new decoder.new ahead }
+    ensures settled { IsTrue result → IsDecoderSettled decoder.new }
+    ensures fed { decoder_fed decoder.new ≡ decoder_fed decoder.old }
+    ensures no { IsFalse result → (ahead : List Bool) → ListingAgrees items.now same.old decoder.old ahead
+        → ListingDiffers items.now same.new }
 {
     while let Some(item) = decoder.due() {
         if !has_next(items, *same, &item) {
@@ -74,8 +74,8 @@ fn take_due(decoder: &mut Decoder, items: &[Item], same: &mut usize) -> bool
 
 // Does the same at the end of the trace, where the first `same` items are equal.
 fn last_difference(mut decoder: Decoder, items: &[Item], same: usize) -> Option<usize>
-    requires { Agrees items.now same decoder [] }
-    ensures tells { TellsDifference items.now result }
+    requires { ListingAgrees items.now same decoder [] }
+    ensures tells { IsListingDifference items.now result }
     ensures within { IfSome result (λ at. at ≤ length items.now) }
 {
     let mut same = same;
@@ -94,8 +94,8 @@ fn last_difference(mut decoder: Decoder, items: &[Item], same: usize) -> Option<
 
 // Returns whether `item` follows the first `same` items of the list.
 fn has_next(items: &[Item], same: usize, item: &Item) -> bool
-    ensures yes { IsTrue result → HasNext items.now same item.now }
-    ensures no { IsFalse result → HasNext items.now same item.now → ⊥ }
+    ensures yes { IsTrue result → HasNextItem items.now same item.now }
+    ensures no { IsFalse result → HasNextItem items.now same item.now → ⊥ }
 {
     same < items.len() && is_same(&items[same], item)
 }

@@ -1,11 +1,12 @@
 //! Reads a listing from a reader.
 ghost use Rattle.std.specs.Prelude.{◌^◌, ◌<◌, length, IfOk, IfErr, IfSome};
-ghost use Rattle.swd_trace.specs.Listed.{lines as lines_of, AreLegal, Lists, IsNormal, Refuses};
+ghost use Rattle.swd_trace.specs.Listed.{listing_lines as lines_of, AreLegalItems, ListsItems, IsNormalListing};
+ghost use Rattle.swd_trace.specs.Listed.{RefusesListing};
 ghost use Rattle.swd_trace.specs.Texts.{bits_of_items};
 
 use crate::item::Item;
 use crate::listing::fault::ListFault;
-use crate::listing::lines::Lines;
+use crate::listing::lines::ListingLines;
 use crate::listing::normal::first_difference;
 use std::alloc::Allocator;
 use std::io::Read;
@@ -25,10 +26,10 @@ use swd_io::{Consumer, read_pieces};
 /// - `Memory`: out of memory for the items.
 /// - `Read`: the reader failed, which isn't retried, or it didn't end within 2^64 - 1 reads.
 pub fn read_list<R: Read, A: Allocator>(alloc: A, reader: &mut R) -> Result<Vec<Item, A>, ListFault>
-    ensures legal { IfOk result (λ items. AreLegal items.items) }
+    ensures legal { IfOk result (λ items. AreLegalItems items.items) }
     ensures ok { IfOk result (λ items. IfSome (R.remaining reader.old)
-        (λ text. Lists (lines_of text) items.items × IsNormal items.items)) }
-    ensures err { IfErr result (λ fault. IfSome (R.remaining reader.old) (λ text. Refuses fault (lines_of text))) }
+        (λ text. ListsItems (lines_of text) items.items × IsNormalListing items.items)) }
+    ensures err { IfErr result (λ fault. IfSome (R.remaining reader.old) (λ text. RefusesListing fault (lines_of text))) }
 {
     let items = match read_lines(alloc, reader) {
         Ok(items) => items,
@@ -44,30 +45,30 @@ pub fn read_list<R: Read, A: Allocator>(alloc: A, reader: &mut R) -> Result<Vec<
 
 // Returns the items of the lines, which need not be normal.
 fn read_lines<R: Read, A: Allocator>(alloc: A, reader: &mut R) -> Result<Vec<Item, A>, ListFault>
-    ensures legal { IfOk result (λ items. AreLegal items.items) }
+    ensures legal { IfOk result (λ items. AreLegalItems items.items) }
     ensures counted { IfOk result (λ items. length (bits_of_items items.items) < 2 ^ 64) }
-    ensures ok { IfOk result (λ items. IfSome (R.remaining reader.old) (λ text. Lists (lines_of text) items.items)) }
-    ensures err { IfErr result (λ fault. IfSome (R.remaining reader.old) (λ text. Refuses fault (lines_of text))) }
+    ensures ok { IfOk result (λ items. IfSome (R.remaining reader.old) (λ text. ListsItems (lines_of text) items.items)) }
+    ensures err { IfErr result (λ fault. IfSome (R.remaining reader.old) (λ text. RefusesListing fault (lines_of text))) }
 {
-    let mut lines = Lines::new(alloc);
+    let mut lines = ListingLines::new(alloc);
     match read_pieces(reader, &mut (), &mut lines) {
         Ok(()) => lines.finish(),
         Err(unread) => Err(unread.fault_or(ListFault::Read)),
     }
 }
 
-impl<A: Allocator> Consumer<()> for Lines<A> {
-    ghost use Rattle.swd_io.specs.Pieces.{LeadsOn, LeadsToEnd};
-    ghost use Rattle.swd_io.proofs.PieceLemmas.{leads_nowhere, leads_further, leads_to_later_end};
-    ghost use Rattle.swd_trace.specs.ListReader.{HasRead, RefusesLater};
+impl<A: Allocator> Consumer<()> for ListingLines<A> {
+    ghost use Rattle.swd_io.specs.Pieces.{LeadsConsumerOn, LeadsConsumerToEnd};
+    ghost use Rattle.swd_io.proofs.PieceLemmas.{consumer_reads_no_byte, consumer_pieces_join, consumer_pieces_fault};
+    ghost use Rattle.swd_trace.specs.ListReader.{ListingHasRead, RefusesListingLater};
 
     type Fault = ListFault;
 
     ghost can_take = { λ _. Unit {0} };
 
-    ghost takes = { LeadsOn HasRead };
+    ghost takes = { LeadsConsumerOn ListingHasRead };
 
-    ghost stops = { LeadsToEnd HasRead RefusesLater };
+    ghost stops = { LeadsConsumerToEnd ListingHasRead RefusesListingLater };
 
     fn take(&mut self, _writer: &mut (), piece: &[u8]) -> Result<(), ListFault> {
         for byte in piece {
@@ -78,9 +79,9 @@ impl<A: Allocator> Consumer<()> for Lines<A> {
         Ok(())
     }
 
-    ghost takes_nothing = { leads_nowhere HasRead };
+    ghost takes_nothing = { consumer_reads_no_byte ListingHasRead };
 
-    ghost takes_on = { leads_further HasRead };
+    ghost takes_on = { consumer_pieces_join ListingHasRead };
 
-    ghost stops_later = { leads_to_later_end HasRead RefusesLater };
+    ghost stops_later = { consumer_pieces_fault ListingHasRead RefusesListingLater };
 }

@@ -1,11 +1,11 @@
 //! Parses the numbers and bits of a listing line.
 ghost use Rattle.std.specs.Prelude.{◌≡◌, ℕ, ◌^◌, ◌<◌, map, IfSome};
 ghost use Rattle.std.specs.Fmt.{decimal};
-ghost use Rattle.swd_bits.specs.BitLists.{bits_of};
+ghost use Rattle.swd_bits.specs.BitLists.{tx_bits_of};
 ghost use Rattle.swd_bits.specs.Listing.{hex8};
 ghost use Rattle.swd_bits.specs.declared.tx_bits.TxBits.{TxBits};
-ghost use Rattle.swd_trace.specs.Listed.{IsCut};
-ghost use Rattle.swd_trace.specs.Texts.{digit};
+ghost use Rattle.swd_trace.specs.Listed.{IsCutItemBits};
+ghost use Rattle.swd_trace.specs.Texts.{trace_digit};
 
 use std::str;
 use swd_bits::TxBits;
@@ -45,8 +45,9 @@ pub(crate) fn word_in(digits: &[u8]) -> Option<u32>
 
 /// Returns the 1 to 49 bits with these characters. Of any other bytes it may return some bits.
 pub(crate) fn bits_in(digits: &[u8]) -> Option<TxBits>
-    ensures legal { IfSome result IsCut }
-    ensures found { (bits : TxBits) → IsCut bits → digits.now ≡ map digit (bits_of bits) → result ≡ Some bits }
+    ensures legal { IfSome result IsCutItemBits }
+    ensures found { (bits : TxBits) → IsCutItemBits bits → digits.now ≡ map trace_digit (tx_bits_of bits)
+        → result ≡ Some bits }
 {
     let len = digits.len();
     if len == 0 || len > LONGEST_CUT {

@@ -1,16 +1,16 @@
 use Rattle.std.proofs.Common.{ℕ, List, [], Option, None, Some, Err, refl, sym, subst, append-nil}
 use Rattle.std.specs.Io.KnownBytes.{Appends}
-use Rattle.swd_io.specs.Pieces.{Reads, LeadsOn, LeadsToEnd, fault_or}
+use Rattle.swd_io.specs.Pieces.{ConsumerReads, LeadsConsumerOn, LeadsConsumerToEnd, consumer_fault_or}
 use Rattle.swd_io.specs.declared.pieces.Unread.{Unread}
 use Rattle.swd_io.specs.declared.pieces.Unread.TheVariants.{Reader, Consumer}
 use Rattle.swd_bitbang.specs.declared.serving.Served.{Served}
 use Rattle.swd_bitbang.specs.declared.serving.Served.TheVariants as ends
 use Rattle.swd_bitbang.specs.declared.serving.Server.{Server}
 use Rattle.swd_bitbang.specs.declared.pins.Pins.{Pins}
-use Rattle.swd_bitbang.specs.Sessions.{Serves}
-use Rattle.swd_bitbang.specs.Serving.{Begin, HasTaken, Ends}
-use Rattle.swd_bitbang.specs.Watching.{LeadsOnWatched, LeadsToEndWatched, watched}
-use Rattle.swd_bitbang.proofs.SessionLemmas.{stop_whole}
+use Rattle.swd_bitbang.specs.Sessions.{BitbangServes}
+use Rattle.swd_bitbang.specs.Serving.{BitbangBegin, BitbangHasTaken, BitbangEnds}
+use Rattle.swd_bitbang.specs.Watching.{PinsLeadOnWatched, PinsLeadToEndWatched, pins_watched}
+use Rattle.swd_bitbang.proofs.SessionLemmas.{bitbang_stop_is_whole}
 use Rattle.swd_bitbang.proofs.serving.serve_watched.Goals as goal
 use Rattle.swd_bitbang.proofs.serving.serve_watched.Goals.{in-Ok, in-Err}
 
@@ -20,17 +20,19 @@ unchanged (Some xs) = sym (append-nil xs)
 
 -- nothing was taken yet
 nothing : {A V W : Type 0} (contents : W → Option (List ℕ)) (pins : Pins A) (watch : V) (writer : W)
-    → HasTaken contents (pins, contents writer) (record { pins = pins; place = 0; written = 0; watch = watch }, writer) []
+    → BitbangHasTaken contents (pins, contents writer)
+    (record { pins = pins; place = 0; written = 0; watch = watch }, writer) []
 nothing contents pins watch writer =
     record { levels = []; session = (refl, refl); gone = unchanged (contents writer); written = refl; place = refl }
 
 -- a session that ended before its input did
 unread : {A V W : Type 0} (follows : V × Pins A → V × Pins A → Type 0) (contents : W → Option (List ℕ))
-    (fault : Unread Served) (text left : Option (List ℕ)) (begin : Begin A) (before after : Server A V × W) →
-    HasTaken contents begin before [] →
-    Reads (LeadsOnWatched follows (LeadsOn (HasTaken contents)))
-    (LeadsToEndWatched follows (LeadsToEnd (HasTaken contents) (Ends contents))) (Err fault) text left before after →
-    Serves (fault_or fault ends.Read) text left begin.1 (contents after.1) begin.0 after.0.pins
+    (fault : Unread Served) (text left : Option (List ℕ)) (begin : BitbangBegin A) (before after : Server A V × W) →
+    BitbangHasTaken contents begin before [] →
+    ConsumerReads (PinsLeadOnWatched follows (LeadsConsumerOn (BitbangHasTaken contents)))
+    (PinsLeadToEndWatched follows (LeadsConsumerToEnd (BitbangHasTaken contents) (BitbangEnds contents))) (Err fault)
+    text left before after →
+    BitbangServes (consumer_fault_or fault ends.Read) text left begin.1 (contents after.1) begin.0 after.0.pins
 unread follows contents Reader text left begin before after h r =
     let read = r.2.leads_on begin [] h in
     record {
@@ -42,15 +44,15 @@ unread follows contents Reader text left begin before after h r =
     }
 unread follows contents (Consumer served) text left begin before after h r =
     let stops = r.2.leads_to_end begin [] h in
-    record { read = r.0; consumed = r.1; whole = stop_whole served left stops.0; ends = stops.1 }
+    record { read = r.0; consumed = r.1; whole = bitbang_stop_is_whole served left stops.0; ends = stops.1 }
 
 -- its watch followed
 followed : {A V W : Type 0} (follows : V × Pins A → V × Pins A → Type 0)
     (leads : Server A V × W → List ℕ → Server A V × W → Type 0)
     (stops : Server A V × W → List ℕ → Served → Server A V × W → Type 0) (fault : Unread Served)
     (text left : Option (List ℕ)) (before after : Server A V × W) →
-    Reads (LeadsOnWatched follows leads) (LeadsToEndWatched follows stops) (Err fault) text left before after →
-    follows (watched before) (watched after)
+    ConsumerReads (PinsLeadOnWatched follows leads) (PinsLeadToEndWatched follows stops) (Err fault) text left before
+    after → follows (pins_watched before) (pins_watched after)
 followed follows leads stops Reader text left before after r = r.2.followed
 followed follows leads stops (Consumer served) text left before after r = r.2.followed
 
@@ -58,7 +60,7 @@ pub returns-clause-session : goal.returns-clause-session
 returns-clause-session g c =
     let contents = g.W.Write.contents in
     let pins = c.args.pins in
-    let begin : Begin g.row.A.Denot = (pins, contents c.args.writer.now) in
+    let begin : BitbangBegin g.row.A.Denot = (pins, contents c.args.writer.now) in
     let none = nothing contents pins c.args.watch c.args.writer.now in
     let text = g.R.Read.remaining c.args.reader.now in
     let left = g.R.Read.remaining c.read_pieces.new.reader in
@@ -68,7 +70,7 @@ returns-clause-session g c =
       | in-Ok w ↦
           let r = w.in-Ok.ensures in
           let read = r.3.leads_on begin [] none in
-          subst (λ (x : Served). Serves x text left begin.1 now pins after) (sym w.served-is)
+          subst (λ (x : Served). BitbangServes x text left begin.1 now pins after) (sym w.served-is)
           (record {
             read = r.0;
             consumed = r.1;
@@ -77,8 +79,8 @@ returns-clause-session g c =
                 record { levels = read.levels; session = read.session; gone = read.gone };
           })
       | in-Err w ↦
-          subst (λ (x : Served). Serves x text left begin.1 now pins after) (sym w.served-is)
-          (subst (λ (x : Served). Serves x text left begin.1 now pins after) (sym w.fault_or-served.ensures)
+          subst (λ (x : Served). BitbangServes x text left begin.1 now pins after) (sym w.served-is)
+          (subst (λ (x : Served). BitbangServes x text left begin.1 now pins after) (sym w.fault_or-served.ensures)
           (unread g.V.Watch.follows contents w.in-Err.unread text left begin
           (record { pins = pins; place = 0; written = 0; watch = c.args.watch }, c.args.writer.now)
           (c.read_pieces.new.consumer, c.read_pieces.new.writer) none w.in-Err.ensures))

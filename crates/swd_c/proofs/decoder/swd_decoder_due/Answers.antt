@@ -1,13 +1,13 @@
 use Rattle.std.proofs.Common.{◌∷◌, ◌++◌, ap, sym, ◌∙◌}
 use Rattle.swd_trace.specs.declared.decoder.fields.DecoderFields.{DecoderFields}
 use Rattle.swd_trace.specs.DecoderNumbers.{rest_in}
-use Rattle.swd_trace.specs.Held.{rest}
-use Rattle.swd_trace.proofs.HoldingLemmas.{undecided_same}
+use Rattle.swd_trace.specs.Held.{decoder_rest}
+use Rattle.swd_trace.proofs.HoldingLemmas.{same_readings_decide_no_item}
 use Rattle.swd_c.proofs.decoder.swd_decoder_due.Goals as goal
 
 pub returns-in_default-due-clause-none : goal.returns-in_default-due-clause-none
 returns-in_default-due-clause-none c = λ no is.
-    undecided_same (rest c.due.new.self) (rest_in c.args.decoder.now)
+    same_readings_decide_no_item (decoder_rest c.due.new.self) (rest_in c.args.decoder.now)
     (λ more. sym (c.in_default-due.ensures.none more) ∙ c.in-Some.ensures.rest more) c.in_default-due.ensures.undecided
 
 pub returns-in_default-due-clause-decided : goal.returns-in_default-due-clause-decided

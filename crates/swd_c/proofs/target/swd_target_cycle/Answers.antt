@@ -6,10 +6,11 @@ use Rattle.swd_port.specs.declared.access.Transfer.{Transfer}
 use Rattle.swd_target.specs.Elsewhere.{IsUntouched}
 use Rattle.swd_target.specs.declared.quirks.Quirks.{Quirks}
 use Rattle.swd_clocked.specs.declared.fields.ClockedFields.{ClockedFields}
-use Rattle.swd_clocked.specs.Clocks.{Clocks, memory_of, over}
-use Rattle.swd_clocked.proofs.ElsewhereLemmas.{clocks_over}
-use Rattle.swd_c.specs.Targets.{Numbers, drive_told, ready}
-use Rattle.swd_c.proofs.Targets.{none_pending, numbers_over, ready_here, ready_there}
+use Rattle.swd_clocked.specs.Clocks.{ClocksOneCycle, clocked_memory, clocked_over}
+use Rattle.swd_clocked.proofs.ElsewhereLemmas.{clocked_step_elsewhere}
+use Rattle.swd_c.specs.Targets.{CApiNumbers, c_api_drive, c_api_ready_memory}
+use Rattle.swd_c.proofs.Targets.{c_api_none_wanted_pending, c_api_fields_over_memory, c_api_word_at_tar_is_ready}
+use Rattle.swd_c.proofs.Targets.{c_api_caller_word_is_ready}
 use Rattle.swd_c.proofs.target.swd_target_cycle.Goals as goal
 
 nothing : (xs : List Transfer) → (length xs == 0) ≡ true → xs ≡ []
@@ -25,8 +26,8 @@ returns-then-not-is_empty-clause-wants c = λ yes.
     let before = c.in-Some.now in
     let after = c.cycle-line.new.self in
     let line = c.cycle-line.result in
-    let clocks : Clocks (drive_told c.args.drive) line before after =
-    subst (λ (d : Option Bool). Clocks d line before after) c.driven.ensures c.cycle-line.ensures.clocks in (
+    let clocks : ClocksOneCycle (c_api_drive c.args.drive) line before after =
+    subst (λ (d : Option Bool). ClocksOneCycle d line before after) c.driven.ensures c.cycle-line.ensures.clocks in (
       before,
       c.in-Some.ensures.same.0,
       c.in-Some.ensures.same.1 ∙ c.window.ensures,
@@ -51,34 +52,35 @@ returns-clause-clocks c = λ yes m there.
     let line = c.cycle-line.result in
     let old = c.args.target.now in
     let had = c.in-Some.ensures.same.0 in
-    let here : memory_of before ≡ ready old = c.in-Some.ensures.same.1 ∙ c.window.ensures in
-    let clocks : Clocks (drive_told c.args.drive) line before after =
-    subst (λ (d : Option Bool). Clocks d line before after) c.driven.ensures c.cycle-line.ensures.clocks in
+    let here : clocked_memory before ≡ c_api_ready_memory old = c.in-Some.ensures.same.1 ∙ c.window.ensures in
+    let clocks : ClocksOneCycle (c_api_drive c.args.drive) line before after =
+    subst (λ (d : Option Bool). ClocksOneCycle d line before after) c.driven.ensures c.cycle-line.ensures.clocks in
     let empty : (after.target.memory).log ≡ [] = ap (λ (m : PlainMemory). m.log) (sym c.memory.ensures)
     ∙ (sym c.log.ensures ∙ nothing c.log.result.now (sym c.is_empty.ensures ∙ c.if-not-is_empty.false)) in
     let untouched : IsUntouched before.target after.target = record {
       late = had.late;
-      ready = ready_here old before had here;
+      ready = c_api_word_at_tar_is_ready old before had here;
       log = empty ∙ sym (ap (λ (m : PlainMemory). m.log) here);
     } in
-    let has : Numbers c.fields.result after =
+    let has : CApiNumbers c.fields.result after =
     record {
       has = sym c.fields.ensures;
       late = ap (λ (q : Quirks). q.late) c.cycle-line.ensures.quirks
           ∙ had.late;
     } in
     let told : (c.from.result == 1) ≡ line = ap (λ n. n == 1) c.from.ensures ∙ bit_back line in (
-      over m before,
-      numbers_over m old before had,
+      clocked_over m before,
+      c_api_fields_over_memory m old before had,
       refl,
       (
-        over m after,
-        numbers_over m c.fields.result after has,
+        clocked_over m after,
+        c_api_fields_over_memory m c.fields.result after has,
         refl,
         record {
-          clocks = subst (λ (b : Bool). Clocks (drive_told c.args.drive) b (over m before) (over m after)) (sym told)
-              (clocks_over m (drive_told c.args.drive) line before after untouched
-              (λ held. ready_there old before m had
+          clocks = subst (λ (b : Bool). ClocksOneCycle (c_api_drive c.args.drive) b (clocked_over m before)
+              (clocked_over m after)) (sym told)
+              (clocked_step_elsewhere m (c_api_drive c.args.drive) line before after untouched
+              (λ held. c_api_caller_word_is_ready old before m had
               (there (ap (λ (f : ClockedFields). f.waits) (sym had.has) ∙ ap bit held))) clocks);
           cycles = c.cycle-line.ensures.cycles;
         },
@@ -90,8 +92,8 @@ returns-then-not-is_empty-clause-pending c = λ yes none.
     let before = c.in-Some.now in
     let old = c.args.target.now in
     let had = c.in-Some.ensures.same.0 in
-    let here : memory_of before ≡ ready old = c.in-Some.ensures.same.1 ∙ c.window.ensures in
-    let still = c.cycle-line.ensures.quiet had.late (none_pending old before had none) in
+    let here : clocked_memory before ≡ c_api_ready_memory old = c.in-Some.ensures.same.1 ∙ c.window.ensures in
+    let still = c.cycle-line.ensures.quiet had.late (c_api_none_wanted_pending old before had none) in
     let empty : c.log.result.now ≡ [] = c.log.ensures
     ∙ ap (λ (m : PlainMemory). m.log) (c.memory.ensures ∙ (still ∙ here)) in
     let is : c.is_empty.result ≡ true = c.is_empty.ensures ∙ ap (λ (xs : List Transfer). length xs == 0) empty in

@@ -1,9 +1,9 @@
 use Rattle.std.proofs.Common.{ap, refl, sym, ◌∙◌}
 use Rattle.swd_target.specs.declared.quirks.Quirks.{Quirks}
-use Rattle.swd_clocked.specs.Clocks.{over}
-use Rattle.swd_clocked.proofs.ElsewhereLemmas.{holds_over}
-use Rattle.swd_c.specs.Targets.{Numbers}
-use Rattle.swd_c.proofs.Targets.{numbers_over}
+use Rattle.swd_clocked.specs.Clocks.{clocked_over}
+use Rattle.swd_clocked.proofs.ElsewhereLemmas.{clocked_wait_elsewhere}
+use Rattle.swd_c.specs.Targets.{CApiNumbers}
+use Rattle.swd_c.proofs.Targets.{c_api_fields_over_memory}
 use Rattle.swd_c.proofs.target.swd_target_hold.Goals as goal
 
 pub returns-clause-holds : goal.returns-clause-holds
@@ -11,17 +11,17 @@ returns-clause-holds c = λ yes m.
     let before = c.in-Some.now in
     let after = c.hold.new.self in
     let had = c.in-Some.ensures.same.0 in
-    let has : Numbers c.fields.result after = record {
+    let has : CApiNumbers c.fields.result after = record {
       has = sym c.fields.ensures;
       late = ap (λ (q : Quirks). q.late) c.hold.ensures.quirks ∙ had.late;
     } in (
-      over m before,
-      numbers_over m c.args.target.now before had,
+      clocked_over m before,
+      c_api_fields_over_memory m c.args.target.now before had,
       refl,
       (
-        over m after,
-        numbers_over m c.fields.result after has,
+        clocked_over m after,
+        c_api_fields_over_memory m c.fields.result after has,
         refl,
-        record { holds = holds_over m _ before after c.hold.ensures.holds; cycles = c.hold.ensures.cycles },
+        record { holds = clocked_wait_elsewhere m _ before after c.hold.ensures.holds; cycles = c.hold.ensures.cycles },
       ),
     )

@@ -1,10 +1,10 @@
 use Rattle.std.proofs.Common.{ap, refl, sym, ◌∙◌}
-use Rattle.swd_port.specs.Completion.{memory_after}
+use Rattle.swd_port.specs.Completion.{memory_after_pending}
 use Rattle.swd_target.specs.declared.quirks.Quirks.{Quirks}
-use Rattle.swd_clocked.specs.Clocks.{over}
-use Rattle.swd_clocked.proofs.ElsewhereLemmas.{settles_over}
-use Rattle.swd_c.specs.Targets.{Numbers}
-use Rattle.swd_c.proofs.Targets.{after_is, alike, numbers_over}
+use Rattle.swd_clocked.specs.Clocks.{clocked_over}
+use Rattle.swd_clocked.proofs.ElsewhereLemmas.{clocked_settles_elsewhere}
+use Rattle.swd_c.specs.Targets.{CApiNumbers}
+use Rattle.swd_c.proofs.Targets.{c_api_memory_after_answer, c_api_memories_are_alike, c_api_fields_over_memory}
 use Rattle.swd_c.proofs.target.swd_target_settle.Goals as goal
 
 pub returns-clause-settles : goal.returns-clause-settles
@@ -15,21 +15,22 @@ returns-clause-settles c = λ yes a m told.
     let had = c.in-Some-target_over.ensures.same.0 in
     let here = c.in-Some-target_over.ensures.same.1 in
     let found = c.in-Some.ensures in
-    let same = alike old before c.args.kind c.args.word a found.0 m c.in-Some.memory had here told found.1 in
-    let last = memory_after before.target.pending before.target.tar.word m in
-    let has : Numbers c.fields.result after = record {
+    let same = c_api_memories_are_alike old before c.args.kind c.args.word a found.0 m c.in-Some.memory had here told
+    found.1 in
+    let last = memory_after_pending before.target.pending before.target.tar.word m in
+    let has : CApiNumbers c.fields.result after = record {
       has = sym c.fields.ensures;
       late = ap (λ (q : Quirks). q.late) c.settle.ensures.quirks ∙ had.late;
     } in (
-      over m before,
-      numbers_over m old before had,
+      clocked_over m before,
+      c_api_fields_over_memory m old before had,
       refl,
       (
-        over last after,
-        numbers_over last c.fields.result after has,
-        after_is old before c.args.kind c.args.word a m had told,
+        clocked_over last after,
+        c_api_fields_over_memory last c.fields.result after has,
+        c_api_memory_after_answer old before c.args.kind c.args.word a m had told,
         record {
-          settles = settles_over m before after same c.settle.ensures.settles;
+          settles = clocked_settles_elsewhere m before after same c.settle.ensures.settles;
           cycles = c.settle.ensures.cycles;
         },
       ),

@@ -1,23 +1,24 @@
-use Rattle.std.proofs.Common.{◌≡◌, ℕ, suc, ◌+◌, ◌-◌, ◌/◌, ◌%◌, ◌^◌, ◌<◌, List, [], ◌∷◌, ◌++◌, length, take, get_or, replicate}
-use Rattle.std.proofs.Common.{sym, ap, ◌∙◌, append_assoc, arith, rules}
+use Rattle.std.proofs.Common.{◌≡◌, ℕ, suc, ◌+◌, ◌-◌, ◌/◌, ◌%◌, ◌^◌, ◌<◌, List, [], ◌∷◌, ◌++◌, length, take, get_or}
+use Rattle.std.proofs.Common.{replicate, sym, ap, ◌∙◌, append_assoc, arith, rules}
 use Rattle.std.proofs.Math.Seq.{take-append_seam}
 use Rattle.std.proofs.lemmas.List.{get_or-append-add, length-append}
 use Rattle.std.specs.String.Boundary.{IsSplitPoint}
-use Rattle.swd_capture.specs.Places.{tens_text}
-use Rattle.swd_capture.proofs.PlaceLemmas.{tens_split}
+use Rattle.swd_capture.specs.Places.{capture_tens_prefix}
+use Rattle.swd_capture.proofs.PlaceLemmas.{capture_tens_split}
 use Rattle.swd_capture.proofs.junk_line.change_tens.Goals as goal
 
 -- a text with spaces after it, split before its last digit
-before_digit : (text : List ℕ) (n : ℕ) → 0 < n → n < 2 ^ 64 → text ≡ tens_text n ++ replicate 20 32
-    → text ≡ tens_text (n / 10) ++ ((48 + n % 10) ∷ replicate 20 32)
+before_digit : (text : List ℕ) (n : ℕ) → 0 < n → n < 2 ^ 64 → text ≡ capture_tens_prefix n ++ replicate 20 32
+    → text ≡ capture_tens_prefix (n / 10) ++ ((48 + n % 10) ∷ replicate 20 32)
 before_digit text n some h is =
-    is ∙ ap (λ x. x ++ replicate 20 32) (tens_split n some h)
-    ∙ append_assoc (tens_text (n / 10)) ((48 + n % 10) ∷ []) (replicate 20 32)
+    is ∙ ap (λ x. x ++ replicate 20 32) (capture_tens_split n some h)
+    ∙ append_assoc (capture_tens_prefix (n / 10)) ((48 + n % 10) ∷ []) (replicate 20 32)
 
 -- and how many bytes are before it
-len_before : (n len : ℕ) → 0 < n → n < 2 ^ 64 → len ≡ length (tens_text n) → len ≡ length (tens_text (n / 10)) + 1
+len_before : (n len : ℕ) → 0 < n → n < 2 ^ 64 → len ≡ length (capture_tens_prefix n)
+    → len ≡ length (capture_tens_prefix (n / 10)) + 1
 len_before n len some h is =
-    is ∙ ap length (tens_split n some h) ∙ length-append (tens_text (n / 10)) ((48 + n % 10) ∷ [])
+    is ∙ ap length (capture_tens_split n some h) ∙ length-append (capture_tens_prefix (n / 10)) ((48 + n % 10) ∷ [])
 
 -- a place before a digit is the end of a character
 boundary : (t rest text : List ℕ) (d at : ℕ) → text ≡ t ++ (48 + d) ∷ rest → d < 10 → at ≡ length t
@@ -40,15 +41,15 @@ truncate-requires c =
     let len = len_before from c.args.len some c.ranges.from.fits c.requires.counts in
     let is = before_digit c.args.text.now.bytes from some c.ranges.from.fits c.requires.holds in (
       search rules,
-      λ _. boundary (tens_text (from / 10)) (replicate 20 32) c.args.text.now.bytes (from % 10) (c.args.len - 1) is
-          (omega arith) (omega (arith, len)),
+      λ _. boundary (capture_tens_prefix (from / 10)) (replicate 20 32) c.args.text.now.bytes (from % 10)
+          (c.args.len - 1) is (omega arith) (omega (arith, len)),
     )
 
 pub returns-then-to-from-clause-bytes : goal.returns-then-to-from-clause-bytes
 returns-then-to-from-clause-bytes c =
     let from = c.args.from in
     let to = c.args.to in
-    let q = tens_text (from / 10) in
+    let q = capture_tens_prefix (from / 10) in
     let some : 0 < from = omega (arith, c.if-from-ge10.true) in
     let other : 0 < to = omega (arith, c.if-from-ge10.true, c.if-to-from.true) in
     let len = len_before from c.args.len some c.ranges.from.fits c.requires.counts in
@@ -59,5 +60,5 @@ returns-then-to-from-clause-bytes c =
     ∙ take-append_seam q ((48 + from % 10) ∷ replicate 20 32)
     )
     ∙ ap (λ x. q ++ x) c.digit.ensures.bytes
-    ∙ ap (λ n. tens_text n ++ (48 + to % 10) ∷ []) (sym c.if-to-from.true)
-    ∙ sym (tens_split to other c.ranges.to.fits)
+    ∙ ap (λ n. capture_tens_prefix n ++ (48 + to % 10) ∷ []) (sym c.if-to-from.true)
+    ∙ sym (capture_tens_split to other c.ranges.to.fits)

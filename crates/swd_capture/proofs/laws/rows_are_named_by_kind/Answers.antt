@@ -1,5 +1,5 @@
-use Rattle.swd_capture.proofs.KindLemmas.{named_by_kind}
+use Rattle.swd_capture.proofs.KindLemmas.{capture_row_named_by_kind}
 use Rattle.swd_capture.proofs.laws.rows_are_named_by_kind.Goals as goal
 
 pub returns : goal.returns
-returns c = named_by_kind
+returns c = capture_row_named_by_kind

@@ -3,13 +3,13 @@ use Rattle.std.proofs.Common.{refl, sym, ap, subst, ◌∙◌}
 use Rattle.std.proofs.KnownBytes.{Appends-nil}
 use Rattle.std.specs.Io.KnownBytes.{Appends}
 use Rattle.std.proofs.lemmas.List.{map-append, take_all, take_more}
-use Rattle.swd_io.specs.Blocks.{Sends, Stopped}
+use Rattle.swd_io.specs.Blocks.{BlockBufferSends, OutputStopped}
 use Rattle.swd_trace.specs.declared.item.Item.{Item}
 use Rattle.swd_resync.specs.declared.part.Part.TheVariants.{Item as Told}
-use Rattle.swd_capture.specs.Printing.{printout, told}
-use Rattle.swd_capture.specs.Tellers.{IsAfter}
-use Rattle.swd_capture.proofs.TellerLemmas.{told_more, told_none}
-use Rattle.swd_capture_text.specs.Captures.{printout_of_items}
+use Rattle.swd_capture.specs.Printing.{capture_printout, capture_printed_parts}
+use Rattle.swd_capture.specs.Tellers.{IsCaptureTellerAfter}
+use Rattle.swd_capture.proofs.TellerLemmas.{capture_printed_more, capture_printed_none}
+use Rattle.swd_capture_text.specs.Captures.{print_items_output}
 use Rattle.swd_capture_text.proofs.items.print_items.Goals as goal
 
 -- the parts for some items and one more
@@ -22,7 +22,8 @@ loop-item-init g c =
     let start = g.W.Write.contents c.args.writer.now in
     record {
       after = c.new-teller.ensures;
-      sends = subst (Sends g.W.Write.contents start c.new-block.result) (sym (told_none c.args.printed false))
+      sends = subst (BlockBufferSends g.W.Write.contents start c.new-block.result)
+          (sym (capture_printed_none c.args.printed false))
           (c.new-block.ensures.sends start [] (Appends-nil start) refl);
       writer = refl;
     }
@@ -35,12 +36,12 @@ loop-item-preserved g c =
     let before = map Told (take i items) in
     let more = next items i _ c.loop-item-test.true in
     record {
-      after = subst (λ parts. IsAfter c.args.printed false parts c.put_part.new.teller) (sym more)
+      after = subst (λ parts. IsCaptureTellerAfter c.args.printed false parts c.put_part.new.teller) (sym more)
           (c.put_part.ensures.after c.args.printed false before c.loop-item.invariant.after);
-      sends = subst (Sends g.W.Write.contents start c.put_part.new.block)
-          (sym (ap (told c.args.printed false) more ∙ told_more c.args.printed false before _))
-          (c.put_part.ensures.sends c.args.printed false before c.loop-item.invariant.after start
-          (told c.args.printed false before) c.loop-item.invariant.sends);
+      sends = subst (BlockBufferSends g.W.Write.contents start c.put_part.new.block)
+          (sym (ap (capture_printed_parts c.args.printed false) more ∙ capture_printed_more c.args.printed false before
+          _)) (c.put_part.ensures.sends c.args.printed false before c.loop-item.invariant.after start
+          (capture_printed_parts c.args.printed false before) c.loop-item.invariant.sends);
       writer = c.put_part.ensures.writer ∙ c.loop-item.invariant.writer;
     }
 
@@ -57,9 +58,9 @@ returns-in-Ok g c =
     ∙ c.loop-item.invariant.writer ∙ c.new-block.ensures.writer)) in
     let all = c.put_rows.ensures.sends start printed false parts c.loop-item.invariant.after
     c.loop-item.invariant.sends in
-    subst (λ w. Appends start (contents w) (printout_of_items printed items)) (sym same)
-    (subst (λ p. Appends start (contents c.flush.new.self.writer.now) (printout printed false p)) whole
-    (c.in-Ok.ensures.ok start (printout printed false parts) all).0)
+    subst (λ w. Appends start (contents w) (print_items_output printed items)) (sym same)
+    (subst (λ p. Appends start (contents c.flush.new.self.writer.now) (capture_printout printed false p)) whole
+    (c.in-Ok.ensures.ok start (capture_printout printed false parts) all).0)
 
 pub returns-in-Err : goal.returns-in-Err
 returns-in-Err g c =
@@ -74,6 +75,6 @@ returns-in-Err g c =
     ∙ c.loop-item.invariant.writer ∙ c.new-block.ensures.writer)) in
     let all = c.put_rows.ensures.sends start printed false parts c.loop-item.invariant.after
     c.loop-item.invariant.sends in
-    subst (λ w. Stopped c.in-Err.written start (contents w) (printout_of_items printed items)) (sym same)
-    (subst (λ p. Stopped c.in-Err.written start (contents c.flush.new.self.writer.now) (printout printed false p))
-    whole (c.in-Err.ensures.err start (printout printed false parts) all))
+    subst (λ w. OutputStopped c.in-Err.written start (contents w) (print_items_output printed items)) (sym same)
+    (subst (λ p. OutputStopped c.in-Err.written start (contents c.flush.new.self.writer.now)
+    (capture_printout printed false p)) whole (c.in-Err.ensures.err start (capture_printout printed false parts) all))

@@ -1,14 +1,14 @@
 use Rattle.std.proofs.Common.{◌≡◌, false, map, take}
-use Rattle.swd_io.specs.Blocks.{Sends}
+use Rattle.swd_io.specs.Blocks.{BlockBufferSends}
 use Rattle.swd_resync.specs.declared.part.Part.TheVariants.{Item}
-use Rattle.swd_capture.specs.Printing.{told}
-use Rattle.swd_capture.specs.Tellers.{IsAfter}
+use Rattle.swd_capture.specs.Printing.{capture_printed_parts}
+use Rattle.swd_capture.specs.Tellers.{IsCaptureTellerAfter}
 use Rattle.swd_capture_text.proofs.items.print_items.Given as goal
 
 abbrev pub invariant-loop-item : goal.invariant-loop-item
 invariant-loop-item g l = record {
-  after : IsAfter l.fn.printed false (map Item (take l.item-index l.items)) l.teller;
-  sends : Sends g.W.Write.contents (g.W.Write.contents l.fn.writer) l.block
-      (told l.fn.printed false (map Item (take l.item-index l.items)));
+  after : IsCaptureTellerAfter l.fn.printed false (map Item (take l.item-index l.items)) l.teller;
+  sends : BlockBufferSends g.W.Write.contents (g.W.Write.contents l.fn.writer) l.block
+      (capture_printed_parts l.fn.printed false (map Item (take l.item-index l.items)));
   writer : l.block.writer.ghost_name ≡ l.initial.block.writer.ghost_name;
 }

@@ -1,20 +1,21 @@
 use Rattle.std.proofs.Common.{◌≡◌, ℕ, ◌-◌, ◌/◌, ◌^◌, ◌≤◌, [], ◌++◌, map, sym, ap, subst, append_assoc, ◌∙◌, arith}
 use Rattle.std.proofs.lemmas.List.{append-nil, map-append}
-use Rattle.swd_io.specs.Blocks.{Sends}
+use Rattle.swd_io.specs.Blocks.{BlockBufferSends}
 use Rattle.swd_bits.specs.Bits.{low_bits}
-use Rattle.swd_trace.proofs.NumberLemmas.{no_bits, parted}
+use Rattle.swd_trace.proofs.NumberLemmas.{decoder_bits_none, decoder_bits_parted}
 use Rattle.swd_trace.specs.declared.item.Item.TheVariants.{Junk}
 use Rattle.swd_resync.specs.declared.part.Part.TheVariants.{Item as Told}
-use Rattle.swd_capture.specs.Printing.{junk_parts}
-use Rattle.swd_capture_text.specs.Listers.{told_of, Tells}
+use Rattle.swd_capture.specs.Printing.{capture_junk_parts}
+use Rattle.swd_capture_text.specs.Listers.{capture_text_output, CaptureTextQueues}
 use Rattle.swd_capture_text.specs.Readings.{is_over}
 use Rattle.swd_capture_text.proofs.lister.put_junk.Goals as goal
 
 -- the first junk bits, and the others
 junk_parted : (k n v : ℕ) → k ≤ n
-    → junk_parts (low_bits n v) ≡ junk_parts (low_bits k v) ++ junk_parts (low_bits (n - k) (v / 2 ^ k))
+    → capture_junk_parts (low_bits n v) ≡ capture_junk_parts (low_bits k v)
+    ++ capture_junk_parts (low_bits (n - k) (v / 2 ^ k))
 junk_parted k n v h =
-    ap junk_parts (parted k n v h)
+    ap capture_junk_parts (decoder_bits_parted k n v h)
     ∙ ap (map Told) (map-append Junk (low_bits k v) (low_bits (n - k) (v / 2 ^ k)))
     ∙ map-append Told (map Junk (low_bits k v)) (map Junk (low_bits (n - k) (v / 2 ^ k)))
 
@@ -27,16 +28,16 @@ loop-left-preserved g c = record {
       let bits = c.loop-left.bits in
       let k = c.min-count.result in
       let within : k ≤ left = omega (arith, c.min-count.ensures) in
-      let first = junk_parts (low_bits k bits) in
-      let others = junk_parts (low_bits (left - k) (bits / 2 ^ k)) in
+      let first = capture_junk_parts (low_bits k bits) in
+      let others = capture_junk_parts (low_bits (left - k) (bits / 2 ^ k)) in
       let b = c.tell_junk.ensures.bytes start.printed over i.0 i.1.0 in
       let same : c.as_bytes.result.now ≡ c.tell_junk.new.text.bytes = search in (
         i.0 ++ first,
         (
           c.tell_junk.ensures.after start.printed over i.0 i.1.0,
-          subst (λ all. Sends g.W.Write.contents start.from c.put.new.self all)
-              (ap (λ x. told_of start i.0 ++ x) (same ∙ b.1 ∙ ap (λ x. x ++ b.0) c.clear.ensures) ∙ sym b.2)
-              (c.put.ensures.sends start.from (told_of start i.0) i.1.1),
+          subst (λ all. BlockBufferSends g.W.Write.contents start.from c.put.new.self all)
+              (ap (λ x. capture_text_output start i.0 ++ x) (same ∙ b.1 ∙ ap (λ x. x ++ b.0) c.clear.ensures) ∙ sym b.2)
+              (c.put.ensures.sends start.from (capture_text_output start i.0) i.1.1),
         ),
         append_assoc i.0 first others ∙ ap (λ x. i.0 ++ x) (sym (junk_parted k left bits within)) ∙ i.2,
       );
@@ -47,6 +48,6 @@ pub returns-clause-tells : goal.returns-clause-tells
 returns-clause-tells g c = λ start parts h.
     let i = c.loop-left.invariant.tells start parts h in
     let none : low_bits c.loop-left.left c.loop-left.bits ≡ [] =
-    no_bits c.loop-left.left c.loop-left.bits (omega (arith, c.loop-left-test.false)) in
-    subst (Tells g.W.Write.contents start c.loop-left.teller c.loop-left.block)
-    (sym (append-nil i.0) ∙ ap (λ x. i.0 ++ junk_parts x) (sym none) ∙ i.2) i.1
+    decoder_bits_none c.loop-left.left c.loop-left.bits (omega (arith, c.loop-left-test.false)) in
+    subst (CaptureTextQueues g.W.Write.contents start c.loop-left.teller c.loop-left.block)
+    (sym (append-nil i.0) ∙ ap (λ x. i.0 ++ capture_junk_parts x) (sym none) ∙ i.2) i.1

@@ -1,16 +1,17 @@
 use Rattle.std.proofs.Common.{List, ◌≡◌, ◌++◌}
 use Rattle.swd_bits.specs.Bits.{low_bits}
-use Rattle.swd_bits.specs.BitLists.{bits_of}
+use Rattle.swd_bits.specs.BitLists.{tx_bits_of}
 use Rattle.swd_resync.specs.declared.part.Part.{Part}
-use Rattle.swd_capture_text.specs.Listers.{Start, Tells}
-use Rattle.swd_capture.specs.Printing.{junk_parts}
+use Rattle.swd_capture_text.specs.Listers.{PrintStart, CaptureTextQueues}
+use Rattle.swd_capture.specs.Printing.{capture_junk_parts}
 use Rattle.swd_capture_text.proofs.lister.put_junk.Given as goal
 
 abbrev pub invariant-loop-left : goal.invariant-loop-left
 invariant-loop-left g l = record {
-  tells : (start : Start) (parts : List Part) → Tells g.W.Write.contents start l.fn.teller l.fn.block parts
-      → (done : List Part) × Tells g.W.Write.contents start l.teller l.block done
-      × (done ++ junk_parts (low_bits l.left l.bits) ≡ parts ++ junk_parts (bits_of l.fn.junk));
+  tells : (start : PrintStart) (parts : List Part)
+      → CaptureTextQueues g.W.Write.contents start l.fn.teller l.fn.block parts
+      → (done : List Part) × CaptureTextQueues g.W.Write.contents start l.teller l.block done
+      × (done ++ capture_junk_parts (low_bits l.left l.bits) ≡ parts ++ capture_junk_parts (tx_bits_of l.fn.junk));
   writer : l.block.writer.ghost_name ≡ l.fn.block.writer.ghost_name;
 }
 

@@ -1,5 +1,5 @@
 use Rattle.std.proofs.Common.{◌/◌, inr, length, subst}
-use Rattle.swd_image_ends.specs.Memories.{HasRoom}
+use Rattle.swd_image_ends.specs.Memories.{ImageEndHasRoom}
 use Rattle.swd_commands.proofs.memory_target.serve_bytes.Goals as goal
 
 pub returns : goal.returns
@@ -9,7 +9,7 @@ returns g c = inr (
   record {
     memory = c.in-Some.words;
     words = c.in-Some.ensures.words;
-    room = subst (λ n. HasRoom (length c.args.bytes.now / 4) n c.in-Some.words) c.session_room-room.ensures
+    room = subst (λ n. ImageEndHasRoom (length c.args.bytes.now / 4) n c.in-Some.words) c.session_room-room.ensures
         c.in-Some.ensures.room;
     made = c.target_pins-pins.ensures.made;
     rests = c.target_pins-pins.ensures.rests;

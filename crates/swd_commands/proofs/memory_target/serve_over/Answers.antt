@@ -1,10 +1,10 @@
 use Rattle.std.proofs.Common.{◌≡◌, ◌∙◌, ℕ, Result, ap, false, refl, subst, sym}
 use Rattle.swd_port.specs.PlainMemory.{PlainMemory}
-use Rattle.swd_clocked.specs.Marked.{state_of}
-use Rattle.swd_bitbang.specs.Traces.{is_cut_off}
-use Rattle.swd_commands.specs.MemoryTargets.{IsSessionStatus}
-use Rattle.swd_commands.specs.Simulated.{WritesBack}
-use Rattle.swd_commands.proofs.ServedLemmas.{served_so}
+use Rattle.swd_clocked.specs.Marked.{marked_clocked_state}
+use Rattle.swd_bitbang.specs.Traces.{is_pins_trace_cut_off}
+use Rattle.swd_commands.specs.MemoryTargets.{IsTargetCommandStatus}
+use Rattle.swd_commands.specs.Simulated.{CommandWritesBack}
+use Rattle.swd_commands.proofs.ServedLemmas.{target_command_status_map}
 use Rattle.swd_commands.proofs.memory_target.serve_over.Goals as goal
 
 pub returns-in-Ok : goal.returns-in-Ok
@@ -16,14 +16,13 @@ returns-in-Ok g c =
       after = served.result.1;
       session = served.ensures.session;
       wrote = wrote;
-      written = subst (λ (m : PlainMemory). WritesBack m c.args.memory.now.base c.args.count wrote
+      written = subst (λ (m : PlainMemory). CommandWritesBack m c.args.memory.now.base c.args.count wrote
           (g.F.Made.Write.contents c.args.file.now) (g.F.Made.Write.contents c.write_back.new.file))
-          (c.memory-after.ensures ∙ ap (λ t. (state_of t).memory) c.target-2.ensures) c.write_back.ensures;
-      is = subst (λ (w : Result (Unit {0}) ℕ). IsSessionStatus served.result.0
-          (is_cut_off served.result.1.trace ≡ false) w c.served_status.result)
-          (sym c.in-Ok.is)
-          (served_so served.result.0 _ _ _
-          (λ done. ap is_cut_off (sym c.trace.ensures) ∙ c.are_complete-done.ensures done)
+          (c.memory-after.ensures ∙ ap (λ t. (marked_clocked_state t).memory) c.target-2.ensures) c.write_back.ensures;
+      is = subst (λ (w : Result (Unit {0}) ℕ). IsTargetCommandStatus served.result.0
+          (is_pins_trace_cut_off served.result.1.trace ≡ false) w c.served_status.result)
+          (sym c.in-Ok.is) (target_command_status_map served.result.0 _ _ _
+          (λ done. ap is_pins_trace_cut_off (sym c.trace.ensures) ∙ c.are_complete-done.ensures done)
           c.served_status.ensures);
     }
 
@@ -36,10 +35,10 @@ returns g c =
       after = served.result.1;
       session = served.ensures.session;
       wrote = wrote;
-      written = subst (λ (m : PlainMemory). WritesBack m c.args.memory.now.base c.args.count wrote
+      written = subst (λ (m : PlainMemory). CommandWritesBack m c.args.memory.now.base c.args.count wrote
           (g.F.Made.Write.contents c.args.file.now) (g.F.Made.Write.contents c.write_back.new.file))
-          (c.memory-after.ensures ∙ ap (λ t. (state_of t).memory) c.target-2.ensures) c.write_back.ensures;
-      is = subst (λ (w : Result (Unit {0}) ℕ). IsSessionStatus served.result.0
-          (is_cut_off served.result.1.trace ≡ false) w c.in-Err.status) (sym c.in-Err.is)
+          (c.memory-after.ensures ∙ ap (λ t. (marked_clocked_state t).memory) c.target-2.ensures) c.write_back.ensures;
+      is = subst (λ (w : Result (Unit {0}) ℕ). IsTargetCommandStatus served.result.0
+          (is_pins_trace_cut_off served.result.1.trace ≡ false) w c.in-Err.status) (sym c.in-Err.is)
           refl;
     }

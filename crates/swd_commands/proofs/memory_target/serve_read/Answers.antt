@@ -1,11 +1,12 @@
 use Rattle.std.proofs.Common.{inr, subst, sym}
-use Rattle.swd_image_ends.specs.Memories.{IsWhole}
+use Rattle.swd_image_ends.specs.Memories.{AreImageEndWholeWords}
 use Rattle.swd_commands.specs.MemoryTargets.{ServesBytes}
 use Rattle.swd_commands.proofs.memory_target.serve_read.Goals as goal
 
 pub serve_bytes-requires-clause-whole : goal.serve_bytes-requires-clause-whole
 serve_bytes-requires-clause-whole g c =
-    subst (λ l. IsWhole c.args.memory.now.base l) (sym c.as_slice-bytes.ensures.value) c.in-Ok.ensures.whole
+    subst (λ l. AreImageEndWholeWords c.args.memory.now.base l) (sym c.as_slice-bytes.ensures.value)
+    c.in-Ok.ensures.whole
 
 pub returns : goal.returns
 returns g c = inr (

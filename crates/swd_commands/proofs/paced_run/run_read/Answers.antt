@@ -1,7 +1,7 @@
 use Rattle.std.proofs.Common.{◌∙◌, subst, sym}
-use Rattle.swd_script.specs.Readers.{meaning}
-use Rattle.swd_run.specs.Records.{files_of}
-use Rattle.swd_run.specs.Running.{AnswersScript}
+use Rattle.swd_script.specs.Readers.{read_script_meaning}
+use Rattle.swd_run.specs.Records.{run_files_of}
+use Rattle.swd_run.specs.Running.{ScriptRunAnswers}
 use Rattle.swd_commands.proofs.paced_run.run_read.Goals as goal
 
 pub returns : goal.returns
@@ -9,11 +9,13 @@ returns g c =
     let contents = g.O.Write.contents in
     let ran = c.run_to-answer in
     let after = contents ran.result.1.report.now in
-    let before = files_of g.T.Write.contents c.args.records.now in
-    let written = files_of g.T.Write.contents ran.new.records in
+    let before = run_files_of g.T.Write.contents c.args.records.now in
+    let written = run_files_of g.T.Write.contents ran.new.records in
     let same = c.output-1.given.1 (sym (ran.ensures.same ∙ c.new-progress.ensures.same)) in
-    subst (λ output. AnswersScript c.args.run.now.tries c.args.run.now.resumes (meaning c.args.script.now)
+    subst (λ output. ScriptRunAnswers c.args.run.now.tries c.args.run.now.resumes
+    (read_script_meaning c.args.script.now)
     c.args.plan.items ran.result.0 (contents c.args.output.now) (contents output) before written) (sym same)
-    (subst (λ output. AnswersScript c.args.run.now.tries c.args.run.now.resumes (meaning c.args.script.now)
+    (subst (λ output. ScriptRunAnswers c.args.run.now.tries c.args.run.now.resumes
+    (read_script_meaning c.args.script.now)
     c.args.plan.items ran.result.0 (contents output) after before written) c.new-progress.ensures.report
     ran.ensures.answers)

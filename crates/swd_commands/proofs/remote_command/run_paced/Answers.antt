@@ -1,13 +1,13 @@
 use Rattle.std.proofs.Common.{subst}
-use Rattle.swd_script.specs.Readers.{meaning}
-use Rattle.swd_script.proofs.TextLaws.{is_runnable}
-use Rattle.swd_run.specs.Records.{files_of}
-use Rattle.swd_ends.specs.RemoteRuns.{RanRemoteScript}
-use Rattle.swd_commands.specs.Remotes.{WentOver}
+use Rattle.swd_script.specs.Readers.{read_script_meaning}
+use Rattle.swd_script.proofs.TextLaws.{script_is_runnable}
+use Rattle.swd_run.specs.Records.{run_files_of}
+use Rattle.swd_ends.specs.RemoteRuns.{RanRemoteEndScript}
+use Rattle.swd_commands.specs.Remotes.{CommandWentOver}
 use Rattle.swd_commands.proofs.remote_command.run_paced.Goals as goal
 
 pub run_remote_script-answer-requires : goal.run_remote_script-answer-requires
-run_remote_script-answer-requires g c = let read = c.in-Ok.ensures.ok in is_runnable read.0 (meaning c.in-Ok.script)
+run_remote_script-answer-requires g c = let read = c.in-Ok.ensures.ok in script_is_runnable read.0 (read_script_meaning c.in-Ok.script)
     read.2
 
 pub returns-in-Ok-answer : goal.returns-in-Ok-answer
@@ -19,13 +19,13 @@ returns-in-Ok-answer g c =
       record {
         text = read.0;
         is_script = read.1;
-        meaning = meaning c.in-Ok.script;
+        meaning = read_script_meaning c.in-Ok.script;
         means = read.2;
-        ran = subst (λ answer. RanRemoteScript g.P.Story.at c.args.run.now.tries c.args.run.now.resumes
-            (WentOver g.I.Read.remaining g.O.Write.contents (g.O.Write.contents c.args.output)
-            (g.I.Read.remaining c.args.input) ran.result.1) (meaning c.in-Ok.script).batches answer
+        ran = subst (λ answer. RanRemoteEndScript g.P.Story.at c.args.run.now.tries c.args.run.now.resumes
+            (CommandWentOver g.I.Read.remaining g.O.Write.contents (g.O.Write.contents c.args.output)
+            (g.I.Read.remaining c.args.input) ran.result.1) (read_script_meaning c.in-Ok.script).batches answer
             (g.M.Write.contents c.new-report.result.report.now) (g.M.Write.contents ran.new.report.report.now)
-            (files_of g.T.Write.contents c.args.records.now) (files_of g.T.Write.contents ran.new.records))
+            (run_files_of g.T.Write.contents c.args.records.now) (run_files_of g.T.Write.contents ran.new.records))
             c.in-Ok-answer.is ran.ensures;
       },
     )
@@ -39,13 +39,13 @@ returns g c =
       record {
         text = read.0;
         is_script = read.1;
-        meaning = meaning c.in-Ok.script;
+        meaning = read_script_meaning c.in-Ok.script;
         means = read.2;
-        ran = subst (λ answer. RanRemoteScript g.P.Story.at c.args.run.now.tries c.args.run.now.resumes
-            (WentOver g.I.Read.remaining g.O.Write.contents (g.O.Write.contents c.args.output)
-            (g.I.Read.remaining c.args.input) ran.result.1) (meaning c.in-Ok.script).batches answer
+        ran = subst (λ answer. RanRemoteEndScript g.P.Story.at c.args.run.now.tries c.args.run.now.resumes
+            (CommandWentOver g.I.Read.remaining g.O.Write.contents (g.O.Write.contents c.args.output)
+            (g.I.Read.remaining c.args.input) ran.result.1) (read_script_meaning c.in-Ok.script).batches answer
             (g.M.Write.contents c.new-report.result.report.now) (g.M.Write.contents ran.new.report.report.now)
-            (files_of g.T.Write.contents c.args.records.now) (files_of g.T.Write.contents ran.new.records))
+            (run_files_of g.T.Write.contents c.args.records.now) (run_files_of g.T.Write.contents ran.new.records))
             c.in-Err-answer.is ran.ensures;
       },
     )

@@ -1,7 +1,7 @@
 use Rattle.std.proofs.Common.{◌∙◌, None, refl, subst, sym}
-use Rattle.swd_run.proofs.EngineLemmas.{held_is}
-use Rattle.swd_commands.specs.Images.{status_of_image, status_of_loaded}
-use Rattle.swd_commands.specs.Simulated.{IsStatusOf, WritesBack}
+use Rattle.swd_run.proofs.EngineLemmas.{run_file_is_some}
+use Rattle.swd_commands.specs.Images.{command_status_of_image, command_status_loaded}
+use Rattle.swd_commands.specs.Simulated.{IsSimulatedCommandStatus, CommandWritesBack}
 use Rattle.swd_commands.proofs.simulated_command.load_over.Goals as goal
 
 pub returns-in-Ok : goal.returns-in-Ok
@@ -16,14 +16,14 @@ returns-in-Ok g c =
       fault = loaded.ensures.fault;
       blank = _;
       filled = _;
-      named = held_is _ c.report_writer-report.result ∙ c.report_writer-report.ensures ∙ c.requires.named;
+      named = run_file_is_some _ c.report_writer-report.result ∙ c.report_writer-report.ensures ∙ c.requires.named;
       report = loaded.ensures.report;
       wrote = wrote;
-      written = subst (λ m. WritesBack m c.args.memory.now.base c.args.count wrote
+      written = subst (λ m. CommandWritesBack m c.args.memory.now.base c.args.count wrote
           (g.F.Made.Write.contents c.args.file.now) (g.F.Made.Write.contents c.write_back.new.file))
           c.memory.ensures c.write_back.ensures;
-      is = subst (λ w. IsStatusOf (status_of_image status_of_loaded None loaded.result) w c.loaded_status.result)
-          (sym c.in-Ok.is) c.loaded_status.ensures;
+      is = subst (λ w. IsSimulatedCommandStatus (command_status_of_image command_status_loaded None loaded.result) w
+          c.loaded_status.result) (sym c.in-Ok.is) c.loaded_status.ensures;
     }
 
 pub returns : goal.returns
@@ -38,11 +38,12 @@ returns g c =
       fault = loaded.ensures.fault;
       blank = _;
       filled = _;
-      named = held_is _ c.report_writer-report.result ∙ c.report_writer-report.ensures ∙ c.requires.named;
+      named = run_file_is_some _ c.report_writer-report.result ∙ c.report_writer-report.ensures ∙ c.requires.named;
       report = loaded.ensures.report;
       wrote = wrote;
-      written = subst (λ m. WritesBack m c.args.memory.now.base c.args.count wrote
+      written = subst (λ m. CommandWritesBack m c.args.memory.now.base c.args.count wrote
           (g.F.Made.Write.contents c.args.file.now) (g.F.Made.Write.contents c.write_back.new.file))
           c.memory.ensures c.write_back.ensures;
-      is = subst (λ w. IsStatusOf (status_of_image status_of_loaded None loaded.result) w c.in-Err.status) (sym c.in-Err.is) refl;
+      is = subst (λ w. IsSimulatedCommandStatus (command_status_of_image command_status_loaded None loaded.result) w
+          c.in-Err.status) (sym c.in-Err.is) refl;
     }

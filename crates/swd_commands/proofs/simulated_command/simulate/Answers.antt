@@ -1,11 +1,12 @@
 use Rattle.std.proofs.Common.{inr, subst, sym}
-use Rattle.swd_image_ends.specs.Memories.{IsWhole}
+use Rattle.swd_image_ends.specs.Memories.{AreImageEndWholeWords}
 use Rattle.swd_commands.specs.Simulated.{SimulatesAction}
 use Rattle.swd_commands.proofs.simulated_command.simulate.Goals as goal
 
 pub simulate_action-requires-clause-whole : goal.simulate_action-requires-clause-whole
 simulate_action-requires-clause-whole g c =
-    subst (λ l. IsWhole c.args.memory.now.base l) (sym c.as_slice-bytes.ensures.value) c.in-Ok.ensures.whole
+    subst (λ l. AreImageEndWholeWords c.args.memory.now.base l) (sym c.as_slice-bytes.ensures.value)
+    c.in-Ok.ensures.whole
 
 pub returns : goal.returns
 returns g c = inr (

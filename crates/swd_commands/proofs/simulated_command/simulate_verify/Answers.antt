@@ -1,12 +1,12 @@
 use Rattle.std.proofs.Common.{inr}
-use Rattle.swd_image_ends.specs.Pieces.{pieces_in}
+use Rattle.swd_image_ends.specs.Pieces.{pieces_to_load}
 use Rattle.swd_commands.proofs.simulated_command.simulate_verify.Goals as goal
 
 pub returns-in-Ok-target_of : goal.returns-in-Ok-target_of
 returns-in-Ok-target_of g c = inr (
   c.in-Ok-target_of.bench,
   c.in-Ok-target_of.ensures.target,
-  pieces_in c.in-Ok.opened.file,
+  pieces_to_load c.in-Ok.opened.file,
   c.in-Ok.ensures.pieces,
   c.verify_over.ensures,
 )

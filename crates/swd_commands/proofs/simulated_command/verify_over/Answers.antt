@@ -1,5 +1,5 @@
 use Rattle.std.proofs.Common.{◌∙◌}
-use Rattle.swd_run.proofs.EngineLemmas.{held_is}
+use Rattle.swd_run.proofs.EngineLemmas.{run_file_is_some}
 use Rattle.swd_commands.proofs.simulated_command.verify_over.Goals as goal
 
 pub returns : goal.returns
@@ -13,7 +13,7 @@ returns g c =
       fault = verified.ensures.fault;
       blank = _;
       filled = _;
-      named = held_is _ c.report_writer-report.result ∙ c.report_writer-report.ensures ∙ c.requires.named;
+      named = run_file_is_some _ c.report_writer-report.result ∙ c.report_writer-report.ensures ∙ c.requires.named;
       report = verified.ensures.report;
       is = c.verified_status.ensures;
     }

@@ -1,7 +1,7 @@
 use Rattle.std.proofs.Common.{◌∙◌, ap, inl, inr, sym}
 use Rattle.std.proofs.KnownBytes.{Appends-nil}
-use Rattle.swd_bitbang.specs.Traces.{is_cut_off}
-use Rattle.swd_commands.proofs.ServedLemmas.{served_so}
+use Rattle.swd_bitbang.specs.Traces.{is_pins_trace_cut_off}
+use Rattle.swd_commands.proofs.ServedLemmas.{target_command_status_map}
 use Rattle.swd_commands.proofs.target_command.serve_under.Goals as goal
 
 pub returns-in-Ok-read_target : goal.returns-in-Ok-read_target
@@ -13,8 +13,8 @@ returns-in-Ok-read_target g c =
       c.serve_logged-served.result.1,
       c.in-Ok-read_target.ensures.made,
       c.serve_logged-served.ensures.session,
-      served_so c.serve_logged-served.result.0 _ _ _
-          (λ done. ap is_cut_off (sym c.trace.ensures) ∙ c.are_complete-done.ensures done)
+      target_command_status_map c.serve_logged-served.result.0 _ _ _
+          (λ done. ap is_pins_trace_cut_off (sym c.trace.ensures) ∙ c.are_complete-done.ensures done)
           c.served_status.ensures,
     )
 

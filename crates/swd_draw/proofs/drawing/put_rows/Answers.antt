@@ -3,13 +3,13 @@ use Rattle.std.proofs.Common.{add-one, arith}
 use Rattle.std.proofs.Math.Seq.{take-suc}
 use Rattle.std.proofs.lemmas.List.{length-take-le}
 use Rattle.std.specs.Prelude.{ℕ, List}
-use Rattle.swd_io.specs.Blocks.{Sends}
+use Rattle.swd_io.specs.Blocks.{BlockBufferSends}
 use Rattle.swd_resync.specs.declared.part.Part.{Part}
 use Rattle.swd_resync.specs.declared.part.Part.TheVariants.{Item as Told}
 use Rattle.swd_trace.specs.declared.item.Item.TheVariants.{Reset}
-use Rattle.swd_capture.specs.Tellers.{IsAfter}
-use Rattle.swd_draw.specs.Rows.{placed, row, rows}
-use Rattle.swd_draw.proofs.RowLemmas.{rows_more}
+use Rattle.swd_capture.specs.Tellers.{IsCaptureTellerAfter}
+use Rattle.swd_draw.specs.Rows.{drawn_line_form, drawing_row, drawing_rows}
+use Rattle.swd_draw.proofs.RowLemmas.{drawing_rows_more}
 use Rattle.swd_draw.proofs.drawing.put_rows.Goals as goal
 
 -- one part more
@@ -27,19 +27,20 @@ loop-index-preserved g c =
     let within : index < length parts = c.loop-index-test.true in
     let next : take (index + 1) parts ≡ before ++ part ∷ [] = next_part parts index (Told (Reset 0)) within in
     let at : index ≡ length before = sym (length-take-le index parts (omega arith)) in
-    let text : c.as_bytes.result.now ≡ row over before part =
+    let text : c.as_bytes.result.now ≡ drawing_row over before part =
     c.as_bytes.ensures.value ∙ c.as_str.ensures.value
     ∙ c.push_row.ensures.bytes before c.loop-index.invariant.after at
-    ∙ ap (λ x. x ++ row over before part) c.clear.ensures in
+    ∙ ap (λ x. x ++ drawing_row over before part) c.clear.ensures in
     record {
       within = omega arith;
-      after = subst (λ p. IsAfter placed over p c.push_row.new.teller) (sym next)
+      after = subst (λ p. IsCaptureTellerAfter drawn_line_form over p c.push_row.new.teller) (sym next)
           (c.push_row.ensures.after before c.loop-index.invariant.after);
       writer = c.put_text.ensures.writer ∙ c.loop-index.invariant.writer;
       sends = λ start all h.
-          subst (λ x. Sends g.W.Write.contents start c.put_text.new.block x)
-          (ap (λ x. (all ++ rows over [] before) ++ x) text
-          ∙ append_assoc all (rows over [] before) (row over before part)
-          ∙ ap (λ x. all ++ x) (sym (rows_more over [] before part) ∙ ap (rows over []) (sym next)))
-          (c.put_text.ensures.sends start (all ++ rows over [] before) (c.loop-index.invariant.sends start all h));
+          subst (λ x. BlockBufferSends g.W.Write.contents start c.put_text.new.block x)
+          (ap (λ x. (all ++ drawing_rows over [] before) ++ x) text
+          ∙ append_assoc all (drawing_rows over [] before) (drawing_row over before part)
+          ∙ ap (λ x. all ++ x) (sym (drawing_rows_more over [] before part) ∙ ap (drawing_rows over []) (sym next)))
+          (c.put_text.ensures.sends start (all ++ drawing_rows over [] before)
+          (c.loop-index.invariant.sends start all h));
     }

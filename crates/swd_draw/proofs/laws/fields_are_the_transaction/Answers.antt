@@ -1,5 +1,5 @@
-use Rattle.swd_draw.proofs.FieldLemmas.{fields_spell}
+use Rattle.swd_draw.proofs.FieldLemmas.{drawn_fields_spell}
 use Rattle.swd_draw.proofs.laws.fields_are_the_transaction.Goals as goal
 
 pub returns : goal.returns
-returns c = fields_spell
+returns c = drawn_fields_spell

@@ -1,15 +1,15 @@
 use Rattle.std.proofs.Common.{◌++◌, ap, ◌∙◌, rules}
-use Rattle.swd_draw.proofs.MarkLemmas.{digit_more, digits_done}
+use Rattle.swd_draw.proofs.MarkLemmas.{svg_digit_more, svg_digits_done}
 use Rattle.swd_draw.proofs.pieces.push_digits.Goals as goal
 
 pub loop-preserved : goal.loop-preserved
 loop-preserved g c = record {
   room = search rules;
-  kept = digit_more c.loop.text.bytes c.push_str.new.self.bytes _ c.args.bits.len c.loop.counter c.loop.rest
+  kept = svg_digit_more c.loop.text.bytes c.push_str.new.self.bytes _ c.args.bits.len c.loop.counter c.loop.rest
       c.loop-test.true (c.push_str.ensures.bytes ∙ ap (λ x. c.loop.text.bytes ++ x) c.digit_text.ensures)
       c.loop.invariant.kept;
 }
 
 pub returns-clause-bytes : goal.returns-clause-bytes
-returns-clause-bytes g c = digits_done c.loop.text.bytes _ c.args.bits.len c.loop.counter c.loop.rest c.loop-test.false
-    c.loop.invariant.kept
+returns-clause-bytes g c = svg_digits_done c.loop.text.bytes _ c.args.bits.len c.loop.counter c.loop.rest
+    c.loop-test.false c.loop.invariant.kept

@@ -1,7 +1,7 @@
 use Rattle.std.proofs.Common.{rules, ◌≡◌, ◌∙◌, ℕ, length, refl, subst}
-use Rattle.swd_ends.specs.LiveFiles.{IsGiven, first_characters, first_lines, log_at, trace_at, transfers_at, whole_log}
-use Rattle.swd_ends.specs.LiveFiles.{whole_trace}
-use Rattle.swd_ends.proofs.LiveLemmas.{given_if}
+use Rattle.swd_ends.specs.LiveFiles.{IsLiveFileGiven, live_trace_first, live_log_first, live_log_at, live_trace_at}
+use Rattle.swd_ends.specs.LiveFiles.{live_transfers_at, live_log_whole, live_trace_whole}
+use Rattle.swd_ends.proofs.LiveLemmas.{live_file_given_if}
 use Rattle.swd_ends.proofs.live_files.serve_logged.Goals as goal
 
 pub returns-clause-log : goal.returns-clause-log
@@ -10,11 +10,12 @@ returns-clause-log g c = λ sound.
     let s = c.args.pins in
     let t = c.serve_watched-served.result.1 in
     let n : ℕ = length c.log.result.now in
-    let was : n ≡ length (transfers_at s) = search rules in
+    let was : n ≡ length (live_transfers_at s) = search rules in
     let watched = c.serve_watched-served.ensures.watched sound in
     let m : ℕ = c.serve_watched-served.result.2.skipped in
-    subst (λ k. IsGiven contents (whole_log k t) c.args.log c.finish.new.self.log) (watched.skipped ∙ was)
-    (given_if contents (first_lines n s) (first_lines m t) (length (log_at n s)) (length (log_at m t)) (whole_log m t)
+    subst (λ k. IsLiveFileGiven contents (live_log_whole k t) c.args.log c.finish.new.self.log) (watched.skipped ∙ was)
+    (live_file_given_if contents (live_log_first n s) (live_log_first m t) (length (live_log_at n s))
+    (length (live_log_at m t)) (live_log_whole m t)
     c.args.log _ _ c.finish.new.self.log refl c.fresh.ensures watched.log c.finish.ensures.log)
 
 pub returns-clause-trace : goal.returns-clause-trace
@@ -22,6 +23,6 @@ returns-clause-trace g c = λ sound.
     let contents = g.M.Write.contents in
     let s = c.args.pins in
     let t = c.serve_watched-served.result.1 in
-    given_if contents (first_characters s) (first_characters t) (length (trace_at s)) (length (trace_at t))
-    (whole_trace t) c.args.trace _ _ c.finish.new.self.trace refl c.fresh-2.ensures
+    live_file_given_if contents (live_trace_first s) (live_trace_first t) (length (live_trace_at s))
+    (length (live_trace_at t)) (live_trace_whole t) c.args.trace _ _ c.finish.new.self.trace refl c.fresh-2.ensures
     (c.serve_watched-served.ensures.watched sound).trace c.finish.ensures.trace

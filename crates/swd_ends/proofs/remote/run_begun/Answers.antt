@@ -3,17 +3,17 @@ use Rattle.std.specs.Prelude.{All as Each}
 use Rattle.swd_port.specs.declared.call.Call.{Call}
 use Rattle.swd_port.specs.Stories.{port_at, FitsStory}
 use Rattle.swd_remote.specs.WholeRuns.{GoesOver}
-use Rattle.swd_remote.proofs.WholeLemmas.{went_over}
-use Rattle.swd_script.specs.Laws.{IsBatch}
-use Rattle.swd_script.specs.Readers.{listed}
-use Rattle.swd_run.specs.Engine.{AnswersAt}
-use Rattle.swd_run.specs.Records.{files_of}
-use Rattle.swd_ends.proofs.RemoteLemmas.{ran_remote}
+use Rattle.swd_remote.proofs.WholeLemmas.{remote_connection_went_over}
+use Rattle.swd_script.specs.Laws.{IsScriptBatch}
+use Rattle.swd_script.specs.Readers.{script_batch_listed}
+use Rattle.swd_run.specs.Engine.{BatchAnswersAt}
+use Rattle.swd_run.specs.Records.{run_files_of}
+use Rattle.swd_ends.proofs.RemoteLemmas.{remote_end_ran_by_calls}
 use Rattle.swd_ends.proofs.remote.run_begun.Goals as goal
 
 pub run_batches-answer-requires-clause-batches : goal.run_batches-answer-requires-clause-batches
 run_batches-answer-requires-clause-batches g c =
-    subst (λ batches. Each IsBatch (map listed batches)) (sym c.as_slice-batches.ensures.value)
+    subst (λ batches. Each IsScriptBatch (map script_batch_listed batches)) (sym c.as_slice-batches.ensures.value)
     c.requires.script.batches
 
 pub returns : goal.returns
@@ -23,15 +23,16 @@ returns g c =
     let wire = ran.result.1 in
     let old = g.O.Write.contents c.args.report.now in
     let new = g.O.Write.contents ran.new.report in
-    let before = files_of g.T.Write.contents c.args.records.now in
-    let after = files_of g.T.Write.contents ran.new.records in
-    let Over : List Call → Type 0 = λ calls. ∥ GoesOver g.R.Read.remaining g.W.Write.contents g.B.Beginning.sent
-    g.B.Beginning.left c.hang_up.result calls ∥₁ in
-    ran_remote (λ w. w.noted.calls) story c.args.tries c.args.resumes Over (map listed c.args.script.now.batches.items)
-    c.begun-wire.result wire c.begun-wire.ensures
-    (went_over g.R.Read.remaining g.W.Write.contents g.B.Beginning.sent g.B.Beginning.left wire.noted.calls wire.gone
+    let before = run_files_of g.T.Write.contents c.args.records.now in
+    let after = run_files_of g.T.Write.contents ran.new.records in
+    let Over : List Call → Type 0 = λ calls. ∥ GoesOver g.R.Read.remaining g.W.Write.contents g.B.InitialStreams.sent
+    g.B.InitialStreams.left c.hang_up.result calls ∥₁ in
+    remote_end_ran_by_calls (λ w. w.noted.calls) story c.args.tries c.args.resumes Over
+    (map script_batch_listed c.args.script.now.batches.items) c.begun-wire.result wire c.begun-wire.ensures
+    (remote_connection_went_over g.R.Read.remaining g.W.Write.contents g.B.InitialStreams.sent g.B.InitialStreams.left
+    wire.noted.calls wire.gone
     c.into_transport.result c.hang_up.result (c.into_transport.ensures refl) c.hang_up.ensures)
     ran.result.0 old new before after
-    (subst (λ batches. AnswersAt (λ w. port_at story w.noted.calls) (λ w. []) (λ w. FitsStory story w.noted.calls)
-    c.args.tries c.args.resumes (map listed batches) c.begun-wire.result wire ran.result.0 old new before after)
-    c.as_slice-batches.ensures.value ran.ensures.answer)
+    (subst (λ batches. BatchAnswersAt (λ w. port_at story w.noted.calls) (λ w. []) (λ w. FitsStory story w.noted.calls)
+    c.args.tries c.args.resumes (map script_batch_listed batches) c.begun-wire.result wire ran.result.0 old new before
+    after) c.as_slice-batches.ensures.value ran.ensures.answer)

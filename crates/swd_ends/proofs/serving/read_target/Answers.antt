@@ -1,16 +1,16 @@
 use Rattle.std.proofs.Common.{◌≡◌, Bool, true, false, map, sym, subst}
 use Rattle.swd_port.specs.PlainMemory.{PlainMemory}
-use Rattle.swd_script.specs.Readers.{listed, meaning}
-use Rattle.swd_script.proofs.TextLaws.{is_runnable, is_plan}
-use Rattle.swd_ends.specs.Serving.{IsBare, IsMade}
+use Rattle.swd_script.specs.Readers.{script_batch_listed, read_script_meaning}
+use Rattle.swd_script.proofs.TextLaws.{script_is_runnable, plan_file_is_plan}
+use Rattle.swd_ends.specs.Serving.{IsTargetEndScript, IsTargetEndMade}
 use Rattle.swd_ends.proofs.serving.read_target.Goals as goal
 
 pub zero_memory-requires : goal.zero_memory-requires
-zero_memory-requires g c = let read = c.in-Ok.ensures.read in is_runnable read.script_text
-    (meaning c.in-Ok.texts.script) read.means
+zero_memory-requires g c = let read = c.in-Ok.ensures.read in script_is_runnable read.script_text
+    (read_script_meaning c.in-Ok.texts.script) read.means
 
 pub target_pins-requires : goal.target_pins-requires
-target_pins-requires g c = let read = c.in-Ok.ensures.read in is_plan read.plan_text c.in-Ok.texts.plan.items read.plans
+target_pins-requires g c = let read = c.in-Ok.ensures.read in plan_file_is_plan read.plan_text c.in-Ok.texts.plan.items read.plans
 
 apart : (b : Bool) → b ≡ true → b ≡ false → ⊥
 apart b e f = absurd cc
@@ -19,12 +19,12 @@ pub returns-then-not-is_bare-clause-fault : goal.returns-then-not-is_bare-clause
 returns-then-not-is_bare-clause-fault g c =
     let script = c.in-Ok.texts.script in
     record {
-      meaning = meaning script;
+      meaning = read_script_meaning script;
       marks = c.in-Ok.texts.plan.items;
       read = c.in-Ok.ensures.read;
       access = λ bare. apart c.is_bare.result
-          (c.is_bare.ensures.1 (subst (λ batches. IsBare (map listed batches)) (sym c.as_slice.ensures.value) bare))
-          c.if-not-is_bare.true;
+          (c.is_bare.ensures.1 (subst (λ batches. IsTargetEndScript (map script_batch_listed batches))
+          (sym c.as_slice.ensures.value) bare)) c.if-not-is_bare.true;
     }
 
 pub returns-clause-made : goal.returns-clause-made
@@ -33,11 +33,12 @@ returns-clause-made g c =
     let marks = c.in-Ok.texts.plan.items in
     let pins = c.target_pins.ensures in
     record {
-      meaning = meaning script;
+      meaning = read_script_meaning script;
       marks = marks;
       read = c.in-Ok.ensures.read;
-      no_access = subst (λ batches. IsBare (map listed batches)) c.as_slice.ensures.value
+      no_access = subst (λ batches. IsTargetEndScript (map script_batch_listed batches)) c.as_slice.ensures.value
           (c.is_bare.ensures.0 c.if-not-is_bare.false);
-      made = subst (λ (m : PlainMemory). IsMade m marks c.target_pins.result.target) c.in-Some.ensures pins.made;
+      made = subst (λ (m : PlainMemory). IsTargetEndMade m marks c.target_pins.result.target) c.in-Some.ensures
+          pins.made;
       rests = pins.rests;
     }

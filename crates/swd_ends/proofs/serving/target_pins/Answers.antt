@@ -1,14 +1,14 @@
 use Rattle.std.proofs.Common.{ap, subst, sym}
 use Rattle.swd_target.specs.Simulations.{Simulation}
-use Rattle.swd_clocked.specs.declared.marked.MarkedClocked.{MarkedClocked}
-use Rattle.swd_ends.specs.Serving.{IsMade}
+use Rattle.swd_clocked.specs.declared.marked.FaultyClocked.{FaultyClocked}
+use Rattle.swd_ends.specs.Serving.{IsTargetEndMade}
 use Rattle.swd_ends.proofs.serving.target_pins.Goals as goal
 
 pub returns-clause-made : goal.returns-clause-made
 returns-clause-made g c =
     let target = c.new.ensures in
     let marks = c.args.plan.items in
-    let made : IsMade c.args.memory marks c.new.result = record {
+    let made : IsTargetEndMade c.args.memory marks c.new.result = record {
       state = target.state;
       choices = ap (λ (s : Simulation). s.quirks) target.exact;
       frame = target.frame;
@@ -17,7 +17,7 @@ returns-clause-made g c =
       asked = target.requests;
       cycles = target.cycles;
     } in
-    subst (λ (t : MarkedClocked _). IsMade c.args.memory marks t) (sym c.new-2.ensures.target) made
+    subst (λ (t : FaultyClocked _). IsTargetEndMade c.args.memory marks t) (sym c.new-2.ensures.target) made
 
 pub returns-clause-rests : goal.returns-clause-rests
 returns-clause-rests g c =

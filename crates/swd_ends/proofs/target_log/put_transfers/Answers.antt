@@ -1,7 +1,7 @@
 use Rattle.std.proofs.Common.{[], ◌∷◌, ◌++◌, take, sym, ap, ◌∙◌, subst, append_assoc}
-use Rattle.swd_io.specs.Blocks.{Sends}
-use Rattle.swd_ends.specs.TargetLogs.{transfer_lines}
-use Rattle.swd_ends.proofs.LogLemmas.{transfers_more}
+use Rattle.swd_io.specs.Blocks.{BlockBufferSends}
+use Rattle.swd_ends.specs.TargetLogs.{live_log_lines}
+use Rattle.swd_ends.proofs.LogLemmas.{live_log_line_next}
 use Rattle.swd_ends.proofs.target_log.put_transfers.Goals as goal
 
 pub loop-transfer-preserved : goal.loop-transfer-preserved
@@ -11,11 +11,11 @@ loop-transfer-preserved g c =
     let line = c.as_bytes.ensures.value ∙ c.as_str.ensures.value ∙ c.transfer_line.ensures.bytes in
     record {
       sends = λ start all h.
-          subst (Sends g.W.Write.contents start c.put_line.new.self)
-          (ap (λ x. (all ++ transfer_lines (take i transfers)) ++ (x ++ 10 ∷ [])) line
-          ∙ append_assoc all (transfer_lines (take i transfers)) _
-          ∙ ap (λ x. all ++ x) (sym (transfers_more transfers i _ c.loop-transfer-test.true)))
-          (c.put_line.ensures.sends start (all ++ transfer_lines (take i transfers))
+          subst (BlockBufferSends g.W.Write.contents start c.put_line.new.self)
+          (ap (λ x. (all ++ live_log_lines (take i transfers)) ++ (x ++ 10 ∷ [])) line
+          ∙ append_assoc all (live_log_lines (take i transfers)) _
+          ∙ ap (λ x. all ++ x) (sym (live_log_line_next transfers i _ c.loop-transfer-test.true)))
+          (c.put_line.ensures.sends start (all ++ live_log_lines (take i transfers))
           (c.loop-transfer.invariant.sends start all h));
       writer = c.put_line.ensures.writer ∙ c.loop-transfer.invariant.writer;
     }

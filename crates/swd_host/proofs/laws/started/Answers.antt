@@ -1,5 +1,5 @@
-use Rattle.swd_host.proofs.Starts.{start_due}
+use Rattle.swd_host.proofs.Starts.{engine_due_at_start}
 use Rattle.swd_host.proofs.laws.started.Goals as goal
 
 pub returns : goal.returns
-returns c = start_due
+returns c = engine_due_at_start

@@ -1,26 +1,27 @@
-use Rattle.swd_host.proofs.Words.{ap, ◌∙◌, ◌++◌, [], refl, subst, sym, length, drop, since, true, Does, Performs}
-use Rattle.swd_host.proofs.Words.{told_by}
+use Rattle.swd_host.proofs.Words.{ap, ◌∙◌, ◌++◌, [], refl, subst, sym, length, drop, resume_report, true, EngineDoes}
+use Rattle.swd_host.proofs.Words.{EnginePerforms, engine_report}
 use Rattle.std.proofs.Common.{arith}
 use Rattle.std.proofs.lemmas.List.{append-nil}
-use Rattle.swd_host.specs.Reports.{told_to}
+use Rattle.swd_host.specs.Reports.{host_report_to}
 use Rattle.swd_host.specs.declared.task.Bursts.TheVariants.{Writes}
 use Rattle.swd_host.proofs.Alone.{opening_closes, list_closes}
-use Rattle.swd_host.proofs.Resumed.{resume_stops, resume_performs, resumed_as, rest_is, continues}
-use Rattle.swd_host.specs.Calls.{Turns}
-use Rattle.swd_host.specs.Sent.{Made}
-use Rattle.swd_host.specs.Stages.{Tells}
-use Rattle.swd_host.proofs.Making.{made_as, made_then}
-use Rattle.swd_host.proofs.SendingTurns.{opening_counts, opening_ends}
-use Rattle.swd_host.proofs.SendingRuns.{continues_small, resumed_tells}
+use Rattle.swd_host.proofs.Resumed.{resume_stops, resume_performs, resumed_equal_report, resumed_rest_slice}
+use Rattle.swd_host.proofs.Resumed.{resumed_continues}
+use Rattle.swd_host.specs.Calls.{EngineTurns}
+use Rattle.swd_host.specs.Sent.{HostCalls}
+use Rattle.swd_host.specs.Stages.{EngineListCalls}
+use Rattle.swd_host.proofs.Making.{host_calls_weaken, host_calls_append}
+use Rattle.swd_host.proofs.SendingTurns.{opening_counts, opening_stop_sent}
+use Rattle.swd_host.proofs.SendingRuns.{resumed_requests_small, resumed_report_sent}
 use Rattle.swd_host.proofs.resuming.resume_to.Goals as goal
 
 pub returns-in-Err-clause-continues : goal.returns-in-Err-clause-continues
 returns-in-Err-clause-continues g c =
     let before = g.K.AnswerSink.taken c.args.sink.now in
-    let earlier = told_to before c.args.earlier in
-    continues c.args.accesses.now c.args.tries (told_by before c.open.new.engine c.in-Err.end) earlier
+    let earlier = host_report_to before c.args.earlier in
+    resumed_continues c.args.accesses.now c.args.tries (engine_report before c.open.new.engine c.in-Err.end) earlier
     _ [] _ c.requires.reported
-    (c.since.ensures before before (omega arith) ∙ ap (λ x. since x earlier) (c.ending.ensures before))
+    (c.since.ensures before before (omega arith) ∙ ap (λ x. resume_report x earlier) (c.ending.ensures before))
     (sym (append-nil before))
     (opening_closes Writes true c.args.tries c.again-engine.result c.open.new.engine c.ranges.tries.fits
     c.again-engine.ensures.again c.open.ensures.works _ c.in-Err.end _ c.in-Err.ensures.finished c.open.ensures.due)
@@ -29,18 +30,20 @@ pub returns-clause-continues : goal.returns-clause-continues
 returns-clause-continues g c =
     let before = g.K.AnswerSink.taken c.args.sink.now in
     let after = g.K.AnswerSink.taken c.perform-ended.new.sink in
-    let earlier = told_to before c.args.earlier in
+    let earlier = host_report_to before c.args.earlier in
     let rest = drop (length before) c.args.accesses.now in
-    let p : Performs rest c.open.new.engine c.perform-ended.new.engine before after c.perform-ended.result
+    let p : EnginePerforms rest c.open.new.engine c.perform-ended.new.engine before after c.perform-ended.result
     (g.W.Wire.port c.perform-ended.new.wire).link.due =
-    subst (λ rest. Performs rest c.open.new.engine c.perform-ended.new.engine before after c.perform-ended.result
+    subst (λ rest. EnginePerforms rest c.open.new.engine c.perform-ended.new.engine before after c.perform-ended.result
     (g.W.Wire.port c.perform-ended.new.wire).link.due)
-    (rest_is c.count-answered.result (length before) c.args.accesses.now c.count-answered.ensures c.requires.reported)
+    (resumed_rest_slice c.count-answered.result (length before) c.args.accesses.now c.count-answered.ensures
+    c.requires.reported)
     c.perform-ended.ensures.performs in
-    continues c.args.accesses.now c.args.tries (told_by after c.perform-ended.new.engine c.perform-ended.result) earlier
+    resumed_continues c.args.accesses.now c.args.tries
+    (engine_report after c.perform-ended.new.engine c.perform-ended.result) earlier
     _ p.answers _ c.requires.reported
     (c.since-2.ensures before after (omega (arith, c.count.ensures, c.count-answered.ensures))
-    ∙ ap (λ x. since x earlier) (c.ending-2.ensures after))
+    ∙ ap (λ x. resume_report x earlier) (c.ending-2.ensures after))
     p.added
     (list_closes Writes true c.args.tries c.again-engine.result c.open.new.engine c.ranges.tries.fits
     c.again-engine.ensures.again c.open.ensures.works rest c.perform-ended.new.engine c.perform-ended.result _
@@ -49,12 +52,12 @@ returns-clause-continues g c =
 pub returns-in-Err-clause-fits : goal.returns-in-Err-clause-fits
 returns-in-Err-clause-fits g c = λ lawful.
     let before = g.K.AnswerSink.taken c.args.sink.now in
-    let earlier = told_to before c.args.earlier in
+    let earlier = host_report_to before c.args.earlier in
     let opened = c.open.ensures.goes lawful in (
       opened.0,
       λ known.
-          resumed_as c.args.accesses.now c.args.tries earlier _ _ _ _
-          (c.since.ensures before before (omega arith) ∙ ap (λ x. since x earlier) (c.ending.ensures before))
+          resumed_equal_report c.args.accesses.now c.args.tries earlier _ _ _ _
+          (c.since.ensures before before (omega arith) ∙ ap (λ x. resume_report x earlier) (c.ending.ensures before))
           (resume_stops c.args.accesses.now c.args.tries earlier c.again-engine.result c.open.new.engine
           before (g.W.Wire.port c.args.wire.now) (g.W.Wire.port c.open.new.wire) c.ranges.tries.fits
           c.again-engine.ensures.again c.requires.accepted.1 c.requires.reported known opened.1 c.open.ensures.due
@@ -65,22 +68,22 @@ pub returns-clause-fits : goal.returns-clause-fits
 returns-clause-fits g c = λ lawful.
     let before = g.K.AnswerSink.taken c.args.sink.now in
     let after = g.K.AnswerSink.taken c.perform-ended.new.sink in
-    let earlier = told_to before c.args.earlier in
+    let earlier = host_report_to before c.args.earlier in
     let does = c.perform-ended.ensures.does lawful in
     let opened = c.open.ensures.goes does.0 in (
       opened.0,
       λ known.
-          resumed_as c.args.accesses.now c.args.tries earlier _ _ _ _
+          resumed_equal_report c.args.accesses.now c.args.tries earlier _ _ _ _
           (c.since-2.ensures before after (omega (arith, c.count.ensures, c.count-answered.ensures))
-          ∙ ap (λ x. since x earlier) (c.ending-2.ensures after))
+          ∙ ap (λ x. resume_report x earlier) (c.ending-2.ensures after))
           (resume_performs c.args.accesses.now c.args.tries earlier c.again-engine.result c.open.new.engine
           before (g.W.Wire.port c.args.wire.now) (g.W.Wire.port c.open.new.wire) c.ranges.tries.fits
           c.again-engine.ensures.again c.requires.accepted.1 c.requires.reported known opened.1 c.open.ensures.due
           refl c.perform-ended.result c.perform-ended.new.engine
           after (g.W.Wire.port c.perform-ended.new.wire) c.in_default.ensures.finished
-          (subst (λ rest. Does rest c.open.new.engine c.perform-ended.new.engine before after
+          (subst (λ rest. EngineDoes rest c.open.new.engine c.perform-ended.new.engine before after
           c.perform-ended.result (g.W.Wire.port c.open.new.wire) (g.W.Wire.port c.perform-ended.new.wire))
-          (rest_is c.count-answered.result (length before) c.args.accesses.now c.count-answered.ensures
+          (resumed_rest_slice c.count-answered.result (length before) c.args.accesses.now c.count-answered.ensures
           c.requires.reported)
           does.1)),
     )
@@ -88,15 +91,15 @@ returns-clause-fits g c = λ lawful.
 pub returns-in-Err-clause-told : goal.returns-in-Err-clause-told
 returns-in-Err-clause-told g c =
     let before = g.K.AnswerSink.taken c.args.sink.now in
-    let earlier = told_to before c.args.earlier in
-    made_as g.W.Wire.notes _ _ _ _
-    (λ calls turns. resumed_tells (drop (length before) c.args.accesses.now) earlier
-    (told_to before c.ending.result) _ [] c.open.new.engine c.in-Err.end calls
+    let earlier = host_report_to before c.args.earlier in
+    host_calls_weaken g.W.Wire.notes _ _ _ _
+    (λ calls turns. resumed_report_sent (drop (length before) c.args.accesses.now) earlier
+    (host_report_to before c.ending.result) _ [] c.open.new.engine c.in-Err.end calls
     (c.since.ensures before before (omega arith))
-    (c.ending.ensures before ∙ ap (λ l. told_by l c.open.new.engine c.in-Err.end) (sym (append-nil before)))
-    (continues_small c.args.accesses.now c.args.tries earlier _ _ c.requires.accepted.0 c.ranges.tries.fits
+    (c.ending.ensures before ∙ ap (λ l. engine_report l c.open.new.engine c.in-Err.end) (sym (append-nil before)))
+    (resumed_requests_small c.args.accesses.now c.args.tries earlier _ _ c.requires.accepted.0 c.ranges.tries.fits
     (returns-in-Err-clause-continues g c))
-    (opening_ends (drop (length before) c.args.accesses.now) Writes true c.args.tries c.again-engine.result
+    (opening_stop_sent (drop (length before) c.args.accesses.now) Writes true c.args.tries c.again-engine.result
     c.open.new.engine c.in-Err.end calls c.again-engine.ensures.again turns))
     c.open.ensures.made
 
@@ -104,21 +107,23 @@ pub returns-clause-told : goal.returns-clause-told
 returns-clause-told g c =
     let before = g.K.AnswerSink.taken c.args.sink.now in
     let after = g.K.AnswerSink.taken c.perform-ended.new.sink in
-    let earlier = told_to before c.args.earlier in
+    let earlier = host_report_to before c.args.earlier in
     let rest = drop (length before) c.args.accesses.now in
-    let tells : Made g.W.Wire.notes (Tells rest c.open.new.engine c.perform-ended.new.engine before after
+    let tells : HostCalls g.W.Wire.notes (EngineListCalls rest c.open.new.engine c.perform-ended.new.engine before after
     c.perform-ended.result) c.open.new.wire c.perform-ended.new.wire =
-    subst (λ rest. Made g.W.Wire.notes (Tells rest c.open.new.engine c.perform-ended.new.engine before after
+    subst (λ rest. HostCalls g.W.Wire.notes
+    (EngineListCalls rest c.open.new.engine c.perform-ended.new.engine before after
     c.perform-ended.result) c.open.new.wire c.perform-ended.new.wire)
-    (rest_is c.count-answered.result (length before) c.args.accesses.now c.count-answered.ensures c.requires.reported)
+    (resumed_rest_slice c.count-answered.result (length before) c.args.accesses.now c.count-answered.ensures
+    c.requires.reported)
     c.perform-ended.ensures.told in
-    made_then g.W.Wire.notes (λ calls. Turns c.again-engine.result calls c.open.new.engine)
-    (Tells rest c.open.new.engine c.perform-ended.new.engine before after c.perform-ended.result) _ _ _ _
-    (λ early late turns tells. resumed_tells rest earlier (told_to after c.ending-2.result) _ tells.answers
+    host_calls_append g.W.Wire.notes (λ calls. EngineTurns c.again-engine.result calls c.open.new.engine)
+    (EngineListCalls rest c.open.new.engine c.perform-ended.new.engine before after c.perform-ended.result) _ _ _ _
+    (λ early late turns tells. resumed_report_sent rest earlier (host_report_to after c.ending-2.result) _ tells.answers
     c.perform-ended.new.engine c.perform-ended.result (late ++ early)
     (c.since-2.ensures before after (omega (arith, c.count.ensures, c.count-answered.ensures)))
-    (c.ending-2.ensures after ∙ ap (λ l. told_by l c.perform-ended.new.engine c.perform-ended.result) tells.added)
-    (continues_small c.args.accesses.now c.args.tries earlier _ _ c.requires.accepted.0 c.ranges.tries.fits
+    (c.ending-2.ensures after ∙ ap (λ l. engine_report l c.perform-ended.new.engine c.perform-ended.result) tells.added)
+    (resumed_requests_small c.args.accesses.now c.args.tries earlier _ _ c.requires.accepted.0 c.ranges.tries.fits
     (returns-clause-continues g c))
     (tells.ends early (opening_counts rest Writes true c.args.tries c.again-engine.result c.open.new.engine early
     c.again-engine.ensures.again turns c.in_default.ensures.finished)))

@@ -1,12 +1,12 @@
-use Rattle.swd_host.proofs.Words.{sym, subst, arith, AreAccesses}
+use Rattle.swd_host.proofs.Words.{sym, subst, arith, AreHostAccesses}
 use Rattle.std.proofs.lemmas.List.{take_all}
-use Rattle.swd_host.proofs.Lists.{are_next, is_access}
+use Rattle.swd_host.proofs.Lists.{host_list_valid_next, host_access_valid}
 use Rattle.swd_host.proofs.running.refusal.Goals as goal
 
 pub loop-index-preserved : goal.loop-index-preserved
 loop-index-preserved c = record {
-  are = are_next c.args.accesses.now c.loop-index.index _ c.loop-index-test.true c.loop-index.invariant.are
-      (is_access _ c.if-not-is_aligned.ensures.ranges (sym c.if-not-is_aligned.ensures.aligned));
+  are = host_list_valid_next c.args.accesses.now c.loop-index.index _ c.loop-index-test.true c.loop-index.invariant.are
+      (host_access_valid _ c.if-not-is_aligned.ensures.ranges (sym c.if-not-is_aligned.ensures.aligned));
   few = c.loop-index.invariant.few;
 }
 
@@ -21,6 +21,6 @@ returns-then-not-is_aligned-clause-refused c = (
 pub returns-clause-none : goal.returns-clause-none
 returns-clause-none c = (
   c.loop-index.invariant.few,
-  subst AreAccesses (take_all c.loop-index.index c.args.accesses.now (omega arith))
+  subst AreHostAccesses (take_all c.loop-index.index c.args.accesses.now (omega arith))
       c.loop-index.invariant.are,
 )

@@ -1,22 +1,22 @@
 use Rattle.std.proofs.Common.{◌<◌, ◌∙◌, Some, ap, arith, length, sym}
-use Rattle.swd_image.proofs.CallLemmas.{failed_here, failed_later, none_left}
+use Rattle.swd_image.proofs.CallLemmas.{image_first_failed_here, image_first_failed_later, image_none_failed_left}
 use Rattle.swd_image.proofs.calls.first_failed.Goals as goal
 
 pub returns-then-not-is_done : goal.returns-then-not-is_done
 returns-then-not-is_done c =
     let few : c.loop-index.index < length c.args.answers.now = omega arith in
     ap (λ a. Some a) c.address.ensures ∙ sym (c.loop-index.invariant
-    ∙ failed_here c.args.accesses.now c.args.answers.now c.loop-index.index _ _ c.loop-index-test.true few
+    ∙ image_first_failed_here c.args.accesses.now c.args.answers.now c.loop-index.index _ _ c.loop-index-test.true few
     (sym c.is_done.ensures ∙ c.if-not-is_done.true))
 
 pub loop-index-preserved : goal.loop-index-preserved
 loop-index-preserved c =
     let few : c.loop-index.index < length c.args.answers.now = omega arith in
     c.loop-index.invariant
-    ∙ failed_later c.args.accesses.now c.args.answers.now c.loop-index.index _ _ c.loop-index-test.true few
+    ∙ image_first_failed_later c.args.accesses.now c.args.answers.now c.loop-index.index _ _ c.loop-index-test.true few
     (sym c.is_done.ensures ∙ c.if-not-is_done.false)
 
 pub returns : goal.returns
 returns c =
     sym (c.loop-index.invariant
-    ∙ none_left c.args.accesses.now c.args.answers.now c.loop-index.index c.loop-index-test.false)
+    ∙ image_none_failed_left c.args.accesses.now c.args.answers.now c.loop-index.index c.loop-index-test.false)

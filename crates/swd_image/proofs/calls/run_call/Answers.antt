@@ -1,27 +1,29 @@
 use Rattle.std.proofs.Common.{◌≡◌, ◌∙◌, ℕ, List, length, sym, ap, Option, None, Some}
 use Rattle.swd_port.specs.declared.access.Access.{Access}
 use Rattle.swd_port.specs.declared.access.Answer.{Answer}
-use Rattle.swd_host.specs.Reports.{Told, told_of}
-use Rattle.swd_script.specs.Readers.{listed}
-use Rattle.swd_run.specs.Records.{held}
+use Rattle.swd_host.specs.Reports.{HostReport, host_report_of}
+use Rattle.swd_script.specs.Readers.{script_batch_listed}
+use Rattle.swd_run.specs.Records.{run_file_held}
 use Rattle.swd_image.specs.declared.fault.ImageFault.TheVariants.{Stopped, BusFault as FaultAt}
-use Rattle.swd_image.specs.Sessions.{first_failed}
-use Rattle.swd_image.proofs.CallLemmas.{all_done, answered_all, call_fails}
+use Rattle.swd_image.specs.Sessions.{image_first_failed}
+use Rattle.swd_image.proofs.CallLemmas.{image_accesses_all_done, answered_all, call_fails}
 use Rattle.swd_image.proofs.ReportLemmas.{to_one}
 use Rattle.swd_image.proofs.calls.run_call.Goals as goal
 
 pub returns-in_default : goal.returns-in_default
 returns-in_default g c =
     let made = c.in_ok-made.ensures.call in
-    let ended = ap (λ (x : Told). x.ended) made.last in
+    let ended = ap (λ (x : HostReport). x.ended) made.last in
     record {
       call = tt;
       due = tt;
       fault = call_fails g.W.Wire.port g.W.Wire.plan g.W.Wire.lawful c.args.tries c.args.resumes c.args.wire.now
-          c.make_call.new.wire (listed c.args.batch.now) made.run _ made.call (ended, c.in_default.not-All);
+          c.make_call.new.wire (script_batch_listed c.args.batch.now) made.run _ made.call
+          (ended, c.in_default.not-All);
       report = to_one g.W.Wire.port g.W.Wire.plan g.W.Wire.lawful c.args.tries c.args.resumes c.args.wire.now
-          c.make_call.new.wire (listed c.args.batch.now) (told_of c.in_ok-made.made) (Some (Stopped c.in_ok-made.made.ended))
-          (held g.O.Write.contents c.args.report.now) (held g.O.Write.contents c.make_call.new.report) made
+          c.make_call.new.wire (script_batch_listed c.args.batch.now) (host_report_of c.in_ok-made.made)
+          (Some (Stopped c.in_ok-made.made.ended)) (run_file_held g.O.Write.contents c.args.report.now)
+          (run_file_held g.O.Write.contents c.make_call.new.report) made
           c.requires.plain (λ e. absurd cc) (λ end e. cc) (λ e. cc);
       plan = c.in_ok-made.ensures.plan;
     }
@@ -29,57 +31,60 @@ returns-in_default g c =
 pub first_failed-requires : goal.first_failed-requires
 first_failed-requires g c =
     let made = c.in_ok-made.ensures.call in
-    let ended = ap (λ (x : Told). x.ended) made.last in
-    ap length c.as_slice-2.ensures.value ∙ sym (ap (λ (x : Told). length x.answers) made.last)
-    ∙ answered_all g.W.Wire.port g.W.Wire.plan g.W.Wire.lawful _ (listed c.args.batch.now).accesses c.args.tries
+    let ended = ap (λ (x : HostReport). x.ended) made.last in
+    ap length c.as_slice-2.ensures.value ∙ sym (ap (λ (x : HostReport). length x.answers) made.last)
+    ∙ answered_all g.W.Wire.port g.W.Wire.plan g.W.Wire.lawful _ (script_batch_listed c.args.batch.now).accesses
+    c.args.tries
     c.args.wire.now made.run.stops made.run.told c.make_call.new.wire made.call.goes.went (ended ∙ c.in-All.is)
     ∙ sym (ap length c.as_slice.ensures.value)
 
 -- what the slices' first failed access is, it is of the call
-failed : (list : List Access) (xs : List Access) (answers vs : List Answer) (r s : Option ℕ) → r ≡ first_failed xs vs
-    → xs ≡ list → vs ≡ answers → r ≡ s → first_failed list answers ≡ s
+failed : (list : List Access) (xs : List Access) (answers vs : List Answer) (r s : Option ℕ)
+    → r ≡ image_first_failed xs vs → xs ≡ list → vs ≡ answers → r ≡ s → image_first_failed list answers ≡ s
 failed list xs answers vs r s e f g h =
-    sym (ap (λ l. first_failed l vs) f ∙ ap (λ l. first_failed list l) g) ∙ sym e ∙ h
+    sym (ap (λ l. image_first_failed l vs) f ∙ ap (λ l. image_first_failed list l) g) ∙ sym e ∙ h
 
 pub returns-in-Some-clause-fault : goal.returns-in-Some-clause-fault
 returns-in-Some-clause-fault g c =
     let made = c.in_ok-made.ensures.call in
-    let ended = ap (λ (x : Told). x.ended) made.last in
+    let ended = ap (λ (x : HostReport). x.ended) made.last in
     call_fails g.W.Wire.port g.W.Wire.plan g.W.Wire.lawful c.args.tries c.args.resumes c.args.wire.now
-    c.make_call.new.wire (listed c.args.batch.now) made.run _ made.call (
+    c.make_call.new.wire (script_batch_listed c.args.batch.now) made.run _ made.call (
       ended ∙ c.in-All.is,
-      failed (listed c.args.batch.now).accesses c.as_slice.result.now made.run.told.answers c.as_slice-2.result.now
-          c.first_failed.result (Some c.in-Some.addr) c.first_failed.ensures c.as_slice.ensures.value
-          (c.as_slice-2.ensures.value ∙ sym (ap (λ (x : Told). x.answers) made.last)) c.in-Some.is,
+      failed (script_batch_listed c.args.batch.now).accesses c.as_slice.result.now made.run.told.answers
+          c.as_slice-2.result.now c.first_failed.result (Some c.in-Some.addr) c.first_failed.ensures
+          c.as_slice.ensures.value (c.as_slice-2.ensures.value ∙ sym (ap (λ (x : HostReport). x.answers) made.last))
+          c.in-Some.is,
     )
 
 pub returns-in-Some-clause-report : goal.returns-in-Some-clause-report
 returns-in-Some-clause-report g c =
     to_one g.W.Wire.port g.W.Wire.plan g.W.Wire.lawful c.args.tries c.args.resumes c.args.wire.now
-    c.make_call.new.wire (listed c.args.batch.now) (told_of c.in_ok-made.made) (Some (FaultAt c.in-Some.addr))
-    (held g.O.Write.contents c.args.report.now) (held g.O.Write.contents c.make_call.new.report)
+    c.make_call.new.wire (script_batch_listed c.args.batch.now) (host_report_of c.in_ok-made.made)
+    (Some (FaultAt c.in-Some.addr))
+    (run_file_held g.O.Write.contents c.args.report.now) (run_file_held g.O.Write.contents c.make_call.new.report)
     c.in_ok-made.ensures.call c.requires.plain (λ e. absurd cc) (λ end e. absurd cc) (λ e. cc)
 
 pub returns-in-None-clause-call : goal.returns-in-None-clause-call
 returns-in-None-clause-call g c =
     let made = c.in_ok-made.ensures.call in
-    let ended = ap (λ (x : Told). x.ended) made.last ∙ c.in-All.is in
-    let answers = ap (λ (x : Told). x.answers) made.last in (
+    let ended = ap (λ (x : HostReport). x.ended) made.last ∙ c.in-All.is in
+    let answers = ap (λ (x : HostReport). x.answers) made.last in (
       made.run,
       answers,
       made.call,
       ended,
-      all_done (listed c.args.batch.now).accesses made.run.told.answers
-          (answered_all g.W.Wire.port g.W.Wire.plan g.W.Wire.lawful _ (listed c.args.batch.now).accesses c.args.tries
-          c.args.wire.now made.run.stops made.run.told c.make_call.new.wire made.call.goes.went ended)
-          (failed (listed c.args.batch.now).accesses c.as_slice.result.now made.run.told.answers c.as_slice-2.result.now
-          c.first_failed.result None c.first_failed.ensures c.as_slice.ensures.value
+      image_accesses_all_done (script_batch_listed c.args.batch.now).accesses made.run.told.answers
+          (answered_all g.W.Wire.port g.W.Wire.plan g.W.Wire.lawful _ (script_batch_listed c.args.batch.now).accesses
+          c.args.tries c.args.wire.now made.run.stops made.run.told c.make_call.new.wire made.call.goes.went ended)
+          (failed (script_batch_listed c.args.batch.now).accesses c.as_slice.result.now made.run.told.answers
+          c.as_slice-2.result.now c.first_failed.result None c.first_failed.ensures c.as_slice.ensures.value
           (c.as_slice-2.ensures.value ∙ sym answers) c.in-None.is),
     )
 
 pub returns-in-None-clause-report : goal.returns-in-None-clause-report
 returns-in-None-clause-report g c =
     to_one g.W.Wire.port g.W.Wire.plan g.W.Wire.lawful c.args.tries c.args.resumes c.args.wire.now
-    c.make_call.new.wire (listed c.args.batch.now) (told_of c.in_ok-made.made) None
-    (held g.O.Write.contents c.args.report.now) (held g.O.Write.contents c.make_call.new.report)
+    c.make_call.new.wire (script_batch_listed c.args.batch.now) (host_report_of c.in_ok-made.made) None
+    (run_file_held g.O.Write.contents c.args.report.now) (run_file_held g.O.Write.contents c.make_call.new.report)
     c.in_ok-made.ensures.call c.requires.plain (λ e. c.in-All.is) (λ end e. absurd cc) (λ e. cc)

@@ -1,12 +1,12 @@
 use Rattle.std.proofs.Common.{◌∙◌, ◌%◌, Some, ap, arith, length, subst}
 use Rattle.std.proofs.lemmas.Result.{IfOk-weaker}
-use Rattle.swd_port.specs.PlainMemory.{reads}
-use Rattle.swd_port.proofs.ReadLists.{length_reads}
-use Rattle.swd_run.specs.Records.{held}
+use Rattle.swd_port.specs.PlainMemory.{plain_reads}
+use Rattle.swd_port.proofs.ReadLists.{plain_reads_length}
+use Rattle.swd_run.specs.Records.{run_file_held}
 use Rattle.swd_image.specs.declared.fault.ImageFault.TheVariants.{Range}
-use Rattle.swd_image.specs.Bytes.{bytes_of, word_of}
+use Rattle.swd_image.specs.Bytes.{image_bytes_of, image_word_of}
 use Rattle.swd_image.specs.Sessions.{ReadsAs}
-use Rattle.swd_image.proofs.DumpLemmas.{dumped, enough}
+use Rattle.swd_image.proofs.DumpLemmas.{dumped, dump_words_enough}
 use Rattle.swd_image.proofs.LoadLemmas.{reads_many}
 use Rattle.swd_image.proofs.ReportLemmas.{to_none}
 use Rattle.swd_image.proofs.dumping.dump_reporting.Goals as goal
@@ -15,10 +15,10 @@ pub bytes_of-requires : goal.bytes_of-requires
 bytes_of-requires g c = λ some.
     (let l = ap length c.as_slice.ensures.value
     ∙ reads_many g.W.Wire.port g.W.Wire.plan g.W.Wire.lawful c.args.tries c.args.resumes c.args.wire.now
-    c.read_words.new.wire (reads c.word_of-first.result c.word_count-many.result) c.in_ok-words.words.items
+    c.read_words.new.wire (plain_reads c.word_of-first.result c.word_count-many.result) c.in_ok-words.words.items
     c.in_ok-words.ensures.read
-    ∙ length_reads c.word_of-first.result c.word_count-many.result ∙ c.word_count-many.ensures in
-    let e = enough c.args.addr c.args.count some in
+    ∙ plain_reads_length c.word_of-first.result c.word_count-many.result ∙ c.word_count-many.ensures in
+    let e = dump_words_enough c.args.addr c.args.count some in
     omega (arith, l, e))
 
 pub returns-clause-dumps : goal.returns-clause-dumps
@@ -27,15 +27,16 @@ returns-clause-dumps g c =
     let t = c.read_words.new.wire in
     let words = c.in_ok-words.words.items in
     let Reads = ReadsAs g.W.Wire.port g.W.Wire.plan g.W.Wire.lawful c.args.tries c.args.resumes in
-    let all = subst (λ n. Reads (reads (word_of c.args.addr) n) words s t) c.word_count-many.ensures
-    (subst (λ a. Reads (reads a c.word_count-many.result) words s t) c.word_of-first.ensures c.in_ok-words.ensures.read)
+    let all = subst (λ n. Reads (plain_reads (image_word_of c.args.addr) n) words s t) c.word_count-many.ensures
+    (subst (λ a. Reads (plain_reads a c.word_count-many.result) words s t) c.word_of-first.ensures
+    c.in_ok-words.ensures.read)
     in
     IfOk-weaker c.bytes_of.result _ _ (λ bytes is.
     dumped g.W.Wire.port g.W.Wire.plan g.W.Wire.lawful c.args.tries c.args.resumes c.args.addr c.args.count s t
     bytes.items words (omega arith) all
-    (is ∙ ap (λ l. bytes_of l (c.args.addr % 4) c.args.count) c.as_slice.ensures.value)) c.bytes_of.ensures.bytes
+    (is ∙ ap (λ l. image_bytes_of l (c.args.addr % 4) c.args.count) c.as_slice.ensures.value)) c.bytes_of.ensures.bytes
 
 pub returns-then-addr-count-clause-report : goal.returns-then-addr-count-clause-report
 returns-then-addr-count-clause-report g c =
     to_none g.W.Wire.port g.W.Wire.plan g.W.Wire.lawful c.args.tries c.args.resumes c.args.wire.now _ (Some Range)
-    (held g.O.Write.contents c.args.report.now) (λ e. absurd cc) (λ end e. cc) (λ e. cc)
+    (run_file_held g.O.Write.contents c.args.report.now) (λ e. absurd cc) (λ end e. cc) (λ e. cc)

@@ -2,9 +2,10 @@ use Rattle.std.proofs.Common.{◌≡◌, ◌∙◌, ◌++◌, [], ℕ, Bool, Lis
 use Rattle.std.proofs.lemmas.List.{append-nil}
 use Rattle.std.proofs.lemmas.Result.{err_from_is_err_and}
 use Rattle.swd_port.specs.declared.access.Access.{Access}
-use Rattle.swd_run.specs.Records.{held}
-use Rattle.swd_image.specs.Bytes.{word_of}
-use Rattle.swd_image.specs.Lists.{edge_list, last_word, needs_head, needs_tail, read_if, word_if}
+use Rattle.swd_run.specs.Records.{run_file_held}
+use Rattle.swd_image.specs.Bytes.{image_word_of}
+use Rattle.swd_image.specs.Lists.{image_edge_list, image_last_word, image_needs_head, image_needs_tail, image_read_if}
+use Rattle.swd_image.specs.Lists.{image_word_if}
 use Rattle.swd_image.specs.Sessions.{FailsAs, ReadsAs}
 use Rattle.swd_image.proofs.CallLemmas.{fails_after, reads_append}
 use Rattle.swd_image.proofs.ReportLemmas.{to_after, to_front}
@@ -15,20 +16,20 @@ returns-in_err-tail-clause-fault g c =
     let s = c.args.wire.now in
     let r = c.read_word.new.wire in
     let u = c.read_word-2.new.wire in
-    let h = needs_head c.args.addr c.args.len in
-    let t = needs_tail c.args.addr c.args.len in
-    let first = word_of c.args.addr in
-    let last = last_word c.args.addr c.args.len in
+    let h = image_needs_head c.args.addr c.args.len in
+    let t = image_needs_tail c.args.addr c.args.len in
+    let first = image_word_of c.args.addr in
+    let last = image_last_word c.args.addr c.args.len in
     let Reads = ReadsAs g.W.Wire.port g.W.Wire.plan g.W.Wire.lawful c.args.tries c.args.resumes in
     let Fails = FailsAs g.W.Wire.port g.W.Wire.plan g.W.Wire.lawful c.args.tries c.args.resumes in
-    let head = subst (λ a. Reads (read_if h a) (word_if h c.in_ok-head.head) s r) c.word_of.ensures
-    (subst (λ b. Reads (read_if b c.word_of.result) (word_if b c.in_ok-head.head) s r) c.needs_head-first.ensures
-    c.in_ok-head.ensures.read) in
+    let head = subst (λ a. Reads (image_read_if h a) (image_word_if h c.in_ok-head.head) s r) c.word_of.ensures
+    (subst (λ b. Reads (image_read_if b c.word_of.result) (image_word_if b c.in_ok-head.head) s r)
+    c.needs_head-first.ensures c.in_ok-head.ensures.read) in
     let p = err_from_is_err_and c.from_residual-in_err-tail.result c.from_residual-in_err-tail.ensures.1 in
     rw (p.1, p.2) (fails_after g.W.Wire.port g.W.Wire.plan g.W.Wire.lawful c.args.tries c.args.resumes s r u
-    (read_if h first) (read_if t last) head.answers _ head.calls
-    (subst (λ a. Fails (read_if t a) r u c.in_err-tail.field-0.0) c.last_word.ensures
-    (subst (λ b. Fails (read_if b c.last_word.result) r u c.in_err-tail.field-0.0) c.needs_tail-last.ensures
+    (image_read_if h first) (image_read_if t last) head.answers _ head.calls
+    (subst (λ a. Fails (image_read_if t a) r u c.in_err-tail.field-0.0) c.last_word.ensures
+    (subst (λ b. Fails (image_read_if b c.last_word.result) r u c.in_err-tail.field-0.0) c.needs_tail-last.ensures
     c.in_err-tail.ensures.fault)))
 
 pub returns-clause-read : goal.returns-clause-read
@@ -36,25 +37,25 @@ returns-clause-read g c =
     let s = c.args.wire.now in
     let r = c.read_word.new.wire in
     let u = c.read_word-2.new.wire in
-    let h = needs_head c.args.addr c.args.len in
-    let t = needs_tail c.args.addr c.args.len in
-    let first = word_of c.args.addr in
-    let last = last_word c.args.addr c.args.len in
+    let h = image_needs_head c.args.addr c.args.len in
+    let t = image_needs_tail c.args.addr c.args.len in
+    let first = image_word_of c.args.addr in
+    let last = image_last_word c.args.addr c.args.len in
     let Reads = ReadsAs g.W.Wire.port g.W.Wire.plan g.W.Wire.lawful c.args.tries c.args.resumes in
-    reads_append g.W.Wire.port g.W.Wire.plan g.W.Wire.lawful c.args.tries c.args.resumes s r u (read_if h first)
-    (read_if t last) (word_if h c.in_ok-head.head) (word_if t c.in_ok-tail.tail)
-    (subst (λ a. Reads (read_if h a) (word_if h c.in_ok-head.head) s r) c.word_of.ensures
-    (subst (λ b. Reads (read_if b c.word_of.result) (word_if b c.in_ok-head.head) s r) c.needs_head-first.ensures
-    c.in_ok-head.ensures.read))
-    (subst (λ a. Reads (read_if t a) (word_if t c.in_ok-tail.tail) r u) c.last_word.ensures
-    (subst (λ b. Reads (read_if b c.last_word.result) (word_if b c.in_ok-tail.tail) r u) c.needs_tail-last.ensures
-    c.in_ok-tail.ensures.read))
+    reads_append g.W.Wire.port g.W.Wire.plan g.W.Wire.lawful c.args.tries c.args.resumes s r u (image_read_if h first)
+    (image_read_if t last) (image_word_if h c.in_ok-head.head) (image_word_if t c.in_ok-tail.tail)
+    (subst (λ a. Reads (image_read_if h a) (image_word_if h c.in_ok-head.head) s r) c.word_of.ensures
+    (subst (λ b. Reads (image_read_if b c.word_of.result) (image_word_if b c.in_ok-head.head) s r)
+    c.needs_head-first.ensures c.in_ok-head.ensures.read))
+    (subst (λ a. Reads (image_read_if t a) (image_word_if t c.in_ok-tail.tail) r u) c.last_word.ensures
+    (subst (λ b. Reads (image_read_if b c.last_word.result) (image_word_if b c.in_ok-tail.tail) r u)
+    c.needs_tail-last.ensures c.in_ok-tail.ensures.read))
 
 -- the reads of both edges, by the words and tests that were computed
 edges : (a b : ℕ) (m n : Bool) (c d : Bool) (x y : ℕ) → m ≡ c → n ≡ d → a ≡ x → b ≡ y
-    → read_if c x ++ read_if d y ≡ read_if m a ++ read_if n b
+    → image_read_if c x ++ image_read_if d y ≡ image_read_if m a ++ image_read_if n b
 edges a b m n c d x y e f g i =
-    ap₂ (λ (xs ys : List Access). xs ++ ys) (sym (ap₂ read_if e g)) (sym (ap₂ read_if f i))
+    ap₂ (λ (xs ys : List Access). xs ++ ys) (sym (ap₂ image_read_if e g)) (sym (ap₂ image_read_if f i))
 
 pub returns-in_err-head-clause-report : goal.returns-in_err-head-clause-report
 returns-in_err-head-clause-report g c =
@@ -62,40 +63,44 @@ returns-in_err-head-clause-report g c =
     let len = c.args.len in
     let p = err_from_is_err_and c.from_residual.result c.from_residual.ensures.1 in
     rw (p.1, p.2) (to_front g.W.Wire.port g.W.Wire.plan g.W.Wire.lawful c.args.tries c.args.resumes c.args.wire.now
-    c.read_word.new.wire (read_if c.needs_head-first.result c.word_of.result)
-    (read_if (needs_tail addr len) (last_word addr len)) (edge_list addr len) _
-    (held g.O.Write.contents c.args.report.now) (held g.O.Write.contents c.read_word.new.report)
+    c.read_word.new.wire (image_read_if c.needs_head-first.result c.word_of.result)
+    (image_read_if (image_needs_tail addr len) (image_last_word addr len)) (image_edge_list addr len) _
+    (run_file_held g.O.Write.contents c.args.report.now) (run_file_held g.O.Write.contents c.read_word.new.report)
     c.in_err-head.ensures.report
-    (edges c.word_of.result (last_word addr len) c.needs_head-first.result (needs_tail addr len) (needs_head addr len)
-    (needs_tail addr len) (word_of addr) (last_word addr len) c.needs_head-first.ensures refl c.word_of.ensures refl))
+    (edges c.word_of.result (image_last_word addr len) c.needs_head-first.result (image_needs_tail addr len)
+    (image_needs_head addr len)
+    (image_needs_tail addr len) (image_word_of addr) (image_last_word addr len) c.needs_head-first.ensures refl
+    c.word_of.ensures refl))
 
 pub returns-in_err-tail-clause-report : goal.returns-in_err-tail-clause-report
 returns-in_err-tail-clause-report g c =
     let addr = c.args.addr in
     let len = c.args.len in
-    let last = read_if c.needs_tail-last.result c.last_word.result in
-    let first = read_if c.needs_head-first.result c.word_of.result in
+    let last = image_read_if c.needs_tail-last.result c.last_word.result in
+    let first = image_read_if c.needs_head-first.result c.word_of.result in
     let p = err_from_is_err_and c.from_residual-in_err-tail.result c.from_residual-in_err-tail.ensures.1 in
     rw (p.1, p.2) (to_after g.W.Wire.port g.W.Wire.plan g.W.Wire.lawful c.args.tries c.args.resumes c.args.wire.now
-    c.read_word.new.wire c.read_word-2.new.wire first last [] (edge_list addr len) _
-    (held g.O.Write.contents c.args.report.now) (held g.O.Write.contents c.read_word.new.report)
-    (held g.O.Write.contents c.read_word-2.new.report) c.in_ok-head.ensures.report c.in_err-tail.ensures.report
-    (edges c.word_of.result c.last_word.result c.needs_head-first.result c.needs_tail-last.result (needs_head addr len)
-    (needs_tail addr len) (word_of addr) (last_word addr len) c.needs_head-first.ensures c.needs_tail-last.ensures
-    c.word_of.ensures c.last_word.ensures
+    c.read_word.new.wire c.read_word-2.new.wire first last [] (image_edge_list addr len) _
+    (run_file_held g.O.Write.contents c.args.report.now) (run_file_held g.O.Write.contents c.read_word.new.report)
+    (run_file_held g.O.Write.contents c.read_word-2.new.report) c.in_ok-head.ensures.report c.in_err-tail.ensures.report
+    (edges c.word_of.result c.last_word.result c.needs_head-first.result c.needs_tail-last.result
+    (image_needs_head addr len)
+    (image_needs_tail addr len) (image_word_of addr) (image_last_word addr len) c.needs_head-first.ensures
+    c.needs_tail-last.ensures c.word_of.ensures c.last_word.ensures
     ∙ ap (λ l. first ++ l) (sym (append-nil last))) (λ e. refl))
 
 pub returns-clause-report : goal.returns-clause-report
 returns-clause-report g c =
     let addr = c.args.addr in
     let len = c.args.len in
-    let last = read_if c.needs_tail-last.result c.last_word.result in
-    let first = read_if c.needs_head-first.result c.word_of.result in
+    let last = image_read_if c.needs_tail-last.result c.last_word.result in
+    let first = image_read_if c.needs_head-first.result c.word_of.result in
     to_after g.W.Wire.port g.W.Wire.plan g.W.Wire.lawful c.args.tries c.args.resumes c.args.wire.now
-    c.read_word.new.wire c.read_word-2.new.wire first last [] (edge_list addr len) None
-    (held g.O.Write.contents c.args.report.now) (held g.O.Write.contents c.read_word.new.report)
-    (held g.O.Write.contents c.read_word-2.new.report) c.in_ok-head.ensures.report c.in_ok-tail.ensures.report
-    (edges c.word_of.result c.last_word.result c.needs_head-first.result c.needs_tail-last.result (needs_head addr len)
-    (needs_tail addr len) (word_of addr) (last_word addr len) c.needs_head-first.ensures c.needs_tail-last.ensures
-    c.word_of.ensures c.last_word.ensures
+    c.read_word.new.wire c.read_word-2.new.wire first last [] (image_edge_list addr len) None
+    (run_file_held g.O.Write.contents c.args.report.now) (run_file_held g.O.Write.contents c.read_word.new.report)
+    (run_file_held g.O.Write.contents c.read_word-2.new.report) c.in_ok-head.ensures.report c.in_ok-tail.ensures.report
+    (edges c.word_of.result c.last_word.result c.needs_head-first.result c.needs_tail-last.result
+    (image_needs_head addr len)
+    (image_needs_tail addr len) (image_word_of addr) (image_last_word addr len) c.needs_head-first.ensures
+    c.needs_tail-last.ensures c.word_of.ensures c.last_word.ensures
     ∙ ap (λ l. first ++ l) (sym (append-nil last))) (λ e. refl)

@@ -1,14 +1,14 @@
 use Rattle.std.proofs.Common.{◌∙◌, ◌+◌, ◌*◌, ◌++◌, ◌∷◌, [], ap, sym}
 use Rattle.swd_port.specs.declared.access.Access.TheVariants.{Write}
-use Rattle.swd_image.specs.Lists.{loaded_word, writes}
-use Rattle.swd_image.proofs.ListLemmas.{writes_next}
+use Rattle.swd_image.specs.Lists.{image_loaded_word, image_writes}
+use Rattle.swd_image.proofs.ListLemmas.{image_writes_next}
 use Rattle.swd_image.proofs.writing.writes_at.Goals as goal
 
 pub loop-index-preserved : goal.loop-index-preserved
 loop-index-preserved g c =
-    let word = loaded_word c.args.addr c.args.bytes.now c.args.edges.head c.args.edges.tail in
+    let word = image_loaded_word c.args.addr c.args.bytes.now c.args.edges.head c.args.edges.tail in
     let index = c.loop-index.index in
     let here = c.args.at + 4 * index in
     c.in-Ok-push.ensures.items ∙ ap (λ l. l ++ Write here c.loaded_word-word.result ∷ []) c.loop-index.invariant
-    ∙ ap (λ w. writes word c.args.at index ++ Write here w ∷ []) c.loaded_word-word.ensures
-    ∙ sym (writes_next word c.args.at index)
+    ∙ ap (λ w. image_writes word c.args.at index ++ Write here w ∷ []) c.loaded_word-word.ensures
+    ∙ sym (image_writes_next word c.args.at index)

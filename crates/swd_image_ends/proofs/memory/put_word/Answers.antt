@@ -1,8 +1,9 @@
 use Rattle.std.proofs.Common.{◌∙◌, ◌≡◌, Some, ap, sym}
-use Rattle.swd_image_ends.proofs.MemoryLemmas.{insert_there}
+use Rattle.swd_image_ends.proofs.MemoryLemmas.{image_end_insert_same}
 use Rattle.swd_image_ends.proofs.memory.put_word.Goals as goal
 
 pub returns-else-word-ne0-clause-words : goal.returns-else-word-ne0-clause-words
 returns-else-word-ne0-clause-words g c =
     let zero : c.args.word ≡ 0 = search in
-    insert_there c.args.memory.now.words c.args.addr c.args.word (c.requires.zero ∙ ap (λ w. Some w) (sym zero))
+    image_end_insert_same c.args.memory.now.words c.args.addr c.args.word
+    (c.requires.zero ∙ ap (λ w. Some w) (sym zero))

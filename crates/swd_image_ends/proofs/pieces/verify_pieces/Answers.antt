@@ -1,9 +1,9 @@
 use Rattle.std.proofs.Common.{◌∙◌, Err, Ok, Some, ap, refl, subst}
 use Rattle.std.proofs.lemmas.Result.{err_from_is_err_and}
-use Rattle.swd_run.specs.Records.{held}
-use Rattle.swd_image.specs.Dumps.{Verifies}
-use Rattle.swd_image_files.specs.Images.{piece_of, pieces_left}
-use Rattle.swd_image_ends.specs.Pieces.{pieces_in}
+use Rattle.swd_run.specs.Records.{run_file_held}
+use Rattle.swd_image.specs.Dumps.{VerifiesImage}
+use Rattle.swd_image_files.specs.Images.{image_file_piece, image_file_pieces_left}
+use Rattle.swd_image_ends.specs.Pieces.{pieces_to_load}
 use Rattle.swd_image_ends.proofs.PieceLemmas.{verify_begins, verify_differs, verify_ended, verify_next}
 use Rattle.swd_image_ends.proofs.PieceReportLemmas.{verify_reported, verify_reported_all, verify_reported_last}
 use Rattle.swd_image_ends.proofs.PieceReportLemmas.{verify_reported_next}
@@ -14,12 +14,12 @@ loop-piece-init g c = record {
   can = tt;
   finite = tt;
   on = verify_begins g.W.Wire.port g.W.Wire.plan g.W.Wire.lawful c.args.tries c.args.resumes
-      (pieces_in c.args.image.now) (pieces_left c.into_iter-piece-iterator.result) c.args.wire.now
-      (ap pieces_left c.into_iter-piece-iterator.ensures.into_iter_gives ∙ c.pieces-piece-items.ensures);
+      (pieces_to_load c.args.image.now) (image_file_pieces_left c.into_iter-piece-iterator.result) c.args.wire.now
+      (ap image_file_pieces_left c.into_iter-piece-iterator.ensures.into_iter_gives ∙ c.pieces-piece-items.ensures);
   reported = verify_reported g.W.Wire.port g.W.Wire.plan g.W.Wire.lawful c.args.tries c.args.resumes
-      (pieces_in c.args.image.now) (pieces_left c.into_iter-piece-iterator.result) c.args.wire.now
-      (held g.O.Write.contents c.args.report.now)
-      (ap pieces_left c.into_iter-piece-iterator.ensures.into_iter_gives ∙ c.pieces-piece-items.ensures);
+      (pieces_to_load c.args.image.now) (image_file_pieces_left c.into_iter-piece-iterator.result) c.args.wire.now
+      (run_file_held g.O.Write.contents c.args.report.now)
+      (ap image_file_pieces_left c.into_iter-piece-iterator.ensures.into_iter_gives ∙ c.pieces-piece-items.ensures);
   due = c.requires;
   plan = refl;
 }
@@ -29,18 +29,19 @@ loop-piece-preserved g c = record {
   can = tt;
   finite = tt;
   on = verify_next g.W.Wire.port g.W.Wire.plan g.W.Wire.lawful c.args.tries c.args.resumes
-      (pieces_left c.loop-piece.piece-iterator) (pieces_in c.args.image.now) (pieces_left c.next.new.self)
-      (piece_of c.in-Some.piece) c.args.wire.now c.loop-piece.wire c.verify_reporting.new.wire c.in-Some.ensures.steps
-      c.loop-piece.invariant.on
-      (subst (λ d. Verifies g.W.Wire.port g.W.Wire.plan g.W.Wire.lawful c.args.tries c.args.resumes c.in-Some.piece.addr
-      c.in-Some.piece.bytes.now d c.loop-piece.wire c.verify_reporting.new.wire) c.in_default.is
+      (image_file_pieces_left c.loop-piece.piece-iterator) (pieces_to_load c.args.image.now)
+      (image_file_pieces_left c.next.new.self) (image_file_piece c.in-Some.piece) c.args.wire.now c.loop-piece.wire
+      c.verify_reporting.new.wire c.in-Some.ensures.steps c.loop-piece.invariant.on
+      (subst (λ d. VerifiesImage g.W.Wire.port g.W.Wire.plan g.W.Wire.lawful c.args.tries c.args.resumes
+      c.in-Some.piece.addr c.in-Some.piece.bytes.now d c.loop-piece.wire c.verify_reporting.new.wire) c.in_default.is
       c.in_ok-difference.ensures.verifies);
   reported = verify_reported_next g.W.Wire.port g.W.Wire.plan g.W.Wire.lawful c.args.tries c.args.resumes
-      (pieces_left c.loop-piece.piece-iterator) (pieces_in c.args.image.now) (pieces_left c.next.new.self)
-      (piece_of c.in-Some.piece) c.args.wire.now c.loop-piece.wire c.verify_reporting.new.wire
-      (held g.O.Write.contents c.args.report.now) (held g.O.Write.contents c.loop-piece.report)
-      (held g.O.Write.contents c.verify_reporting.new.report) c.in-Some.ensures.steps c.loop-piece.invariant.reported
-      c.in_ok-difference.ensures.report;
+      (image_file_pieces_left c.loop-piece.piece-iterator) (pieces_to_load c.args.image.now)
+      (image_file_pieces_left c.next.new.self) (image_file_piece c.in-Some.piece) c.args.wire.now c.loop-piece.wire
+      c.verify_reporting.new.wire
+      (run_file_held g.O.Write.contents c.args.report.now) (run_file_held g.O.Write.contents c.loop-piece.report)
+      (run_file_held g.O.Write.contents c.verify_reporting.new.report) c.in-Some.ensures.steps
+      c.loop-piece.invariant.reported c.in_ok-difference.ensures.report;
   due = c.in_ok-difference.ensures.due;
   plan = c.in_ok-difference.ensures.plan ∙ c.loop-piece.invariant.plan;
 }
@@ -48,40 +49,46 @@ loop-piece-preserved g c = record {
 pub returns-in-Some-2-clause-verifies : goal.returns-in-Some-2-clause-verifies
 returns-in-Some-2-clause-verifies g c =
     verify_differs g.W.Wire.port g.W.Wire.plan g.W.Wire.lawful c.args.tries c.args.resumes
-    (pieces_left c.loop-piece.piece-iterator) (pieces_in c.args.image.now) (pieces_left c.next.new.self)
-    (piece_of c.in-Some.piece) c.args.wire.now c.loop-piece.wire c.verify_reporting.new.wire c.in-Some-2.difference
-    c.in-Some.ensures.steps c.loop-piece.invariant.on
-    (subst (λ d. Verifies g.W.Wire.port g.W.Wire.plan g.W.Wire.lawful c.args.tries c.args.resumes c.in-Some.piece.addr
-    c.in-Some.piece.bytes.now d c.loop-piece.wire c.verify_reporting.new.wire) c.in-Some-2.is c.in_ok-difference.ensures.verifies)
+    (image_file_pieces_left c.loop-piece.piece-iterator) (pieces_to_load c.args.image.now)
+    (image_file_pieces_left c.next.new.self)
+    (image_file_piece c.in-Some.piece) c.args.wire.now c.loop-piece.wire c.verify_reporting.new.wire
+    c.in-Some-2.difference c.in-Some.ensures.steps c.loop-piece.invariant.on
+    (subst (λ d. VerifiesImage g.W.Wire.port g.W.Wire.plan g.W.Wire.lawful c.args.tries c.args.resumes
+    c.in-Some.piece.addr c.in-Some.piece.bytes.now d c.loop-piece.wire c.verify_reporting.new.wire) c.in-Some-2.is
+    c.in_ok-difference.ensures.verifies)
 
 pub returns-clause-verifies : goal.returns-clause-verifies
 returns-clause-verifies g c =
     verify_ended g.W.Wire.port g.W.Wire.plan g.W.Wire.lawful c.args.tries c.args.resumes
-    (pieces_left c.loop-piece.piece-iterator) (pieces_in c.args.image.now) c.args.wire.now c.loop-piece.wire
-    c.in-None.ensures.steps.0 c.loop-piece.invariant.on
+    (image_file_pieces_left c.loop-piece.piece-iterator) (pieces_to_load c.args.image.now) c.args.wire.now
+    c.loop-piece.wire c.in-None.ensures.steps.0 c.loop-piece.invariant.on
 
 pub returns-in_err-difference-clause-report : goal.returns-in_err-difference-clause-report
 returns-in_err-difference-clause-report g c =
     let p = err_from_is_err_and c.from_residual.result c.from_residual.ensures.1 in
     rw (p.1, p.2) (verify_reported_last g.W.Wire.port g.W.Wire.plan g.W.Wire.lawful c.args.tries c.args.resumes
-    (pieces_left c.loop-piece.piece-iterator) (pieces_in c.args.image.now) (pieces_left c.next.new.self)
-    (piece_of c.in-Some.piece) c.args.wire.now c.loop-piece.wire c.verify_reporting.new.wire (Err _)
-    (held g.O.Write.contents c.args.report.now) (held g.O.Write.contents c.loop-piece.report)
-    (held g.O.Write.contents c.verify_reporting.new.report) c.in-Some.ensures.steps (λ e. absurd cc)
+    (image_file_pieces_left c.loop-piece.piece-iterator) (pieces_to_load c.args.image.now)
+    (image_file_pieces_left c.next.new.self)
+    (image_file_piece c.in-Some.piece) c.args.wire.now c.loop-piece.wire c.verify_reporting.new.wire (Err _)
+    (run_file_held g.O.Write.contents c.args.report.now) (run_file_held g.O.Write.contents c.loop-piece.report)
+    (run_file_held g.O.Write.contents c.verify_reporting.new.report) c.in-Some.ensures.steps (λ e. absurd cc)
     c.loop-piece.invariant.reported c.in_err-difference.ensures.report)
 
 pub returns-in-Some-2-clause-report : goal.returns-in-Some-2-clause-report
 returns-in-Some-2-clause-report g c =
     verify_reported_last g.W.Wire.port g.W.Wire.plan g.W.Wire.lawful c.args.tries c.args.resumes
-    (pieces_left c.loop-piece.piece-iterator) (pieces_in c.args.image.now) (pieces_left c.next.new.self)
-    (piece_of c.in-Some.piece) c.args.wire.now c.loop-piece.wire c.verify_reporting.new.wire
-    (Ok (Some c.in-Some-2.difference)) (held g.O.Write.contents c.args.report.now)
-    (held g.O.Write.contents c.loop-piece.report) (held g.O.Write.contents c.verify_reporting.new.report)
+    (image_file_pieces_left c.loop-piece.piece-iterator) (pieces_to_load c.args.image.now)
+    (image_file_pieces_left c.next.new.self)
+    (image_file_piece c.in-Some.piece) c.args.wire.now c.loop-piece.wire c.verify_reporting.new.wire
+    (Ok (Some c.in-Some-2.difference)) (run_file_held g.O.Write.contents c.args.report.now)
+    (run_file_held g.O.Write.contents c.loop-piece.report)
+    (run_file_held g.O.Write.contents c.verify_reporting.new.report)
     c.in-Some.ensures.steps (λ e. absurd cc) c.loop-piece.invariant.reported c.in_ok-difference.ensures.report
 
 pub returns-clause-report : goal.returns-clause-report
 returns-clause-report g c =
     verify_reported_all g.W.Wire.port g.W.Wire.plan g.W.Wire.lawful c.args.tries c.args.resumes
-    (pieces_left c.loop-piece.piece-iterator) (pieces_in c.args.image.now) c.args.wire.now c.loop-piece.wire
-    (held g.O.Write.contents c.args.report.now) (held g.O.Write.contents c.loop-piece.report)
+    (image_file_pieces_left c.loop-piece.piece-iterator) (pieces_to_load c.args.image.now) c.args.wire.now
+    c.loop-piece.wire
+    (run_file_held g.O.Write.contents c.args.report.now) (run_file_held g.O.Write.contents c.loop-piece.report)
     c.in-None.ensures.steps.0 c.loop-piece.invariant.reported

@@ -1,11 +1,12 @@
 use Rattle.std.proofs.Common.{◌+◌, ◌∷◌, ap, ap₂, sym, ◌∙◌, length, drop}
 use Rattle.std.specs.Prelude.{nat_lt}
 use Rattle.std.proofs.lemmas.Bool.{le-ltb}
-use Rattle.swd_image_files.specs.Files.{after_lines}
-use Rattle.swd_image_files.specs.Lines.{without_return}
-use Rattle.swd_image_files.specs.Places.{with_line}
-use Rattle.swd_image_files.proofs.LineLemmas.{lines_left}
-use Rattle.swd_image_files.proofs.FileLemmas.{fault_step, line_step, lines_step, none_left}
+use Rattle.swd_image_files.specs.Files.{image_file_after_lines}
+use Rattle.swd_image_files.specs.Lines.{image_file_without_return}
+use Rattle.swd_image_files.specs.Places.{image_file_with_line}
+use Rattle.swd_image_files.proofs.LineLemmas.{image_file_lines_left}
+use Rattle.swd_image_files.proofs.FileLemmas.{image_file_fault_step, image_file_valid_line_step, image_file_lines_step}
+use Rattle.swd_image_files.proofs.FileLemmas.{image_file_no_lines_left}
 use Rattle.swd_image_files.proofs.read.read_lines.Goals as goal
 
 pub returns-in-Err-clause-err : goal.returns-in-Err-clause-err
@@ -16,12 +17,12 @@ returns-in-Err-clause-err g c =
     let text = c.loop-more.rest.now in
     let len = c.line_len-len.result in
     let line = c.without_return.result.now in
-    let is = c.without_return.ensures ∙ ap without_return c.front.ensures in
-    let rest = lines_left (nat_lt len (length text)) (drop (len + 1) text) in
+    let is = c.without_return.ensures ∙ ap image_file_without_return c.front.ensures in
+    let rest = image_file_lines_left (nat_lt len (length text)) (drop (len + 1) text) in
     c.loop-more.invariant.meaning
-    ∙ ap (after_lines records place image c.loop-more.line)
-    (lines_step c.loop-more.more text len c.loop-more-test.true c.line_len-len.ensures ∙ ap (λ l. l ∷ rest) (sym is))
-    ∙ fault_step records place image c.loop-more.line line rest c.in-Err.flaw c.in-Err.ensures.err
+    ∙ ap (image_file_after_lines records place image c.loop-more.line)
+    (image_file_lines_step c.loop-more.more text len c.loop-more-test.true c.line_len-len.ensures ∙ ap (λ l. l ∷ rest)
+    (sym is)) ∙ image_file_fault_step records place image c.loop-more.line line rest c.in-Err.flaw c.in-Err.ensures.err
 
 pub loop-more-preserved-then-more : goal.loop-more-preserved-then-more
 loop-more-preserved-then-more g c =
@@ -32,19 +33,19 @@ loop-more-preserved-then-more g c =
     let text = c.loop-more.rest.now in
     let len = c.line_len-len.result in
     let line = c.without_return.result.now in
-    let is = c.without_return.ensures ∙ ap without_return c.front.ensures in
+    let is = c.without_return.ensures ∙ ap image_file_without_return c.front.ensures in
     let more = nat_lt len (length text) in
-    let rest = lines_left more (drop (len + 1) text) in
+    let rest = image_file_lines_left more (drop (len + 1) text) in
     record {
-      image = with_line records place line image;
+      image = image_file_with_line records place line image;
       holds = c.in-Ok.ensures.held image c.loop-more.invariant.holds;
       meaning = c.loop-more.invariant.meaning
-          ∙ ap (after_lines records place image c.loop-more.line)
-          (lines_step c.loop-more.more text len c.loop-more-test.true c.line_len-len.ensures
+          ∙ ap (image_file_after_lines records place image c.loop-more.line)
+          (image_file_lines_step c.loop-more.more text len c.loop-more-test.true c.line_len-len.ensures
           ∙ ap (λ l. l ∷ rest) (sym is))
-          ∙ line_step records place after image c.loop-more.line line rest c.in-Ok.ensures.ok
-          ∙ ap₂ (λ n r. after_lines records after (with_line records place line image) n r)
-          (sym c.saturating_add-line.ensures) (ap (lines_left more) (sym c.behind-rest.ensures));
+          ∙ image_file_valid_line_step records place after image c.loop-more.line line rest c.in-Ok.ensures.ok
+          ∙ ap₂ (λ n r. image_file_after_lines records after (image_file_with_line records place line image) n r)
+          (sym c.saturating_add-line.ensures) (ap (image_file_lines_left more) (sym c.behind-rest.ensures));
     }
 
 pub loop-more-preserved : goal.loop-more-preserved
@@ -56,18 +57,18 @@ loop-more-preserved g c =
     let text = c.loop-more.rest.now in
     let len = c.line_len-len.result in
     let line = c.without_return.result.now in
-    let is = c.without_return.ensures ∙ ap without_return c.front.ensures in
+    let is = c.without_return.ensures ∙ ap image_file_without_return c.front.ensures in
     let more = nat_lt len (length text) in
-    let rest = lines_left more (drop (len + 1) text) in
+    let rest = image_file_lines_left more (drop (len + 1) text) in
     record {
-      image = with_line records place line image;
+      image = image_file_with_line records place line image;
       holds = c.in-Ok.ensures.held image c.loop-more.invariant.holds;
       meaning = c.loop-more.invariant.meaning
-          ∙ ap (after_lines records place image c.loop-more.line)
-          (lines_step c.loop-more.more text len c.loop-more-test.true c.line_len-len.ensures
+          ∙ ap (image_file_after_lines records place image c.loop-more.line)
+          (image_file_lines_step c.loop-more.more text len c.loop-more-test.true c.line_len-len.ensures
           ∙ ap (λ l. l ∷ rest) (sym is))
-          ∙ line_step records place after image c.loop-more.line line rest c.in-Ok.ensures.ok
-          ∙ ap₂ (λ n r. after_lines records after (with_line records place line image) n r)
+          ∙ image_file_valid_line_step records place after image c.loop-more.line line rest c.in-Ok.ensures.ok
+          ∙ ap₂ (λ n r. image_file_after_lines records after (image_file_with_line records place line image) n r)
           (sym c.saturating_add-line.ensures)
-          (none_left more (drop (len + 1) text) text (le-ltb len (length text) c.if-more.false));
+          (image_file_no_lines_left more (drop (len + 1) text) text (le-ltb len (length text) c.if-more.false));
     }

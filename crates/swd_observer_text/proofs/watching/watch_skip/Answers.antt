@@ -1,12 +1,13 @@
-use Rattle.std.proofs.Common.{◌≡◌, ◌+◌, ◌-◌, ◌^◌, ◌<◌, ◌++◌, ℕ, min, true, false, replicate}
-use Rattle.std.proofs.Common.{sym, ap, ◌∙◌, arith}
+use Rattle.std.proofs.Common.{◌≡◌, ◌+◌, ◌-◌, ◌^◌, ◌<◌, ◌++◌, ℕ, min, true, false, replicate, sym, ap, ◌∙◌, arith}
 use Rattle.std.proofs.lemmas.List.{append-nil}
 use Rattle.swd_trace.specs.declared.item.Item.TheVariants.{Junk}
 use Rattle.swd_observer.specs.declared.trace.TraceObserver.{TraceObserver}
-use Rattle.swd_observer.specs.Observing.{unknown}
-use Rattle.swd_observer.specs.Traces.{after_items}
-use Rattle.swd_observer_text.specs.Accesses.{accesses, shown_text}
-use Rattle.swd_observer_text.proofs.AccessLemmas.{after_junk, after_skip, among, junk_shows_nothing, skip_shows}
+use Rattle.swd_observer.specs.Observing.{observer_unknown}
+use Rattle.swd_observer.specs.Traces.{trace_observer_after}
+use Rattle.swd_observer_text.specs.Accesses.{observer_text_of_items, observer_text_shown}
+use Rattle.swd_observer_text.proofs.AccessLemmas.{observer_text_after_junk, observer_text_after_skip}
+use Rattle.swd_observer_text.proofs.AccessLemmas.{observer_text_among_junk, observer_text_junk_silent}
+use Rattle.swd_observer_text.proofs.AccessLemmas.{observer_text_skip_shows}
 use Rattle.swd_observer_text.proofs.watching.watch_skip.Goals as goal
 
 -- an observer at another place
@@ -14,40 +15,40 @@ abbrev at : TraceObserver → ℕ → TraceObserver
 at t place = record { observer = t.observer; place = place; in_gap = t.in_gap }
 
 -- an observer that is lost
-is_among : (t : TraceObserver) → t.in_gap ≡ true → t.observer ≡ unknown → t ≡ among t.place
+is_among : (t : TraceObserver) → t.in_gap ≡ true → t.observer ≡ observer_unknown → t ≡ observer_text_among_junk t.place
 is_among t gap e =
     ap (λ o. record { observer = o; place = t.place; in_gap = t.in_gap }) e
-    ∙ ap (λ g. record { observer = unknown; place = t.place; in_gap = g }) gap
+    ∙ ap (λ g. record { observer = observer_unknown; place = t.place; in_gap = g }) gap
 
 pub returns-then-is_lost-clause-observer : goal.returns-then-is_lost-clause-observer
 returns-then-is_lost-clause-observer g c =
     let old = c.args.observer.now in
-    let e : old ≡ among old.place = is_among old (c.is_lost.ensures.gap c.if-is_lost.true)
+    let e : old ≡ observer_text_among_junk old.place = is_among old (c.is_lost.ensures.gap c.if-is_lost.true)
     (c.is_lost.ensures.unknown c.if-is_lost.true) in
     ap (at old) c.saturating_add-observer.ensures
     ∙ ap (λ t. at t (min (old.place + c.args.count) (2 ^ 64 - 1))) e
-    ∙ sym (after_junk c.args.count old.place (omega arith))
-    ∙ ap (after_items (replicate c.args.count (Junk false))) (sym e)
+    ∙ sym (observer_text_after_junk c.args.count old.place (omega arith))
+    ∙ ap (trace_observer_after (replicate c.args.count (Junk false))) (sym e)
 
 pub returns-then-is_lost-clause-bytes : goal.returns-then-is_lost-clause-bytes
 returns-then-is_lost-clause-bytes g c =
     let old = c.args.observer.now in
-    let e : old ≡ among old.place = is_among old (c.is_lost.ensures.gap c.if-is_lost.true)
+    let e : old ≡ observer_text_among_junk old.place = is_among old (c.is_lost.ensures.gap c.if-is_lost.true)
     (c.is_lost.ensures.unknown c.if-is_lost.true) in
     sym (append-nil c.args.text.now.bytes)
-    ∙ ap (λ x. c.args.text.now.bytes ++ x) (sym (junk_shows_nothing c.args.count old.place)
-    ∙ ap (accesses (replicate c.args.count (Junk false))) (sym e))
+    ∙ ap (λ x. c.args.text.now.bytes ++ x) (sym (observer_text_junk_silent c.args.count old.place)
+    ∙ ap (observer_text_of_items (replicate c.args.count (Junk false))) (sym e))
 
 pub returns-clause-observer : goal.returns-clause-observer
 returns-clause-observer g c =
     let some : 0 < c.args.count = omega (arith, c.if-count-eq0.false) in
     ap (at c.watch.new.self) c.saturating_add-observer-2.ensures
     ∙ ap (λ t. at t (min (t.place + (c.args.count - 1)) (2 ^ 64 - 1))) c.watch.ensures.observer
-    ∙ sym (after_skip c.args.count c.args.observer.now some)
+    ∙ sym (observer_text_after_skip c.args.count c.args.observer.now some)
 
 pub returns-clause-bytes : goal.returns-clause-bytes
 returns-clause-bytes g c =
     let some : 0 < c.args.count = omega (arith, c.if-count-eq0.false) in
     c.push_shown.ensures.bytes
-    ∙ ap (λ s. c.args.text.now.bytes ++ shown_text s) c.watch.ensures.shown
-    ∙ ap (λ x. c.args.text.now.bytes ++ x) (sym (skip_shows c.args.count c.args.observer.now some))
+    ∙ ap (λ s. c.args.text.now.bytes ++ observer_text_shown s) c.watch.ensures.shown
+    ∙ ap (λ x. c.args.text.now.bytes ++ x) (sym (observer_text_skip_shows c.args.count c.args.observer.now some))

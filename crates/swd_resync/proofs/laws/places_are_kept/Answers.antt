@@ -1,5 +1,5 @@
-use Rattle.swd_resync.proofs.ItemLemmas.{items_have_bits}
+use Rattle.swd_resync.proofs.ItemLemmas.{resync_parts_items_length}
 use Rattle.swd_resync.proofs.laws.places_are_kept.Goals as goal
 
 pub returns : goal.returns
-returns c = λ over parts bits h. items_have_bits over parts bits h
+returns c = λ over parts bits h. resync_parts_items_length over parts bits h

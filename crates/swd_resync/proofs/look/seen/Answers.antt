@@ -4,14 +4,15 @@ use Rattle.std.proofs.lemmas.List.{append-nil}
 use Rattle.swd_bits.specs.Bits.{low_bits}
 use Rattle.swd_bits.proofs.BitsLemmas.{length-low_bits}
 use Rattle.swd_trace.specs.Stands.{Begun, stands}
-use Rattle.swd_resync.specs.Parts.{is_refusal}
-use Rattle.swd_resync.specs.Sights.{IsTxSeen, IsCutSeen}
-use Rattle.swd_resync.proofs.SightLemmas.{plain_tx, phased_tx, phase_cut, begun_cut, junk_seen, begun_seen, alone}
+use Rattle.swd_resync.specs.Parts.{resync_is_refusal}
+use Rattle.swd_resync.specs.Sights.{IsTxSight, IsCutSight}
+use Rattle.swd_resync.proofs.SightLemmas.{sight_plain_tx, sight_phased_tx, sight_phase_cut, sight_partial_tx_cut}
+use Rattle.swd_resync.proofs.SightLemmas.{sight_junk, sight_cut_or_wait, sight_nothing_behind}
 use Rattle.swd_resync.proofs.look.seen.Goals as goal
 
 pub returns-then-not-has_phase : goal.returns-then-not-has_phase
 returns-then-not-has_phase c = λ back n.
-    plain_tx c.args.over c.in-Whole.tx c.in-Whole.len (low_bits c.args.window.len c.args.window.bits)
+    sight_plain_tx c.args.over c.in-Whole.tx c.in-Whole.len (low_bits c.args.window.len c.args.window.bits)
     c.in-Whole.ensures.0 c.in-Whole.ensures.1 (sym c.has_phase.ensures ∙ c.if-not-has_phase.true) back
 
 pub returns-then-window-lt-MOVED_BITS : goal.returns-then-window-lt-MOVED_BITS
@@ -20,13 +21,13 @@ returns-then-window-lt-MOVED_BITS c = λ back n.
     let l : length bits ≡ c.args.window.len = length-low_bits c.args.window.len c.args.window.bits in
     let few : c.args.window.len < 46 = c.if-window-lt-MOVED_BITS.true in
     let short : length bits < 46 = omega arith in
-    let r = and_parts c.args.over (is_refusal c.in-Whole.tx.result)
+    let r = and_parts c.args.over (resync_is_refusal c.in-Whole.tx.result)
     (sym c.has_phase.ensures ∙ c.if-not-has_phase.false) in
-    let e = alone bits back (n (omega arith)) in
-    let seen : IsCutSeen c.args.over bits = subst (λ o. IsCutSeen o bits) (sym r.0)
-    (phase_cut c.in-Whole.tx c.in-Whole.len bits c.in-Whole.ensures.0 r.1 short) in
-    begun_seen c.args.over c.args.ended c.args.window _ _ c.begun-then-window-lt-MOVED_BITS.ensures.cut
-    c.begun-then-window-lt-MOVED_BITS.ensures.wait e c.requires.spelled (subst (IsCutSeen c.args.over) (sym e) seen)
+    let e = sight_nothing_behind bits back (n (omega arith)) in
+    let seen : IsCutSight c.args.over bits = subst (λ o. IsCutSight o bits) (sym r.0)
+    (sight_phase_cut c.in-Whole.tx c.in-Whole.len bits c.in-Whole.ensures.0 r.1 short) in
+    sight_cut_or_wait c.args.over c.args.ended c.args.window _ _ c.begun-then-window-lt-MOVED_BITS.ensures.cut
+    c.begun-then-window-lt-MOVED_BITS.ensures.wait e c.requires.spelled (subst (IsCutSight c.args.over) (sym e) seen)
 
 pub returns-in-Begun : goal.returns-in-Begun
 returns-in-Begun c = λ back n.
@@ -37,14 +38,14 @@ returns-in-Begun c = λ back n.
     let most : next ≤ 46 = c.in-Begun.ensures.1 in
     let some : 0 < c.args.window.len = c.requires.some in
     let begun : stands bits ≡ Begun = sym (ap stands (append-nil bits)) ∙ c.in-Begun.ensures.2 [] (omega arith) in
-    let e = alone bits back (n (omega arith)) in
-    let seen : IsCutSeen c.args.over bits = begun_cut c.args.over bits begun (omega arith) (omega arith) in
-    begun_seen c.args.over c.args.ended c.args.window _ _ c.begun.ensures.cut c.begun.ensures.wait e c.requires.spelled
-    (subst (IsCutSeen c.args.over) (sym e) seen)
+    let e = sight_nothing_behind bits back (n (omega arith)) in
+    let seen : IsCutSight c.args.over bits = sight_partial_tx_cut c.args.over bits begun (omega arith) (omega arith) in
+    sight_cut_or_wait c.args.over c.args.ended c.args.window _ _ c.begun.ensures.cut c.begun.ensures.wait e
+    c.requires.spelled (subst (IsCutSight c.args.over) (sym e) seen)
 
 pub returns-in-Broken : goal.returns-in-Broken
 returns-in-Broken c = λ back n.
-    junk_seen c.args.over c.args.window.len c.args.window.bits back c.requires.some c.requires.most c.requires.one
+    sight_junk c.args.over c.args.window.len c.args.window.bits back c.requires.some c.requires.most c.requires.one
     c.in-Broken.ensures c.requires.zero
 
 pub returns-else-window-lt-MOVED_BITS : goal.returns-else-window-lt-MOVED_BITS
@@ -52,7 +53,7 @@ returns-else-window-lt-MOVED_BITS c = λ back n.
     let bits = low_bits c.args.window.len c.args.window.bits in
     let l : length bits ≡ c.args.window.len = length-low_bits c.args.window.len c.args.window.bits in
     let many : 46 ≤ c.args.window.len = c.if-window-lt-MOVED_BITS.false in
-    let r = and_parts c.args.over (is_refusal c.in-Whole.tx.result)
+    let r = and_parts c.args.over (resync_is_refusal c.in-Whole.tx.result)
     (sym c.has_phase.ensures ∙ c.if-not-has_phase.false) in
-    subst (λ o. IsTxSeen o c.in-Whole.tx 46 (bits ++ back)) (sym r.0)
-    (phased_tx c.in-Whole.tx c.in-Whole.len bits c.in-Whole.ensures.0 r.1 (omega arith) back)
+    subst (λ o. IsTxSight o c.in-Whole.tx 46 (bits ++ back)) (sym r.0)
+    (sight_phased_tx c.in-Whole.tx c.in-Whole.len bits c.in-Whole.ensures.0 r.1 (omega arith) back)

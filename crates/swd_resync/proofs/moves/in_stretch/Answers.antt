@@ -2,39 +2,41 @@ use Rattle.std.proofs.Common.{◌≡◌, ◌+◌, subst, refl, arith}
 use Rattle.std.specs.Prelude.{None}
 use Rattle.swd_trace.specs.declared.mode.Mode.TheVariants.{Synced}
 use Rattle.swd_resync.specs.Parts.{InStretch}
-use Rattle.swd_resync.proofs.PartLemmas.{parts_none}
-use Rattle.swd_resync.specs.Stages.{IsMove}
-use Rattle.swd_resync.specs.Holding.{held_bits}
-use Rattle.swd_resync.specs.declared.stage.Stage.TheVariants.{Stretch}
-use Rattle.swd_resync.proofs.MoveLemmas.{still_few, still_none, stretch_idles, ones_pass, junk_passes, cut_passes}
+use Rattle.swd_resync.proofs.PartLemmas.{resync_parts_none}
+use Rattle.swd_resync.specs.Stages.{ResyncMove}
+use Rattle.swd_resync.specs.Holding.{resync_held}
+use Rattle.swd_resync.specs.declared.stage.RemovalStage.TheVariants.{Stretch}
+use Rattle.swd_resync.proofs.MoveLemmas.{stretch_waits_few, stretch_waits_empty, stretch_counts_idle}
+use Rattle.swd_resync.proofs.MoveLemmas.{stretch_enters_reset, stretch_ends_at_junk, stretch_cut_move}
 use Rattle.swd_resync.proofs.moves.in_stretch.Goals as goal
 
 pub returns-in-Wait : goal.returns-in-Wait
-returns-in-Wait c = still_few c.args.over c.args.ended (Stretch 0) (held_bits c.args.held.now) c.in-Wait.ensures.0
-    c.in-Wait.ensures.1
+returns-in-Wait c = stretch_waits_few c.args.over c.args.ended (Stretch 0) (resync_held c.args.held.now)
+    c.in-Wait.ensures.0 c.in-Wait.ensures.1
 
 pub returns-in-Zero : goal.returns-in-Zero
 returns-in-Zero c =
     let run = c.run_of-count.ensures.run in
     let same : 0 + c.run_of-count.result ≡ c.from.result = omega (arith, c.from.ensures) in
-    subst (λ n. IsMove c.args.over c.args.ended (Stretch 0) (held_bits c.args.held.now)
+    subst (λ n. ResyncMove c.args.over c.args.ended (Stretch 0) (resync_held c.args.held.now)
     (record { count = c.run_of-count.result; stage = Stretch n; part = None })) same
-    (stretch_idles c.args.over c.args.ended 0 c.run_of-count.result (held_bits c.args.held.now) run.0 run.1
+    (stretch_counts_idle c.args.over c.args.ended 0 c.run_of-count.result (resync_held c.args.held.now) run.0 run.1
     (c.run_of-count.ensures.some c.in-Zero.ensures.0 c.in-Zero.ensures.1) c.run_of-count.ensures.most)
 
 pub returns-in-Ones : goal.returns-in-Ones
-returns-in-Ones c = ones_pass c.args.over c.args.ended (Stretch 0) Synced (held_bits c.args.held.now) c.in-Ones.ensures.0
-    c.in-Ones.ensures.1 (λ x. refl)
+returns-in-Ones c = stretch_enters_reset c.args.over c.args.ended (Stretch 0) Synced (resync_held c.args.held.now)
+    c.in-Ones.ensures.0 c.in-Ones.ensures.1 (λ x. refl)
 
 pub returns-in-Junk : goal.returns-in-Junk
-returns-in-Junk c = junk_passes c.args.over c.args.ended (held_bits c.args.held.now) c.in-Junk.ensures.0 c.in-Junk.ensures.1
+returns-in-Junk c = stretch_ends_at_junk c.args.over c.args.ended (resync_held c.args.held.now) c.in-Junk.ensures.0
+    c.in-Junk.ensures.1
 
 pub returns-in-Cut : goal.returns-in-Cut
 returns-in-Cut c =
     let h = c.in-Cut.ensures in
-    cut_passes c.args.over (Stretch 0) Synced c.in-Cut.bits (held_bits c.args.held.now) c.args.ended h.0 h.1 h.2 h.3.some
-    h.3.few h.3.first (λ x. refl)
+    stretch_cut_move c.args.over (Stretch 0) Synced c.in-Cut.bits (resync_held c.args.held.now) c.args.ended h.0 h.1 h.2
+    h.3.some h.3.few h.3.first (λ x. refl)
 
 pub returns-in-End : goal.returns-in-End
-returns-in-End c = still_none c.args.over c.args.ended (Stretch 0) (held_bits c.args.held.now) c.in-End.ensures.1
-    (parts_none c.args.over (InStretch Synced))
+returns-in-End c = stretch_waits_empty c.args.over c.args.ended (Stretch 0) (resync_held c.args.held.now)
+    c.in-End.ensures.1 (resync_parts_none c.args.over (InStretch Synced))

@@ -1,11 +1,11 @@
-use Rattle.swd_resync.specs.Decoding.{steps_left, IsSettled}
+use Rattle.swd_resync.specs.Decoding.{resync_steps_left, ResyncSettled}
 use Rattle.swd_resync_tests.proofs.tests.lines_of.Given as goal
 
 abbrev pub decreases-loop-part : goal.decreases-loop-part
-decreases-loop-part l = steps_left l.decoder
+decreases-loop-part l = resync_steps_left l.decoder
 
 abbrev pub invariant-loop-bit : goal.invariant-loop-bit
-invariant-loop-bit l = IsSettled l.decoder
+invariant-loop-bit l = ResyncSettled l.decoder
 
 abbrev pub decreases-loop-end : goal.decreases-loop-end
-decreases-loop-end l = steps_left l.decoder
+decreases-loop-end l = resync_steps_left l.decoder

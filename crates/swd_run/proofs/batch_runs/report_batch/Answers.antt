@@ -2,11 +2,11 @@ use Rattle.std.proofs.Common.{◌≡◌, ◌∙◌, ap, ap₂, ℕ, List, Option
 use Rattle.std.specs.Prelude.{IfNone, IfSome}
 use Rattle.swd_port.specs.declared.mark.Mark.{Mark}
 use Rattle.swd_port.specs.Port.{Port}
-use Rattle.swd_host.specs.Reports.{Told, told_of}
-use Rattle.swd_script.specs.Readers.{listed}
-use Rattle.swd_script.specs.Scripts.{Listed}
-use Rattle.swd_run.specs.Reports.{IsReported, ReportsRun, WritesOn, run_report}
-use Rattle.swd_run.specs.Sessions.{Done, unsent}
+use Rattle.swd_host.specs.Reports.{HostReport, host_report_of}
+use Rattle.swd_script.specs.Readers.{script_batch_listed}
+use Rattle.swd_script.specs.Scripts.{ScriptListed}
+use Rattle.swd_run.specs.Reports.{IsBatchReported, ReportsBatchRun, ReportWritesOn, script_run_report}
+use Rattle.swd_run.specs.Sessions.{ScriptRun, unsent}
 use Rattle.swd_run.proofs.UnfoldingLemmas.{cut_first, performed_once}
 use Rattle.swd_run.proofs.batch_runs.report_batch.Goals as goal
 
@@ -25,29 +25,30 @@ pub returns-in-None-clause-cut : goal.returns-in-None-clause-cut
 returns-in-None-clause-cut g c =
     if_none c.run_on_reporting.result
     (λ same. cut_first g.W.Wire.port g.W.Wire.plan g.W.Wire.lawful c.args.tries c.args.resumes
-    (listed c.args.batch.now) c.args.wire.now c.requires.batch c.run_on_reporting.new.wire (unsent same)
+    (script_batch_listed c.args.batch.now) c.args.wire.now c.requires.batch c.run_on_reporting.new.wire (unsent same)
     (λ plain. same)) c.run_on_reporting.ensures.unsent
 
 module _ {W : Type 0} (port : W → Port) (plan : W → List Mark) (lawful : W → Type 0) (tries resumes : ℕ)
-    (batch : Listed) (s t : W) (old new : Option (List ℕ)) (told : Told) (written : Result ℕ ℕ) where
+    (batch : ScriptListed) (s t : W) (old new : Option (List ℕ)) (told : HostReport) (written : Result ℕ ℕ) where
   -- the report of one run is that of a batch that is no `until`
-  reported_once : batch.until ≡ None → ReportsRun port plan lawful tries resumes batch s t old new told written
-      → IsReported port plan lawful tries resumes batch s t old new told written
+  reported_once : batch.until ≡ None → ReportsBatchRun port plan lawful tries resumes batch s t old new told written
+      → IsBatchReported port plan lawful tries resumes batch s t old new told written
   reported_once plain h =
       let (runs, last_is, reads, performs) = performed_once port plan lawful tries resumes batch s h.run t plain h.goes
       in
       record {
         runs = runs;
-        last = ap (λ (run : Done). run.told) last_is ∙ h.last;
+        last = ap (λ (run : ScriptRun). run.told) last_is ∙ h.last;
         performs = performs;
-        writes = subst (WritesOn written old new)
-            (ap₂ (λ (n : ℕ) (run : Done). run_report batch n run) (sym reads) (sym last_is)) h.writes;
+        writes = subst (ReportWritesOn written old new)
+            (ap₂ (λ (n : ℕ) (run : ScriptRun). script_run_report batch n run) (sym reads) (sym last_is)) h.writes;
       }
 
 pub returns-in-None-clause-reported : goal.returns-in-None-clause-reported
 returns-in-None-clause-reported g c =
     if_some c.run_on_reporting.result
     (λ reported h. reported_once g.W.Wire.port g.W.Wire.plan g.W.Wire.lawful c.args.tries c.args.resumes
-    (listed c.args.batch.now) c.args.wire.now c.run_on_reporting.new.wire (g.O.Write.contents c.args.report.now)
-    (g.O.Write.contents c.run_on_reporting.new.report) (told_of reported.report) reported.written c.in-None.is h)
+    (script_batch_listed c.args.batch.now) c.args.wire.now c.run_on_reporting.new.wire
+    (g.O.Write.contents c.args.report.now)
+    (g.O.Write.contents c.run_on_reporting.new.report) (host_report_of reported.report) reported.written c.in-None.is h)
     c.run_on_reporting.ensures.reports

@@ -1,38 +1,38 @@
 use Rattle.std.proofs.Common.{sym}
-use Rattle.swd_run.specs.Records.{held}
+use Rattle.swd_run.specs.Records.{run_file_held}
 use Rattle.swd_run.specs.Engine.{accesses_stop, short, trace_stops, whole}
-use Rattle.swd_run.proofs.EngineLemmas.{held_some, left_alone}
-use Rattle.swd_run.proofs.TraceLemmas.{trace_stopped, trace_whole}
+use Rattle.swd_run.proofs.EngineLemmas.{run_file_some, run_file_unchanged}
+use Rattle.swd_run.proofs.TraceLemmas.{run_trace_file_stopped, run_trace_file_whole}
 use Rattle.swd_run.proofs.engine.write_records.Goals as goal
 
 pub returns-in-Err : goal.returns-in-Err
 returns-in-Err g c = λ start h.
-    let stop = trace_stopped g.T.Write.contents start c.args.items.now c.args.file.now c.in-Err.written
+    let stop = run_trace_file_stopped g.T.Write.contents start c.args.items.now c.args.file.now c.in-Err.written
     (sym c.in-Err.ensures) h in
     trace_stops (record {
       wanted = stop.0;
       trace = stop.1;
-      accesses = left_alone (held g.T.Write.contents c.args.accesses.now);
+      accesses = run_file_unchanged (run_file_held g.T.Write.contents c.args.accesses.now);
     })
 
 pub returns-in-Err-write_accesses : goal.returns-in-Err-write_accesses
 returns-in-Err-write_accesses g c = λ start h. accesses_stop (record {
-  wanted = held_some g.T.Write.contents c.args.accesses.now c.in-Err-write_accesses.ensures.err;
-  trace = trace_whole g.T.Write.contents start c.args.items.now c.args.file.now c.in_default.field-0
+  wanted = run_file_some g.T.Write.contents c.args.accesses.now c.in-Err-write_accesses.ensures.err;
+  trace = run_trace_file_whole g.T.Write.contents start c.args.items.now c.args.file.now c.in_default.field-0
       (sym c.in_default.ensures) h;
   accesses = c.in-Err-write_accesses.ensures.file;
 })
 
 pub returns-then-cut : goal.returns-then-cut
 returns-then-cut g c = λ start h. short c.if-cut.true (record {
-  trace = trace_whole g.T.Write.contents start c.args.items.now c.args.file.now c.in_default.field-0
+  trace = run_trace_file_whole g.T.Write.contents start c.args.items.now c.args.file.now c.in_default.field-0
       (sym c.in_default.ensures) h;
   accesses = c.in_default-write_accesses.ensures.file;
 })
 
 pub returns-else-cut : goal.returns-else-cut
 returns-else-cut g c = λ start h. whole c.if-cut.false (record {
-  trace = trace_whole g.T.Write.contents start c.args.items.now c.args.file.now c.in_default.field-0
+  trace = run_trace_file_whole g.T.Write.contents start c.args.items.now c.args.file.now c.in_default.field-0
       (sym c.in_default.ensures) h;
   accesses = c.in_default-write_accesses.ensures.file;
 })

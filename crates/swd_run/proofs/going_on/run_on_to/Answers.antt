@@ -1,15 +1,14 @@
-use Rattle.std.proofs.Common.{◌≡◌, ◌∙◌, ℕ, List, [], ◌∷◌, ◌++◌, Result, Ok, Err, length, refl, ap, subst}
-use Rattle.std.proofs.Common.{arith}
+use Rattle.std.proofs.Common.{◌≡◌, ◌∙◌, ℕ, List, [], ◌∷◌, ◌++◌, Result, Ok, Err, length, refl, ap, subst, arith}
 use Rattle.std.specs.Prelude.{OnErr}
 use Rattle.std.proofs.lemmas.List.{length-append}
 use Rattle.swd_port.specs.declared.access.Access.{Access}
 use Rattle.swd_port.specs.declared.access.Answer.{Answer}
-use Rattle.swd_host.specs.Again.{Continues, ResumesOver}
-use Rattle.swd_host.specs.Reports.{Closes, RunsWithin, told_to}
-use Rattle.swd_host.specs.Tasks.{most_of}
-use Rattle.swd_script.specs.Readers.{listed}
+use Rattle.swd_host.specs.Again.{ResumeCloses, ResumesOver}
+use Rattle.swd_host.specs.Reports.{Closes, RunsWithin, host_report_to}
+use Rattle.swd_host.specs.Tasks.{bursts_limit}
+use Rattle.swd_script.specs.Readers.{script_batch_listed}
 use Rattle.swd_run.specs.declared.going_on.Stop.{Stop}
-use Rattle.swd_run.specs.GoingOn.{ran, resumed, stop_of}
+use Rattle.swd_run.specs.GoingOn.{ran, resumed, script_stop_of}
 use Rattle.swd_run.specs.Sessions.{unresumed}
 use Rattle.swd_run.proofs.going_on.run_on_to.Goals as goal
 
@@ -20,11 +19,11 @@ on_err (Err e) p = p
 
 pub loop-done-init : goal.loop-done-init
 loop-done-init g c =
-    let batch = listed c.args.batch.now in
+    let batch = script_batch_listed c.args.batch.now in
     let tries = c.args.tries in
     let start = c.args.wire.now in
     let end = c.run_to.new.wire in
-    let told = told_to (g.K.AnswerSink.taken c.run_to.new.sink) c.in-Ok.ending in
+    let told = host_report_to (g.K.AnswerSink.taken c.run_to.new.sink) c.in-Ok.ending in
     let list = c.as_slice-accesses.ensures.value in
     let limit = c.bursts_of.ensures in
     let ensures = c.in-Ok.ensures in
@@ -42,12 +41,12 @@ loop-done-init g c =
         g.met.K.RunSink.answers_follow c.args.sink.now c.run_to.new.sink ensures.keeps,
         ran ensures.plan
             (subst (λ n. Closes 0 n batch.accesses tries told (g.W.Wire.port end).link.due) limit
-            (subst (λ (l : List Access). Closes 0 (most_of c.bursts_of.result) l tries told
+            (subst (λ (l : List Access). Closes 0 (bursts_limit c.bursts_of.result) l tries told
             (g.W.Wire.port end).link.due) list ensures.closes))
             (subst (λ n. g.W.Wire.lawful end → g.W.Wire.lawful start
             × RunsWithin n batch.accesses tries told (g.W.Wire.port start) (g.W.Wire.port end)) limit
             (subst (λ (l : List Access). g.W.Wire.lawful end → g.W.Wire.lawful start
-            × RunsWithin (most_of c.bursts_of.result) l tries told (g.W.Wire.port start) (g.W.Wire.port end)) list
+            × RunsWithin (bursts_limit c.bursts_of.result) l tries told (g.W.Wire.port start) (g.W.Wire.port end)) list
             ensures.fits)),
       );
     }
@@ -60,21 +59,21 @@ returns-in_err-stop-clause-refused g c =
 
 pub loop-done-preserved : goal.loop-done-preserved
 loop-done-preserved g c =
-    let batch = listed c.args.batch.now in
+    let batch = script_batch_listed c.args.batch.now in
     let tries = c.args.tries in
     let (stops, count, follows, went) = c.loop-done.invariant.went in
     let before = g.K.AnswerSink.taken c.loop-done.sink in
-    let earlier = told_to before c.loop-done.ending in
-    let told = told_to (g.K.AnswerSink.taken c.resume_to-ending.new.sink) c.resume_to-ending.result in
+    let earlier = host_report_to before c.loop-done.ending in
+    let told = host_report_to (g.K.AnswerSink.taken c.resume_to-ending.new.sink) c.resume_to-ending.result in
     let start = c.loop-done.wire in
     let end = c.resume_to-ending.new.wire in
     let list = c.as_slice-accesses.ensures.value in
     let taken = c.in_ok-stop.ensures.taken in
     let ensures = c.resume_to-ending.ensures in
-    let continues : Continues batch.accesses tries earlier told (g.W.Wire.port end).link.due =
-    subst (λ (l : List Answer). Continues batch.accesses tries (told_to l c.loop-done.ending) told
-    (g.W.Wire.port end).link.due) taken (subst (λ (l : List Access). Continues l tries
-    (told_to (g.K.AnswerSink.taken c.stop.new.self) c.loop-done.ending) told (g.W.Wire.port end).link.due) list
+    let continues : ResumeCloses batch.accesses tries earlier told (g.W.Wire.port end).link.due =
+    subst (λ (l : List Answer). ResumeCloses batch.accesses tries (host_report_to l c.loop-done.ending) told
+    (g.W.Wire.port end).link.due) taken (subst (λ (l : List Access). ResumeCloses l tries
+    (host_report_to (g.K.AnswerSink.taken c.stop.new.self) c.loop-done.ending) told (g.W.Wire.port end).link.due) list
     ensures.continues) in
     let plan = ensures.plan ∙ c.loop-done.invariant.plan in
     let stop : Stop = record {
@@ -83,7 +82,7 @@ loop-done-preserved g c =
       requests =
           c.loop-done.ending.requests;
     } in
-    let stop_is : stop ≡ stop_of earlier = ap (λ (n : ℕ). record {
+    let stop_is : stop ≡ script_stop_of earlier = ap (λ (n : ℕ). record {
       answered = n;
       begun = c.loop-done.ending.begun;
       requests = c.loop-done.ending.requests;
@@ -91,7 +90,7 @@ loop-done-preserved g c =
     let further = g.met.K.RunSink.follows_on c.loop-done.sink c.stop.new.self c.resume_to-ending.new.sink
     (stop ∷ []) [] c.in_ok-stop.ensures.follows
     (g.met.K.RunSink.answers_follow c.stop.new.self c.resume_to-ending.new.sink ensures.keeps) in
-    let longer = length-append stops (stop_of earlier ∷ []) in
+    let longer = length-append stops (script_stop_of earlier ∷ []) in
     let room = c.loop-done.invariant.room in
     let stop_most = c.in_ok-stop.ensures.most in
     let most = ensures.most in
@@ -100,17 +99,17 @@ loop-done-preserved g c =
       room = omega (arith, room, stop_most, most);
       plan = plan;
       went = (
-        stops ++ stop_of earlier ∷ [],
+        stops ++ script_stop_of earlier ∷ [],
         omega (arith, count, longer),
         subst (λ (s : Stop). g.K.RunSink.follows c.args.sink.now (stops ++ s ∷ []) c.resume_to-ending.new.sink) stop_is
             (g.met.K.RunSink.follows_on c.args.sink.now c.loop-done.sink c.resume_to-ending.new.sink stops (stop ∷ [])
             follows further),
         resumed went c.in-Lost.is plan continues
             (subst (λ (l : List Answer). g.W.Wire.lawful end → g.W.Wire.lawful start
-            × ResumesOver batch.accesses tries (told_to l c.loop-done.ending) told (g.W.Wire.port start)
+            × ResumesOver batch.accesses tries (host_report_to l c.loop-done.ending) told (g.W.Wire.port start)
             (g.W.Wire.port end)) taken
             (subst (λ (l : List Access). g.W.Wire.lawful end → g.W.Wire.lawful start
-            × ResumesOver l tries (told_to (g.K.AnswerSink.taken c.stop.new.self) c.loop-done.ending) told
+            × ResumesOver l tries (host_report_to (g.K.AnswerSink.taken c.stop.new.self) c.loop-done.ending) told
             (g.W.Wire.port start) (g.W.Wire.port end)) list ensures.fits)),
       );
     }

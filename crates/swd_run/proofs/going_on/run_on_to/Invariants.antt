@@ -1,19 +1,19 @@
 use Rattle.std.proofs.Common.{◌≡◌, ◌≤◌, List, length}
-use Rattle.swd_host.specs.Reports.{told_to}
-use Rattle.swd_script.specs.Readers.{listed}
+use Rattle.swd_host.specs.Reports.{host_report_to}
+use Rattle.swd_script.specs.Readers.{script_batch_listed}
 use Rattle.swd_run.specs.declared.going_on.Stop.{Stop}
-use Rattle.swd_run.specs.Sessions.{most_begun}
-use Rattle.swd_run.specs.GoingOn.{Went}
+use Rattle.swd_run.specs.Sessions.{batch_limit}
+use Rattle.swd_run.specs.GoingOn.{ScriptCalls}
 use Rattle.swd_run.proofs.going_on.run_on_to.Given as goal
 
 abbrev pub invariant-loop-done : goal.invariant-loop-done
 invariant-loop-done g l =
-    let batch = listed l.batch in
+    let batch = script_batch_listed l.batch in
     record {
       number : length (g.K.AnswerSink.taken l.sink) ≤ length batch.accesses;
       room : length batch.accesses ≤ g.K.AnswerSink.most l.sink;
       plan : g.W.Wire.plan l.wire ≡ g.W.Wire.plan l.fn.wire;
       went : (stops : List Stop) × (length stops ≡ l.done) × g.K.RunSink.follows l.fn.sink stops l.sink
-          × Went g.W.Wire.port g.W.Wire.plan g.W.Wire.lawful (most_begun batch) batch.accesses l.tries l.fn.wire
-          stops (told_to (g.K.AnswerSink.taken l.sink) l.ending) l.wire;
+          × ScriptCalls g.W.Wire.port g.W.Wire.plan g.W.Wire.lawful (batch_limit batch) batch.accesses l.tries l.fn.wire
+          stops (host_report_to (g.K.AnswerSink.taken l.sink) l.ending) l.wire;
     }

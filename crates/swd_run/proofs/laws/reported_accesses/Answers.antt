@@ -1,5 +1,5 @@
-use Rattle.swd_run.proofs.TransferLemmas.{known_exact, session_reported, sure_exact}
+use Rattle.swd_run.proofs.TransferLemmas.{report_known_is_exact, report_session_explained, report_sure_is_exact}
 use Rattle.swd_run.proofs.laws.reported_accesses.Goals as goal
 
 pub returns : goal.returns
-returns c = record { sessions = session_reported; sure = sure_exact; known = known_exact }
+returns c = record { sessions = report_session_explained; sure = report_sure_is_exact; known = report_known_is_exact }

@@ -1,12 +1,12 @@
 use Rattle.std.proofs.Common.{◌≡◌, ◌∙◌, Bool, true, false, Option, None, Some, sym, subst, arith}
 use Rattle.std.specs.Prelude.{IfNone, IfSome}
-use Rattle.swd_script.specs.Laws.{IsWait}
-use Rattle.swd_script.specs.Readers.{listed}
-use Rattle.swd_run.specs.Sessions.{done_of}
+use Rattle.swd_script.specs.Laws.{IsScriptUntil}
+use Rattle.swd_script.specs.Readers.{script_batch_listed}
+use Rattle.swd_run.specs.Sessions.{script_run_of}
 use Rattle.swd_run.specs.Unfoldings.{asks_again}
 use Rattle.swd_run.proofs.SessionLemmas.{due_then}
-use Rattle.swd_run.proofs.UnfoldingLemmas.{asked_ended, asking_first, asking_more, cut_first, cut_later, not_plain}
-use Rattle.swd_run.proofs.UnfoldingLemmas.{performed}
+use Rattle.swd_run.proofs.UnfoldingLemmas.{until_reread_ended_all, asking_first, asking_more, cut_first, cut_later}
+use Rattle.swd_run.proofs.UnfoldingLemmas.{until_is_not_none, performed}
 use Rattle.swd_run.proofs.performing.perform.Goals as goal
 
 -- what holds anyway
@@ -20,18 +20,19 @@ apart b e f = absurd cc
 pub returns-in_err-last-clause-cut : goal.returns-in_err-last-clause-cut
 returns-in_err-last-clause-cut g c =
     if_none c.from_residual.result
-    (cut_first g.W.Wire.port g.W.Wire.plan g.W.Wire.lawful c.args.tries c.args.resumes (listed c.args.batch.now)
+    (cut_first g.W.Wire.port g.W.Wire.plan g.W.Wire.lawful c.args.tries c.args.resumes
+    (script_batch_listed c.args.batch.now)
     c.args.wire.now c.requires.batch c.run_on.new.wire c.in_err-last.ensures.refused
-    (λ plain. absurd (not_plain (sym c.requires.until ∙ plain))))
+    (λ plain. absurd (until_is_not_none (sym c.requires.until ∙ plain))))
 
 pub loop-runs-init : goal.loop-runs-init
 loop-runs-init g c =
-    let waits = subst (λ x. IfSome x (λ until. IsWait until (listed c.args.batch.now))) c.requires.until
-    c.requires.batch.waits in
+    let waits = subst (λ x. IfSome x (λ until. IsScriptUntil until (script_batch_listed c.args.batch.now)))
+    c.requires.until c.requires.batch.waits in
     record {
       asking = asking_first g.W.Wire.port g.W.Wire.plan g.W.Wire.lawful c.args.tries c.args.resumes
-          (listed c.args.batch.now) c.args.wire.now c.args.until (done_of c.in_ok-last.last) c.run_on.new.wire
-          c.in_ok-last.ensures.goes;
+          (script_batch_listed c.args.batch.now) c.args.wire.now c.args.until (script_run_of c.in_ok-last.last)
+          c.run_on.new.wire c.in_ok-last.ensures.goes;
       low = waits.some;
       plan = c.in_ok-last.ensures.plan;
     }
@@ -39,10 +40,11 @@ loop-runs-init g c =
 -- the word came, or the run didn't end `All`, or it was a bus error
 pub returns-then-not-asks_again-clause-performs : goal.returns-then-not-asks_again-clause-performs
 returns-then-not-asks_again-clause-performs g c =
-    performed g.W.Wire.port g.W.Wire.plan g.W.Wire.lawful c.args.tries c.args.resumes (listed c.args.batch.now)
-    c.args.wire.now c.args.until c.loop-runs.runs (done_of c.loop-runs.last) c.loop-runs.wire
+    performed g.W.Wire.port g.W.Wire.plan g.W.Wire.lawful c.args.tries c.args.resumes
+    (script_batch_listed c.args.batch.now) c.args.wire.now c.args.until c.loop-runs.runs
+    (script_run_of c.loop-runs.last) c.loop-runs.wire
     c.loop-runs.invariant.asking c.requires.until c.loop-runs.invariant.low
-    (λ asked. apart (asks_again c.args.until (done_of c.loop-runs.last))
+    (λ asked. apart (asks_again c.args.until (script_run_of c.loop-runs.last))
     (sym c.asks_again.ensures ∙ c.if-not-asks_again.true) asked)
 
 pub run_on-requires-in-loop-runs-clause-due : goal.run_on-requires-in-loop-runs-clause-due
@@ -50,14 +52,15 @@ run_on-requires-in-loop-runs-clause-due g c =
     let asked = sym c.asks_again.ensures ∙ c.if-not-asks_again.false in
     let asking = c.loop-runs.invariant.asking in
     due_then g.W.Wire.port g.W.Wire.plan g.W.Wire.lawful c.args.tries c.args.resumes c.args.wire.now
-    (listed c.args.batch.now) (done_of c.loop-runs.last) asking.between c.loop-runs.wire
-    (asked_ended c.args.until (done_of c.loop-runs.last) asked) asking.goes
+    (script_batch_listed c.args.batch.now) (script_run_of c.loop-runs.last) asking.between c.loop-runs.wire
+    (until_reread_ended_all c.args.until (script_run_of c.loop-runs.last) asked) asking.goes
 
 pub returns-in_err-last-2-clause-cut : goal.returns-in_err-last-2-clause-cut
 returns-in_err-last-2-clause-cut g c =
     if_none c.from_residual-in_err-last-2.result
-    (cut_later g.W.Wire.port g.W.Wire.plan g.W.Wire.lawful c.args.tries c.args.resumes (listed c.args.batch.now)
-    c.args.wire.now c.args.until c.loop-runs.runs (done_of c.loop-runs.last) c.loop-runs.wire
+    (cut_later g.W.Wire.port g.W.Wire.plan g.W.Wire.lawful c.args.tries c.args.resumes
+    (script_batch_listed c.args.batch.now)
+    c.args.wire.now c.args.until c.loop-runs.runs (script_run_of c.loop-runs.last) c.loop-runs.wire
     c.loop-runs.invariant.asking c.requires.until (sym c.asks_again.ensures ∙ c.if-not-asks_again.false)
     c.loop-runs-test.true c.run_on-in-loop-runs.new.wire c.in_err-last-2.ensures.refused)
 
@@ -66,9 +69,10 @@ loop-runs-preserved g c =
     let low = c.loop-runs-test.true in
     record {
       asking = asking_more g.W.Wire.port g.W.Wire.plan g.W.Wire.lawful c.args.tries c.args.resumes
-          (listed c.args.batch.now) c.args.wire.now c.args.until c.loop-runs.runs (done_of c.loop-runs.last)
-          c.loop-runs.wire c.loop-runs.invariant.asking (sym c.asks_again.ensures ∙ c.if-not-asks_again.false)
-          (done_of c.in_ok-last-2.last) c.run_on-in-loop-runs.new.wire c.in_ok-last-2.ensures.goes;
+          (script_batch_listed c.args.batch.now) c.args.wire.now c.args.until c.loop-runs.runs
+          (script_run_of c.loop-runs.last) c.loop-runs.wire c.loop-runs.invariant.asking
+          (sym c.asks_again.ensures ∙ c.if-not-asks_again.false)
+          (script_run_of c.in_ok-last-2.last) c.run_on-in-loop-runs.new.wire c.in_ok-last-2.ensures.goes;
       low = omega (arith, low);
       plan = c.in_ok-last-2.ensures.plan ∙ c.loop-runs.invariant.plan;
     }
@@ -80,6 +84,7 @@ returns-clause-performs g c =
     let high = c.loop-runs-test.false in
     let most : c.loop-runs.runs ≡ c.args.until.most = omega (arith, low, high) in
     let all = performed g.W.Wire.port g.W.Wire.plan g.W.Wire.lawful c.args.tries c.args.resumes
-    (listed c.args.batch.now) c.args.wire.now c.args.until c.loop-runs.runs (done_of c.loop-runs.last)
+    (script_batch_listed c.args.batch.now) c.args.wire.now c.args.until c.loop-runs.runs
+    (script_run_of c.loop-runs.last)
     c.loop-runs.wire c.loop-runs.invariant.asking c.requires.until low (λ asked. most) in
     (all.0, all.1, all.2 ∙ most, all.3)

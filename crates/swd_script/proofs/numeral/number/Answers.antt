@@ -2,7 +2,7 @@ use Rattle.std.proofs.Common.{◌≡◌, ℕ, suc, ◌+◌, ◌*◌, ◌^◌, �
 use Rattle.std.proofs.Common.{arith, add-one, Some}
 use Rattle.std.specs.Option.{option_and_then}
 use Rattle.std.proofs.Math.Nat.{pow-le-pow_right, mul-le-mul_right, pow-succ'}
-use Rattle.swd_script.specs.Numerals.{number_from, digit_of}
+use Rattle.swd_script.specs.Numerals.{script_number_from, script_digit_of}
 use Rattle.swd_script.proofs.numeral.number.Goals as goal
 
 -- one digit more
@@ -16,11 +16,12 @@ power_below : (i : ℕ) → i < 10 → 16 ^ i ≤ 16 ^ 9
 power_below i h = let k : i ≤ 9 = omega arith in pow-le-pow_right (omega arith) {i = i} {j = 9} k
 
 number_step : (base value digit i : ℕ) (word : List ℕ) → i < length word
-    → number_from base 0 word ≡ number_from base value (drop i word) → digit_of base (get_or word i 0) ≡ Some digit →
-    number_from base 0 word ≡ number_from base (base * value + digit) (drop (suc i) word)
+    → script_number_from base 0 word ≡ script_number_from base value (drop i word)
+    → script_digit_of base (get_or word i 0) ≡ Some digit
+    → script_number_from base 0 word ≡ script_number_from base (base * value + digit) (drop (suc i) word)
 number_step base value digit i word h e d =
-    e ∙ ap (number_from base value) (drop-cons word i 0 h)
-    ∙ ap (option_and_then (λ digit. number_from base (base * value + digit) (drop (suc i) word))) d
+    e ∙ ap (script_number_from base value) (drop-cons word i 0 h)
+    ∙ ap (option_and_then (λ digit. script_number_from base (base * value + digit) (drop (suc i) word))) d
 
 pub overflow_mul-value : goal.overflow_mul-value
 overflow_mul-value c =
@@ -50,6 +51,6 @@ loop-byte-preserved c =
       bound = omega arith;
       rest = number_step c.args.base c.loop-byte.value c.in_ok-value.field-0 i c.args.word.now c.loop-byte-test.true
           c.loop-byte.invariant.rest (sym c.in_ok-value.ensures.value)
-          ∙ ap (λ n. number_from c.args.base (c.args.base * c.loop-byte.value + c.in_ok-value.field-0)
+          ∙ ap (λ n. script_number_from c.args.base (c.args.base * c.loop-byte.value + c.in_ok-value.field-0)
           (drop n c.args.word.now)) (sym (add-one i));
     }

@@ -1,11 +1,11 @@
-use Rattle.swd_steps.proofs.Reporting.{closes_anyhow, resumes_as_told, runs_as_told}
+use Rattle.swd_steps.proofs.Reporting.{stepped_always_closes, stepped_resume_fits, stepped_run_fits}
 use Rattle.swd_steps.proofs.laws.runs.Goals as goal
 
 pub returns-clause-closes : goal.returns-clause-closes
-returns-clause-closes c = closes_anyhow
+returns-clause-closes c = stepped_always_closes
 
 pub returns-clause-runs : goal.returns-clause-runs
-returns-clause-runs c = runs_as_told
+returns-clause-runs c = stepped_run_fits
 
 pub returns-clause-resumes : goal.returns-clause-resumes
-returns-clause-resumes c = resumes_as_told
+returns-clause-resumes c = stepped_resume_fits

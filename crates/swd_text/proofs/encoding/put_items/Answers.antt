@@ -3,13 +3,13 @@ use Rattle.std.proofs.Common.{subst, append_assoc, arith, add-one}
 use Rattle.std.proofs.lemmas.List.{append-nil}
 use Rattle.std.proofs.Math.Seq.{take-suc}
 use Rattle.swd_trace.specs.declared.item.Item.{Item}
-use Rattle.swd_trace.specs.Listed.{IsLegal}
-use Rattle.swd_trace.specs.Listed.{AreLegal}
+use Rattle.swd_trace.specs.Listed.{IsLegalItem, AreLegalItems}
 use Rattle.swd_trace.specs.Texts.{item_text, trace_text}
-use Rattle.swd_io.specs.Blocks.{Sends}
+use Rattle.swd_io.specs.Blocks.{BlockBufferSends}
 use Rattle.swd_text.proofs.encoding.put_items.Goals as goal
 
-legal_at : (items : List Item) (k : ℕ) (d : Item) → k < length items → AreLegal items → IsLegal (get_or items k d)
+legal_at : (items : List Item) (k : ℕ) (d : Item) → k < length items → AreLegalItems items
+    → IsLegalItem (get_or items k d)
 legal_at [] k d h l = absurd (omega arith)
 legal_at (item ∷ items) zero d h l = l.0
 legal_at (item ∷ items) (suc k) d h l = legal_at items k d (omega arith) l.1
@@ -36,7 +36,7 @@ loop-item-preserved g c =
     let so_far = trace_text (take k items) in
     record {
       sends = λ start all h.
-          subst (Sends g.W.Write.contents start c.put_item.new.block)
+          subst (BlockBufferSends g.W.Write.contents start c.put_item.new.block)
           (append_assoc all so_far (item_text (get_or items k _))
           ∙ ap (λ x. all ++ x) (sym (trace_next items k _ c.loop-item-test.true)))
           (c.put_item.ensures.sends start (all ++ so_far) (c.loop-item.invariant.sends start all h));

@@ -1,6 +1,6 @@
 use Rattle.std.proofs.Common.{◌≡◌, ◌++◌, ◌∷◌, [], Option, Some, None, refl, sym, ap, subst}
 use Rattle.std.specs.Prelude.{IfNone}
-use Rattle.swd_io.specs.Blocks.{Sends}
+use Rattle.swd_io.specs.Blocks.{BlockBufferSends}
 use Rattle.swd_bits.specs.Listing.{tx_line}
 use Rattle.swd_bits.specs.declared.tx.Tx.{Tx}
 use Rattle.swd_text.proofs.tx_line.put_tx.Goals as goal
@@ -15,5 +15,5 @@ unreachable-requires g c = none_of c.of.result c.of.ensures.none c.in_default.no
 
 pub returns-in-Some-clause-sends : goal.returns-in-Some-clause-sends
 returns-in-Some-clause-sends g c = λ tx spelled start all h.
-    subst (λ line. Sends g.W.Write.contents start c.put_any_tx.new.block (all ++ (line ++ 10 ∷ [])))
+    subst (λ line. BlockBufferSends g.W.Write.contents start c.put_any_tx.new.block (all ++ (line ++ 10 ∷ [])))
     (ap tx_line (sym (c.in-Some.ensures.only tx spelled))) (c.put_any_tx.ensures.sends start all h)

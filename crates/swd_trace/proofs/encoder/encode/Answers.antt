@@ -5,7 +5,7 @@ use Rattle.std.proofs.KnownBytes.{Appends-trans}
 use Rattle.std.proofs.lemmas.List.{length-append, take-append-le}
 use Rattle.std.proofs.Math.Seq.{take-append-add}
 use Rattle.swd_trace.specs.Texts.{item_text}
-use Rattle.swd_trace.specs.ItemBytes.{bytes_left}
+use Rattle.swd_trace.specs.ItemBytes.{item_bytes_left}
 use Rattle.swd_trace.proofs.encoder.encode.Goals as goal
 
 -- a beginning of a piece went out, and before it the pieces before
@@ -29,7 +29,7 @@ returns-in-Err-clause-err g c =
     let piece = take c.fill-filled.result c.fill-filled.new.piece in
     cut_short (g.W.Write.contents c.args.writer.now) (g.W.Write.contents c.loop-bytes.writer)
     (g.W.Write.contents c.send.new.writer)
-    (item_text c.args.item.now) i.0 piece (bytes_left c.fill-filled.new.self) c.in-Err.unsent.sent
+    (item_text c.args.item.now) i.0 piece (item_bytes_left c.fill-filled.new.self) c.in-Err.unsent.sent
     (i.1 ∙ ap (λ x. i.0 ++ x) c.fill-filled.ensures.bytes) i.2 c.in-Err.ensures.err.0 c.in-Err.ensures.err.1
 
 pub loop-bytes-preserved : goal.loop-bytes-preserved
@@ -38,6 +38,6 @@ loop-bytes-preserved g c =
     let piece = take c.fill-filled.result c.fill-filled.new.piece in (
       i.0 ++ piece,
       i.1 ∙ ap (λ x. i.0 ++ x) c.fill-filled.ensures.bytes
-          ∙ sym (append_assoc i.0 piece (bytes_left c.fill-filled.new.self)),
+          ∙ sym (append_assoc i.0 piece (item_bytes_left c.fill-filled.new.self)),
       Appends-trans _ _ _ _ _ i.2 c.in_default.ensures.ok,
     )

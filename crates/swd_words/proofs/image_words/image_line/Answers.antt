@@ -3,29 +3,29 @@ use Rattle.std.specs.Option.{option_and_then, option_map}
 use Rattle.std.specs.String.{string_bytes}
 use Rattle.clap.specs.Words.{Text, first_of, found_of, rows_of}
 use Rattle.clap.proofs.WalkLemmas.{first_value-rows}
-use Rattle.swd_script.specs.Numerals.{hex_of}
-use Rattle.swd_words.specs.Commands.{AreResumes, AreTries, IsFormatOf}
+use Rattle.swd_script.specs.Numerals.{script_hex_number}
+use Rattle.swd_words.specs.Commands.{IsResumeArgument, IsTriesArgument, IsFormatArgument}
 use Rattle.swd_words.proofs.image_words.image_line.Goals as goal
 
 pub returns : goal.returns
 returns c = record {
   action = c.in_ok-action.ensures;
   addr = c.in-Some.ensures
-      ∙ ap (option_and_then (λ text. hex_of text))
+      ∙ ap (option_and_then (λ text. script_hex_number text))
       (c.get_str.ensures ∙ first_value-rows (found_of c.args.matches.now) (codes "ADDR"));
   file = ap (option_map string_bytes) (sym c.in-Ok-Some.field-0-is) ∙ c.in-Ok-Some.ensures ∙ c.get_str-2.ensures
       ∙ first_value-rows (found_of c.args.matches.now) (codes "FILE");
-  tries = subst (λ (word : Option Text). AreTries c.in-Some-tries_in.tries word)
+  tries = subst (λ (word : Option Text). IsTriesArgument c.in-Some-tries_in.tries word)
       (c.get_str-3.ensures ∙ first_value-rows (found_of c.args.matches.now) (codes "tries"))
       c.in-Some-tries_in.ensures;
-  resumes = subst (λ (word : Option Text). AreResumes c.in-Some-resumes_in.resumes word)
+  resumes = subst (λ (word : Option Text). IsResumeArgument c.in-Some-resumes_in.resumes word)
       (c.get_str-4.ensures ∙ first_value-rows (found_of c.args.matches.now) (codes "resume"))
       c.in-Some-resumes_in.ensures;
   report = c.in-Ok.ensures ∙ c.get_str-5.ensures ∙ first_value-rows (found_of c.args.matches.now) (codes "report");
   target = c.in_ok-memory.ensures;
-  format = subst (λ (file : Text). IsFormatOf c.in-Some-format_in.format file
+  format = subst (λ (file : Text). IsFormatArgument c.in-Some-format_in.format file
       (first_of (codes "format") (rows_of (found_of c.args.matches.now)))) c.as_str.ensures.value
-      (subst (λ (word : Option Text). IsFormatOf c.in-Some-format_in.format c.as_str.result.now word)
+      (subst (λ (word : Option Text). IsFormatArgument c.in-Some-format_in.format c.as_str.result.now word)
       (c.get_str-6.ensures ∙ first_value-rows (found_of c.args.matches.now) (codes "format"))
       c.in-Some-format_in.ensures);
 }

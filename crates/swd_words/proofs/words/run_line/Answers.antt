@@ -3,7 +3,7 @@ use Rattle.std.specs.Option.{option_map}
 use Rattle.std.specs.String.{string_bytes}
 use Rattle.clap.specs.Words.{Text, found_of}
 use Rattle.clap.proofs.WalkLemmas.{first_value-rows}
-use Rattle.swd_words.specs.Commands.{AreResumes, AreTries}
+use Rattle.swd_words.specs.Commands.{IsResumeArgument, IsTriesArgument}
 use Rattle.swd_words.proofs.words.run_line.Goals as goal
 
 pub returns : goal.returns
@@ -11,9 +11,9 @@ returns c = record {
   script = ap (option_map string_bytes) (sym c.in-Ok-Some.field-0-is) ∙ c.in-Ok-Some.ensures ∙ c.get_str.ensures
       ∙ first_value-rows (found_of c.args.matches.now) (codes "SCRIPT");
   plan = c.in-Ok.ensures ∙ c.get_str-2.ensures ∙ first_value-rows (found_of c.args.matches.now) (codes "plan");
-  tries = subst (λ (word : Option Text). AreTries c.in-Some.tries word)
+  tries = subst (λ (word : Option Text). IsTriesArgument c.in-Some.tries word)
       (c.get_str-6.ensures ∙ first_value-rows (found_of c.args.matches.now) (codes "tries")) c.in-Some.ensures;
-  resumes = subst (λ (word : Option Text). AreResumes c.in-Some-resumes_in.resumes word)
+  resumes = subst (λ (word : Option Text). IsResumeArgument c.in-Some-resumes_in.resumes word)
       (c.get_str-7.ensures ∙ first_value-rows (found_of c.args.matches.now) (codes "resume"))
       c.in-Some-resumes_in.ensures;
   trace = c.in-Ok-owned.ensures ∙ c.get_str-3.ensures ∙ first_value-rows (found_of c.args.matches.now) (codes "trace");

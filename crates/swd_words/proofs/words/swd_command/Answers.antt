@@ -1,7 +1,7 @@
 use Rattle.std.proofs.Common.{◌∙◌, ap, ap₂}
 use Rattle.std.proofs.lemmas.Result.{IfOk-weaker}
 use Rattle.clap.specs.Words.{App, Shape, with_subcommand}
-use Rattle.swd_words.specs.Commands.{with_images}
+use Rattle.swd_words.specs.Commands.{with_image_args_apps}
 use Rattle.swd_words.proofs.words.swd_command.Goals as goal
 
 abbrev top_of : App → Shape
@@ -17,4 +17,4 @@ returns-clause-app c =
     let run = c.in_ok-run.ensures.app ∙ ap₂ with_subcommand encode (ap top_of c.in_ok-run_command.ensures.app) in
     let target = c.in_ok-target.ensures.app ∙ ap₂ with_subcommand run (ap top_of c.in_ok-target_command.ensures.app) in
     let draw = c.in_ok-draw.ensures.app ∙ ap₂ with_subcommand target (ap top_of c.in_ok-draw_command.ensures.app) in
-    IfOk-weaker c.with_images.result _ _ (λ command h. h ∙ ap with_images draw) c.with_images.ensures.app
+    IfOk-weaker c.with_images.result _ _ (λ command h. h ∙ ap with_image_args_apps draw) c.with_images.ensures.app

@@ -1,8 +1,9 @@
 use Rattle.std.proofs.Common.{◌++◌, sym, ◌∙◌, subst}
 use Rattle.std.specs.Io.KnownBytes.{Appends}
-use Rattle.swd_bitbang.specs.Sessions.{Breaks, EndsAs}
-use Rattle.swd_bitbang.specs.Serving.{Taken, IsStop}
-use Rattle.swd_bitbang.proofs.SessionLemmas.{under_way, on_ok_then, if_err_then, ends_as}
+use Rattle.swd_bitbang.specs.Sessions.{BitbangWriterBreaks, BitbangEndsAs}
+use Rattle.swd_bitbang.specs.Serving.{BitbangTaken, IsBitbangStop}
+use Rattle.swd_bitbang.proofs.SessionLemmas.{bitbang_answers_queued, bitbang_on_ok_then, bitbang_if_err_then}
+use Rattle.swd_bitbang.proofs.SessionLemmas.{bitbang_session_ends_as}
 use Rattle.swd_bitbang.proofs.serving.ServerConsumer.take.Goals as goal
 
 pub returns-in-Err-clause-err : goal.returns-in-Err-clause-err
@@ -12,7 +13,7 @@ returns-in-Err-clause-err g c = record {
       let same = c.writer-1.given.1
       (sym (c.flush.ensures.writer ∙ c.bytes-taken.ensures.writer ∙ c.new-block.ensures.writer)) in
       let text = seen ++ c.args.piece.now in
-      let goes : Taken contents begin c.args.self.now c.new-block.result seen =
+      let goes : BitbangTaken contents begin c.args.self.now c.new-block.result seen =
       record {
         levels = h.levels;
         session = h.session;
@@ -20,12 +21,12 @@ returns-in-Err-clause-err g c = record {
             h.written;
         place = h.place;
       } in
-      let u = under_way contents begin c.bytes-taken.new.self c.bytes-taken.new.block text c.bytes-taken.result
-      (on_ok_then c.bytes-taken.result (λ f. f begin seen goes) c.bytes-taken.ensures.ok)
-      (if_err_then c.bytes-taken.result (λ served f. f begin seen goes) c.bytes-taken.ensures.err) in (
+      let u = bitbang_answers_queued contents begin c.bytes-taken.new.self c.bytes-taken.new.block text
+      c.bytes-taken.result (bitbang_on_ok_then c.bytes-taken.result (λ f. f begin seen goes) c.bytes-taken.ensures.ok)
+      (bitbang_if_err_then c.bytes-taken.result (λ served f. f begin seen goes) c.bytes-taken.ensures.err) in (
         tt,
-        subst (λ w. Breaks c.in-Err.written begin.1 (contents w) text begin.0 c.bytes-taken.new.self.pins) (sym same)
-            (record {
+        subst (λ w. BitbangWriterBreaks c.in-Err.written begin.1 (contents w) text begin.0 c.bytes-taken.new.self.pins)
+            (sym same) (record {
               taken = u.taken;
               more = u.more;
               is = u.is;
@@ -81,11 +82,15 @@ returns-in-Err-taken-clause-err g c = record {
         place = h.place;
       }) in
       let way = stops.under_way in
-      subst (λ w. IsStop c.in-Err-taken.served
-      × EndsAs c.in-Err-taken.served begin.1 (contents w) text begin.0 c.bytes-taken.new.self.pins) (sym same)
-      (ends_as c.in-Err-taken.served begin.1 _ text stops.taken stops.byte stops.more begin.0
+      subst (λ w. IsBitbangStop c.in-Err-taken.served
+      × BitbangEndsAs c.in-Err-taken.served begin.1 (contents w) text begin.0 c.bytes-taken.new.self.pins) (sym same)
+      (bitbang_session_ends_as c.in-Err-taken.served begin.1 _ text stops.taken stops.byte stops.more begin.0
       c.bytes-taken.new.self.pins stops.is stops.ends
-      (record { levels = way.levels; session = way.session; gone = (c.in-Ok.ensures.ok begin.1 way.levels way.sends).0 }));
+      (record {
+        levels = way.levels;
+        session = way.session;
+        gone = (c.in-Ok.ensures.ok begin.1 way.levels way.sends).0;
+      }));
   followed = subst (λ w. g.V.Watch.follows (w, c.args.self.now.pins) (c.see.new.self, c.bytes-taken.new.self.pins))
       c.bytes-taken.ensures.watch (c.see.ensures c.args.self.now.pins c.bytes-taken.ensures.goes);
 }

@@ -1,18 +1,19 @@
 use Rattle.std.proofs.Common.{◌≡◌, ℕ, suc, ◌+◌, ◌-◌, ◌^◌, ◌<◌, min, List, ◌∷◌, ◌++◌, length, take, drop, get_or, refl}
 use Rattle.std.proofs.Common.{ap, ◌∙◌, subst, arith}
 use Rattle.std.proofs.lemmas.List.{length-append, length-take-le}
-use Rattle.swd_bits.specs.One.{IsFirstBad}
-use Rattle.swd_bits.proofs.ScanLemmas.{parted}
+use Rattle.swd_bits.specs.One.{IsFirstBadScanByte}
+use Rattle.swd_bits.proofs.ScanLemmas.{scan_bits_parted}
 use Rattle.swd_bits.proofs.gathered.GatheredConsumerUnit.take.Goals as goal
 
 bad_there : (seen piece more : List ℕ) (i : ℕ) → i < length piece →
-    IsFirstBad ((seen ++ take i piece) ++ (get_or piece i 0 ∷ (drop (suc i) piece ++ more)))
+    IsFirstBadScanByte ((seen ++ take i piece) ++ (get_or piece i 0 ∷ (drop (suc i) piece ++ more)))
     (length (seen ++ take i piece)) →
-    IsFirstBad ((seen ++ piece) ++ more) (length seen + i)
+    IsFirstBadScanByte ((seen ++ piece) ++ more) (length seen + i)
 bad_there seen piece more i h b =
     let n : length (seen ++ take i piece) ≡ length seen + i = length-append seen (take i piece)
     ∙ ap (λ k. length seen + k) (length-take-le i piece (omega arith)) in
-    subst (λ x. IsFirstBad x (length seen + i)) (parted seen piece more i h) (subst (IsFirstBad _) n b)
+    subst (λ x. IsFirstBadScanByte x (length seen + i)) (scan_bits_parted seen piece more i h)
+    (subst (IsFirstBadScanByte _) n b)
 
 least : (seen place i told : ℕ) → place ≡ min seen (2 ^ 64 - 1) → told ≡ min (place + i) (2 ^ 64 - 1)
     → told ≡ min (seen + i) (2 ^ 64 - 1)

@@ -6,7 +6,7 @@ use Rattle.swd_bits.specs.contracts.request.Reg4.{the_type}
 use Rattle.swd_bits.specs.declared.request.Reg4.{Reg4}
 use Rattle.swd_bits.specs.declared.request.Reg4.TheVariants.{R0, R4, R8, RC}
 use Rattle.swd_bits.specs.Bits.{low_bits}
-use Rattle.swd_bits.specs.Wire.{request}
+use Rattle.swd_bits.specs.Wire.{bits_of_request}
 use Rattle.swd_bits.proofs.request.Request.bits.Goals as goal
 
 -- the five asked bits as a number
@@ -19,7 +19,7 @@ byte_of n = bit_or (bit_or 129 (n * 2 % 256)) (ones n % 2 * 32 % 256)
 
 -- each of the sixteen
 each : (ap read : Bool) (addr : Reg4)
-    → low_bits 8 (byte_of (asked (bool_byte ap) (bool_byte read) (tag_of the_type addr))) ≡ request
+    → low_bits 8 (byte_of (asked (bool_byte ap) (bool_byte read) (tag_of the_type addr))) ≡ bits_of_request
     (record { ap = ap; read = read; addr = addr })
 unfolding low_bits ones ones_in
 each true true R0 = refl

@@ -74,11 +74,11 @@ module _ {M : Type 1} {𝓤 : Ura M} (𝓛 : Logic 𝓤) (at_mem : Memory → SP
           $ sets ! (agg ! (and_then ! (lit ! tt) (and_then ! (get ! refl) (no_more !)))) refl (Answer-typed false 0 0)
           $
           returns ! (look_at ! 0 refl) $ free_all ! refl $
-          suffices ! _ (ends_at 𝓛 F.ended stayed held bound (answer_val false 0 0) (Err (record {})) (tt, (tt, (tt, tt)))
-          (tt, (tt, (tt, tt)))) $
+          suffices ! _ (ends_at 𝓛 F.ended stayed held bound (answer_val false 0 0) (Err (record {}))
+          (tt, (tt, (tt, tt))) (tt, (tt, (tt, tt)))) $
           nothing ! $ use0 𝓛 (‵ (Answer.own_val (Err (record {})) (answer_val false 0 0 ∷ []))) (Answer-err 𝓛) $
-          nothing ! $ nothing ! $ fjoin ! $ nothing ! $ fjoin ! $ nothing ! $ fjoin ! $ join ! $ move ! (2 ∷ []) $ join !
-          $ done !)
+          nothing ! $ nothing ! $ fjoin ! $ nothing ! $ fjoin ! $ nothing ! $ fjoin ! $ join ! $ move ! (2 ∷ []) $ join
+          ! $ done !)
 
 pub allocate_spec : {M : Type 1} → stated.statement M
 unfolding tables_of

@@ -3,7 +3,7 @@ use Rattle.std.proofs.Common.{sym, ap, ◌∙◌, arith, rules}
 use Rattle.std.proofs.Math.Seq.{take-append-add, take-append_seam}
 use Rattle.std.proofs.lemmas.List.{get_or-append-add, get_or-replicate, length-append, length-replicate, take-replicate}
 use Rattle.std.specs.String.Boundary.{IsSplitPoint}
-use Rattle.swd_capture.specs.Places.{tens_text}
+use Rattle.swd_capture.specs.Places.{capture_tens_prefix}
 use Rattle.swd_capture.proofs.junk_line.Tens.push.Goals as goal
 
 -- a text with spaces after it, cut off
@@ -40,7 +40,7 @@ overflow_add-end g c = omega (arith, g.N.fits, c.len.ensures.value, c.requires, 
 pub range-requires-clause-end_boundary : goal.range-requires-clause-end_boundary
 range-requires-clause-end_boundary g c =
     let self = c.args.self.now in
-    let t = tens_text (self.start / 10) in
+    let t = capture_tens_prefix (self.start / 10) in
     let is = c.as_str.ensures.value ∙ self.holds in
     let len : length c.as_str.result.now ≡ length t + 20 = ap length is ∙ length-append t (replicate 20 32) in
     let few : length t ≤ 20 = omega (arith, self.counts, self.short) in (
@@ -57,7 +57,7 @@ pub truncate-requires : goal.truncate-requires
 truncate-requires g c =
     let self = c.args.self.now in
     let old = c.args.text.now.bytes in
-    let t = tens_text (self.start / 10) in
+    let t = capture_tens_prefix (self.start / 10) in
     let m = 20 - length t in
     let few : length t ≤ 20 = omega (arith, self.counts, self.short) in
     let all : c.push_str.new.self.bytes ≡ old ++ (t ++ replicate m 32) =
@@ -71,7 +71,7 @@ pub returns-clause-bytes : goal.returns-clause-bytes
 returns-clause-bytes g c =
     let self = c.args.self.now in
     let old = c.args.text.now.bytes in
-    let t = tens_text (self.start / 10) in
+    let t = capture_tens_prefix (self.start / 10) in
     let m = 20 - length t in
     let few : length t ≤ 20 = omega (arith, self.counts, self.short) in
     let range : c.range.result.now ≡ t ++ replicate m 32 =

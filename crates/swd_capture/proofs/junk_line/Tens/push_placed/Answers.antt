@@ -3,8 +3,8 @@ use Rattle.std.proofs.Common.{sym, ap, ◌∙◌, append_assoc, arith}
 use Rattle.std.specs.Prelude.{◌==◌}
 use Rattle.swd_trace.specs.Texts.{item_line}
 use Rattle.swd_trace.specs.declared.item.Item.TheVariants.{Junk}
-use Rattle.swd_capture.specs.Places.{tens_text}
-use Rattle.swd_capture.proofs.PlaceLemmas.{place_split}
+use Rattle.swd_capture.specs.Places.{capture_tens_prefix}
+use Rattle.swd_capture.proofs.PlaceLemmas.{capture_place_split}
 use Rattle.swd_capture.proofs.junk_line.Tens.push_placed.Goals as goal
 use mir.Val.{bool_byte}
 
@@ -34,7 +34,7 @@ returns-clause-bytes g c =
     ∙ ap (λ n. (48 + (2 * d + n) / 2) ∷ 32 ∷ (item_line (Junk ((2 * d + n) % 2 == 1)) ++ 10 ∷ [])) c.from.ensures
     ∙ ap (λ n. (48 + n) ∷ 32 ∷ (item_line (Junk ((2 * d + bool_byte bit) % 2 == 1)) ++ 10 ∷ [])) (half d bit)
     ∙ ap (λ b. (48 + d) ∷ 32 ∷ (item_line (Junk b) ++ 10 ∷ [])) (odd d bit) in
-    c.push_str.ensures.bytes ∙ ap (λ x. x ++ end) c.push.ensures.bytes ∙ append_assoc old (tens_text (start / 10)) end
-    ∙ ap (λ t. old ++ (tens_text t ++ end)) first
-    ∙ ap (λ x. old ++ (tens_text (place / 10) ++ x)) ends
-    ∙ ap (λ x. old ++ x) (sym (place_split place line c.ranges.place.fits))
+    c.push_str.ensures.bytes ∙ ap (λ x. x ++ end) c.push.ensures.bytes ∙ append_assoc old
+    (capture_tens_prefix (start / 10)) end ∙ ap (λ t. old ++ (capture_tens_prefix t ++ end)) first
+    ∙ ap (λ x. old ++ (capture_tens_prefix (place / 10) ++ x)) ends
+    ∙ ap (λ x. old ++ x) (sym (capture_place_split place line c.ranges.place.fits))

@@ -1,40 +1,41 @@
-use Rattle.std.proofs.Common.{◌≡◌, ◌+◌, ◌-◌, ◌/◌, ◌%◌, ◌^◌, min, List, Bool, true, false, [], ◌∷◌, ◌++◌, length, replicate}
-use Rattle.std.proofs.Common.{refl, sym, ap, append_assoc, ◌∙◌, arith}
+use Rattle.std.proofs.Common.{◌≡◌, ◌+◌, ◌-◌, ◌/◌, ◌%◌, ◌^◌, min, List, Bool, true, false, [], ◌∷◌, ◌++◌, length}
+use Rattle.std.proofs.Common.{replicate, refl, sym, ap, append_assoc, ◌∙◌, arith}
 use Rattle.std.specs.Prelude.{◌==◌, Option}
 use Rattle.std.proofs.lemmas.List.{append-nil}
 use Rattle.swd_bits.specs.Bits.{low_bits}
-use Rattle.swd_bits.specs.BitLists.{bits_of}
+use Rattle.swd_bits.specs.BitLists.{tx_bits_of}
 use Rattle.swd_bits.proofs.BitsLemmas.{length-low_bits}
 use Rattle.swd_port.specs.declared.select.Select.{Select}
-use Rattle.swd_trace.proofs.NumberLemmas.{next_bit, no_bits}
+use Rattle.swd_trace.proofs.NumberLemmas.{decoder_bits_next, decoder_bits_none}
 use Rattle.swd_trace.specs.Texts.{item_line}
 use Rattle.swd_trace.specs.declared.item.Item.TheVariants.{Junk}
 use Rattle.swd_resync.specs.declared.part.Part.{Part}
 use Rattle.swd_resync.specs.declared.part.Part.TheVariants.{Item as Told}
-use Rattle.swd_resync.specs.AsItems.{items_of}
+use Rattle.swd_resync.specs.AsItems.{resync_items}
 use Rattle.swd_capture.specs.declared.printed.LineForm.{LineForm}
 use Rattle.swd_capture.specs.declared.printed.Printed.TheVariants.{Lines}
-use Rattle.swd_capture.specs.Names.{select_behind, select_from}
-use Rattle.swd_capture.specs.Places.{place_behind}
-use Rattle.swd_capture.specs.Printing.{entry, junk_parts, part_text, place_if, told}
-use Rattle.swd_capture.proofs.TellerLemmas.{place_more, select_junk, told_more}
+use Rattle.swd_capture.specs.Names.{capture_select_behind, capture_select_from}
+use Rattle.swd_capture.specs.Places.{capture_place_behind}
+use Rattle.swd_capture.specs.Printing.{capture_printed_entry, capture_junk_parts, capture_part_line, capture_place_if}
+use Rattle.swd_capture.specs.Printing.{capture_printed_parts}
+use Rattle.swd_capture.proofs.TellerLemmas.{capture_place_more, capture_select_at_junk, capture_printed_more}
 use Rattle.swd_capture.proofs.teller.Teller.tell_junk_lines.Goals as goal
 
 -- a junk bit's line has no name
 no_name : (names : Bool) (select : Option Select) (b : Bool)
-    → part_text names select (Told (Junk b)) ≡ item_line (Junk b)
+    → capture_part_line names select (Told (Junk b)) ≡ item_line (Junk b)
 no_name true select b = refl
 no_name false select b = refl
 
 -- a junk bit's line, with its place
 junk_entry : (form : LineForm) (over : Bool) (parts : List Part) (b : Bool)
-    → place_if form.places (place_behind (items_of over parts)) ++ (item_line (Junk b) ++ 10 ∷ [])
-    ≡ entry (Lines form) over parts (Told (Junk b))
+    → capture_place_if form.places (capture_place_behind (resync_items over parts)) ++ (item_line (Junk b) ++ 10 ∷ [])
+    ≡ capture_printed_entry (Lines form) over parts (Told (Junk b))
 junk_entry form over parts b =
-    let before = items_of over parts in
-    let place = place_if form.places (place_behind before) in
-    ap (λ x. place ++ (x ++ 10 ∷ [])) (sym (no_name form.names (select_behind before) b))
-    ∙ sym (append_assoc place (part_text form.names (select_behind before) (Told (Junk b))) (10 ∷ []))
+    let before = resync_items over parts in
+    let place = capture_place_if form.places (capture_place_behind before) in
+    ap (λ x. place ++ (x ++ 10 ∷ [])) (sym (no_name form.names (capture_select_behind before) b))
+    ∙ sym (append_assoc place (capture_part_line form.names (capture_select_behind before) (Told (Junk b))) (10 ∷ []))
 
 pub loop-left-preserved : goal.loop-left-preserved
 loop-left-preserved g c = record {
@@ -46,20 +47,21 @@ loop-left-preserved g c = record {
       let old = c.loop-left.text.bytes in
       let bit = bits % 2 == 1 in
       let part = Told (Junk bit) in
-      let line = entry (Lines form) over i.0 part in
+      let line = capture_printed_entry (Lines form) over i.0 part in
       let next : low_bits left bits ≡ bit ∷ low_bits (left - 1) (bits / 2) =
-      next_bit left bits (omega (arith, c.loop-left-test.true)) in (
+      decoder_bits_next left bits (omega (arith, c.loop-left-test.true)) in (
         i.0 ++ part ∷ [],
         i.1 ++ line,
-        c.saturating_add-place.ensures ∙ ap (λ n. min (n + 1) (2 ^ 64 - 1)) i.2 ∙ sym (place_more over i.0 part),
+        c.saturating_add-place.ensures ∙ ap (λ n. min (n + 1) (2 ^ 64 - 1)) i.2 ∙ sym
+            (capture_place_more over i.0 part),
         c.push_junk.ensures.bytes
-            ∙ ap (λ p. old ++ (place_if form.places p ++ (item_line (Junk bit) ++ 10 ∷ []))) i.2
+            ∙ ap (λ p. old ++ (capture_place_if form.places p ++ (item_line (Junk bit) ++ 10 ∷ []))) i.2
             ∙ ap (λ x. old ++ x) (junk_entry form over i.0 bit) ∙ ap (λ x. x ++ line) i.3
             ∙ append_assoc c.args.text.now.bytes i.1 line,
-        told_more (Lines form) over i.0 part ∙ ap (λ x. x ++ line) i.4
-            ∙ append_assoc (told (Lines form) over parts) i.1 line,
-        append_assoc i.0 (part ∷ []) (junk_parts (low_bits (left - 1) (bits / 2)))
-            ∙ ap (λ x. i.0 ++ junk_parts x) (sym next) ∙ i.5,
+        capture_printed_more (Lines form) over i.0 part ∙ ap (λ x. x ++ line) i.4
+            ∙ append_assoc (capture_printed_parts (Lines form) over parts) i.1 line,
+        append_assoc i.0 (part ∷ []) (capture_junk_parts (low_bits (left - 1) (bits / 2)))
+            ∙ ap (λ x. i.0 ++ capture_junk_parts x) (sym next) ∙ i.5,
       );
   printed = c.loop-left.invariant.printed;
   over = c.loop-left.invariant.over;
@@ -70,20 +72,20 @@ loop-left-preserved g c = record {
 pub returns-clause-after : goal.returns-clause-after
 returns-clause-after g c = λ over parts h.
     let i = c.loop-left.invariant.tells over parts h in
-    let bits = bits_of c.args.junk in
+    let bits = tx_bits_of c.args.junk in
     let none : low_bits c.loop-left.left c.loop-left.bits ≡ [] =
-    no_bits c.loop-left.left c.loop-left.bits (omega (arith, c.loop-left-test.false)) in
-    let all : i.0 ≡ parts ++ junk_parts bits =
-    sym (append-nil i.0) ∙ ap (λ x. i.0 ++ junk_parts x) (sym none) ∙ i.5 in
+    decoder_bits_none c.loop-left.left c.loop-left.bits (omega (arith, c.loop-left-test.false)) in
+    let all : i.0 ≡ parts ++ capture_junk_parts bits =
+    sym (append-nil i.0) ∙ ap (λ x. i.0 ++ capture_junk_parts x) (sym none) ∙ i.5 in
     let len : length bits ≡ c.from.result = length-low_bits c.args.junk.len c.args.junk.bits ∙ sym c.from.ensures in
     record {
       prints = c.loop-left.invariant.printed ∙ h.prints;
       phases = c.loop-left.invariant.over ∙ h.phases;
       keeps = (
-        i.2 ∙ ap (λ p. place_behind (items_of over p)) all,
+        i.2 ∙ ap (λ p. capture_place_behind (resync_items over p)) all,
         c.selected_behind-self.ensures
-            ∙ ap (λ s. select_from s (replicate c.from.result (Junk false))) (c.loop-left.invariant.select ∙ h.keeps.1)
-            ∙ sym (select_junk over parts bits c.from.result len),
+            ∙ ap (λ s. capture_select_from s (replicate c.from.result (Junk false)))
+            (c.loop-left.invariant.select ∙ h.keeps.1) ∙ sym (capture_select_at_junk over parts bits c.from.result len),
       );
     }
 
@@ -91,9 +93,9 @@ pub returns-clause-bytes : goal.returns-clause-bytes
 returns-clause-bytes g c = λ over parts h.
     let i = c.loop-left.invariant.tells over parts h in
     let none : low_bits c.loop-left.left c.loop-left.bits ≡ [] =
-    no_bits c.loop-left.left c.loop-left.bits (omega (arith, c.loop-left-test.false)) in (
+    decoder_bits_none c.loop-left.left c.loop-left.bits (omega (arith, c.loop-left-test.false)) in (
       i.1,
       i.3,
-      ap (told (Lines c.args.form) over) (sym (sym (append-nil i.0) ∙ ap (λ x. i.0 ++ junk_parts x) (sym none) ∙ i.5))
-          ∙ i.4,
+      ap (capture_printed_parts (Lines c.args.form) over)
+          (sym (sym (append-nil i.0) ∙ ap (λ x. i.0 ++ capture_junk_parts x) (sym none) ∙ i.5)) ∙ i.4,
     )

@@ -1,22 +1,22 @@
 use Rattle.std.proofs.Common.{◌≡◌, ℕ, ◌+◌, ◌*◌, ◌≤◌, List, Bool, ◌++◌}
 use Rattle.arrayvec.specs.ArrayString.{array_string_len}
 use Rattle.swd_bits.specs.Bits.{low_bits}
-use Rattle.swd_bits.specs.BitLists.{bits_of}
+use Rattle.swd_bits.specs.BitLists.{tx_bits_of}
 use Rattle.swd_resync.specs.declared.part.Part.{Part}
-use Rattle.swd_resync.specs.AsItems.{items_of}
-use Rattle.swd_capture.specs.Places.{place_behind}
+use Rattle.swd_resync.specs.AsItems.{resync_items}
+use Rattle.swd_capture.specs.Places.{capture_place_behind}
 use Rattle.swd_capture.specs.declared.printed.Printed.TheVariants.{Lines}
-use Rattle.swd_capture.specs.Printing.{junk_parts, told}
-use Rattle.swd_capture.specs.Tellers.{IsAfter}
+use Rattle.swd_capture.specs.Printing.{capture_junk_parts, capture_printed_parts}
+use Rattle.swd_capture.specs.Tellers.{IsCaptureTellerAfter}
 use Rattle.swd_capture.proofs.teller.Teller.tell_junk_lines.Given as goal
 
 abbrev pub invariant-loop-left : goal.invariant-loop-left
 invariant-loop-left g l = record {
-  tells : (over : Bool) (parts : List Part) → IsAfter (Lines l.form) over parts l.fn.self
-      → (done : List Part) × (more : List ℕ) × (l.place ≡ place_behind (items_of over done))
+  tells : (over : Bool) (parts : List Part) → IsCaptureTellerAfter (Lines l.form) over parts l.fn.self
+      → (done : List Part) × (more : List ℕ) × (l.place ≡ capture_place_behind (resync_items over done))
       × (l.text.bytes ≡ l.fn.text.bytes ++ more)
-      × (told (Lines l.form) over done ≡ told (Lines l.form) over parts ++ more)
-      × (done ++ junk_parts (low_bits l.left l.bits) ≡ parts ++ junk_parts (bits_of l.fn.junk));
+      × (capture_printed_parts (Lines l.form) over done ≡ capture_printed_parts (Lines l.form) over parts ++ more)
+      × (done ++ capture_junk_parts (low_bits l.left l.bits) ≡ parts ++ capture_junk_parts (tx_bits_of l.fn.junk));
   printed : l.self.printed ≡ l.fn.self.printed;
   over : l.self.over ≡ l.fn.self.over;
   select : l.self.select ≡ l.fn.self.select;

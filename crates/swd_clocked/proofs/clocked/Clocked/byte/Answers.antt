@@ -1,13 +1,13 @@
 use Rattle.std.proofs.Common.{sym, subst, ap, refl}
 use Rattle.swd_bits.specs.declared.request.Request.{Request}
 use Rattle.swd_clocked.specs.declared.frame.Frame.TheVariants.{Lost}
-use Rattle.swd_clocked.specs.Cycles.{Requested}
+use Rattle.swd_clocked.specs.Cycles.{ClockedRequested}
 use Rattle.swd_clocked.proofs.clocked.Clocked.byte.Goals as goal
 
 pub returns-in-Some-clause-came : goal.returns-in-Some-clause-came
 returns-in-Some-clause-came g c = record {
-  whole = λ q e. subst (λ (x : Request). Requested x c.args.self.now.target c.args.self.now.waits c.request.new.self)
-      (sym (c.in-Some.ensures.only q e)) c.request.ensures.requested;
+  whole = λ q e. subst (λ (x : Request). ClockedRequested x c.args.self.now.target c.args.self.now.waits
+      c.request.new.self) (sym (c.in-Some.ensures.only q e)) c.request.ensures.requested;
   broken = λ none. absurd (none c.in-Some.request c.in-Some.ensures.found);
 }
 

@@ -1,10 +1,10 @@
 use Rattle.std.proofs.Common.{◌≡◌, ◌+◌, ◌-◌, ◌^◌, min, [], ◌∷◌, ◌++◌, length, sym, ◌∙◌, subst, arith}
 use Rattle.std.proofs.lemmas.List.{length-append}
-use Rattle.swd_bits.proofs.ScanLemmas.{reads_passed, reads_bit, first_bad}
-use Rattle.swd_text.specs.Listers.{StopsAt}
-use Rattle.swd_text.proofs.ListerLemmas.{on_err}
-use Rattle.swd_capture_text.proofs.ListerLemmas.{on_ok_then}
-use Rattle.swd_draw.proofs.CollectorLemmas.{gathers_of}
+use Rattle.swd_bits.proofs.ScanLemmas.{scan_bits_passed_byte, scan_bits_one_more, scan_bits_first_bad_byte}
+use Rattle.swd_text.specs.Listers.{DecodeTextStopsAt}
+use Rattle.swd_text.proofs.ListerLemmas.{decode_text_on_err}
+use Rattle.swd_capture_text.proofs.ListerLemmas.{capture_text_on_ok}
+use Rattle.swd_draw.proofs.CollectorLemmas.{collector_gathers}
 use Rattle.swd_draw.proofs.collector.Collector.byte.Goals as goal
 
 pub returns-in-Passed-clause-ok : goal.returns-in-Passed-clause-ok
@@ -15,7 +15,7 @@ returns-in-Passed-clause-ok c = λ reading seen h.
       read = record {
         bits = r.bits;
         parts = r.parts;
-        reads = reads_passed seen r.bits collector.scan c.byte.new.self c.args.byte c.in-Passed.ensures.sign
+        reads = scan_bits_passed_byte seen r.bits collector.scan c.byte.new.self c.args.byte c.in-Passed.ensures.sign
             c.in-Passed.ensures.comment r.reads;
         has = r.has;
         decides = r.decides;
@@ -29,20 +29,21 @@ pub returns-in-Bad-clause-err : goal.returns-in-Bad-clause-err
 returns-in-Bad-clause-err c = λ reading seen h.
     let collector = c.args.self.now in (
       c.saturating_add.ensures,
-      λ more. first_bad seen more h.read.bits collector.scan c.args.byte c.in-Bad.ensures.sign h.read.reads,
+      λ more. scan_bits_first_bad_byte seen more h.read.bits collector.scan c.args.byte c.in-Bad.ensures.sign
+          h.read.reads,
     )
 
 pub returns-in-Bit-clause-ok : goal.returns-in-Bit-clause-ok
-returns-in-Bit-clause-ok c = on_ok_then c.bit.result
+returns-in-Bit-clause-ok c = capture_text_on_ok c.bit.result
     (λ gathers reading seen h.
     let collector = c.args.self.now in
     let r = h.read in
-    let m = gathers reading r.bits r.parts (gathers_of reading collector seen h) in
+    let m = gathers reading r.bits r.parts (collector_gathers reading collector seen h) in
     record {
       read = record {
         bits = r.bits ++ c.in-Bit.bit ∷ [];
         parts = m.0;
-        reads = reads_bit seen r.bits collector.scan c.bit.new.self.scan c.in-Bit.bit c.args.byte
+        reads = scan_bits_one_more seen r.bits collector.scan c.bit.new.self.scan c.in-Bit.bit c.args.byte
             c.in-Bit.ensures.sign (c.bit.ensures.scan ∙ c.in-Bit.ensures.comment) r.reads;
         has = m.1.has;
         decides = m.2;
@@ -54,7 +55,7 @@ returns-in-Bit-clause-ok c = on_ok_then c.bit.result
     c.bit.ensures.ok
 
 pub returns-in-Bit-clause-err : goal.returns-in-Bit-clause-err
-returns-in-Bit-clause-err c = on_err c.bit.result
+returns-in-Bit-clause-err c = decode_text_on_err c.bit.result
     (λ fault long same reading seen h.
     let collector = c.args.self.now in
     let r = h.read in
@@ -62,11 +63,11 @@ returns-in-Bit-clause-err c = on_err c.bit.result
     let count = r.count in
     let full = long.1 in
     let len : length (r.bits ++ c.in-Bit.bit ∷ []) ≡ length r.bits + 1 = length-append r.bits (c.in-Bit.bit ∷ []) in
-    subst (λ f. StopsAt f place seen c.args.byte) (sym long.0) (record {
+    subst (λ f. DecodeTextStopsAt f place seen c.args.byte) (sym long.0) (record {
       bits = r.bits ++ c.in-Bit.bit ∷ [];
       comment = c.byte.new.self;
-      reads = reads_bit seen r.bits collector.scan c.byte.new.self c.in-Bit.bit c.args.byte c.in-Bit.ensures.sign
-          c.in-Bit.ensures.comment r.reads;
+      reads = scan_bits_one_more seen r.bits collector.scan c.byte.new.self c.in-Bit.bit c.args.byte
+          c.in-Bit.ensures.sign c.in-Bit.ensures.comment r.reads;
       long = omega arith;
     }))
     c.bit.ensures.long c.bit.ensures.same

@@ -2,11 +2,11 @@ use Rattle.std.proofs.Common.{◌≡◌, ℕ, suc, ◌+◌, ◌-◌, ◌^◌, �
 use Rattle.std.proofs.Common.{sym, ap, ◌∙◌, subst, append_assoc, add-one, take_all, arith}
 use Rattle.std.proofs.Math.Seq.{take-suc}
 use Rattle.std.proofs.lemmas.List.{length-append, length-take-le}
-use Rattle.swd_bits.proofs.ScanLemmas.{parted}
-use Rattle.swd_text.specs.Listers.{StopsAt}
-use Rattle.swd_capture_text.specs.Captures.{StopsWith}
-use Rattle.swd_capture_text.proofs.CaptureLemmas.{decided_by, stops_with}
-use Rattle.swd_draw.specs.Collecting.{GoesOn}
+use Rattle.swd_bits.proofs.ScanLemmas.{scan_bits_parted}
+use Rattle.swd_text.specs.Listers.{DecodeTextStopsAt}
+use Rattle.swd_capture_text.specs.Captures.{CaptureTextStopsWith}
+use Rattle.swd_capture_text.proofs.CaptureLemmas.{capture_text_decided_by, capture_text_stops_with}
+use Rattle.swd_draw.specs.Collecting.{CollectorContinues}
 use Rattle.swd_draw.proofs.collector.Collector.bytes.Goals as goal
 
 least : (place index before seen : ℕ) → place ≡ min before (2 ^ 64 - 1) → seen ≡ before + index
@@ -29,13 +29,13 @@ returns-in-Err-clause-err c = λ reading seen h place.
     least c.loop-index.self.place index (length seen) (length so_far) (here ∙ place) far in
     let goes = c.loop-index.invariant.goes reading seen h in
     let s = c.in-Err.ensures.err reading so_far goes in
-    let due = decided_by reading c.loop-index.self.source c.loop-index.self.scan so_far goes.read in
+    let due = capture_text_decided_by reading c.loop-index.self.source c.loop-index.self.scan so_far goes.read in
     record {
       parts = goes.read.parts;
       stops = λ more.
-          subst (StopsWith reading fault goes.read.parts) (parted seen piece more index within)
-          (stops_with reading fault so_far (drop (suc index) piece ++ more) byte goes.read.parts
-          (subst (λ p. StopsAt fault p so_far byte) at s) due);
+          subst (CaptureTextStopsWith reading fault goes.read.parts) (scan_bits_parted seen piece more index within)
+          (capture_text_stops_with reading fault so_far (drop (suc index) piece ++ more) byte goes.read.parts
+          (subst (λ p. DecodeTextStopsAt fault p so_far byte) at s) due);
     }
 
 -- one byte more of the piece
@@ -50,7 +50,8 @@ loop-index-preserved c = record {
   ready = c.byte.ensures.ready;
   place = c.byte.ensures.place ∙ c.loop-index.invariant.place;
   goes = λ reading seen h.
-      subst (GoesOn reading c.byte.new.self) (next_byte seen c.args.piece.now c.loop-index.index c.loop-index-test.true)
+      subst (CollectorContinues reading c.byte.new.self)
+      (next_byte seen c.args.piece.now c.loop-index.index c.loop-index-test.true)
       (c.in_default.ensures.ok reading (seen ++ take c.loop-index.index c.args.piece.now)
       (c.loop-index.invariant.goes reading seen h));
 }
@@ -59,6 +60,6 @@ pub returns-clause-ok : goal.returns-clause-ok
 returns-clause-ok c = λ reading seen h.
     let all : take c.loop-index.index c.args.piece.now ≡ c.args.piece.now = take_all c.loop-index.index c.args.piece.now
     (omega arith) in
-    let goes = subst (λ x. GoesOn reading c.loop-index.self (seen ++ x)) all
+    let goes = subst (λ x. CollectorContinues reading c.loop-index.self (seen ++ x)) all
     (c.loop-index.invariant.goes reading seen h) in
     record { read = goes.read; keeps = goes.keeps }

@@ -1,5 +1,5 @@
 use Rattle.std.proofs.Common.{[], arith}
-use Rattle.swd_bits.proofs.ScanLemmas.{reads_none}
+use Rattle.swd_bits.proofs.ScanLemmas.{scan_bits_no_byte}
 use Rattle.swd_draw.proofs.collector.Collector.new.Goals as goal
 
 pub returns-clause-read : goal.returns-clause-read
@@ -8,7 +8,7 @@ returns-clause-read c = record {
     read = record {
       bits = [];
       parts = [];
-      reads = reads_none c.new.result c.new.ensures;
+      reads = scan_bits_no_byte c.new.result c.new.ensures;
       has = c.new-2.ensures.has;
       decides = c.new-2.ensures.decides;
       count = c.new-2.ensures.fed;

@@ -1,6 +1,7 @@
 use Rattle.std.proofs.Common.{[], ◌∷◌, refl, subst}
-use Rattle.swd_ends.specs.ClockedProbes.{GoBy, target_of}
-use Rattle.swd_ends.proofs.ClockLemmas.{next_alike, none_alike, all_alike, one_by, none_by}
+use Rattle.swd_ends.specs.ClockedProbes.{ClockedProbeCycles, clocked_probe_target}
+use Rattle.swd_ends.proofs.ClockLemmas.{clocked_probe_next_alike, clocked_probe_none_alike, clocked_probe_all_alike}
+use Rattle.swd_ends.proofs.ClockLemmas.{clocked_probe_one_cycle, clocked_probe_no_cycle}
 use Rattle.swd_ends.proofs.clocked_probe.ClockedProbe.hold.Goals as goal
 
 pub loop-place-init : goal.loop-place-init
@@ -8,8 +9,8 @@ loop-place-init g c =
     record {
       leads = λ seen t h. (
         seen,
-        subst (λ x. GoBy x seen (target_of c.args.self.now) t)
-            (all_alike c.args.count c.args.drive) h,
+        subst (λ x. ClockedProbeCycles x seen (clocked_probe_target c.args.self.now) t)
+            (clocked_probe_all_alike c.args.count c.args.drive) h,
       );
       waits = refl;
     }
@@ -20,8 +21,8 @@ loop-place-preserved g c =
     record {
       leads = λ seen t h.
           l.invariant.leads (c.cycle.result ∷ seen) t
-          (one_by _ _ c.args.drive c.cycle.result seen l.self.target c.cycle.new.self t
-          (next_alike c.args.count l.place c.args.drive c.loop-place-test.true)
+          (clocked_probe_one_cycle _ _ c.args.drive c.cycle.result seen l.self.target c.cycle.new.self t
+          (clocked_probe_next_alike c.args.count l.place c.args.drive c.loop-place-test.true)
           (record {
             cycle = c.cycle.ensures.cycles;
             cycles = c.cycle.ensures.count;
@@ -35,5 +36,6 @@ pub returns : goal.returns
 returns g c =
     let l = c.loop-place in
     let h = l.invariant.leads [] l.self.target
-    (none_by _ l.self.target (none_alike c.args.count l.place c.args.drive c.loop-place-test.false)) in
+    (clocked_probe_no_cycle _ l.self.target
+    (clocked_probe_none_alike c.args.count l.place c.args.drive c.loop-place-test.false)) in
     (h.0, h.1, l.invariant.waits)

@@ -1,14 +1,14 @@
 use Rattle.std.proofs.Common.{◌≡◌, ◌-◌, Bool, List}
 use Rattle.std.specs.Prelude.{replicate}
-use Rattle.swd_clocked.specs.declared.marked.MarkedClocked.{MarkedClocked}
-use Rattle.swd_ends.specs.ClockedProbes.{GoBy, target_of, waiting}
+use Rattle.swd_clocked.specs.declared.marked.FaultyClocked.{FaultyClocked}
+use Rattle.swd_ends.specs.ClockedProbes.{ClockedProbeCycles, clocked_probe_target, clocked_probe_waiting}
 use Rattle.swd_ends.proofs.clocked_probe.ClockedProbe.hold.Given as goal
 
 -- the clocks that are left make it whole
 abbrev pub invariant-loop-place : goal.invariant-loop-place
 invariant-loop-place g l = record {
-  leads : (seen : List Bool) (t : MarkedClocked g.row.A.Denot)
-      → GoBy (replicate (l.count - l.place) l.drive) seen (target_of l.self) t
-      → (all : List Bool) × GoBy (replicate l.count l.drive) all (target_of l.fn.self) t;
-  waits : waiting l.self ≡ waiting l.fn.self;
+  leads : (seen : List Bool) (t : FaultyClocked g.row.A.Denot)
+      → ClockedProbeCycles (replicate (l.count - l.place) l.drive) seen (clocked_probe_target l.self) t
+      → (all : List Bool) × ClockedProbeCycles (replicate l.count l.drive) all (clocked_probe_target l.fn.self) t;
+  waits : clocked_probe_waiting l.self ≡ clocked_probe_waiting l.fn.self;
 }

@@ -1,6 +1,6 @@
 use Rattle.std.proofs.Common.{Ok, refl, sym, ap}
 use Rattle.swd_bits.proofs.BitsLemmas.{number-low_bits}
-use Rattle.swd_ends.proofs.ClockLemmas.{none_wait}
+use Rattle.swd_ends.proofs.ClockLemmas.{clocked_probe_no_levels}
 use Rattle.swd_ends.proofs.clocked_probe.ClockedProbeProbe.exchange.Goals as goal
 
 pub returns : goal.returns
@@ -9,5 +9,5 @@ returns g c =
     record {
       levels = ap Ok (sym (number-low_bits old.sampled old.levels old.range));
       target = refl;
-      waits = none_wait 0;
+      waits = clocked_probe_no_levels 0;
     }

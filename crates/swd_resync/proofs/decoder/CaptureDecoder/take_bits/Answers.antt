@@ -2,21 +2,22 @@ use Rattle.std.proofs.Common.{◌≡◌, ◌+◌, ◌≤◌, length, ap, ◌∙�
 use Rattle.std.proofs.lemmas.List.{length-append}
 use Rattle.swd_bits.specs.Bits.{low_bits}
 use Rattle.swd_bits.proofs.BitsLemmas.{length-low_bits}
-use Rattle.swd_resync.specs.Holding.{held_bits}
-use Rattle.swd_resync.specs.Stages.{counted}
+use Rattle.swd_resync.specs.Holding.{resync_held}
+use Rattle.swd_resync.specs.Stages.{resync_stage_counted}
 use Rattle.swd_resync.proofs.decoder.CaptureDecoder.take_bits.Goals as goal
 
 pub invariant_of-self : goal.invariant_of-self
 invariant_of-self c =
     let d = c.args.self.now in
     let n = c.push_many-taken.result in
-    let l : length (held_bits c.push_many-taken.new.self) ≡ length (held_bits d.held) + length (low_bits n c.args.bits) =
-    ap length c.push_many-taken.ensures.bits ∙ length-append (held_bits d.held) (low_bits n c.args.bits) in
+    let l : length (resync_held c.push_many-taken.new.self) ≡ length (resync_held d.held)
+    + length (low_bits n c.args.bits) =
+    ap length c.push_many-taken.ensures.bits ∙ length-append (resync_held d.held) (low_bits n c.args.bits) in
     let m : length (low_bits n c.args.bits) ≡ n = length-low_bits n c.args.bits in
     let most = c.push_many-taken.ensures.most in
     let room = c.requires.room in
     let same = c.from.ensures in
-    let counts : counted d.stage + length (held_bits d.held) ≤ d.fed = d.fed_so.counts in
+    let counts : resync_stage_counted d.stage + length (resync_held d.held) ≤ d.fed = d.fed_so.counts in
     record {
       fed_so = record { counts = omega arith; small = omega arith; room = c.push_many-taken.ensures.room };
     }
@@ -25,7 +26,8 @@ pub returns-clause-left : goal.returns-clause-left
 returns-clause-left c =
     let d = c.args.self.now in
     let n = c.push_many-taken.result in
-    let l : length (held_bits c.push_many-taken.new.self) ≡ length (held_bits d.held) + length (low_bits n c.args.bits) =
-    ap length c.push_many-taken.ensures.bits ∙ length-append (held_bits d.held) (low_bits n c.args.bits) in
+    let l : length (resync_held c.push_many-taken.new.self) ≡ length (resync_held d.held)
+    + length (low_bits n c.args.bits) =
+    ap length c.push_many-taken.ensures.bits ∙ length-append (resync_held d.held) (low_bits n c.args.bits) in
     let m : length (low_bits n c.args.bits) ≡ n = length-low_bits n c.args.bits in
     omega arith

@@ -1,13 +1,13 @@
 use Rattle.std.proofs.Common.{◌≤◌, ◌∙◌, arith}
-use Rattle.swd_trace.proofs.NumberLemmas.{shifted_lt}
-use Rattle.swd_resync.proofs.QueueLemmas.{dropped}
+use Rattle.swd_trace.proofs.NumberLemmas.{decoder_bits_shifted_lt}
+use Rattle.swd_resync.proofs.QueueLemmas.{resync_queue_drop}
 use Rattle.swd_resync.proofs.queue.Queue.shifted.Goals as goal
 
 pub with_zeros-requires : goal.with_zeros-requires
 with_zeros-requires c =
     let room : c.args.self.front_len ≤ 92 = c.requires.held.queue.front_short in
     record {
-      front_whole = shifted_lt c.args.count c.args.self.front_len c.args.self.front c.requires.within
+      front_whole = decoder_bits_shifted_lt c.args.count c.args.self.front_len c.args.self.front c.requires.within
           c.requires.held.queue.front_whole;
       front_short = omega arith;
       back_whole = c.requires.held.queue.back_whole;
@@ -17,5 +17,5 @@ with_zeros-requires c =
 pub returns-clause-bits : goal.returns-clause-bits
 returns-clause-bits c =
     c.with_run.ensures.bits ∙ c.with_bits.ensures.bits ∙ c.with_zeros.ensures.bits
-    ∙ dropped c.args.self.front_len c.args.self.front c.args.count c.args.self.zeros c.args.self.back_len
+    ∙ resync_queue_drop c.args.self.front_len c.args.self.front c.args.count c.args.self.zeros c.args.self.back_len
     c.args.self.back c.requires.within

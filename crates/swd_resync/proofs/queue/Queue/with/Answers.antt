@@ -1,5 +1,6 @@
 use Rattle.std.proofs.Common.{◌≡◌, ◌<◌, ◌≤◌, true, arith}
-use Rattle.swd_resync.proofs.QueueLemmas.{front_pushed, pushed_lt, run_pushed, back_pushed, back_odd, none_behind}
+use Rattle.swd_resync.proofs.QueueLemmas.{resync_queue_push_front, resync_queue_push_lt, resync_queue_push_zero}
+use Rattle.swd_resync.proofs.QueueLemmas.{resync_queue_push_back, resync_queue_push_odd, resync_queue_none_behind}
 use Rattle.swd_resync.proofs.queue.Queue.with.Goals as goal
 use Rattle.swd_resync.proofs.queue.Queue.with.Goals.{else-self-eq0-via-then-self-eq0+else-not-bit}
 use Rattle.swd_resync.proofs.queue.Queue.with.Goals.{else-self-eq0-via-else-self-eq0}
@@ -7,18 +8,20 @@ use Rattle.swd_resync.proofs.queue.Queue.with.Goals.{else-self-eq0-via-else-self
 pub returns-then-self-lt-FRONT_BITS-clause-bits : goal.returns-then-self-lt-FRONT_BITS-clause-bits
 returns-then-self-lt-FRONT_BITS-clause-bits c =
     let q = c.args.self in
-    front_pushed q.front_len q.front q.zeros q.back_len q.back c.from.result c.args.bit c.requires.held.queue.front_whole
-    c.if-self-lt-FRONT_BITS.true (none_behind q c.requires.held.full c.if-self-lt-FRONT_BITS.true) c.from.ensures
+    resync_queue_push_front q.front_len q.front q.zeros q.back_len q.back c.from.result c.args.bit
+    c.requires.held.queue.front_whole
+    c.if-self-lt-FRONT_BITS.true (resync_queue_none_behind q c.requires.held.full c.if-self-lt-FRONT_BITS.true)
+    c.from.ensures
 
 pub returns-then-self-lt-FRONT_BITS-clause-held : goal.returns-then-self-lt-FRONT_BITS-clause-held
 returns-then-self-lt-FRONT_BITS-clause-held c =
     let q = c.args.self in
     let short : q.front_len < 92 = c.if-self-lt-FRONT_BITS.true in
-    let none = none_behind q c.requires.held.full short in
+    let none = resync_queue_none_behind q c.requires.held.full short in
     record {
       queue = record {
-        front_whole = pushed_lt 128 q.front_len q.front c.from.result c.args.bit c.requires.held.queue.front_whole
-            (omega arith) c.from.ensures;
+        front_whole = resync_queue_push_lt 128 q.front_len q.front c.from.result c.args.bit
+            c.requires.held.queue.front_whole (omega arith) c.from.ensures;
         front_short = omega arith;
         back_whole = c.requires.held.queue.back_whole;
         back_short = c.requires.held.queue.back_short;
@@ -30,12 +33,12 @@ returns-then-self-lt-FRONT_BITS-clause-held c =
 pub returns-then-not-bit-clause-bits : goal.returns-then-not-bit-clause-bits
 returns-then-not-bit-clause-bits c =
     let q = c.args.self in
-    run_pushed q.front_len q.front q.zeros q.back_len q.back c.args.bit c.if-self-eq0.true c.if-not-bit.true
+    resync_queue_push_zero q.front_len q.front q.zeros q.back_len q.back c.args.bit c.if-self-eq0.true c.if-not-bit.true
 
 pub returns-else-self-eq0-clause-bits : goal.returns-else-self-eq0-clause-bits
 returns-else-self-eq0-clause-bits c =
     let q = c.args.self in
-    back_pushed q.front_len q.front q.zeros q.back_len q.back c.from-else-self-eq0.result c.args.bit
+    resync_queue_push_back q.front_len q.front q.zeros q.back_len q.back c.from-else-self-eq0.result c.args.bit
     c.requires.held.queue.back_whole c.requires.room c.from-else-self-eq0.ensures
 
 pub returns-else-self-eq0-clause-held : goal.returns-else-self-eq0-clause-held
@@ -52,11 +55,11 @@ returns-else-self-eq0-clause-held c =
       queue = record {
         front_whole = c.requires.held.queue.front_whole;
         front_short = short;
-        back_whole = pushed_lt 64 q.back_len q.back c.from-else-self-eq0.result c.args.bit
+        back_whole = resync_queue_push_lt 64 q.back_len q.back c.from-else-self-eq0.result c.args.bit
             c.requires.held.queue.back_whole (omega arith) c.from-else-self-eq0.ensures;
         back_short = omega arith;
       };
       full = λ h. omega arith;
-      ends = λ h. back_odd q.back_len q.back c.from-else-self-eq0.result c.args.bit c.requires.held.queue.back_whole room
-          c.from-else-self-eq0.ensures c.requires.held.ends one;
+      ends = λ h. resync_queue_push_odd q.back_len q.back c.from-else-self-eq0.result c.args.bit
+          c.requires.held.queue.back_whole room c.from-else-self-eq0.ensures c.requires.held.ends one;
     }

@@ -1,10 +1,11 @@
-use Rattle.swd_resync.proofs.QueueLemmas.{run_joined}
+use Rattle.swd_resync.proofs.QueueLemmas.{resync_queue_join_zeros}
 use Rattle.swd_resync.proofs.queue.Queue.with_more_zeros.Goals as goal
 
 pub returns-clause-bits : goal.returns-clause-bits
 returns-clause-bits c =
     let q = c.args.self in
-    run_joined q.front_len q.front q.zeros c.args.count c.from.result q.back_len q.back c.requires.alone c.from.ensures
+    resync_queue_join_zeros q.front_len q.front q.zeros c.args.count c.from.result q.back_len q.back c.requires.alone
+    c.from.ensures
 
 pub returns-clause-held : goal.returns-clause-held
 returns-clause-held c = record {

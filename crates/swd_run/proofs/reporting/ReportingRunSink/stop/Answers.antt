@@ -1,7 +1,7 @@
 use Rattle.std.proofs.Common.{◌≡◌, [], ◌∷◌, ◌++◌, None, refl, sym, ap, subst, arith, ◌∙◌}
-use Rattle.swd_io.specs.Blocks.{Sends}
-use Rattle.swd_run.specs.Reports.{lines_from, resume_line}
-use Rattle.swd_run.proofs.ReportLemmas.{place_more, within_last}
+use Rattle.swd_io.specs.Blocks.{BlockBufferSends}
+use Rattle.swd_run.specs.Reports.{report_lines_from, report_resume_line}
+use Rattle.swd_run.proofs.ReportLemmas.{report_line_per_resume, resume_places_within_last}
 use Rattle.swd_run.proofs.reporting.ReportingRunSink.stop.Goals as goal
 
 pub returns-clause-follows : goal.returns-clause-follows
@@ -11,7 +11,7 @@ returns-clause-follows g c =
     let accesses = self.accesses.now in
     let answers = g.K.AnswerSink.taken self.answers.now in
     let at_end = c.requires in
-    let line : c.as_bytes.result.now ≡ resume_line stop = c.as_bytes.ensures.value ∙ c.as_str.ensures.value
+    let line : c.as_bytes.result.now ≡ report_resume_line stop = c.as_bytes.ensures.value ∙ c.as_str.ensures.value
     ∙ c.resume_line.ensures.bytes in
     record {
       block = refl;
@@ -20,10 +20,10 @@ returns-clause-follows g c =
       accesses = refl;
       has = λ start before h. record {
         few = h.few;
-        within = within_last _ before stop h.within (omega (arith, at_end));
-        sends = subst (Sends g.W.Write.contents start c.put_line.new.self)
-            (ap (λ l. lines_from None 0 before accesses answers ++ (l ++ 10 ∷ [])) line
-            ∙ sym (place_more 0 before stop accesses answers at_end))
+        within = resume_places_within_last _ before stop h.within (omega (arith, at_end));
+        sends = subst (BlockBufferSends g.W.Write.contents start c.put_line.new.self)
+            (ap (λ l. report_lines_from None 0 before accesses answers ++ (l ++ 10 ∷ [])) line
+            ∙ sym (report_line_per_resume 0 before stop accesses answers at_end))
             (c.put_line.ensures.sends start _ h.sends);
       };
     }

@@ -1,18 +1,18 @@
 use Rattle.std.proofs.Common.{◌-◌, ◌≤◌, List, length, sym, subst}
 use Rattle.std.proofs.Math.Logic.{∥∥₁_map}
 use Rattle.swd_port.specs.declared.call.Call.{Call}
-use Rattle.swd_recorder.specs.Recorders.{kept_by, port_by}
-use Rattle.swd_run.specs.Recorded.{Stepped, further}
-use Rattle.swd_run.specs.TraceFiles.{HaveDone, count_done}
-use Rattle.swd_run.proofs.TraceLemmas.{have_on, settled_stay}
+use Rattle.swd_recorder.specs.Recorders.{recorder_kept, recorder_port}
+use Rattle.swd_run.specs.Recorded.{RunCallsStepped, further}
+use Rattle.swd_run.specs.TraceFiles.{IfRunTraceHasDone, run_trace_count_done}
+use Rattle.swd_run.proofs.TraceLemmas.{run_trace_file_grows, run_trace_settled_stays}
 use Rattle.swd_run.proofs.traced.TracedWire.step.Goals as goal
 
 pub write_settled-requires-clause-within : goal.write_settled-requires-clause-within
 write_settled-requires-clause-within g c =
     let self = c.args.self.now in
-    let done = count_done self.file in
-    let stay = settled_stay _ (kept_by self.recorder) (kept_by c.step-seen.new.self) done c.step-seen.ensures.adds
-    self.settled in
+    let done = run_trace_count_done self.file in
+    let stay = run_trace_settled_stays _ (recorder_kept self.recorder) (recorder_kept c.step-seen.new.self) done
+    c.step-seen.ensures.adds self.settled in
     subst (λ l. done ≤ length l - 1) (sym c.items.ensures.items) stay.1
 
 pub invariant_of-self : goal.invariant_of-self
@@ -21,19 +21,19 @@ invariant_of-self g c =
     let ran = c.step-seen.ensures in
     let contents = g.T.Write.contents in
     let before = g.B.Origin.before in
-    let old = kept_by self.recorder in
-    let new = kept_by c.step-seen.new.self in
-    let stay = settled_stay _ old new (count_done self.file) ran.adds self.settled in
+    let old = recorder_kept self.recorder in
+    let new = recorder_kept c.step-seen.new.self in
+    let stay = run_trace_settled_stays _ old new (run_trace_count_done self.file) ran.adds self.settled in
     record {
       steps = ∥∥₁_map self.steps (λ steps law.
           let both = ran.step law in
-          subst (λ (l : List Call). Stepped g.B.Origin.start l (port_by c.step-seen.new.self)) (sym ran.calls)
-          (further (steps both.0) c.requires ran.seen both.1 ran.due));
-      settled = subst (λ l. count_done c.write_settled.new.file ≤ length l - 1) c.items.ensures.items
+          subst (λ (l : List Call). RunCallsStepped g.B.Origin.start l (recorder_port c.step-seen.new.self))
+          (sym ran.calls) (further (steps both.0) c.requires ran.seen both.1 ran.due));
+      settled = subst (λ l. run_trace_count_done c.write_settled.new.file ≤ length l - 1) c.items.ensures.items
           c.write_settled.ensures.within;
       has = ∥∥₁_map self.has (λ h.
-          subst (λ l. HaveDone contents before l c.write_settled.new.file) c.items.ensures.items
+          subst (λ l. IfRunTraceHasDone contents before l c.write_settled.new.file) c.items.ensures.items
           (c.write_settled.ensures.has before
-          (subst (λ l. HaveDone contents before l self.file) (sym c.items.ensures.items)
-          (have_on contents before old.items new.items self.file stay.0 h))));
+          (subst (λ l. IfRunTraceHasDone contents before l self.file) (sym c.items.ensures.items)
+          (run_trace_file_grows contents before old.items new.items self.file stay.0 h))));
     }

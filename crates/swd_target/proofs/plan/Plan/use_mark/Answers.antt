@@ -1,5 +1,5 @@
 use Rattle.std.proofs.Common.{arith}
-use Rattle.swd_target.proofs.MarkLemmas.{disturbed_used, lost_used}
+use Rattle.swd_target.proofs.MarkLemmas.{plan_disturbed_used, plan_lost_used}
 use Rattle.swd_target.proofs.plan.Plan.use_mark.Goals as goal
 
 pub invariant_of-self : goal.invariant_of-self
@@ -9,9 +9,9 @@ invariant_of-self g c =
     record {
       legal = p.legal;
       counted = grind arith;
-      counted_disturbed = disturbed_used p.marks.items p.asked.ticks _ p.disturbed.ticks _ m.result m.ensures.mark
+      counted_disturbed = plan_disturbed_used p.marks.items p.asked.ticks _ p.disturbed.ticks _ m.result m.ensures.mark
           c.tick.ensures p.counted_disturbed (grind arith);
-      counted_lost = lost_used p.marks.items p.asked.ticks _ p.lost.ticks _ m.result m.ensures.mark c.tick.ensures
+      counted_lost = plan_lost_used p.marks.items p.asked.ticks _ p.lost.ticks _ m.result m.ensures.mark c.tick.ensures
           p.counted_lost (grind arith);
     }
 
@@ -22,8 +22,8 @@ invariant_of-self-else-self-len g c =
     record {
       legal = p.legal;
       counted = grind arith;
-      counted_disturbed = disturbed_used p.marks.items p.asked.ticks _ p.disturbed.ticks _ m.result m.ensures.mark
+      counted_disturbed = plan_disturbed_used p.marks.items p.asked.ticks _ p.disturbed.ticks _ m.result m.ensures.mark
           c.tick.ensures p.counted_disturbed (grind arith);
-      counted_lost = lost_used p.marks.items p.asked.ticks _ p.lost.ticks _ m.result m.ensures.mark c.tick.ensures
+      counted_lost = plan_lost_used p.marks.items p.asked.ticks _ p.lost.ticks _ m.result m.ensures.mark c.tick.ensures
           p.counted_lost (grind arith);
     }

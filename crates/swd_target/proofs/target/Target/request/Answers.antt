@@ -1,16 +1,16 @@
 use Rattle.std.proofs.Common.{◌≡◌, sym, ap, subst, ◌∙◌}
 use Rattle.swd_port.specs.declared.select.Select.{Select}
-use Rattle.swd_port.specs.Port.{register}
+use Rattle.swd_port.specs.Port.{port_register, Target as State}
 use Rattle.swd_target.specs.declared.target.Target.{Target}
-use Rattle.swd_target.specs.Elsewhere.{over}
-use Rattle.swd_target.specs.Flips.{line_under}
-use Rattle.swd_target.specs.Requests.{AnswersUnder}
-use Rattle.swd_target.proofs.AskLemmas.{answers_under}
-use Rattle.swd_target.proofs.ElsewhereLemmas.{answers_over, late_after, log_before, memory_kept, quirks_after}
-use Rattle.swd_target.proofs.TargetLemmas.{settled_at_rest}
-use Rattle.swd_port.specs.Port.{Target as State}
+use Rattle.swd_target.specs.Elsewhere.{target_over_memory}
+use Rattle.swd_target.specs.Flips.{target_line_under}
+use Rattle.swd_target.specs.Requests.{TargetAnswersUnder}
+use Rattle.swd_target.proofs.AskLemmas.{simulated_answers_under}
+use Rattle.swd_target.proofs.ElsewhereLemmas.{target_answers_elsewhere, late_quirk_kept, target_log_before_reply}
+use Rattle.swd_target.proofs.ElsewhereLemmas.{target_reply_keeps_memory, quirks_kept_by_request}
+use Rattle.swd_target.proofs.TargetLemmas.{simulation_settled_at_rest}
 use Rattle.swd_target.specs.Simulations.{Simulation}
-use Rattle.swd_target.specs.Targets.{state_of}
+use Rattle.swd_target.specs.Targets.{target_state}
 use Rattle.swd_target.proofs.target.Target.request.Goals as goal
 
 pub returns-clause-answers : goal.returns-clause-answers
@@ -19,25 +19,25 @@ returns-clause-answers g c =
     let r = c.register_named-register.result in
     let before = c.reply-reply.ensures in
     let after = c.apply.ensures in
-    let same : register c.reply-reply.new.self.select q ≡ r = ap (λ (s : Select). register s q) before.select
+    let same : port_register c.reply-reply.new.self.select q ≡ r = ap (λ (s : Select). port_register s q) before.select
     ∙ sym c.register_named-register.ensures in
     record {
-      under = λ mark legal deaf wait. answers_under mark c.args.waits q c.args.self.now c.reply-reply.new.self
+      under = λ mark legal deaf wait. simulated_answers_under mark c.args.waits q c.args.self.now c.reply-reply.new.self
           c.apply.new.self c.accept_after.new.self r c.reply-reply.result c.phase-phase.result
           legal deaf wait (sym c.register_named-register.ensures) same before.settles before.exact before.reply
           before.settled c.phase-phase.ensures.word c.phase-phase.ensures.phase c.phase-phase.ensures.exact
           after.state after.exact c.accept_after.ensures.effect c.accept_after.ensures.exact;
       elsewhere = λ m untouched ready mark legal deaf wait.
           let s = c.args.self.now in
-          let late = late_after c.args.waits c.reply-reply.result r q.ap s c.reply-reply.new.self c.apply.new.self
+          let late = late_quirk_kept c.args.waits c.reply-reply.result r q.ap s c.reply-reply.new.self c.apply.new.self
           untouched.late before.exact after.exact in
           let last : c.accept_after.new.self ≡ c.apply.new.self = c.accept_after.ensures.late late in
-          let log = log_before c.args.waits c.reply-reply.result r q.ap s c.reply-reply.new.self c.apply.new.self
-          c.accept_after.new.self after.state last untouched.log in
-          subst (λ (t : Target _). AnswersUnder mark q (over m s) c.reply-reply.result
-          (line_under mark c.phase-phase.result) (over m t)) (sym last)
-          (answers_over m mark c.args.waits q s c.reply-reply.new.self c.apply.new.self r c.reply-reply.result
-          c.phase-phase.result
+          let log = target_log_before_reply c.args.waits c.reply-reply.result r q.ap s c.reply-reply.new.self
+          c.apply.new.self c.accept_after.new.self after.state last untouched.log in
+          subst (λ (t : Target _). TargetAnswersUnder mark q (target_over_memory m s) c.reply-reply.result
+          (target_line_under mark c.phase-phase.result) (target_over_memory m t)) (sym last)
+          (target_answers_elsewhere m mark c.args.waits q s c.reply-reply.new.self c.apply.new.self r
+          c.reply-reply.result c.phase-phase.result
           legal deaf wait (sym c.register_named-register.ensures) same (before.untouched untouched.ready log) ready
           untouched.late before.reply before.settled
           c.phase-phase.ensures.word c.phase-phase.ensures.phase c.phase-phase.ensures.exact after.state after.exact);
@@ -45,8 +45,8 @@ returns-clause-answers g c =
 
 pub returns-clause-quirks : goal.returns-clause-quirks
 returns-clause-quirks g c =
-    quirks_after c.args.waits c.reply-reply.result c.register_named-register.result c.args.request.ap c.args.self.now
-    c.reply-reply.new.self c.apply.new.self c.accept_after.new.self
+    quirks_kept_by_request c.args.waits c.reply-reply.result c.register_named-register.result c.args.request.ap
+    c.args.self.now c.reply-reply.new.self c.apply.new.self c.accept_after.new.self
     c.reply-reply.ensures.exact c.apply.ensures.exact c.accept_after.ensures.exact
 
 pub returns-clause-quiet : goal.returns-clause-quiet
@@ -58,9 +58,9 @@ returns-clause-quiet g c = λ late none.
     let q = c.args.request in
     let exact = c.reply-reply.ensures.exact in
     let kept : a.memory ≡ s.memory = ap (λ (x : Simulation). x.state.memory)
-    (exact ∙ sym (settled_at_rest c.args.waits r q.ap s none)) in
+    (exact ∙ sym (simulation_settled_at_rest c.args.waits r q.ap s none)) in
     let next : after.memory ≡ a.memory = ap (λ (x : State). x.memory) c.apply.ensures.state
-    ∙ memory_kept c.args.waits c.reply-reply.result r q.ap (state_of a) in
+    ∙ target_reply_keeps_memory c.args.waits c.reply-reply.result r q.ap (target_state a) in
     let last = c.accept_after.ensures.late
-    (late_after c.args.waits c.reply-reply.result r q.ap s a after late exact c.apply.ensures.exact) in
+    (late_quirk_kept c.args.waits c.reply-reply.result r q.ap s a after late exact c.apply.ensures.exact) in
     ap (λ (x : Target _). x.memory) last ∙ (next ∙ kept)

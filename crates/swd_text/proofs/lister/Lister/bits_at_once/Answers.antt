@@ -2,8 +2,8 @@ use Rattle.std.proofs.Common.{◌+◌, ◌^◌, ◌<◌, ◌++◌, ◌∷◌, []
 use Rattle.swd_bits.specs.Bits.{low_bits}
 use Rattle.swd_bits.proofs.BitsLemmas.{length-low_bits}
 use Rattle.swd_trace.specs.declared.item.Item.TheVariants.{Tx}
-use Rattle.swd_trace.specs.Held.{fed_of, idle_items}
-use Rattle.swd_text.proofs.ListerLemmas.{found_more}
+use Rattle.swd_trace.specs.Held.{decoder_fed, idle_items}
+use Rattle.swd_text.proofs.ListerLemmas.{decode_text_lists_found_tx}
 use Rattle.swd_text.proofs.lister.Lister.bits_at_once.Goals as goal
 
 pub returns-in-Some-clause-lists : goal.returns-in-Some-clause-lists
@@ -14,10 +14,10 @@ returns-in-Some-clause-lists g c = λ start before items h.
     let tx = takes.spells.0 in
     let spelled = takes.spells.1 in
     let most = takes.most in
-    let few : fed_of d + found.taken < 2 ^ 64 = omega arith in (
+    let few : decoder_fed d + found.taken < 2 ^ 64 = omega arith in (
       items ++ (idle_items found.idle ++ Tx tx ∷ []),
-      found_more g.W.Write.contents start d c.take_tx.new.self c.args.block.now c.put_found.new.block before items
-          (low_bits found.taken c.args.bits) found.taken found.idle tx
+      decode_text_lists_found_tx g.W.Write.contents start d c.take_tx.new.self c.args.block.now c.put_found.new.block
+          before items (low_bits found.taken c.args.bits) found.taken found.idle tx
           (c.in-Some.ensures.read tx before items spelled h.law) takes.fed
           (length-low_bits found.taken c.args.bits) few (λ all s. c.put_found.ensures.sends tx spelled start all s) h,
     )

@@ -1,8 +1,8 @@
 use Rattle.std.proofs.Common.{◌≡◌, ◌+◌, ◌-◌, ◌^◌, min, [], ◌∷◌, ◌++◌, length, sym, ◌∙◌, subst, arith}
 use Rattle.std.proofs.lemmas.List.{length-append}
-use Rattle.swd_bits.proofs.ScanLemmas.{reads_passed, reads_bit, first_bad}
-use Rattle.swd_text.specs.Listers.{Listed, StopsAt}
-use Rattle.swd_text.proofs.ListerLemmas.{on_ok, on_err, lists_of}
+use Rattle.swd_bits.proofs.ScanLemmas.{scan_bits_passed_byte, scan_bits_one_more, scan_bits_first_bad_byte}
+use Rattle.swd_text.specs.Listers.{DecodeTextListed, DecodeTextStopsAt}
+use Rattle.swd_text.proofs.ListerLemmas.{decode_text_on_ok, decode_text_on_err, decode_text_lists_of}
 use Rattle.swd_text.proofs.lister.Lister.byte.Goals as goal
 
 pub returns-in-Passed-clause-ok : goal.returns-in-Passed-clause-ok
@@ -13,7 +13,7 @@ returns-in-Passed-clause-ok g c = λ start seen h.
       read = record {
         bits = r.bits;
         items = r.items;
-        reads = reads_passed seen r.bits lister.scan c.byte.new.self c.args.byte c.in-Passed.ensures.sign
+        reads = scan_bits_passed_byte seen r.bits lister.scan c.byte.new.self c.args.byte c.in-Passed.ensures.sign
             c.in-Passed.ensures.comment r.reads;
         undecided = r.undecided;
         law = r.law;
@@ -28,25 +28,25 @@ returns-in-Bad-clause-err g c = λ start seen h.
     let lister = c.args.self.now in (
       (
         c.saturating_add.ensures,
-        λ more. first_bad seen more h.read.bits lister.scan c.args.byte c.in-Bad.ensures.sign
+        λ more. scan_bits_first_bad_byte seen more h.read.bits lister.scan c.args.byte c.in-Bad.ensures.sign
             h.read.reads,
       ),
       (lister.scan, h),
     )
 
 pub returns-in-Bit-clause-ok : goal.returns-in-Bit-clause-ok
-returns-in-Bit-clause-ok g c = on_ok c.bit.result
+returns-in-Bit-clause-ok g c = decode_text_on_ok c.bit.result
     (λ lists undecided start seen h.
     let lister = c.args.self.now in
     let r = h.read in
     let m = lists start r.bits r.items
-    (lists_of g.W.Write.contents start lister.decoder lister.scan c.args.block.now seen h) in
+    (decode_text_lists_of g.W.Write.contents start lister.decoder lister.scan c.args.block.now seen h) in
     record {
       read = record {
         bits = r.bits ++ c.in-Bit.bit ∷ [];
         items = m.0;
-        reads = reads_bit seen r.bits lister.scan c.bit.new.self.scan c.in-Bit.bit c.args.byte c.in-Bit.ensures.sign
-            (c.bit.ensures.scan ∙ c.in-Bit.ensures.comment) r.reads;
+        reads = scan_bits_one_more seen r.bits lister.scan c.bit.new.self.scan c.in-Bit.bit c.args.byte
+            c.in-Bit.ensures.sign (c.bit.ensures.scan ∙ c.in-Bit.ensures.comment) r.reads;
         undecided = undecided;
         law = m.1.law;
         count = m.1.count;
@@ -57,7 +57,7 @@ returns-in-Bit-clause-ok g c = on_ok c.bit.result
     c.bit.ensures.ok c.bit.ensures.undecided
 
 pub returns-in-Bit-clause-err : goal.returns-in-Bit-clause-err
-returns-in-Bit-clause-err g c = on_err c.bit.result
+returns-in-Bit-clause-err g c = decode_text_on_err c.bit.result
     (λ fault long same start seen h.
     let lister = c.args.self.now in
     let r = h.read in
@@ -65,17 +65,18 @@ returns-in-Bit-clause-err g c = on_err c.bit.result
     let count = r.count in
     let full = long.1 in
     let len : length (r.bits ++ c.in-Bit.bit ∷ []) ≡ length r.bits + 1 = length-append r.bits (c.in-Bit.bit ∷ []) in (
-      subst (λ f. StopsAt f place seen c.args.byte) (sym long.0) (record {
+      subst (λ f. DecodeTextStopsAt f place seen c.args.byte) (sym long.0) (record {
         bits = r.bits ++ c.in-Bit.bit ∷ [];
         comment = c.byte.new.self;
-        reads = reads_bit seen r.bits lister.scan c.byte.new.self c.in-Bit.bit c.args.byte c.in-Bit.ensures.sign
-            c.in-Bit.ensures.comment r.reads;
+        reads = scan_bits_one_more seen r.bits lister.scan c.byte.new.self c.in-Bit.bit c.args.byte
+            c.in-Bit.ensures.sign c.in-Bit.ensures.comment r.reads;
         long = omega arith;
       }),
       (
         lister.scan,
-        subst (λ b. Listed g.W.Write.contents start c.bit.new.self.decoder lister.scan b seen) (sym same.1)
-            (subst (λ l. Listed g.W.Write.contents start l.decoder lister.scan c.args.block.now seen) (sym same.0) h),
+        subst (λ b. DecodeTextListed g.W.Write.contents start c.bit.new.self.decoder lister.scan b seen) (sym same.1)
+            (subst (λ l. DecodeTextListed g.W.Write.contents start l.decoder lister.scan c.args.block.now seen)
+            (sym same.0) h),
       ),
     ))
     c.bit.ensures.long c.bit.ensures.same

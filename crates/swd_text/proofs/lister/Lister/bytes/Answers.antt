@@ -2,22 +2,21 @@ use Rattle.std.proofs.Common.{◌≡◌, ℕ, suc, ◌+◌, ◌-◌, ◌^◌, �
 use Rattle.std.proofs.Common.{Option, refl, ◌∙◌, subst, take_all, arith}
 use Rattle.std.proofs.lemmas.List.{length-append, length-drop, length-take-le}
 use Rattle.swd_io.specs.declared.block.Block.{Block}
-use Rattle.swd_bits.proofs.ScanLemmas.{parted}
-use Rattle.swd_text.specs.Decoding.{StopsWith}
-use Rattle.swd_text.specs.Listers.{GoesOn, StopsAt}
+use Rattle.swd_bits.proofs.ScanLemmas.{scan_bits_parted}
+use Rattle.swd_text.specs.Decoding.{DecodeTextStopsWith}
+use Rattle.swd_text.specs.Listers.{DecodeTextContinues, DecodeTextStopsAt}
 use Rattle.swd_text.specs.declared.lister.Lister.{Lister}
-use Rattle.swd_text.proofs.PieceLemmas.{least, next_byte, piece_front}
-use Rattle.swd_text.proofs.DecodingLemmas.{decided_by, stops_with}
+use Rattle.swd_text.proofs.PieceLemmas.{decode_text_piece_place, decode_text_piece_byte, decode_text_piece_front}
+use Rattle.swd_text.proofs.DecodingLemmas.{decode_text_decided_by, decode_text_stops_with}
 use Rattle.swd_text.proofs.lister.Lister.bytes.Goals as goal
 
 -- bytes at a place of a piece are taken
 more : {W : Type 0} (contents : W → Option (List ℕ)) (start : Option (List ℕ)) (lister : Lister) (block : Block W)
-    (seen piece : List ℕ) (index n m : ℕ) → m ≡ index + n →
-    GoesOn contents start lister block
+    (seen piece : List ℕ) (index n m : ℕ) → m ≡ index + n → DecodeTextContinues contents start lister block
     ((seen ++ take index piece) ++ take n (take (length piece - index) (drop index piece)))
-    → GoesOn contents start lister block (seen ++ take m piece)
+    → DecodeTextContinues contents start lister block (seen ++ take m piece)
 more contents start lister block seen piece index n m e =
-    subst (GoesOn contents start lister block) (piece_front seen piece index n m e)
+    subst (DecodeTextContinues contents start lister block) (decode_text_piece_front seen piece index n m e)
 
 pub returns-in-Err-clause-err : goal.returns-in-Err-clause-err
 returns-in-Err-clause-err g c = λ start seen h place.
@@ -34,7 +33,8 @@ returns-in-Err-clause-err g c = λ start seen h place.
     let here : c.bytes_at_once-taken.new.self.place ≡ c.args.self.now.place = c.bytes_at_once-taken.ensures.place
     ∙ c.loop-index.invariant.place in
     let at : min (c.bytes_at_once-taken.new.self.place + index) (2 ^ 64 - 1) ≡ min (length so_far) (2 ^ 64 - 1) =
-    least c.bytes_at_once-taken.new.self.place index (length seen) (length so_far) (here ∙ place) far in
+    decode_text_piece_place c.bytes_at_once-taken.new.self.place index (length seen) (length so_far) (here ∙ place) far
+    in
     let none : index ≡ index + c.bytes_at_once-taken.result = omega arith in
     let unmoved =
     more contents start c.bytes_at_once-taken.new.self c.bytes_at_once-taken.new.block seen piece index
@@ -43,13 +43,13 @@ returns-in-Err-clause-err g c = λ start seen h place.
     (c.bytes_at_once-taken.ensures.taken start so_far (c.loop-index.invariant.goes start seen h)) in
     let s = c.in-Err.ensures.err start so_far unmoved in
     let listed = s.1.1 in
-    let due = decided_by c.byte.new.self.decoder s.1.0 so_far listed.read in
+    let due = decode_text_decided_by c.byte.new.self.decoder s.1.0 so_far listed.read in
     record {
       items = listed.read.items;
       stops = λ more.
-          subst (StopsWith fault listed.read.items) (parted seen piece more index within)
-          (stops_with fault so_far (drop (suc index) piece ++ more) byte listed.read.items
-          (subst (λ p. StopsAt fault p so_far byte) at s.0) due);
+          subst (DecodeTextStopsWith fault listed.read.items) (scan_bits_parted seen piece more index within)
+          (decode_text_stops_with fault so_far (drop (suc index) piece ++ more) byte listed.read.items
+          (subst (λ p. DecodeTextStopsAt fault p so_far byte) at s.0) due);
       sends = listed.sends;
     }
 
@@ -79,8 +79,8 @@ loop-index-preserved g c = record {
       c.loop-index.index c.bytes_at_once-taken.result c.loop-index.index none
       (c.bytes_at_once-taken.ensures.taken start (seen ++ take c.loop-index.index c.args.piece.now)
       (c.loop-index.invariant.goes start seen h)) in
-      subst (GoesOn g.W.Write.contents start c.byte.new.self c.byte.new.block)
-      (next_byte seen c.args.piece.now c.loop-index.index c.loop-index-test.true)
+      subst (DecodeTextContinues g.W.Write.contents start c.byte.new.self c.byte.new.block)
+      (decode_text_piece_byte seen c.args.piece.now c.loop-index.index c.loop-index-test.true)
       (c.in_default.ensures.ok start (seen ++ take c.loop-index.index c.args.piece.now) unmoved);
 }
 
@@ -88,5 +88,5 @@ pub returns-clause-ok : goal.returns-clause-ok
 returns-clause-ok g c = λ start seen h.
     let all : take c.loop-index.index c.args.piece.now ≡ c.args.piece.now = take_all c.loop-index.index c.args.piece.now
     (omega arith) in
-    subst (λ x. GoesOn g.W.Write.contents start c.loop-index.self c.loop-index.block (seen ++ x)) all
+    subst (λ x. DecodeTextContinues g.W.Write.contents start c.loop-index.self c.loop-index.block (seen ++ x)) all
     (c.loop-index.invariant.goes start seen h)

@@ -1,8 +1,8 @@
 use Rattle.std.proofs.Common.{◌++◌}
 use Rattle.swd_bits.specs.Bits.{low_bits}
-use Rattle.swd_trace.proofs.HeldLemmas.{settled_undecided}
-use Rattle.swd_text.proofs.DigitLemmas.{reads_taken}
-use Rattle.swd_text.proofs.ListerLemmas.{lists_of}
+use Rattle.swd_trace.proofs.HeldLemmas.{decoder_settled_undecided}
+use Rattle.swd_text.proofs.DigitLemmas.{text_digits_taken}
+use Rattle.swd_text.proofs.ListerLemmas.{decode_text_lists_of}
 use Rattle.swd_text.proofs.lister.Lister.digits.Goals as goal
 
 pub returns-clause-taken : goal.returns-clause-taken
@@ -13,16 +13,16 @@ returns-clause-taken g c = λ start seen h.
     let n = c.bits_at_once.result in
     let next = low_bits n c.digits_of-digits.result.bits in
     let m = c.bits_at_once.ensures.lists start r.bits r.items
-    (lists_of g.W.Write.contents start lister.decoder lister.scan c.args.block.now seen h) in
+    (decode_text_lists_of g.W.Write.contents start lister.decoder lister.scan c.args.block.now seen h) in
     record {
       read = record {
         bits = r.bits ++ next;
         items = m.0;
-        reads = reads_taken seen c.args.text.now r.bits lister.scan c.bits_at_once.new.self.scan n c.from.result
+        reads = text_digits_taken seen c.args.text.now r.bits lister.scan c.bits_at_once.new.self.scan n c.from.result
             c.digits_of-digits.result.bits
             (c.may_take_digits.ensures.outside may) c.bits_at_once.ensures.scan c.from.ensures
             (c.digits_of-digits.ensures.bits n c.bits_at_once.ensures.most) r.reads;
-        undecided = settled_undecided c.bits_at_once.new.self.decoder c.bits_at_once.ensures.settled;
+        undecided = decoder_settled_undecided c.bits_at_once.new.self.decoder c.bits_at_once.ensures.settled;
         law = m.1.law;
         count = m.1.count;
         counted = m.1.counted;

@@ -5,9 +5,9 @@ use Rattle.swd_bits.specs.Bits.{low_bits}
 use Rattle.swd_trace.specs.declared.item.Item.{Item}
 use Rattle.swd_trace.specs.declared.item.Item.TheVariants.{Junk}
 use Rattle.swd_trace.specs.Reading.{reading}
-use Rattle.swd_trace.proofs.NumberLemmas.{low_mod, masked}
-use Rattle.swd_trace.proofs.HeldLemmas.{holds_fewer}
-use Rattle.swd_trace.proofs.BitsStepLemmas.{junks_law}
+use Rattle.swd_trace.proofs.NumberLemmas.{decoder_bits_mod, decoder_bits_masked}
+use Rattle.swd_trace.proofs.HeldLemmas.{decoder_holds_fewer_bits}
+use Rattle.swd_trace.proofs.BitsStepLemmas.{decoder_junk_items}
 use Rattle.swd_trace.proofs.decoder.Decoder.due_junk.Goals as goal
 
 pub invariant_of-self : goal.invariant_of-self
@@ -15,8 +15,8 @@ invariant_of-self c =
     let d = c.args.self.now in
     let none = c.if-self-gt0.false in
     record {
-      holds = holds_fewer d.mode d.mode d.one d.run d.len d.bits d.next d.fed c.before_ones-count.result d.holds
-          (omega arith) c.before_ones-count.ensures.within;
+      holds = decoder_holds_fewer_bits d.mode d.mode d.one d.run d.len d.bits d.next d.fed c.before_ones-count.result
+          d.holds (omega arith) c.before_ones-count.ensures.within;
     }
 
 pub returns-clause-junk : goal.returns-clause-junk
@@ -33,12 +33,12 @@ returns-clause-junk c =
     let after : List Bool → List Item = λ more.
     reading d.mode (replicate d.run d.one ++ (low_bits (d.len - n) (d.bits / 2 ^ n) ++ more)) in
     record {
-      whole = rw (masked n d.bits (omega arith)) small;
+      whole = rw (decoder_bits_masked n d.bits (omega arith)) small;
       short = omega arith;
-      law = λ more. junks_law d.mode d.one d.run d.len d.bits n c.in-Lost.is (omega arith) short positive
+      law = λ more. decoder_junk_items d.mode d.one d.run d.len d.bits n c.in-Lost.is (omega arith) short positive
           (c.before_ones-count.ensures.zero positive) more
           ∙ ap (λ bits. map Junk bits ++ after more)
-          (sym (ap (low_bits n) (masked n d.bits (omega arith)) ∙ low_mod n d.bits));
+          (sym (ap (low_bits n) (decoder_bits_masked n d.bits (omega arith)) ∙ decoder_bits_mod n d.bits));
       fewer = omega arith;
       fed = refl;
     }

@@ -1,7 +1,7 @@
 use Rattle.std.proofs.Common.{◌≡◌, sym, rules}
 use Rattle.swd_trace.specs.declared.decoder.fields.DecoderFields.{DecoderFields}
 use Rattle.swd_trace.specs.DecoderNumbers.{decoder_fields}
-use Rattle.swd_trace.proofs.DecoderNumberLemmas.{rest_is}
+use Rattle.swd_trace.proofs.DecoderNumberLemmas.{decoder_rest_as_numbers}
 use Rattle.swd_trace.proofs.decoder.Decoder.fields.Goals as goal
 
 pub returns-clause-rest : goal.returns-clause-rest
@@ -16,4 +16,4 @@ returns-clause-rest c = λ more.
       len = d.len;
     } in
     let has : decoder_fields c.args.self.now ≡ fields = search rules in
-    sym (rest_is d fields has more)
+    sym (decoder_rest_as_numbers d fields has more)

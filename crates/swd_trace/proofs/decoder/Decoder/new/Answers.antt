@@ -1,11 +1,11 @@
 use Rattle.std.proofs.Common.{false, refl, lit<, arith}
 use Rattle.swd_bits.specs.Bits.{low_bits}
 use Rattle.swd_trace.specs.declared.mode.Mode.TheVariants.{Synced}
-use Rattle.swd_trace.proofs.HoldingLemmas.{holds_bits}
+use Rattle.swd_trace.proofs.HoldingLemmas.{decoder_holds_bits}
 use Rattle.swd_trace.proofs.decoder.Decoder.new.Goals as goal
 
 pub invariant_of-result : goal.invariant_of-result
-invariant_of-result c = record { holds = holds_bits Synced false 0 0 0 (lit< tt) (omega arith) (omega arith) }
+invariant_of-result c = record { holds = decoder_holds_bits Synced false 0 0 0 (lit< tt) (omega arith) (omega arith) }
 
 pub returns-clause-law : goal.returns-clause-law
 unfolding low_bits

@@ -1,7 +1,7 @@
 use Rattle.std.proofs.Common.{◌≡◌, ℕ, Bool, true, false, refl}
 use Rattle.std.proofs.lemmas.List.{append-nil}
 use Rattle.swd_bits.specs.Bits.{low_bits}
-use Rattle.swd_trace.specs.ItemBits.{bits_left}
+use Rattle.swd_trace.specs.ItemBits.{item_bits_left}
 use Rattle.swd_trace.specs.Texts.{item_bits}
 use Rattle.swd_trace.specs.declared.item.Item.TheVariants.{Reset, Idle, Switch, Junk}
 use Rattle.swd_trace.specs.declared.item_bits.ItemBits.{ItemBits}
@@ -10,19 +10,19 @@ use Rattle.swd_trace.proofs.item_bits.ItemBits.of.Goals as goal
 abbrev whole : Bool → ℕ → ℕ → ℕ → ItemBits
 whole one run len bits = record { one = one; run = run; len = len; bits = bits }
 
-resets : (n : ℕ) → bits_left (whole true n 0 0) ≡ item_bits (Reset n)
+resets : (n : ℕ) → item_bits_left (whole true n 0 0) ≡ item_bits (Reset n)
 unfolding low_bits
 resets n = append-nil (item_bits (Reset n))
 
-idles : (n : ℕ) → bits_left (whole false n 0 0) ≡ item_bits (Idle n)
+idles : (n : ℕ) → item_bits_left (whole false n 0 0) ≡ item_bits (Idle n)
 unfolding low_bits
 idles n = append-nil (item_bits (Idle n))
 
-junks : (b : Bool) → bits_left (whole b 1 0 0) ≡ item_bits (Junk b)
+junks : (b : Bool) → item_bits_left (whole b 1 0 0) ≡ item_bits (Junk b)
 unfolding low_bits
 junks b = refl
 
-switches : bits_left (whole false 0 16 0xe79e) ≡ item_bits Switch
+switches : item_bits_left (whole false 0 16 0xe79e) ≡ item_bits Switch
 unfolding low_bits
 switches = refl
 

@@ -1,7 +1,0 @@
-use Rattle.std.proofs.Common.{◌≤◌, arith}
-use Rattle.swd_resync.proofs.QueueLemmas.{front_holds}
-use Rattle.swd_resync.proofs.held.Held.without.Goals as goal
-
-pub shifted-requires-clause-within : goal.shifted-requires-clause-within
-shifted-requires-clause-within c = front_holds c.args.self.now.queue c.args.self.now.holds.full c.args.count
-    (let m : c.args.count ≤ 50 = c.requires.most in omega arith) c.requires.held

@@ -1,0 +1,256 @@
+//! Runs of a host over a simulated target, and what has to come of them.
+ghost use Rattle.std.specs.Prelude.{◌≡◌, IfOk, IfSome, IsTrue};
+ghost use Rattle.swd_port.specs.PlainMemory.{PlainMemory};
+ghost use Rattle.swd_port.specs.Port.{port_made};
+ghost use Rattle.swd_target.specs.Marks.{IsLegalPlan};
+
+use super::expect::{expect_at, expect_eq_at};
+use crate::Simulated;
+use std::alloc::{Allocator, Global};
+use std::fmt::Debug;
+use std::process::Abort;
+use std::test::Fail;
+use swd_clocked::ClockedBench;
+use swd_host::{End, Report};
+use swd_port::{Access, Answer, Due, Transfer, Wire};
+use swd_target::{Bench, Mark, Memory, Quirks};
+
+/// Where the memory begins.
+pub const BASE: u32 = 0x2000_0000;
+
+/// The word that most rows write.
+pub const WORD: u32 = 0xdead_beef;
+
+pub const READ: Access = Access::Read(BASE);
+
+pub const WRITE: Access = Access::Write(BASE, WORD);
+
+/// Three writes at addresses that follow each other.
+pub const BURST: [Access; 3] = [
+    WRITE,
+    Access::Write(0x2000_0004, 1),
+    Access::Write(0x2000_0008, 2),
+];
+
+pub const FILLER: u32 = 0xa5a5_a5a5;
+
+/// The choices of a target, where a test names none.
+pub const QUIRKS: Quirks = Quirks {
+    wrap: true,
+    late: false,
+    filler: FILLER,
+};
+
+/// The same, and with each of the choices made the other way.
+pub const ALL_QUIRKS: [Quirks; 4] = [
+    QUIRKS,
+    Quirks {
+        wrap: false,
+        late: false,
+        filler: FILLER,
+    },
+    Quirks {
+        wrap: true,
+        late: true,
+        filler: FILLER,
+    },
+    Quirks {
+        wrap: true,
+        late: false,
+        filler: 0xffff_ffff,
+    },
+];
+
+/// The accesses of a run, and what they meet: a memory of so many words from 20000000, with room
+/// for so many transfers; the marks that aren't clean, each by the number of its request from 1; and
+/// the tries.
+#[derive(Clone, Copy)]
+pub struct Run<'m, 'a> {
+    pub words: u32,
+    pub room: u32,
+    pub marks: &'m [(usize, Mark)],
+    pub tries: u32,
+    pub accesses: &'a [Access],
+}
+
+/// No access and no mark, with a memory of sixteen words, room for sixteen transfers, and eight tries.
+pub const RUN: Run = Run {
+    words: 16,
+    room: 16,
+    marks: &[],
+    tries: 8,
+    accesses: &[],
+};
+
+/// These accesses under these marks, over the same memory.
+pub(super) fn run_of<'m, 'a>(marks: &'m [(usize, Mark)], accesses: &'a [Access]) -> Run<'m, 'a> {
+    Run {
+        marks,
+        accesses,
+        ..RUN
+    }
+}
+
+/// What has to come of a run: the report, and the memory's log once nothing is pending.
+#[derive(Clone, Copy)]
+pub struct Wanted<'a, 'l> {
+    pub answers: &'a [Answer],
+    pub begun: u8,
+    pub requests: u64,
+    pub ended: End,
+    pub log: &'l [Transfer],
+}
+
+/// Every access is answered, and there is none.
+pub const WHOLE: Wanted = Wanted {
+    answers: &[],
+    begun: 0,
+    requests: 9,
+    ended: End::All,
+    log: &[],
+};
+
+/// A run, what has to come of it, and what is tried by it, in words.
+pub type Row<'m, 'a, 'l> = (&'static str, Run<'m, 'a>, Wanted<'a, 'l>);
+
+/// `WORD` was written where the memory begins.
+pub const WRITTEN: Transfer = Transfer {
+    read: false,
+    addr: BASE,
+    word: WORD,
+};
+
+/// The memory's first word was read before it was written.
+pub const READ_ZERO: Transfer = Transfer {
+    read: true,
+    addr: BASE,
+    word: 0,
+};
+
+/// It was read after it was written.
+pub const READ_WORD: Transfer = Transfer {
+    read: true,
+    addr: BASE,
+    word: WORD,
+};
+
+/// What the three writes of `BURST` leave in the log.
+pub const BURST_LOG: [Transfer; 3] = [
+    WRITTEN,
+    Transfer {
+        read: false,
+        addr: 0x2000_0004,
+        word: 1,
+    },
+    Transfer {
+        read: false,
+        addr: 0x2000_0008,
+        word: 2,
+    },
+];
+
+/// Each mark is legal.
+pub(super) fn are_legal(marks: &[Mark]) -> bool
+    ensures { IsTrue result → IsLegalPlan marks.now }
+{
+    marks.iter().all(|mark| mark.legal())
+}
+
+// The plan with these marks.
+fn plan_of(alloc: Global, marks: &[(usize, Mark)]) -> Result<Vec<Mark>, Fail> {
+    let mut plan = Vec::with_capacity(alloc, 96)?;
+    for place in 1..=96_usize {
+        let named = marks.iter().find(|(at, _)| *at == place);
+        plan.push(named.map_or(Mark::Clean, |(_, mark)| *mark))?;
+    }
+    Ok(plan)
+}
+
+/// The target of a run. None where a mark isn't legal.
+pub(super) fn target_of<S: Simulated>(
+    alloc: Global,
+    run: &Run,
+    quirks: Quirks,
+) -> Result<Option<S>, Fail>
+    ensures { IfOk result (λ found. IfSome found (λ target.
+        (m : PlainMemory) × (S.Wire.port target ≡ port_made 0x2ba0_1477 m))) }
+{
+    let memory = Memory::new(alloc, BASE, run.words, run.room)?;
+    let plan = plan_of(alloc, run.marks)?;
+    if !are_legal(&plan) {
+        return Ok(None);
+    }
+    let target = S::simulate(alloc, memory, quirks, plan)?;
+    Ok(Some(target))
+}
+
+/// The report of a run over a wire. None where something is due on it.
+pub(super) fn report_of<W: Wire>(
+    alloc: Global,
+    wire: &mut W,
+    run: &Run,
+) -> Result<Option<Report>, Fail> {
+    match wire.due() {
+        Due::Nothing => Ok(Some(swd_host::run(alloc, wire, run.accesses, run.tries)?)),
+        _ => Ok(None),
+    }
+}
+
+// One run under one choice of quirks.
+fn comes_out<S: Simulated + Drop, R: Abort>(
+    rt: &R,
+    alloc: Global,
+    (name, run, wanted): Row,
+    quirks: Quirks,
+) -> Result<(), Fail> {
+    let Some(mut target) = target_of::<S>(alloc, &run, quirks)? else {
+        panic!(rt; "{name}: a mark isn't legal");
+    };
+    let Some(report) = report_of(alloc, &mut target, &run)? else {
+        panic!(rt; "{name}: the target isn't new");
+    };
+    leaves(rt, name, &mut target, &report, &wanted, quirks);
+    Ok(())
+}
+
+/// What was reported is as wanted.
+pub(super) fn tells<R: Abort, P: Debug, A: Allocator>(
+    rt: &R,
+    place: &P,
+    report: &Report<A>,
+    wanted: &Wanted,
+) {
+    expect_eq_at(rt, place, &report.ended, &wanted.ended);
+    expect_eq_at(rt, place, &report.requests, &wanted.requests);
+    expect_eq_at(rt, place, &report.begun, &wanted.begun);
+    expect_eq_at(rt, place, &report.answers.as_slice(), &wanted.answers);
+}
+
+/// The report is as wanted, and so is what the target's memory logged.
+pub(super) fn leaves<S: Simulated + Drop, R: Abort>(
+    rt: &R,
+    name: &str,
+    target: &mut S,
+    report: &Report,
+    wanted: &Wanted,
+    quirks: Quirks,
+) {
+    let Quirks { wrap, late, filler } = quirks;
+    let place = (name, wrap, late, filler);
+    tells(rt, &place, report, wanted);
+    // Only a late transfer is still pending where a run has ended.
+    expect_at(rt, &place, late || target.memory().log() == wanted.log);
+    target.settle();
+    expect_eq_at(rt, &place, &target.memory().log(), &wanted.log);
+}
+
+/// Each run comes out as it has to, over each simulated target, and with each choice of its quirks.
+pub(super) fn all_come_out<R: Abort>(rt: &R, alloc: Global, rows: &[Row]) -> Result<(), Fail> {
+    for quirks in ALL_QUIRKS {
+        for row in rows {
+            comes_out::<Bench, R>(rt, alloc, *row, quirks)?;
+            comes_out::<ClockedBench, R>(rt, alloc, *row, quirks)?;
+        }
+    }
+    Ok(())
+}

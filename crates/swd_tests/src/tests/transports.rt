@@ -1,0 +1,240 @@
+//! Runs over a transport: at a simulated target that can be reached for some calls only.
+ghost use Rattle.std.specs.FinMap.{empty};
+ghost use Rattle.std.specs.Prelude.{[]};
+ghost use Rattle.swd_port.specs.Port.{port_made};
+
+use super::expect::{expect_eq, expect_eq_at};
+use super::host_runs::{
+    QUIRKS, READ, READ_WORD, WORD, WRITE, WRITTEN, Wanted, run_of, target_of, tells,
+};
+use std::alloc::Global;
+use std::process::Abort;
+use std::test::Fail;
+use swd_host::{End, Refused, run_over_transport};
+use swd_port::{Access, Answer, Cue, Disconnected, Due, Story, Transport, TransportWire, Wire};
+use swd_target::Bench;
+
+// The target, and how many calls reach it.
+#[derive(Drop)]
+pub(super) struct Bridge {
+    bench: Bench,
+    calls: u64,
+    reaching: u64,
+}
+
+impl Transport for Bridge {
+    fn step(&mut self, cue: Cue) -> Result<u64, Disconnected> {
+        self.calls = self.calls.saturating_add(1);
+        if self.calls > self.reaching {
+            return Err(Disconnected);
+        }
+        passed_on(&mut self.bench, cue)
+    }
+}
+
+// The call, where the target can take it.
+fn passed_on(bench: &mut Bench, cue: Cue) -> Result<u64, Disconnected> {
+    match (bench.due(), cue) {
+        (
+            Due::Nothing,
+            Cue::Lead {
+                ones,
+                switch,
+                zeros,
+                ..
+            },
+        ) if ones >= 50 && zeros >= 2 => bench.lead(ones, switch, zeros),
+        (
+            Due::Nothing,
+            Cue::Lead {
+                ones: 0,
+                switch: false,
+                zeros,
+                ..
+            },
+        ) => bench.idle(zeros),
+        (Due::Nothing, Cue::Ask(request)) => return Ok(u64::from(bench.ask(request))),
+        (Due::Take, Cue::Take) => return Ok(bench.take()),
+        (Due::Give, Cue::Give(bits)) if bits < 0x2_0000_0000 => bench.give(bits),
+        (Due::Pass, Cue::Pass) => bench.pass(),
+        _ => return Err(Disconnected),
+    }
+    Ok(0)
+}
+
+// Any story.
+pub(super) struct Untold;
+
+impl Story for Untold {
+    ghost at = { λ _. port_made 0 (record { words = empty; log = []; room = 0 }) };
+}
+
+// A target that so many calls reach.
+pub(super) fn behind(alloc: Global, reaching: u64) -> Result<Option<Bridge>, Fail> {
+    let bench = target_of::<Bench>(alloc, &run_of(&[], &[]), QUIRKS)?;
+    Ok(bench.map(|bench| Bridge {
+        bench,
+        calls: 0,
+        reaching,
+    }))
+}
+
+// A row: its name, how many calls reach the target, and what has to come of the run.
+type Reaching = (&'static str, u64, Wanted<'static, 'static>);
+
+const LOST: Wanted = Wanted {
+    answers: &[],
+    begun: 0,
+    requests: 0,
+    ended: End::Lost,
+    log: &[],
+};
+
+const BEFORE_THE_WRITE: Wanted = Wanted {
+    begun: 1,
+    requests: 12,
+    ..LOST
+};
+
+// The opening is a lead and nine requests. A write and a read at another address take three requests each: TAR, DRW, and
+// the read of RDBUFF that confirms the write or returns the word. Each request is a call, and so is its data phase. The
+// call that fails is the next one, and no call is made behind it.
+const REACHING: [Reaching; 10] = [
+    (
+        "nothing reaches it",
+        0,
+        Wanted {
+            requests: 1,
+            ..LOST
+        },
+    ),
+    (
+        "the lead alone",
+        1,
+        Wanted {
+            requests: 1,
+            ..LOST
+        },
+    ),
+    (
+        "all up to the request of TAR",
+        20,
+        Wanted {
+            requests: 11,
+            begun: 1,
+            ..LOST
+        },
+    ),
+    (
+        "all up to the data of TAR",
+        21,
+        Wanted {
+            requests: 11,
+            begun: 1,
+            ..LOST
+        },
+    ),
+    ("all up to the request of the write", 22, BEFORE_THE_WRITE),
+    (
+        "all up to the data of the write",
+        23,
+        Wanted {
+            log: &[WRITTEN],
+            ..BEFORE_THE_WRITE
+        },
+    ),
+    (
+        "all up to the request that confirms the write",
+        24,
+        Wanted {
+            log: &[WRITTEN],
+            ..BEFORE_THE_WRITE
+        },
+    ),
+    (
+        "all up to what confirms the write",
+        25,
+        Wanted {
+            answers: &[Answer::Written],
+            requests: 13,
+            log: &[WRITTEN],
+            ..LOST
+        },
+    ),
+    (
+        "all but the word",
+        30,
+        Wanted {
+            answers: &[Answer::Written],
+            begun: 1,
+            requests: 15,
+            log: &[WRITTEN, READ_WORD],
+            ..LOST
+        },
+    ),
+    (
+        "all but the idle cycles",
+        31,
+        Wanted {
+            answers: &[Answer::Written, Answer::Value(WORD)],
+            requests: 15,
+            ended: End::All,
+            log: &[WRITTEN, READ_WORD],
+            ..LOST
+        },
+    ),
+];
+
+// One run at a target that so many calls reach.
+fn comes_out<R: Abort>(
+    rt: &R,
+    alloc: Global,
+    (name, reaching, wanted): Reaching,
+) -> Result<(), Fail> {
+    let Some(bridge) = behind(alloc, reaching)? else {
+        panic!(rt; "{name}: a mark isn't legal");
+    };
+    let mut wire: TransportWire<Bridge, Untold> = TransportWire::new(bridge);
+    let report = run_over_transport(alloc, &mut wire, &[WRITE, READ], 8)?;
+    tells(rt, &name, &report, &wanted);
+    let Bridge {
+        mut bench,
+        calls,
+        ..
+    } = wire.into_transport();
+    bench.settle();
+    expect_eq_at(rt, &name, &bench.memory().log(), &wanted.log);
+    // Not called again after the call that failed.
+    expect_eq_at(rt, &name, &calls, &reaching.saturating_add(1));
+    Ok(())
+}
+
+#[test]
+fn a_transport_that_fails_is_a_lost_acknowledgement(rt: HostRuntime) -> Result<(), Fail> {
+    for row in REACHING {
+        comes_out(&rt, rt.alloc(), row)?;
+    }
+    Ok(())
+}
+
+#[test]
+fn a_list_is_refused_before_the_transport_is_called(rt: HostRuntime) -> Result<(), Fail> {
+    let many = vec![in rt.alloc(); READ; 65_537]?;
+    let second = [READ, Access::Write(0x2000_0001, 0)];
+    let rows: [(&[Access], Refused); 2] = [
+        (&many, Refused::TooMany),
+        (&second, Refused::Unaligned { index: 1 }),
+    ];
+    for (accesses, refused) in rows {
+        let Some(bridge) = behind(rt.alloc(), 64)? else {
+            panic!(rt; "a mark isn't legal");
+        };
+        let mut wire: TransportWire<Bridge, Untold> = TransportWire::new(bridge);
+        let Err(fault) = run_over_transport(rt.alloc(), &mut wire, accesses, 8) else {
+            panic!(rt; "it is not refused");
+        };
+        expect_eq(&rt, &fault, &refused);
+        expect_eq(&rt, &wire.into_transport().calls, &0);
+    }
+    Ok(())
+}
