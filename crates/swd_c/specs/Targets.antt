@@ -2,6 +2,7 @@
 -- about a call is for every memory that gives the results that the caller gave.
 use Rattle.std.specs.Prelude.{ℕ, ◌≡◌, ◌≢◌, ◌==◌, not, Bool, true, false, Option, Some, None, [], if◌then◌else◌}
 use Rattle.swd_port.specs.PlainMemory.{PlainMemory, plain_address, plain_answer, succeeds_at}
+use Rattle.swd_port.specs.Bus.{bus_of}
 use Rattle.swd_port.specs.Port.{port_made_target}
 use Rattle.swd_port.specs.declared.access.Access.{Access}
 use Rattle.swd_port.specs.declared.access.Access.TheVariants.{Read, Write}
@@ -42,7 +43,7 @@ abbrev pub c_api_target_quirks : Bool → ℕ → Quirks
 c_api_target_quirks wraps filler = record { wrap = wraps; late = true; filler = filler }
 
 pub record CApiTargetIsMade (wraps : Bool) (filler : ℕ) (m : PlainMemory) (c : Clocked Nowhere) : Type 0 where
-  pub state : clocked_state c ≡ port_made_target 0x2ba0_1477 m
+  pub state : clocked_state c ≡ port_made_target 0x2ba0_1477 (bus_of m)
   pub exact : clocked_simulation c ≡ simulation_made_with (c_api_target_quirks wraps filler) m
   pub frame : clocked_frame c ≡ idle_frame
   pub held : is_clocked_wait_held c ≡ false

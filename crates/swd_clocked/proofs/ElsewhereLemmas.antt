@@ -2,11 +2,11 @@
 use Rattle.std.proofs.Common.{◌≡◌, Bool, ℕ, Option, ap, inl, unwrap_or, true}
 use Rattle.swd_bits.specs.declared.request.Request.{Request}
 use Rattle.swd_port.specs.PlainMemory.{PlainMemory}
+use Rattle.swd_port.specs.Bus.{bus_of}
 use Rattle.swd_port.specs.Port.{Target as State}
 use Rattle.swd_port.specs.declared.register.Register.{Register}
 use Rattle.swd_port.specs.declared.state.AfterAck.{AfterAck}
 use Rattle.swd_port.specs.declared.state.Reply.{Reply}
-use Rattle.swd_port.specs.Completion.{memory_after_pending}
 use Rattle.swd_port.specs.Moving.{PortArrival}
 use Rattle.swd_target.specs.declared.target.Target.{Target}
 use Rattle.swd_target.specs.Requests.{TargetAnswers, DataComes}
@@ -68,7 +68,7 @@ reset : {A : Type 0} (m : PlainMemory) (s : Target A) (w : Bool) (t : Clocked A)
     → ClockedResetCame (target.target_over_memory m s) w (clocked_over m t)
 reset m s w t x = record {
   reset = record {
-    state = ap (λ (y : State). record y { memory = m }) x.reset.state;
+    state = ap (λ (y : State). record y { memory = bus_of m }) x.reset.state;
     exact = ap (simulation_placed m)
         x.reset.exact;
   };
@@ -157,8 +157,9 @@ clocked_step_elsewhere m drive answer s t u ready x =
 
 -- a pending transfer takes effect over every memory that answers it alike
 pub clocked_settles_elsewhere : {A : Type 0} (m : PlainMemory) (s t : Clocked A)
-    → IsTargetAnsweredAlike s.target.pending s.target.tar.word m s.target.memory → ClockedSettles s t
-    → ClockedSettles (clocked_over m s) (clocked_over (memory_after_pending s.target.pending s.target.tar.word m) t)
+    → IsTargetAnsweredAlike s.target.pending s.target.tar.word (bus_of m) (bus_of s.target.memory)
+    → ClockedSettles s t
+    → ClockedSettles (clocked_over m s) (clocked_over (target.plain_after_pending s.target.pending s.target.tar.word m) t)
 clocked_settles_elsewhere m s t e x = record {
   target = target_completes_elsewhere m s.target t.target e x.target;
   frame = x.frame;

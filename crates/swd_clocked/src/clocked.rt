@@ -1,4 +1,5 @@
 //! A simulated target, clock by clock.
+ghost use Rattle.swd_port.specs.Bus.{bus_of};
 ghost use Rattle.std.specs.Prelude.{◌≡◌, ◌<◌, ◌^◌, ◌+◌, is_some, true, false};
 ghost use Rattle.swd_port.specs.Port.{port_made_target};
 ghost use Rattle.swd_target.specs.Simulations.{simulation_made_with};
@@ -49,7 +50,7 @@ impl<A: Allocator> Clocked<A> {
     /// Creates a target before its first line reset, with this memory behind its access port. WAIT isn't held, and
     /// DPIDR reads 2ba01477.
     pub fn new(memory: Memory<A>, quirks: Quirks) -> Clocked<A>
-        ensures state { clocked_state result ≡ port_made_target 0x2ba0_1477 memory }
+        ensures state { clocked_state result ≡ port_made_target 0x2ba0_1477 (bus_of memory) }
         ensures exact { clocked_simulation result ≡ simulation_made_with quirks memory }
         ensures frame { clocked_frame result ≡ idle_frame }
         ensures held { is_clocked_wait_held result ≡ false }
@@ -88,14 +89,14 @@ impl<A: Allocator> Clocked<A> {
 
     /// Returns the memory behind the access port.
     pub fn memory(&self) -> &Memory<A>
-        ensures { result.now ≡ (clocked_state self.now).memory }
+        ensures { (clocked_state self.now).memory ≡ bus_of result.now }
     {
         self.target.memory()
     }
 
     // Consumes the target, and returns the memory behind the access port.
     pub(crate) fn into_memory(self) -> Memory<A>
-        ensures { result ≡ (clocked_state self).memory }
+        ensures { (clocked_state self).memory ≡ bus_of result }
     {
         self.target.into_memory()
     }

@@ -1,4 +1,5 @@
 //! A simulated target, clock by clock, as a wire with a plan of fault injections.
+ghost use Rattle.swd_port.specs.Bus.{bus_of};
 ghost use Rattle.std.specs.Prelude.{◌≡◌, ◌<◌, ◌^◌, true, IfOk, IfErr};
 ghost use Rattle.swd_port.specs.declared.wire.Due.TheVariants.{Nothing, Take, Give, Pass};
 ghost use Rattle.swd_port.specs.Port.{port_idle_link, port_made};
@@ -55,6 +56,7 @@ impl<A: Allocator> ClockedBench<A> {
     /// # Errors
     ///
     /// Returns the memory and the plan if out of memory.
+    #[tactic(auto, using(swd_port::proofs::PlainLaws::bus_of_same))]
     pub fn new(
         alloc: A,
         memory: Memory<A>,
@@ -62,7 +64,7 @@ impl<A: Allocator> ClockedBench<A> {
         plan: Vec<Mark, A>,
     ) -> Result<ClockedBench<A>, (Memory<A>, Vec<Mark, A>)>
         requires { IsLegalPlan plan.items }
-        ensures port { IfOk result (λ b. clocked_bench_port b ≡ port_made 0x2ba0_1477 memory) }
+        ensures port { IfOk result (λ b. clocked_bench_port b ≡ port_made 0x2ba0_1477 (bus_of memory)) }
         ensures exact { IfOk result (λ b. clocked_bench_simulation b ≡ simulation_made_with quirks memory) }
         ensures plan { IfOk result (λ b. clocked_bench_plan b ≡ plan.items) }
         ensures cycles { IfOk result (λ b. clocked_bench_cycles b ≡ 0) }
@@ -91,7 +93,7 @@ impl<A: Allocator> ClockedBench<A> {
 
     /// Returns the memory behind the access port.
     pub fn memory(&self) -> &Memory<A>
-        ensures { result.now ≡ (clocked_bench_port self.now).target.memory }
+        ensures { (clocked_bench_port self.now).target.memory ≡ bus_of result.now }
     {
         self.marked.memory()
     }

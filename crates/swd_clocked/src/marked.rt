@@ -1,4 +1,5 @@
 //! A simulated target, clock by clock, with a plan of fault injections: a target and the wire to it.
+ghost use Rattle.swd_port.specs.Bus.{bus_of};
 ghost use Rattle.std.specs.Prelude.{◌≡◌, ◌-◌, ◌+◌, ◌^◌, ◌<◌, is_some, unwrap_or, true, min, IfSome, IfNone};
 ghost use Rattle.swd_bits.specs.declared.request.Request.{Request};
 ghost use Rattle.swd_port.specs.Port.{port_made_target};
@@ -82,7 +83,7 @@ impl<A: Allocator> FaultyClocked<A> {
     /// DPIDR reads 2ba01477.
     pub fn new(memory: Memory<A>, quirks: Quirks, plan: Vec<Mark, A>) -> FaultyClocked<A>
         requires { IsLegalPlan plan.items }
-        ensures state { marked_clocked_state result ≡ port_made_target 0x2ba0_1477 memory }
+        ensures state { marked_clocked_state result ≡ port_made_target 0x2ba0_1477 (bus_of memory) }
         ensures exact { marked_clocked_simulation result ≡ simulation_made_with quirks memory }
         ensures frame { marked_clocked_frame result ≡ idle_frame }
         ensures mark { marked_clocked_mark result ≡ Clean }
@@ -103,7 +104,7 @@ impl<A: Allocator> FaultyClocked<A> {
 
     // Consumes the target, and returns its memory and all its marks.
     pub(crate) fn into_parts(self) -> (Memory<A>, Vec<Mark, A>)
-        ensures memory { result.0 ≡ (marked_clocked_state self).memory }
+        ensures memory { (marked_clocked_state self).memory ≡ bus_of result.0 }
         ensures plan { result.1.items ≡ marked_clocked_plan self }
     {
         (self.clocked.into_memory(), self.plan.into_marks())
@@ -111,7 +112,7 @@ impl<A: Allocator> FaultyClocked<A> {
 
     /// Returns the memory behind the access port.
     pub fn memory(&self) -> &Memory<A>
-        ensures { result.now ≡ (marked_clocked_state self.now).memory }
+        ensures { (marked_clocked_state self.now).memory ≡ bus_of result.now }
     {
         self.clocked.memory()
     }

@@ -4,6 +4,7 @@ use Rattle.std.specs.Prelude.{Option, None, Result, Ok, Err}
 use Rattle.swd_io.specs.Pieces.{IsReaderText}
 use Rattle.swd_port.specs.declared.mark.Mark.{Mark}
 use Rattle.swd_port.specs.PlainMemory.{PlainMemory}
+use Rattle.swd_port.specs.Bus.{plain_of}
 use Rattle.swd_target.specs.Marks.{IsLegalPlan}
 use Rattle.swd_target.specs.MemoryWords.{target_words_from}
 use Rattle.swd_clocked.specs.Marked.{marked_clocked_state}
@@ -47,7 +48,7 @@ pub record TargetCommandServes {A : Type 0} (s : Pins A) (base count status : �
   pub after : Pins A
   pub session : BitbangServes served text left old new s after
   pub wrote : Result (Unit {0}) ℕ
-  pub written : CommandWritesBack (marked_clocked_state after.target).memory base count wrote file_old file_new
+  pub written : CommandWritesBack (plain_of (marked_clocked_state after.target).memory) base count wrote file_old file_new
   pub is : IsTargetCommandStatus served (is_pins_trace_cut_off after.trace ≡ false) wrote status
 
 module _ (A : Type 0) (status : ℕ) (text left old new : Option (List ℕ)) where

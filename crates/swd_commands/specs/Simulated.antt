@@ -5,6 +5,7 @@ use Rattle.std.specs.Io.KnownBytes.{Appends}
 use Rattle.swd_io.specs.Pieces.{IsReaderText}
 use Rattle.swd_port.specs.declared.mark.Mark.{Mark}
 use Rattle.swd_port.specs.PlainMemory.{PlainMemory}
+use Rattle.swd_port.specs.Bus.{plain_of}
 use Rattle.swd_target.specs.declared.bench.Bench.{Bench}
 use Rattle.swd_target.specs.Benches.{bench_plan, bench_port}
 use Rattle.swd_target.specs.MemoryWords.{target_words_from}
@@ -29,7 +30,7 @@ use Rattle.swd_commands.specs.Images.{command_status_of_image, command_status_lo
 -- a target at rest with this plan, whose memory has the words of these bytes from an address on, and no other word
 pub record SimulatesCommandTarget {A : Type 0} (base : ℕ) (bytes : List ℕ) (marks : List Mark) (s : Bench A) : Type 0
   where
-    pub words : (bench_port s).target.memory.words ≡ target_words_from base (image_end_words_in bytes)
+    pub words : (plain_of (bench_port s).target.memory).words ≡ target_words_from base (image_end_words_in bytes)
     pub rests : IsAtRest (bench_port s)
     pub plan : bench_plan s ≡ marks
 
@@ -50,7 +51,7 @@ pub record LoadCommandSimulated {A : Type 0} (image : ImageLine) (pieces : List 
     (base count status : ℕ) (old new : Option (List ℕ)) : Type 0 where
   pub answer : Result (Unit {0}) ImageFault
   pub after : Bench A
-  pub memory : OnOk answer (LoadsSimulatedMemory pieces (bench_port s).target.memory (bench_port after).target.memory)
+  pub memory : OnOk answer (LoadsSimulatedMemory pieces (plain_of (bench_port s).target.memory) (plain_of (bench_port after).target.memory))
   pub calls : OnOk answer (LoadsAll bench_port bench_plan AnyImageWire image.tries image.resumes pieces s after)
   pub fault : IfErr answer (LoadFailsAt bench_port bench_plan AnyImageWire image.tries image.resumes pieces s after)
   pub blank : Option (Option (List ℕ))
@@ -59,7 +60,7 @@ pub record LoadCommandSimulated {A : Type 0} (image : ImageLine) (pieces : List 
   pub report : LoadsReported bench_port bench_plan AnyImageWire image.tries image.resumes pieces (image_fault_of answer)
       s after blank filled
   pub wrote : Result (Unit {0}) ℕ
-  pub written : CommandWritesBack (bench_port after).target.memory base count wrote old new
+  pub written : CommandWritesBack (plain_of (bench_port after).target.memory) base count wrote old new
   pub is : IsSimulatedCommandStatus (command_status_of_image command_status_loaded None answer) wrote status
 
 -- the memory of a target s was compared with the pieces, or a call failed
@@ -67,8 +68,8 @@ pub record VerifyCommandSimulated {A : Type 0} (image : ImageLine) (pieces : Lis
     (status : ℕ) : Type 0 where
   pub answer : Result (Option ByteDifference) ImageFault
   pub after : Bench A
-  pub memory : IfOk answer (λ difference. VerifiesSimulatedMemory pieces difference (bench_port s).target.memory
-      (bench_port after).target.memory)
+  pub memory : IfOk answer (λ difference. VerifiesSimulatedMemory pieces difference (plain_of (bench_port s).target.memory)
+      (plain_of (bench_port after).target.memory))
   pub calls : IfOk answer (λ difference. VerifiesAll bench_port bench_plan AnyImageWire image.tries image.resumes pieces
       difference s after)
   pub fault : IfErr answer (VerifyFailsAt bench_port bench_plan AnyImageWire image.tries image.resumes pieces s after)
@@ -83,8 +84,8 @@ pub record VerifyCommandSimulated {A : Type 0} (image : ImageLine) (pieces : Lis
 pub record DumpCommandSimulated {A : Type 0} (image : ImageLine) (count : ℕ) (s : Bench A) (status : ℕ) : Type 0 where
   pub answer : Result (List ℕ) ImageFault
   pub after : Bench A
-  pub memory : IfOk answer (λ bytes. DumpsSimulatedMemory image.addr count bytes (bench_port s).target.memory
-      (bench_port after).target.memory)
+  pub memory : IfOk answer (λ bytes. DumpsSimulatedMemory image.addr count bytes (plain_of (bench_port s).target.memory)
+      (plain_of (bench_port after).target.memory))
   pub fault : IfErr answer (DumpFails bench_port bench_plan AnyImageWire image.tries image.resumes image.addr count s
       after)
   pub blank : Option (Option (List ℕ))

@@ -1,6 +1,7 @@
 //! Performs `swd run --remote`: a run at a remote target on the standard streams.
 ghost use Rattle.std.specs.Prelude.{◌≡◌, [], List, Option, false, ℕ};
 ghost use Rattle.std.specs.FinMap.{empty};
+ghost use Rattle.swd_port.specs.Bus.{bus_of};
 ghost use Rattle.swd_port.specs.Port.{port_made};
 ghost use Rattle.swd_remote.specs.WholeRuns.{IsUnusedRemote};
 ghost use Rattle.swd_run.specs.Records.{run_files_of};
@@ -32,7 +33,7 @@ use swd_words::RunLine;
 pub struct Untold;
 
 impl Story for Untold {
-    ghost at = { λ _. port_made 0 (record { words = empty; log = []; room = 0 }) };
+    ghost at = { λ _. port_made 0 (bus_of (record { words = empty; log = []; room = 0 })) };
 }
 
 // The destination of the report.

@@ -19,7 +19,7 @@ use Rattle.swd_port.specs.declared.state.AfterAck.TheVariants as lines
 use Rattle.swd_port.specs.declared.state.Reply.{Reply}
 use Rattle.swd_port.specs.declared.state.Reply.TheVariants.{Okay, Waits, Faults, Silent}
 use Rattle.swd_port.specs.declared.mark.Mark.TheVariants.{Clean, Wait}
-use Rattle.swd_port.specs.PlainMemory.{PlainMemory, succeeds_at, plain_address, plain_done, plain_transfer_of}
+use Rattle.swd_port.specs.Bus.{Bus, bus_of, bus_succeeds, bus_transfer_of}
 use Rattle.swd_port.specs.Port.{Port, Target as State, PortTally, port_idle_link}
 use Rattle.swd_port.specs.Choices.{IsPortMark, is_port_deaf, is_port_wait}
 use Rattle.swd_port.specs.Completion.{PortCompletes, pending_access_at, memory_after_pending}
@@ -111,15 +111,15 @@ request_or_none bits = elim (bits_same (bits_of_request (candidate bits)) bits)
 
 -- THE MEMORY
 
-if_grows : (b : Bool) (m n : PlainMemory) → LiveLogGrows m.log n.log → LiveLogGrows m.log (if b then n else m).log
-if_grows true m n g = g
-if_grows false m n g = grows_same m.log m.log refl
+if_grows : (b : Bool) (log more : List Transfer) → LiveLogGrows log (if b then log ++ more else log)
+if_grows true log more = (more, refl)
+if_grows false log more = grows_same log log refl
 
-memory_grows : (p : Option Drw) (at : ℕ) (m : PlainMemory) → LiveLogGrows m.log (memory_after_pending p at m).log
+memory_grows : (p : Option Drw) (at : ℕ) (m : Bus) → LiveLogGrows m.log (memory_after_pending p at m).log
 memory_grows None at m = grows_same m.log m.log refl
 memory_grows (Some drw) at m =
     let a = pending_access_at at drw in
-    if_grows (succeeds_at (plain_address a) m) m (plain_done a m) (plain_transfer_of a m ∷ [], refl)
+    if_grows (bus_succeeds a m) m.log (bus_transfer_of a m ∷ [])
 
 completes_grow : (s t : Port) → PortCompletes s t → LiveLogGrows s.target.memory.log t.target.memory.log
 completes_grow s t h = elim h as (λ (_ : PortCompletes s t). LiveLogGrows s.target.memory.log t.target.memory.log) [
@@ -151,7 +151,7 @@ answers_grow w q s reply phase t h =
     let b = asks.1 in
     let before = completes_grow _ a asks.3 in
     let now = ap (λ (x : Port). x.target.memory.log) asks.4.after
-    ∙ ap (λ (x : PlainMemory). x.log) (replied_alike (is_port_wait m.0) _ _ q.ap a.target) in
+    ∙ ap (λ (x : Bus). x.log) (replied_alike (is_port_wait m.0) _ _ q.ap a.target) in
     let after = completes_grow b _ asks.5 in
     live_log_grows_further _ a.target.memory.log _ before
     (live_log_grows_further _ b.target.memory.log _ (grows_same _ _ now) after)
@@ -160,7 +160,7 @@ data_grows : {A : Type 0} (a : PortArrival) (s t : Target A) → DataComes a s t
 data_grows a s t h = elim h.later [
   | inl e ↦ grows_same _ _ (ap (λ (x : State). x.memory.log) e)
   | inr f ↦ subst (λ (l : List Transfer). LiveLogGrows s.memory.log l) (sym (ap (λ (x : State). x.memory.log) f.2))
-      (memory_grows _ _ s.memory)
+      (memory_grows _ _ (bus_of s.memory))
 ]
 
 -- A CYCLE

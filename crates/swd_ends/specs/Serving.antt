@@ -2,6 +2,7 @@
 use Rattle.std.specs.Prelude.{ℕ, ◌≡◌, List, [], ◌∷◌, Option, None, true, false}
 use Rattle.swd_port.specs.declared.mark.Mark.{Mark}
 use Rattle.swd_port.specs.PlainMemory.{PlainMemory}
+use Rattle.swd_port.specs.Bus.{bus_of}
 use Rattle.swd_port.specs.Port.{port_made_target}
 use Rattle.swd_clocked.specs.declared.marked.FaultyClocked.{FaultyClocked}
 use Rattle.swd_clocked.specs.Frames.{idle_frame}
@@ -18,7 +19,7 @@ use Rattle.swd_run.specs.Running.{AreScriptAndPlan, AreRunTextsUnread, IsRunScri
 -- a target before its first cycle, with this memory and the marks of a plan
 pub record IsTargetEndMade {A : Type 0} (memory : PlainMemory) (marks : List Mark) (target : FaultyClocked A) : Type 0
   where
-    pub state : marked_clocked_state target ≡ port_made_target 0x2ba0_1477 memory
+    pub state : marked_clocked_state target ≡ port_made_target 0x2ba0_1477 (bus_of memory)
     -- a transfer takes effect at once, TAR wraps at the end of a kilobyte, and a value that is unknown is 0
     pub choices : (marked_clocked_simulation target).quirks ≡ record { wrap = true; late = false; filler = 0 }
     pub frame : marked_clocked_frame target ≡ idle_frame

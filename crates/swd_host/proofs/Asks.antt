@@ -1,6 +1,6 @@
 -- Each request that the engine sends keeps what it knows.
 use Rattle.swd_host.proofs.Words.{◌≡◌, ◌≢◌, ◌+◌, ◌%◌, ◌≤◌, ℕ, Bool, true, false, refl, sym, ap, subst, inl, arith, ◌∙◌}
-use Rattle.swd_host.proofs.Words.{Option, Some, None, ◌⊎◌, Task, PlainMemory, Port, port_register, Register, DpidrRead}
+use Rattle.swd_host.proofs.Words.{Option, Some, None, ◌⊎◌, Task, Bus, Port, port_register, Register, DpidrRead}
 use Rattle.swd_host.proofs.Words.{ResendRead, RdbuffRead, DrwRead, is_exempt_register, PortAsks, port_has_power}
 use Rattle.swd_host.proofs.Words.{is_port_posted, PortIgnores, PortAccepts, okay, lost, PortOnLine, HostStep, Identify}
 use Rattle.swd_host.proofs.Words.{WriteAbort, Select, Power, Configure, ReadCsw, Configured, WriteTar, Transfer, At}
@@ -213,7 +213,7 @@ opening_ask_csw_word n base b k v s t l h asks =
 
 -- RESEND, where no transfer is in flight
 pub host_resend_at_rest : (p : HostStep) (word n : ℕ) (base : EngineBase) (b : ℕ) (k : EngineHand) (v : ℕ)
-    (m : PlainMemory) (s t : Port)
+    (m : Bus) (s t : Port)
     → base.lost ≤ s.tally.lost → EngineTargetCalm m s.target → EngineResendWord p word n b k s
     → PortAsks s (engine_request_for (Resend p) k.task) v t
     → HostAskOutcome (Resend p) n base b k v t

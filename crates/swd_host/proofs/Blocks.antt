@@ -1,6 +1,6 @@
 -- Blocks of reads: a word is returned while the next read is in flight.
 use Rattle.swd_host.proofs.Words.{◌≡◌, ◌+◌, ◌≤◌, ℕ, true, false, refl, sym, ap, subst, arith, ◌∙◌, Option, Some, None}
-use Rattle.swd_host.proofs.Words.{Request, AccessRead, Value, plain_answer, plain_done_answer, plain_word_at, Port}
+use Rattle.swd_host.proofs.Words.{Request, AccessRead, Value, bus_answer, bus_done_answer, bus_word_at, Port}
 use Rattle.swd_host.proofs.Words.{port_register, DrwRead, ResendRead, PortCompletes, PortAsks, PortAccepts}
 use Rattle.swd_host.proofs.Words.{PortPhaseSpared, PortSucceeded, PortBuffered, BurstRead, Ahead, Unsent, NextSent}
 use Rattle.swd_host.proofs.Words.{NextFailed, HostStep, Configured, Confirm, Behind, At, Resend, access_of_task}
@@ -57,27 +57,27 @@ module _ (at n c : ℕ) (k : EngineHand) (x y : Port) (flip : Option ℕ) (task 
       (host_in_flight_sent 1 (block_next_hand k.task (memory_once_task_done k)) y (omega arith) next_under.sent)
 
   -- the word that the access in hand answers
-  given : plain_answer (access_of_task k.task) k.memory ≡ Value (plain_word_at at k.memory)
-  given = d.answer ∙ ap (λ a. plain_done_answer a k.memory) access_here
+  given : bus_answer (access_of_task k.task) k.memory ≡ Value (bus_word_at at k.memory)
+  given = d.answer ∙ ap (λ a. bus_done_answer a k.memory) access_here
 
   -- the read buffer has it
-  held : x.target.buffer ≡ Some (plain_word_at at k.memory)
+  held : x.target.buffer ≡ Some (bus_word_at at k.memory)
   held = subst (λ a. PortBuffered a k.memory x.target) access_here d.buffered
 
   pub next_given : x.target.write_error ≡ false → n ≤ x.tally.disturbed → x.tally.disturbed ≤ y.tally.disturbed
       → PortPhaseSpared flip x y → (word : ℕ) × EngineReads word n (λ z. EngineResendWord Confirm word z c k y) y
   next_given flag paid more sp =
-      let back = port_buffer_returned DrwRead flip (plain_word_at at k.memory) x y refl held ac in
-      let resent : (n' : ℕ) → n' ≤ y.tally.disturbed → EngineResendWord Confirm (plain_word_at at k.memory) n' c k y =
+      let back = port_buffer_returned DrwRead flip (bus_word_at at k.memory) x y refl held ac in
+      let resent : (n' : ℕ) → n' ≤ y.tally.disturbed → EngineResendWord Confirm (bus_word_at at k.memory) n' c k y =
       (λ n' p. record {
         returned = (next_sent, given);
         last = back.1;
         flag = ap (λ i. i.write_error) ac.target ∙ flag;
         paid = p;
       }) in (
-        plain_word_at at k.memory,
-        host_data_read_due (plain_word_at at k.memory) n
-            (λ z. EngineResendWord Confirm (plain_word_at at k.memory) z c k y) flip x y back.0 sp
+        bus_word_at at k.memory,
+        host_data_read_due (bus_word_at at k.memory) n
+            (λ z. EngineResendWord Confirm (bus_word_at at k.memory) z c k y) flip x y back.0 sp
             (resent n (omega arith)) (λ i. resent (n + 1) (omega arith)),
       )
 

@@ -2,7 +2,7 @@
 -- `resumptions`.
 use Rattle.swd_host.proofs.Words.{◌≡◌, ◌+◌, ◌-◌, ◌<◌, ◌≤◌, ℕ, refl, sym, ap, subst, arith, ◌∙◌, List, [], ◌∷◌, ◌++◌}
 use Rattle.swd_host.proofs.Words.{length, take, drop, zero, suc, length-append, ◌==◌, Bool, true, false, max, ◌≢◌}
-use Rattle.swd_host.proofs.Words.{Access, PlainMemory, Port, MayBecome, End, All, Lost, HostEndsAt, HostKnowsTarget}
+use Rattle.swd_host.proofs.Words.{Access, Bus, Port, MayBecome, End, All, Lost, HostEndsAt, HostKnowsTarget}
 use Rattle.swd_host.proofs.Words.{IsAtRest, HostReport, Fits, FitsAt, memory_after, resume_repeats_of}
 use Rattle.swd_host.proofs.Words.{ResumePlacesBelow, Again, LogHasRoomForResume}
 use Rattle.std.proofs.lemmas.Bool.{eqb-true}
@@ -17,6 +17,7 @@ use Rattle.swd_host.specs.Chains.{ResumeChainDoes, resume_chain_first_begun, Res
 use Rattle.swd_host.proofs.Lists.{host_list_memory_append}
 use Rattle.swd_host.proofs.GoingOn.{ResumedReport, resumed_take_length, resumed_rest_length, resumed_report_again}
 use Rattle.swd_host.proofs.GoingOn.{resumed_grows_few, resumed_fits_list, resumed_not_all, resumed_whole_list}
+use Rattle.swd_port.specs.PlainBus.{plain_words_of}
 use Rattle.swd_host.proofs.Shadows.{resume_again_words}
 
 -- FROM PORTS TO MEMORIES
@@ -38,7 +39,7 @@ module _ (limit : ℕ) (list : List Access) (s : Port) (rest : IsAtRest s) where
   -- over a target at rest a call and the calls of `resume` after it are a chain over memories, from the target's to
   -- each that the last port may become
   pub chained : (calls : List HostReport) (told : HostReport) (t : Port) → ResumedCalls limit list s calls told t
-      → (now : PlainMemory) → MayBecome t now → ResumeChain limit list s.target.memory calls told now
+      → (now : Bus) → MayBecome t now → ResumeChain limit list s.target.memory calls told now
   chained calls told t (ran {told = a} {t = u} tries runs) now (c, i, is) =
       first (subst (Fits limit list s.target.memory a) (sym is) ((runs rest).later c))
   chained calls told t (resumed {calls = before} {earlier = e} {told = a} {t = u} {u = v} went tries kept over) now may
@@ -116,8 +117,8 @@ row_length a (suc n) = let h = row_length (suc a) n in omega (arith, h)
 
 -- WHAT A CHAIN DID
 -- and that the list has what is told as begun
-record Reaches (limit : ℕ) (list : List Access) (m : PlainMemory) (calls : List HostReport) (told : HostReport)
-    (now : PlainMemory) (places : List ℕ) : Type 0 where
+record Reaches (limit : ℕ) (list : List Access) (m : Bus) (calls : List HostReport) (told : HostReport)
+    (now : Bus) (places : List ℕ) : Type 0 where
   done : ResumeChainHasDone limit list m calls told now places
   reach : length told.answers + told.begun ≤ length list
 
@@ -126,7 +127,7 @@ begun_within : (n k begun : ℕ) → k ≤ n → (begun ≢ 0 → k + begun ≤ 
 begun_within n k zero low may = omega (arith, low)
 begun_within n k (suc b) low may = may (λ none. absurd (omega (arith, none)))
 
-first_done : (limit : ℕ) (list : List Access) (m : PlainMemory) (told : HostReport) (now : PlainMemory)
+first_done : (limit : ℕ) (list : List Access) (m : Bus) (told : HostReport) (now : Bus)
     → (fits : Fits limit list m told now)
     → Reaches limit list m [] told now (resume_places_from 0 (fits.0 + fits.1.memory.0))
 first_done limit list m told now (k, fit) =
@@ -147,8 +148,8 @@ first_done limit list m told now (k, fit) =
           (λ some. let h = (fit.begun some).0 in omega (arith, h, many));
     }
 
-module _ (limit : ℕ) (list : List Access) (m : PlainMemory) (calls : List HostReport) (earlier told : HostReport)
-    (before now : PlainMemory) (places : List ℕ) (was : Reaches limit list m calls earlier before places) (own : ℕ)
+module _ (limit : ℕ) (list : List Access) (m : Bus) (calls : List HostReport) (earlier told : HostReport)
+    (before now : Bus) (places : List ℕ) (was : Reaches limit list m calls earlier before places) (own : ℕ)
     (kept : told.answers ≡ earlier.answers ++ resume_added earlier told)
     (begun : told.begun ≡ resume_begun earlier told own)
     (k : ℕ) (fit : FitsAt 1 k (drop (length earlier.answers) list) before (resume_own_report earlier told own) now)
@@ -246,8 +247,8 @@ module _ (limit : ℕ) (list : List Access) (m : PlainMemory) (calls : List Host
           reach = bounds.reach;
         }
 
-reaches : (limit : ℕ) (list : List Access) (m : PlainMemory) (calls : List HostReport) (told : HostReport)
-    (now : PlainMemory) → (chain : ResumeChain limit list m calls told now)
+reaches : (limit : ℕ) (list : List Access) (m : Bus) (calls : List HostReport) (told : HostReport)
+    (now : Bus) → (chain : ResumeChain limit list m calls told now)
     → Reaches limit list m calls told now (resume_chain_places limit list m calls told now chain)
 reaches limit list m calls told now (first {told = a} {now = n} fits) = first_done limit list m a n fits
 reaches limit list m calls told now
@@ -274,7 +275,7 @@ resume_chain_repeats limit list m calls told now few room (first {told = a} {now
       places = [];
       few = omega arith;
       again = none;
-      words = λ all. ap (λ x. x.words) (resumed_whole_list list m a n all none);
+      words = λ all. ap plain_words_of (resumed_whole_list list m a n all none);
     }
 resume_chain_repeats limit list m calls told now few room
     (again {calls = c} {earlier = e} {told = a} {before = left} {now = n} chain own kept begun fits) =
@@ -282,8 +283,9 @@ resume_chain_repeats limit list m calls told now few room
     let same = first_same c e a in
     let was : ResumeChainHasRepeated list m c e left =
     resume_chain_repeats limit list m c e left (omega (arith, few, same))
-    (omega (arith, room, one)) chain in
-    let has : LogHasRoomForResume was.places list m = (let f = was.few in omega (arith, room, one, f)) in
+    (record { plain = room.plain; room = omega (arith, room.room, one) }) chain in
+    let has : LogHasRoomForResume was.places list m =
+    (let f = was.few in record { plain = room.plain; room = omega (arith, room.room, one, f) }) in
     let raw : HostReport = record a { begun = own } in
     let g : ResumedReport was.places list m e (record a { begun = resume_begun e a own }) n =
     resumed_report_again was.places list (Read 0) m left n e raw (resume_added e a) kept was.again has fits in

@@ -1,5 +1,5 @@
 -- Going on after a lost acknowledgement: from what each call keeps early to what engine and port keep.
-use Rattle.swd_host.proofs.Words.{◌≡◌, ◌+◌, ◌≤◌, ℕ, sym, subst, arith, PlainMemory, Port, MayBecome, SelectWrite}
+use Rattle.swd_host.proofs.Words.{◌≡◌, ◌+◌, ◌≤◌, ℕ, sym, subst, arith, Bus, Port, MayBecome, SelectWrite}
 use Rattle.swd_host.proofs.Words.{Select, Job, At, Data, Doing, Engine, EngineHand, EngineBase, EnginePlaceIsSure}
 use Rattle.swd_host.proofs.Words.{EngineWrites, whole, changed, EngineDuring, EngineStateTracks, TracksEngine}
 use Rattle.swd_host.proofs.Words.{EngineFollowsPort, hand_of_engine, IsTask, ResumedSelectSettled, ResumedOpeningIsOver}
@@ -9,7 +9,7 @@ use Rattle.swd_host.proofs.Words.{EngineIsInResumedOpening, EngineResumes, early
 pub engine_resumes_by : (e f : Engine) (s t : Port) → f.task ≡ e.task → s.tally.lost ≤ t.tally.lost
     → ((base : EngineBase) (start : Port) → IsTask e.task → base.lost ≤ s.tally.lost
     → EngineIsInResumedOpening base start e s → EngineResumes base start f t)
-    → ((base : EngineBase) (m : PlainMemory) → EngineFollowsPort base m e s → EngineFollowsPort base m f t)
+    → ((base : EngineBase) (m : Bus) → EngineFollowsPort base m e s → EngineFollowsPort base m f t)
     → (base : EngineBase) (start : Port) → EngineResumes base start e s → EngineResumes base start f t
 engine_resumes_by e f s t task lost step follows base start (early ok few h) = step base start ok few h
 engine_resumes_by e f s t task lost step follows base start (over m may h) = over m may (follows base m h)
@@ -35,7 +35,7 @@ writes_sure n b k s (whole line h) = whole line (settled_sure n b k s h)
 writes_sure n b k s (changed place line h) = changed place line (settled_sure (n + 1) b k s h)
 
 pub record OpeningChosen (base : EngineBase) (start : Port) (e : Engine) (s : Port) : Type 0 where
-  pub memory : PlainMemory
+  pub memory : Bus
   pub comes : MayBecome start memory
   pub follows : EngineFollowsPort base memory e s
 

@@ -1,7 +1,7 @@
 -- What an outcome says of the memory.
 use Rattle.swd_host.proofs.Words.{◌≡◌, ◌≢◌, ◌+◌, ◌%◌, ◌^◌, ◌<◌, ◌≤◌, ℕ, Bool, true, false, refl, sym, ap, subst, inl}
-use Rattle.swd_host.proofs.Words.{inr, arith, ◌∙◌, Some, ◌⊎◌, if◌then◌else◌, Answer, Written, DrwWrite, PlainMemory}
-use Rattle.swd_host.proofs.Words.{plain_address, plain_answer, plain_after, Port, Choice, port_completed, End, All}
+use Rattle.swd_host.proofs.Words.{inr, arith, ◌∙◌, Some, ◌⊎◌, if◌then◌else◌, Answer, Written, DrwWrite, Bus}
+use Rattle.swd_host.proofs.Words.{plain_address, bus_answer, bus_after, Port, Choice, port_completed, End, All}
 use Rattle.swd_host.proofs.Words.{Lost, Outcome, Opened, Answered, Stopped, Task, BurstWrite, Confirm, At, Data, State}
 use Rattle.swd_host.proofs.Words.{Doing, Resting, Engine, access_of_task, is_burst, is_burst_write, engine_is_ahead_in}
 use Rattle.swd_host.proofs.Words.{engine_is_ahead, engine_begun, engine_outcome_at, engine_outcome, engine_state_is_of}
@@ -36,7 +36,7 @@ pub engine_opened_state : (x : State) (task : Task) (outcome : Outcome) → engi
 engine_opened_state x task outcome opening h none = grind arith
 
 -- what is known where the engine rests
-pub engine_outcome_rests : (base : EngineBase) (m : PlainMemory) (f : Engine) (outcome : Outcome) (t : Port)
+pub engine_outcome_rests : (base : EngineBase) (m : Bus) (f : Engine) (outcome : Outcome) (t : Port)
     → f.state ≡ Resting outcome
     → EngineFollowsPort base m f t → EngineRestsAt outcome (base.disturbed + f.events) f.tries base f.begun
     (hand_of_engine f m) t
@@ -44,13 +44,13 @@ engine_outcome_rests base m f outcome t is h =
     subst (λ x. EngineStateTracks x (base.disturbed + f.events) f.tries base f.begun (hand_of_engine f m) t) is h.tracks
 
 -- AN ACCESS IS ANSWERED
-pub record EngineAnswers (answer : Answer) (base : EngineBase) (m : PlainMemory) (f : Engine) (t : Port) : Type 0 where
+pub record EngineAnswers (answer : Answer) (base : EngineBase) (m : Bus) (f : Engine) (t : Port) : Type 0 where
   pub waits : EngineBetweenAccesses (engine_is_ahead f) (base.disturbed + f.events)
-      (hand_of_engine f (plain_after (access_of_task f.task) m)) t
-  pub told : plain_answer (access_of_task f.task) m ≡ answer
+      (hand_of_engine f (bus_after (access_of_task f.task) m)) t
+  pub told : bus_answer (access_of_task f.task) m ≡ answer
   pub begun : is_burst f.task ≡ false → f.begun ≡ 0
 
-answered_rests : (base : EngineBase) (m : PlainMemory) (answer : Answer) (f : Engine) (t : Port)
+answered_rests : (base : EngineBase) (m : Bus) (answer : Answer) (f : Engine) (t : Port)
     → f.state ≡ Resting (Answered answer) → EngineFollowsPort base m f t → EngineAnswers answer base m f t
 answered_rests base m answer f t is h = grind arith
 
@@ -71,23 +71,23 @@ burst_aligned _ burst h = absurd (cc)
 
 confirmed_poised : (n b : ℕ) (k : EngineHand) (s : Port) → Aligned (plain_address (access_of_task k.task))
     → TaskWriteConfirmed n b k s
-    → BurstWriteIsPoised n (plain_address (access_of_task k.task) + 4) (plain_after (access_of_task k.task) k.memory) s
+    → BurstWriteIsPoised n (plain_address (access_of_task k.task) + 4) (bus_after (access_of_task k.task) k.memory) s
 confirmed_poised n b k s at h = grind arith
 
 -- the next access's write is due where a burst's write was confirmed
 writes_poised : (n b : ℕ) (k : EngineHand) (s : Port) → Aligned (plain_address (access_of_task k.task))
     → EngineWrites DrwWrite n (λ c. TaskWriteConfirmed c b k s) s
     → EngineWrites DrwWrite n (λ c. BurstWriteIsPoised c (plain_address (access_of_task k.task) + 4)
-    (plain_after (access_of_task k.task) k.memory) s) s
+    (bus_after (access_of_task k.task) k.memory) s) s
 writes_poised n b k s at (whole line h) = whole line (confirmed_poised n b k s at h)
 writes_poised n b k s at (changed place line h) = changed place line (confirmed_poised (n + 1) b k s at h)
 
 writes_answered : (n b : ℕ) (k : EngineHand) (s : Port) → EngineWrites DrwWrite n (λ c. TaskWriteConfirmed c b k s) s
-    → plain_answer (access_of_task k.task) k.memory ≡ Written
+    → bus_answer (access_of_task k.task) k.memory ≡ Written
 writes_answered n b k s (whole line h) = h.answered
 writes_answered n b k s (changed place line h) = h.answered
 
-answered_ahead : (base : EngineBase) (m : PlainMemory) (f : Engine) (t : Port) → engine_is_ahead f ≡ true
+answered_ahead : (base : EngineBase) (m : Bus) (f : Engine) (t : Port) → engine_is_ahead f ≡ true
     → EngineFollowsPort base m f t → EngineAnswers Written base m f t
 answered_ahead base m f t ahead h =
     let n : ℕ = base.disturbed + f.events in
@@ -97,14 +97,14 @@ answered_ahead base m f t ahead h =
     burst_confirms f.task n f.begun (hand_of_engine f m) t burst
     (subst (λ y. EngineStateTracks y n f.tries base f.begun (hand_of_engine f m) t) is h.tracks) in
     record {
-      waits = subst (λ c. EngineBetweenAccesses c n (hand_of_engine f (plain_after (access_of_task f.task) m)) t)
+      waits = subst (λ c. EngineBetweenAccesses c n (hand_of_engine f (bus_after (access_of_task f.task) m)) t)
           (sym ahead) (writes_poised n f.begun (hand_of_engine f m) t (burst_aligned f.task burst h.task) x);
       told = writes_answered n f.begun (hand_of_engine f m) t x;
       begun = λ single. absurd (let both : true ≡ false = sym (engine_ahead_burst f.state f.task ahead) ∙ single in cc);
     }
 
 -- an answered access has the plain memory's answer; what holds between two accesses holds over the memory after it
-pub engine_outcome_answers : (base : EngineBase) (m : PlainMemory) (answer : Answer) (f : Engine) (t : Port)
+pub engine_outcome_answers : (base : EngineBase) (m : Bus) (answer : Answer) (f : Engine) (t : Port)
     → engine_outcome f ≡ Some (Answered answer) → EngineFollowsPort base m f t → EngineAnswers answer base m f t
 engine_outcome_answers base m answer f t is h = grind (arith, answered_ahead, answered_rests, engine_outcome_state)
 
@@ -137,7 +137,7 @@ stops_by TriesOut n tries base b k t h = record {
 stops_by _ n tries base b k t h = absurd h
 
 -- a stop is for a lost acknowledgement or too many disturbances; the accesses in flight allow the memory
-pub engine_stop_memory : (base : EngineBase) (m : PlainMemory) (f : Engine) (end : End) (t : Port)
+pub engine_stop_memory : (base : EngineBase) (m : Bus) (f : Engine) (end : End) (t : Port)
     → f.state ≡ Resting (Stopped end)
     → EngineFollowsPort base m f t → EngineStops end base f.tries (base.disturbed + f.events) f.begun
     (hand_of_engine f m) t

@@ -1,6 +1,6 @@
 -- What stays at the port stays known: the host's facts, by the fields that a step leaves unchanged.
 use Rattle.swd_host.proofs.Words.{◌≡◌, ◌≢◌, ◌+◌, ◌≤◌, ℕ, Bool, true, false, refl, sym, ap, subst, inl, inr, arith, ◌∙◌}
-use Rattle.swd_host.proofs.Words.{Option, None, ◌⊎◌, ◌||◌, if◌then◌else◌, PlainMemory, plain_after, Port, Target}
+use Rattle.swd_host.proofs.Words.{Option, None, ◌⊎◌, ◌||◌, if◌then◌else◌, Bus, bus_after, Port, Target}
 use Rattle.swd_host.proofs.Words.{Register, DrwRead, AbortWrite, Live, PortCompletes, port_has_power, is_port_posted}
 use Rattle.swd_host.proofs.Words.{Seen, PortIgnores, PortRefuses, PortAccepts, PortPassed, PortWritten}
 use Rattle.swd_host.proofs.Words.{PortWriteSpoiled, PortSent, Flags, access_of_task, task_is_block, Ahead, Unsent}
@@ -122,7 +122,7 @@ pub host_flags_okay : (r : Register) (read : Bool) (flip : Option ℕ) (s t : Po
 host_flags_okay r read flip s t h = grind arith
 
 -- a live target at rest with STICKYERR clear stays so, where these fields and STICKYERR are unchanged
-pub host_calm_framed : (m : PlainMemory) (s t : Port) → HostFrame s t → t.target.sticky_error ≡ s.target.sticky_error
+pub host_calm_framed : (m : Bus) (s t : Port) → HostFrame s t → t.target.sticky_error ≡ s.target.sticky_error
     → EngineTargetCalm m s.target → EngineTargetCalm m t.target
 host_calm_framed m s t f e h = grind arith
 
@@ -172,7 +172,7 @@ pub host_in_flight_carried : (b c : ℕ) (k : EngineHand) (s t : Port) → b ≤
     → t.target.tar ≡ s.target.tar → t.target.memory ≡ s.target.memory → EngineMemoryWithin b k s.target
     → EngineMemoryWithin c k t.target
 host_in_flight_carried b c k s t g p a e h =
-    let more : (m : PlainMemory) → EngineAllowsMemory b k m → EngineAllowsMemory c k m = λ m i. elim i [
+    let more : (m : Bus) → EngineAllowsMemory b k m → EngineAllowsMemory c k m = λ m i. elim i [
       | within_none x ↦ within_none x
       | within_first begun x ↦ within_first (omega arith) x
       | within_both begun block x ↦ within_both (omega arith) block x
@@ -208,10 +208,10 @@ host_in_flight_idle b k s p e = record {
 
 -- they allow the memory after the current access, if that is in flight and no transfer is pending
 pub host_in_flight_done : (b : ℕ) (k : EngineHand) (s : Port) → 1 ≤ b → s.target.pending ≡ None
-    → s.target.memory ≡ plain_after (access_of_task k.task) k.memory → EngineMemoryWithin b k s.target
+    → s.target.memory ≡ bus_after (access_of_task k.task) k.memory → EngineMemoryWithin b k s.target
 host_in_flight_done b k s g p e = record {
   now = within_first g e;
-  later = plain_after (access_of_task k.task) k.memory;
+  later = bus_after (access_of_task k.task) k.memory;
   becomes = idle p e;
   ends = within_first g refl;
 }
@@ -224,7 +224,7 @@ host_in_flight_sent b k s g h = record {
     | inl e ↦ within_none e
     | inr e ↦ within_first g e
   ];
-  later = plain_after (access_of_task k.task) k.memory;
+  later = bus_after (access_of_task k.task) k.memory;
   becomes = port_sent_becomes (access_of_task k.task) k.memory s.target h;
   ends = within_first g refl;
 }
@@ -233,7 +233,7 @@ host_in_flight_sent b k s g h = record {
 pub host_in_flight_next : (b : ℕ) (k : EngineHand) (s : Port) → 2 ≤ b → task_is_block k.task ≡ true
     → EngineMemoryWithin 1 (block_next_hand k.task (memory_once_task_done k)) s.target → EngineMemoryWithin b k s.target
 host_in_flight_next b k s g block h =
-    let more : (m : PlainMemory) → EngineAllowsMemory 1 (block_next_hand k.task (memory_once_task_done k)) m
+    let more : (m : Bus) → EngineAllowsMemory 1 (block_next_hand k.task (memory_once_task_done k)) m
     → EngineAllowsMemory b k m =
     λ m i. elim i [
       | within_none x ↦ within_first (omega arith) x
@@ -257,9 +257,10 @@ host_place_in_flight _ b k s h = host_in_flight_idle b k s h.pending h.memory
 
 bus_error_within : (p : HostStep) (b : ℕ) (k : EngineHand) (s : Port) → EngineMetBusError p b k s.target
     → EngineMemoryWithin b k s.target
-bus_error_within p b k s (own_error h) = host_in_flight_idle b k s h.pending h.memory
-bus_error_within p b k s (next_error h) = host_in_flight_done b k s (omega (arith, h.begun)) h.broken.pending
-    h.broken.memory
+bus_error_within p b k s (own_error h) = host_in_flight_done b k s h.begun h.pending h.memory
+bus_error_within p b k s (next_error h) =
+    host_in_flight_next b k s h.begun h.block (host_in_flight_done 1
+    (block_next_hand k.task (memory_once_task_done k)) s (omega arith) h.broken.pending h.broken.memory)
 
 facts_within : (error : Bool) (p : HostStep) (b : ℕ) (k : EngineHand) (s : Port) → EngineFlagCause error p b k s.target
     → EngineMemoryWithin b k s.target
@@ -277,7 +278,9 @@ done_within Unsent b k s h = host_in_flight_done b k s h.begun h.up.calm.pending
 done_within NextSent b k s h =
     host_in_flight_next b k s h.0 h.1.0 (host_in_flight_sent 1 (block_next_hand k.task (memory_once_task_done k)) s
     h.1.1.begun h.1.1.sent)
-done_within NextFailed b k s h = host_in_flight_done b k s (omega (arith, h.0)) h.1.1.calm.pending h.1.1.calm.memory
+done_within NextFailed b k s h =
+    host_in_flight_next b k s h.0 h.1.0 (host_in_flight_done 1 (block_next_hand k.task (memory_once_task_done k)) s
+    (omega arith) h.1.1.calm.pending h.1.1.calm.memory)
 
 returned_within : (p : HostStep) (word : ℕ) (b : ℕ) (k : EngineHand) (s : Port) → EngineWordReturned p word b k s.target
     → EngineMemoryWithin b k s.target

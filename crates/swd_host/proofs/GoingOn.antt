@@ -1,7 +1,7 @@
 -- What a list that is done from the first access on that isn't answered says of the whole list.
 use Rattle.swd_host.proofs.Words.{◌≡◌, ◌≢◌, ◌+◌, ◌<◌, ◌≤◌, ℕ, refl, sym, ap, subst, inl, inr, arith, ◌∙◌, List, [], ◌∷◌}
 use Rattle.swd_host.proofs.Words.{◌++◌, length, take, zero, suc, get_or, length-append, ◌⊎◌, drop, Access, Answer}
-use Rattle.swd_host.proofs.Words.{PlainMemory, plain_answer, plain_after, All, memory_after, answers_of, HostReport}
+use Rattle.swd_host.proofs.Words.{Bus, bus_answer, bus_after, All, memory_after, answers_of, HostReport}
 use Rattle.swd_host.proofs.Words.{Fits, FitsAt, IsAfterResumeRepeats, ResumePlacesBelow, Again, LogHasRoomForResume}
 use Rattle.swd_host.proofs.Words.{resume_report, max, End, Lost, ◌-◌, false}
 use Rattle.swd_host.specs.declared.outcome.End.TheVariants.{TriesOut, WrongId, Confused}
@@ -15,12 +15,12 @@ use Rattle.swd_host.proofs.Repeats.{resume_after_next, resume_after_again, resum
 use Rattle.swd_host.proofs.Shadows.{ResumeRoomy, resume_answered_next, resume_answered_again}
 
 -- LISTS
-answers_length : (xs : List Access) (m : PlainMemory) → length (answers_of xs m) ≡ length xs
+answers_length : (xs : List Access) (m : Bus) → length (answers_of xs m) ≡ length xs
 answers_length [] m = refl
-answers_length (x ∷ xs) m = let h = answers_length xs (plain_after x m) in omega (arith, h)
+answers_length (x ∷ xs) m = let h = answers_length xs (bus_after x m) in omega (arith, h)
 
 -- so many answers there are
-pub resumed_take_length : (k : ℕ) (list : List Access) (m : PlainMemory) (answers : List Answer) → k ≤ length list
+pub resumed_take_length : (k : ℕ) (list : List Access) (m : Bus) (answers : List Answer) → k ≤ length list
     → answers ≡ answers_of (take k list) m → length answers ≡ k
 resumed_take_length k list m answers few is =
     ap length is ∙ (answers_length (take k list) m ∙ length-take-le k list few)
@@ -39,12 +39,12 @@ pub resumed_grows_few : (js : List ℕ) (earlier : HostReport) (more : List ℕ)
 resumed_grows_few js earlier more h = search (arith, length-append)
 
 -- THE ACCESSES FROM i ON, over a memory where earlier ones were repeated
-record Walked (js : List ℕ) (i n : ℕ) (list : List Access) (m q : PlainMemory) : Type 0 where
+record Walked (js : List ℕ) (i n : ℕ) (list : List Access) (m q : Bus) : Type 0 where
   answers : answers_of (take i list) m ++ answers_of (take n (drop i list)) q ≡ answers_of (take (i + n) list) m
   after : IsAfterResumeRepeats js (i + n) list m (memory_after (take n (drop i list)) q)
 
 -- n accesses more are answered as in the plain memory
-walked : (js : List ℕ) (i n : ℕ) (list : List Access) (d : Access) (m q : PlainMemory) → i + n ≤ length list
+walked : (js : List ℕ) (i n : ℕ) (list : List Access) (d : Access) (m q : Bus) → i + n ≤ length list
     → ResumePlacesBelow i js → ResumeRoomy (length js) list m → IsAfterResumeRepeats js i list m q
     → Walked js i n list m q
 walked js i zero list d m q few places room h =
@@ -56,7 +56,7 @@ walked js i zero list d m q few places room h =
 walked js i (suc n) list d m q few places room h =
     let rest : List Access = drop i list in
     let a : Access = get_or list (i + n) d in
-    let here : PlainMemory = memory_after (take n rest) q in
+    let here : Bus = memory_after (take n rest) q in
     let w : Walked js i n list m q = walked js i n list d m q (omega arith) places room h in
     let long = resumed_rest_length i list (omega arith) in
     let low : n < length rest = omega (arith, long) in
@@ -65,18 +65,18 @@ walked js i (suc n) list d m q few places room h =
     let t : i + n + 1 ≡ i + suc n = omega arith in
     let below : i + n < length list = omega arith in
     let all : ResumePlacesBelow (i + n) js = w.after.places in
-    let told : plain_answer a here ≡ plain_answer a (memory_after (take (i + n) list) m) =
+    let told : bus_answer a here ≡ bus_answer a (memory_after (take (i + n) list) m) =
     resume_answered_next js (i + n) list d m here below room w.after in
-    let next : answers_of (take (n + 1) rest) q ≡ answers_of (take n rest) q ++ plain_answer a here ∷ [] =
-    host_list_answers_next rest n d q low ∙ ap (λ b. answers_of (take n rest) q ++ plain_answer b here ∷ []) same in
-    let onward : memory_after (take (n + 1) rest) q ≡ plain_after a here =
-    host_list_memory_next rest n d q low ∙ ap (λ b. plain_after b here) same in
+    let next : answers_of (take (n + 1) rest) q ≡ answers_of (take n rest) q ++ bus_answer a here ∷ [] =
+    host_list_answers_next rest n d q low ∙ ap (λ b. answers_of (take n rest) q ++ bus_answer b here ∷ []) same in
+    let onward : memory_after (take (n + 1) rest) q ≡ bus_after a here =
+    host_list_memory_next rest n d q low ∙ ap (λ b. bus_after b here) same in
     let old : List Answer = answers_of (take i list) m in
     record {
       answers = ap (λ k. old ++ answers_of (take k rest) q) (sym s)
           ∙ (ap (λ l. old ++ l) next
-          ∙ (sym (append_assoc old (answers_of (take n rest) q) (plain_answer a here ∷ []))
-          ∙ (ap (λ l. l ++ plain_answer a here ∷ []) w.answers
+          ∙ (sym (append_assoc old (answers_of (take n rest) q) (bus_answer a here ∷ []))
+          ∙ (ap (λ l. l ++ bus_answer a here ∷ []) w.answers
           ∙ (ap (λ y. answers_of (take (i + n) list) m ++ y ∷ []) told
           ∙ (sym (host_list_answers_next list (i + n) d m below) ∙ ap (λ k. answers_of (take k list) m) t)))));
       after = subst (λ k. IsAfterResumeRepeats js (i + suc n) list m (memory_after (take k rest) q)) s
@@ -87,24 +87,24 @@ walked js i (suc n) list d m q few places room h =
 
 -- THE FIRST ACCESS is answered as in the plain memory, and the memory after it is that after one access more, where it
 -- may have been repeated
-record Onward (js : List ℕ) (k : ℕ) (list : List Access) (d : Access) (m q : PlainMemory) (earlier : HostReport)
+record Onward (js : List ℕ) (k : ℕ) (list : List Access) (d : Access) (m q : Bus) (earlier : HostReport)
     : Type 0 where
   more : List ℕ
   grows : ResumedGrows js earlier more
-  answer : plain_answer (get_or list k d) q ≡ plain_answer (get_or list k d) (memory_after (take k list) m)
-  after : IsAfterResumeRepeats more (k + 1) list m (plain_after (get_or list k d) q)
+  answer : bus_answer (get_or list k d) q ≡ bus_answer (get_or list k d) (memory_after (take k list) m)
+  after : IsAfterResumeRepeats more (k + 1) list m (bus_after (get_or list k d) q)
   roomy : ResumeRoomy (length more) list m
 
 -- the memory where an earlier run ended
-abbrev StandsAt : List ℕ → ℕ → List Access → PlainMemory → HostReport → PlainMemory → Type 0
+abbrev StandsAt : List ℕ → ℕ → List Access → Bus → HostReport → Bus → Type 0
 StandsAt js k list m earlier q = IsAfterResumeRepeats js k list m q
     ⊎ ((earlier.begun ≡ 1) × IsAfterResumeRepeats js (k + 1) list m q)
 
-goes_onward : (js : List ℕ) (k : ℕ) (list : List Access) (d : Access) (m q : PlainMemory) (earlier : HostReport)
+goes_onward : (js : List ℕ) (k : ℕ) (list : List Access) (d : Access) (m q : Bus) (earlier : HostReport)
     → k < length list → LogHasRoomForResume js list m → length earlier.answers ≡ k → StandsAt js k list m earlier q
     → Onward js k list d m q earlier
 goes_onward js k list d m q earlier l room is (inl h) =
-    let roomy : ResumeRoomy (length js) list m = record { one = omega (arith, room); all = omega (arith, room) } in
+    let roomy : ResumeRoomy (length js) list m = record { plain = room.plain; one = omega (arith, room.room); all = omega (arith, room.room) } in
     record {
       more = js;
       grows = inl refl;
@@ -119,31 +119,31 @@ goes_onward js k list d m q earlier l room is (inr (b, h)) =
       grows = inr (b, ap (λ n. js ++ n ∷ []) (sym is));
       answer = resume_answered_again js k list d m q l room h;
       after = resume_after_again js k list d m q l h;
-      roomy = record { one = omega (arith, room); all = omega (arith, room, long) };
+      roomy = record { plain = room.plain; one = omega (arith, room.room); all = omega (arith, room.room, long) };
     }
 
 -- n more accesses, of which there is one at least
-record Done (js : List ℕ) (k n : ℕ) (list : List Access) (m q : PlainMemory) : Type 0 where
+record Done (js : List ℕ) (k n : ℕ) (list : List Access) (m q : Bus) : Type 0 where
   answers : answers_of (take k list) m ++ answers_of (take n (drop k list)) q ≡ answers_of (take (k + n) list) m
   after : IsAfterResumeRepeats js (k + n) list m (memory_after (take n (drop k list)) q)
 
-done_onward : (js : List ℕ) (k n : ℕ) (list : List Access) (d : Access) (m q : PlainMemory) (earlier : HostReport)
+done_onward : (js : List ℕ) (k n : ℕ) (list : List Access) (d : Access) (m q : Bus) (earlier : HostReport)
     → k + suc n ≤ length list → (o : Onward js k list d m q earlier) → Done o.more k (suc n) list m q
 done_onward js k n list d m q earlier few o =
     let a : Access = get_or list k d in
     let low : k < length list = omega arith in
-    let w : Walked o.more (k + 1) n list m (plain_after a q) =
-    walked o.more (k + 1) n list d m (plain_after a q) (omega arith) o.after.places o.roomy o.after in
+    let w : Walked o.more (k + 1) n list m (bus_after a q) =
+    walked o.more (k + 1) n list d m (bus_after a q) (omega arith) o.after.places o.roomy o.after in
     let next : suc k ≡ k + 1 = omega arith in
     let first : take (suc n) (drop k list) ≡ a ∷ take n (drop (k + 1) list) =
     ap (take (suc n)) (drop-cons list k d low ∙ ap (λ j. a ∷ drop j list) next) in
     let count : k + 1 + n ≡ k + suc n = omega arith in
     let old : List Answer = answers_of (take k list) m in
-    let new : List Answer = answers_of (take n (drop (k + 1) list)) (plain_after a q) in
+    let new : List Answer = answers_of (take n (drop (k + 1) list)) (bus_after a q) in
     record {
       answers = ap (λ xs. old ++ answers_of xs q) first
           ∙ (ap (λ y. old ++ y ∷ new) o.answer
-          ∙ (sym (append_assoc old (plain_answer a (memory_after (take k list) m) ∷ []) new)
+          ∙ (sym (append_assoc old (bus_answer a (memory_after (take k list) m) ∷ []) new)
           ∙ (ap (λ l. l ++ new) (sym (host_list_answers_next list k d m low))
           ∙ (w.answers ∙ ap (λ j. answers_of (take j list) m) count))));
       after = subst (λ j. IsAfterResumeRepeats o.more j list m (memory_after (take (suc n) (drop k list)) q)) count
@@ -218,13 +218,13 @@ few_done : (kk j begun rest : ℕ) → kk ≤ rest → j ≤ begun → (begun �
 few_done kk j zero rest few less may = omega arith
 few_done kk j (suc begun) rest few less may = let h = may (λ e. absurd (omega arith)) in omega (arith, h)
 
-pub record ResumedReport (js : List ℕ) (list : List Access) (m : PlainMemory) (earlier told : HostReport)
-    (now : PlainMemory) : Type 0 where
+pub record ResumedReport (js : List ℕ) (list : List Access) (m : Bus) (earlier told : HostReport)
+    (now : Bus) : Type 0 where
   pub more : List ℕ
   pub grows : ResumedGrows js earlier more
   pub again : Again more list m told now
 
-module _ (js : List ℕ) (k kk j : ℕ) (list : List Access) (m x now : PlainMemory) (earlier raw : HostReport)
+module _ (js : List ℕ) (k kk j : ℕ) (list : List Access) (m x now : Bus) (earlier raw : HostReport)
     (part : List Answer) (d : Access) (added : raw.answers ≡ earlier.answers ++ part)
     (a : AgainAt k js list m earlier x) (room : LogHasRoomForResume js list m)
     (fit : FitsAt 1 kk (drop k list) x (record raw { answers = part }) now) (less : j ≤ raw.begun)
@@ -367,7 +367,7 @@ module _ (js : List ℕ) (k kk j : ℕ) (list : List Access) (m x now : PlainMem
 
 -- where the log has room, a report of a list with accesses repeated and a run over the rest make such a report again:
 -- of the same repetitions, or of these and one more of the access that was in flight
-pub resumed_report_again : (js : List ℕ) (list : List Access) (d : Access) (m x now : PlainMemory)
+pub resumed_report_again : (js : List ℕ) (list : List Access) (d : Access) (m x now : Bus)
     (earlier raw : HostReport) (part : List Answer) → raw.answers ≡ earlier.answers ++ part → Again js list m earlier x
     → LogHasRoomForResume js list m → Fits 1 (drop (length earlier.answers) list) x (record raw { answers = part }) now
     → ResumedReport js list m earlier (resume_report raw earlier) now
@@ -378,7 +378,7 @@ resumed_report_again js list d m x now earlier raw part added (k, a) room fits =
     fit_again js k kk j list m x now earlier raw part d added a room fit less left (kk + j) refl
 
 -- A RUN over a target at rest, as one that goes on with no place repeated, where it left one access begun at most
-fits_at_again : (k j : ℕ) (list : List Access) (m : PlainMemory) (told : HostReport) (now : PlainMemory)
+fits_at_again : (k j : ℕ) (list : List Access) (m : Bus) (told : HostReport) (now : Bus)
     → told.begun ≤ 1 → j ≤ told.begun → now ≡ memory_after (take (k + j) list) m
     → IsAfterResumeRepeats [] k list m now ⊎ ((told.begun ≡ 1) × IsAfterResumeRepeats [] (k + 1) list m now)
 fits_at_again k zero list m told now few less is =
@@ -394,7 +394,7 @@ fits_at_again k (suc zero) list m told now few less is =
 fits_at_again k (suc (suc j)) list m told now few less is = absurd (omega (arith, few, less))
 
 -- a report that fits the memory, with at most one access in flight, is that of its list with no access repeated
-pub resumed_fits_list : (limit : ℕ) (list : List Access) (m : PlainMemory) (told : HostReport) (now : PlainMemory)
+pub resumed_fits_list : (limit : ℕ) (list : List Access) (m : Bus) (told : HostReport) (now : Bus)
     → told.begun ≤ 1 → Fits limit list m told now → Again [] list m told now
 resumed_fits_list limit list m told now few (k, f) =
     let (j, less, is) = f.memory in (
@@ -410,7 +410,7 @@ resumed_fits_list limit list m told now few (k, f) =
     )
 
 -- a whole list without a repeated access leaves what it leaves
-pub resumed_whole_list : (list : List Access) (m : PlainMemory) (told : HostReport) (now : PlainMemory)
+pub resumed_whole_list : (list : List Access) (m : Bus) (told : HostReport) (now : Bus)
     → told.ended ≡ All → Again [] list m told now → now ≡ memory_after list m
 resumed_whole_list list m told now all (k, a) =
     let is : take k list ≡ list = (let e = a.all all in take_all k list (omega (arith, e))) in

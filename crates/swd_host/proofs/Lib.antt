@@ -20,7 +20,8 @@ mod StepLemmas
 mod Going
 mod Lists
 mod Repeats
-mod Shadows
+mod PlainShadows
+pub mod Shadows
 mod GoingOn
 mod Resumed
 mod Starts
@@ -35,10 +36,12 @@ mod Runs
 pub mod Chains
 pub mod ReadChains
 mod SessionLaws
+pub mod PlainRuns
 mod FieldsLemmas
 mod Making
 mod SendingStages
 mod Sending
 mod SendingTurns
 mod SendingRuns
+mod Listed
 pub mod Folding

@@ -1,6 +1,6 @@
 -- Lists of accesses, one access more at a time: that they are valid, their answers, and the memory after them.
 use Rattle.swd_host.proofs.Words.{◌≡◌, ◌+◌, ◌<◌, ℕ, true, refl, ap, subst, arith, List, [], ◌∷◌, ◌++◌, length, take}
-use Rattle.swd_host.proofs.Words.{zero, suc, get_or, Option, Some, None, Access, PlainMemory, plain_answer, plain_after}
+use Rattle.swd_host.proofs.Words.{zero, suc, get_or, Option, Some, None, Access, Bus, bus_answer, bus_after}
 use Rattle.swd_host.proofs.Words.{continues_burst, memory_after, answers_of, IsHostAccess, AreHostAccesses}
 use Rattle.swd_host.proofs.Words.{HostNextAccess, BurstContinuesAt}
 use Rattle.std.specs.Prelude.{IfSome}
@@ -9,27 +9,27 @@ use Rattle.std.proofs.lemmas.Bool.{eqb-true}
 use Rattle.swd_host.specs.Plain.{host_access_is_aligned, HostAccessHasRanges}
 
 -- WHAT THEY LEAVE, AND WHAT THEY ARE ANSWERED
-pub host_list_memory_append : (xs ys : List Access) (m : PlainMemory)
+pub host_list_memory_append : (xs ys : List Access) (m : Bus)
     → memory_after (xs ++ ys) m ≡ memory_after ys (memory_after xs m)
 host_list_memory_append [] ys m = refl
-host_list_memory_append (x ∷ xs) ys m = host_list_memory_append xs ys (plain_after x m)
+host_list_memory_append (x ∷ xs) ys m = host_list_memory_append xs ys (bus_after x m)
 
 -- the answers to one list and then another are those to the first, and those to the second over the memory after it
-pub host_list_answers_append : (xs ys : List Access) (m : PlainMemory)
+pub host_list_answers_append : (xs ys : List Access) (m : Bus)
     → answers_of (xs ++ ys) m ≡ answers_of xs m ++ answers_of ys (memory_after xs m)
 host_list_answers_append [] ys m = refl
-host_list_answers_append (x ∷ xs) ys m = ap (λ rest. plain_answer x m ∷ rest)
-    (host_list_answers_append xs ys (plain_after x m))
+host_list_answers_append (x ∷ xs) ys m = ap (λ rest. bus_answer x m ∷ rest)
+    (host_list_answers_append xs ys (bus_after x m))
 
 -- the memory after i + 1 accesses is that of the access at i over the memory after i
-pub host_list_memory_next : (list : List Access) (i : ℕ) (d : Access) (m : PlainMemory) → i < length list
-    → memory_after (take (i + 1) list) m ≡ plain_after (get_or list i d) (memory_after (take i list) m)
+pub host_list_memory_next : (list : List Access) (i : ℕ) (d : Access) (m : Bus) → i < length list
+    → memory_after (take (i + 1) list) m ≡ bus_after (get_or list i d) (memory_after (take i list) m)
 host_list_memory_next list i d m l = grind (arith, host_list_memory_append, take_at_read)
 
 -- the answers to i + 1 accesses are those to i, and the answer to the access at i over the memory after those
-pub host_list_answers_next : (list : List Access) (i : ℕ) (d : Access) (m : PlainMemory) → i < length list
+pub host_list_answers_next : (list : List Access) (i : ℕ) (d : Access) (m : Bus) → i < length list
     → answers_of (take (i + 1) list) m
-    ≡ answers_of (take i list) m ++ plain_answer (get_or list i d) (memory_after (take i list) m) ∷ []
+    ≡ answers_of (take i list) m ++ bus_answer (get_or list i d) (memory_after (take i list) m) ∷ []
 host_list_answers_next list i d m l = grind (arith, host_list_answers_append, take_at_read)
 
 -- THE CHECKS OF A LIST

@@ -1,14 +1,14 @@
 -- The opening over any target whose SELECT is 0: from its beginning to how it ends, over one of the memories that may
 -- have come of the start.
-use Rattle.swd_host.proofs.Words.{◌≡◌, ◌≢◌, ◌+◌, ◌%◌, ◌<◌, ◌≤◌, ℕ, Bool, true, sym, subst, arith, ◌⊎◌, None}
-use Rattle.swd_host.proofs.Words.{PlainMemory, Port, Choice, MayBecome, port_completed, End, All, Lost, Opened, Stopped}
+use Rattle.swd_host.proofs.Words.{◌≡◌, ◌≢◌, ◌+◌, ◌%◌, ◌<◌, ◌≤◌, ℕ, Bool, true, sym, subst, arith, ◌⊎◌, None, ◌∙◌}
+use Rattle.swd_host.proofs.Words.{Bus, Port, Choice, MayBecome, port_completed, End, All, Lost, Opened, Stopped}
 use Rattle.swd_host.proofs.Words.{Resting, Engine, Unsent, Bursts, EngineHand, EngineBase, EngineMemoryWithin}
 use Rattle.swd_host.proofs.Words.{EngineAllowsMemory, EngineIsReady, hand_of_engine, EngineDueAt, EngineDueFits}
 use Rattle.swd_host.proofs.Words.{ResumeComesFrom, ResumedOpening, EngineResumes, early, over, EngineIsNew, HostEndsAt}
 use Rattle.swd_host.proofs.Words.{HostKnowsTarget, EngineTargetIsOpen}
-use Rattle.swd_port.proofs.CompletionLaws.{port_may_become_of_none, no_pending_same_port}
+use Rattle.swd_port.proofs.CompletionLaws.{port_may_become_of_none, no_pending_same_port, port_becomes_completed}
 use Rattle.swd_host.specs.Early.{ResumedOpeningStopped}
-use Rattle.swd_host.proofs.Ends.{engine_stop_memory, engine_outcome_rests}
+use Rattle.swd_host.proofs.Ends.{EngineStops, engine_stop_memory, engine_outcome_rests}
 
 -- ITS BEGINNING
 abbrev pub opening_counts_at : Port → EngineBase
@@ -21,17 +21,17 @@ pub new_engine_resumes : (kind : Bursts) (again : Bool) (tries : ℕ) (e : Engin
 new_engine_resumes kind again tries e s new known awaited = grind arith
 
 -- where no access is begun
-pub host_none_in_flight : (b : ℕ) (k : EngineHand) (m : PlainMemory) → b ≡ 0 → EngineAllowsMemory b k m → m ≡ k.memory
+pub host_none_in_flight : (b : ℕ) (k : EngineHand) (m : Bus) → b ≡ 0 → EngineAllowsMemory b k m → m ≡ k.memory
 host_none_in_flight b k m none h = grind arith
 
 -- the target is up for the list, at the end of the opening
-pub opening_ready_open : (f : Engine) (m : PlainMemory) (n : ℕ) (t : Port) → t.target.identification % 2 ≡ 1
+pub opening_ready_open : (f : Engine) (m : Bus) (n : ℕ) (t : Port) → t.target.identification % 2 ≡ 1
     → EngineIsReady n (hand_of_engine f m) t → f.tar ≡ None → f.ahead ≡ Unsent → EngineTargetIsOpen m f t
 opening_ready_open f m n t odd r tar ahead = grind arith
 
 -- HOW THE OPENING ENDS
 pub record OpeningEnds (end : End) (base : EngineBase) (tries n : ℕ) (start t : Port) : Type 0 where
-  pub comes : (m : PlainMemory) → MayBecome t m → MayBecome start m
+  pub comes : (m : Bus) → MayBecome t m → MayBecome start m
   -- where nothing was pending at the start
   pub now : start.target.pending ≡ None → MayBecome start t.target.memory
   pub later : start.target.pending ≡ None → (c : Choice) → MayBecome start (port_completed c t).target.memory
@@ -55,13 +55,14 @@ early_ends : (end : End) (n tries : ℕ) (base : EngineBase) (f : Engine) (start
 early_ends end n tries base f start t due h = grind (arith, rested_later, rested_now)
 
 -- over one memory, of which no access is begun
-module _ (m : PlainMemory) (f : Engine) (start t : Port) (none : f.begun ≡ 0) (may : MayBecome start m)
+module _ (m : Bus) (f : Engine) (start t : Port) (none : f.begun ≡ 0) (may : MayBecome start m)
     (w : EngineMemoryWithin f.begun (hand_of_engine f m) t.target) where
   -- the memory that each completion leaves may come of the start
   within_later : (c : Choice) → MayBecome start (port_completed c t).target.memory
-  within_later c = grind arith
+  within_later c = subst (MayBecome start) (sym (port_becomes_completed w.later c t.target w.becomes
+      ∙ host_none_in_flight f.begun (hand_of_engine f m) w.later none w.ends)) may
 
-  within_comes : (now : PlainMemory) → MayBecome t now → MayBecome start now
+  within_comes : (now : Bus) → MayBecome t now → MayBecome start now
   within_comes now h = subst (MayBecome start) (sym h.2) (within_later h.0)
 
   within_now : MayBecome start t.target.memory
@@ -72,12 +73,26 @@ module _ (m : PlainMemory) (f : Engine) (start t : Port) (none : f.begun ≡ 0) 
 pub opening_stop_memory : (base : EngineBase) (start : Port) (f : Engine) (end : End) (t : Port)
     → f.state ≡ Resting (Stopped end) → f.begun ≡ 0 → EngineDueFits f t → EngineResumes base start f t
     → OpeningEnds end base f.tries (base.disturbed + f.events) start t
-opening_stop_memory base start f end t at none due h =
-    grind (arith, early_ends, engine_stop_memory, within_comes, within_later, within_now)
+opening_stop_memory base start f end t at none due (early task lost h) =
+    early_ends end (base.disturbed + f.events) f.tries base f start t
+    (subst (λ x. EngineDueAt x f.stray f.task t.link.due) at due)
+    (subst (λ x. ResumedOpening x (base.disturbed + f.events) f.tries base f.stray start t) at h)
+opening_stop_memory base start f end t at none due (over m may h) =
+    let g : EngineStops end base f.tries (base.disturbed + f.events) f.begun (hand_of_engine f m) t =
+    engine_stop_memory base m f end t at h in
+    record {
+      comes = within_comes m f start t none may g.within;
+      now = λ e. within_now m f start t none may g.within;
+      later = λ e. within_later m f start t none may g.within;
+      paid = g.paid;
+      ends = λ s disturbed lost odd. g.ends s f.stray f.task disturbed lost odd
+          (subst (λ x. EngineDueAt x f.stray f.task t.link.due) at due);
+      never = g.never;
+    }
 
 -- the target is up, over one of the memories that may have come of the start
 pub record OpeningSucceeds (n : ℕ) (start : Port) (f : Engine) (t : Port) : Type 0 where
-  pub memory : PlainMemory
+  pub memory : Bus
   pub comes : MayBecome start memory
   pub is_open : EngineTargetIsOpen memory f t
   pub paid : n ≤ t.tally.disturbed

@@ -1,15 +1,15 @@
 -- From what holds between two accesses to what doing the whole list comes to.
 use Rattle.swd_host.proofs.Words.{◌≡◌, ◌≢◌, ◌+◌, ◌-◌, ◌*◌, ◌%◌, ◌^◌, ◌<◌, ◌≤◌, ℕ, Bool, true, false, refl, sym, ap}
 use Rattle.swd_host.proofs.Words.{subst, inl, inr, arith, ◌∙◌, List, [], ◌∷◌, ◌++◌, length, take, get_or, Option, Some}
-use Rattle.swd_host.proofs.Words.{None, if◌then◌else◌, ◌&&◌, not, bit, Access, Answer, PlainMemory, plain_answer}
-use Rattle.swd_host.proofs.Words.{plain_after, Port, PortLeads, PortPassed, End, All, Answered, Stopped, Resting}
+use Rattle.swd_host.proofs.Words.{None, if◌then◌else◌, ◌&&◌, not, bit, Access, Answer, Bus, bus_answer}
+use Rattle.swd_host.proofs.Words.{bus_after, Port, PortLeads, PortPassed, End, All, Answered, Stopped, Resting}
 use Rattle.swd_host.proofs.Words.{Engine, memory_after, answers_of, AreHostAccesses, Ahead, Task, access_of_task}
 use Rattle.swd_host.proofs.Words.{is_burst, task_is_block, task_most_begun, bursts_limit, engine_is_ahead, engine_begun}
 use Rattle.swd_host.proofs.Words.{engine_outcome, engine_least_in, engine_open_requests, EngineHand, EngineBase}
 use Rattle.swd_host.proofs.Words.{EngineAllowsMemory, within_none, within_first, within_both, EngineIsReady}
 use Rattle.swd_host.proofs.Words.{EngineFollowsPort, hand_of_engine, block_next_read, EngineTargetUp, EngineAheadAt}
 use Rattle.swd_host.proofs.Words.{EngineKnowsTarAt, EngineDueAt, EngineDueFits, engine_ahead_failed, engine_next_failed}
-use Rattle.swd_host.proofs.Words.{EngineStarts, EngineGoesWithPort, Fits, HostEndsAt, HostNextAccess}
+use Rattle.swd_host.proofs.Words.{EngineStarts, EngineGoesWithPort, FitsFrom, HostEndsAt, HostNextAccess}
 use Rattle.swd_host.proofs.Words.{EngineBetweenAccesses, BurstContinuesAt, EngineStands, EngineHasOpened}
 use Rattle.swd_host.proofs.Words.{EngineTargetIsOpen, EngineDoes, EngineDoesOver, engine_report, Nothing}
 use Rattle.std.proofs.lemmas.Bool.{cases_Bool, cases_lt}
@@ -69,17 +69,17 @@ module _ (i : ℕ) (list : List Access) (o e g f : Engine) (answers : List Answe
       → BurstContinuesAt list (i + 1) (access_of_task f.task)
   chain next = chain_here i list o e g f answers t u d following stands.stays starts goes.works next
 
-  after_here : (m : PlainMemory)
-      → plain_after (access_of_task f.task) (memory_after (take i list) m) ≡ memory_after (take (i + 1) list) m
-  after_here m = ap (λ a. plain_after a (memory_after (take i list) m)) here ∙ sym (host_list_memory_next list i d m l)
+  after_here : (m : Bus)
+      → bus_after (access_of_task f.task) (memory_after (take i list) m) ≡ memory_after (take (i + 1) list) m
+  after_here m = ap (λ a. bus_after a (memory_after (take i list) m)) here ∙ sym (host_list_memory_next list i d m l)
 
   tries_here : f.tries ≡ o.tries
   tries_here = goes.works.tries ∙ (starts.tries ∙ stands.stays.tried)
 
-  follows_here : (m : PlainMemory) → AreHostAccesses list → (r : EngineReachedMemory i list m o s e answers t)
+  follows_here : (m : Bus) → AreHostAccesses list → (r : EngineReachedMemory i list m o s e answers t)
       → EngineFollowsPort (counted_from r.met t) (memory_after (take i list) m) f u
   follows_here m ok r =
-      let before : PlainMemory = memory_after (take i list) m in
+      let before : Bus = memory_after (take i list) m in
       goes.follows (counted_from r.met t) before (start_follows (get_or list i d) following e g starts r.met before t
       (host_list_access_valid list i d l ok) (λ burst. (stands.stays.chain burst).1 d) r.ready)
 
@@ -156,7 +156,7 @@ module _ (i : ℕ) (list : List Access) (o e g f : Engine) (answers : List Answe
   begun_few = grind arith
 
   -- A STOP
-  within_left : (m now : PlainMemory) → ((b : Access) → following ≡ Some b → HostNextAccess i list b)
+  within_left : (m now : Bus) → ((b : Access) → following ≡ Some b → HostNextAccess i list b)
       → EngineAllowsMemory f.begun (hand_of_engine f (memory_after (take i list) m)) now
       → IsLeftByEngine i list m f.begun now
   within_left m now next (within_none h) = engine_none_in_flight i list m f.begun now h
@@ -167,14 +167,14 @@ module _ (i : ℕ) (list : List Access) (o e g f : Engine) (answers : List Answe
       let second : get_or list (i + 1) d ≡ block_next_read f.task =
       burst_next_read f.task (get_or list (i + 1) d) block (after.1 d) in
       let both : memory_after (take (i + 1 + 1) list) m
-      ≡ plain_after (block_next_read f.task) (memory_after (take (i + 1) list) m) =
-      host_list_memory_next list (i + 1) d m after.0 ∙ ap (λ a. plain_after a (memory_after (take (i + 1) list) m))
+      ≡ bus_after (block_next_read f.task) (memory_after (take (i + 1) list) m) =
+      host_list_memory_next list (i + 1) d m after.0 ∙ ap (λ a. bus_after a (memory_after (take (i + 1) list) m))
       second in
       let count : i + 1 + 1 ≡ i + 2 = omega arith in
       record {
         more = 2;
         few = two;
-        memory = h ∙ (ap (plain_after (block_next_read f.task)) (after_here m)
+        memory = h ∙ (ap (bus_after (block_next_read f.task)) (after_here m)
             ∙ (sym both ∙ ap (λ n. memory_after (take n list) m) count));
       }
 
@@ -182,31 +182,31 @@ module _ (i : ℕ) (list : List Access) (o e g f : Engine) (answers : List Answe
   list_has : ((b : Access) → following ≡ Some b → HostNextAccess i list b) → i + f.begun ≤ length list
   list_has next = grind (arith, begun_few, block_task_is_burst, chain, single_most, two_most)
 
-  stop_fits : (m now : PlainMemory) (end : End) → end ≢ All → f.state ≡ Resting (Stopped end)
+  stop_fits : (m now : Bus) (end : End) → end ≢ All → f.state ≡ Resting (Stopped end)
       → ((b : Access) → following ≡ Some b → HostNextAccess i list b)
       → EngineReachedMemory i list m o s e answers t
       → EngineAllowsMemory f.begun (hand_of_engine f (memory_after (take i list) m)) now
-      → Fits (bursts_limit o.bursts) list m (engine_report answers f end) now
+      → FitsFrom o.requests (bursts_limit o.bursts) list m (engine_report answers f end) now
   stop_fits m now end never at next r within =
       let same : engine_begun f ≡ f.begun = engine_stop_begun f end at in
-      engine_fits_by (bursts_limit o.bursts) i list m answers f end now (omega arith) r.answered
+      engine_fits_by o.requests (bursts_limit o.bursts) i list m answers f end now (omega arith) r.answered
       (omega (arith, few_here i list o e g f answers t u d following stands.stays starts goes.works))
       (λ begun. (
         omega (arith, list_has next),
         never,
-        omega (arith, begun_sent (some_of (engine_begun f) f.begun same begun) r.sent, opened.least),
+        omega (arith, begun_sent (some_of (engine_begun f) f.begun same begun) r.sent),
       ))
       (λ all. absurd (never all))
       (subst (λ b. IsLeftByEngine i list m b now) (sym same) (within_left m now next within))
 
-  access_over : (m : PlainMemory) (end : End) → EngineTargetIsOpen m o s → AreHostAccesses list
+  access_over : (m : Bus) (end : End) → EngineTargetIsOpen m o s → AreHostAccesses list
       → ((b : Access) → following ≡ Some b → HostNextAccess i list b)
       → engine_outcome f ≡ Some (Stopped end) → EngineDoesOver list m o f answers end s u
   access_over m end is ok next finished =
       let at : f.state ≡ Resting (Stopped end) = engine_stopped_state f.state f.task end finished in
       let r : EngineReachedMemory i list m o s e answers t = stands.reached m is ok in
       let base : EngineBase = counted_from r.met t in
-      let before : PlainMemory = memory_after (take i list) m in
+      let before : Bus = memory_after (take i list) m in
       let k : EngineHand = hand_of_engine f before in
       let stop : EngineStops end base f.tries (base.disturbed + f.events) f.begun k u =
       engine_stop_memory base before f end u at (follows_here m ok r) in
@@ -239,7 +239,7 @@ module _ (i : ℕ) (list : List Access) (o e g f : Engine) (answers : List Answe
   }
 
   -- AN ANSWER
-  answered_sent : (m : PlainMemory) (answer : Answer) → engine_outcome f ≡ Some (Answered answer)
+  answered_sent : (m : Bus) (answer : Answer) → engine_outcome f ≡ Some (Answered answer)
       → EngineReachedMemory i list m o s e answers t → EngineHasSentFor (i + 1) o f
   answered_sent m answer is r = elim (cases_Bool (engine_next_failed e)) [
     | inl failed ↦ answered_at_once failed
@@ -249,16 +249,16 @@ module _ (i : ℕ) (list : List Access) (o e g f : Engine) (answers : List Answe
     | inr going ↦ answered_on answer is going r.sent
   ]
 
-  answered_reached : (m : PlainMemory) → AreHostAccesses list → (answer : Answer) (more : List Answer)
+  answered_reached : (m : Bus) → AreHostAccesses list → (answer : Answer) (more : List Answer)
       → more ≡ answers ++ answer ∷ [] → engine_outcome f ≡ Some (Answered answer)
       → EngineReachedMemory i list m o s e answers t → EngineReachedMemory (i + 1) list m o s f more u
   answered_reached m ok answer more is_more finished r =
       let base : EngineBase = counted_from r.met t in
-      let before : PlainMemory = memory_after (take i list) m in
+      let before : Bus = memory_after (take i list) m in
       let x : EngineAnswers answer base before f u =
       engine_outcome_answers base before answer f u finished (follows_here m ok r) in
-      let told : plain_answer (get_or list i d) before ≡ answer =
-      sym (ap (λ a. plain_answer a before) here) ∙ x.told in
+      let told : bus_answer (get_or list i d) before ≡ answer =
+      sym (ap (λ a. bus_answer a before) here) ∙ x.told in
       record {
         met = r.met + f.events;
         fewest = omega (arith, r.fewest);
@@ -288,7 +288,7 @@ sent_least i o e (anew fresh sent) = sent
 sent_least i o e (on sent) = omega arith
 
 -- nothing is ahead of an access that is none of a burst
-single_up : (further : Ahead) (task : Task) (m : PlainMemory) (t : Port) → is_burst task ≡ false
+single_up : (further : Ahead) (task : Task) (m : Bus) (t : Port) → is_burst task ≡ false
     → EngineAheadAt further task m t.target → EngineTargetUp m t.target
 single_up further task m t single h = grind arith
 
@@ -300,11 +300,11 @@ module _ (i : ℕ) (list : List Access) (o e : Engine) (answers : List Answer) (
   last_calm : engine_is_ahead e ≡ false
   last_calm = single_task_not_ahead e.state e.task last_single
 
-  all_over : (m : PlainMemory) (u : Port) → PortLeads t 0 u → EngineTargetIsOpen m o s → AreHostAccesses list
+  all_over : (m : Bus) (u : Port) → PortLeads t 0 u → EngineTargetIsOpen m o s → AreHostAccesses list
       → EngineDoesOver list m o e answers All s u
   all_over m u leads is ok =
       let r : EngineReachedMemory i list m o s e answers t = stands.reached m is ok in
-      let last : PlainMemory = memory_after (take i list) m in
+      let last : Bus = memory_after (take i list) m in
       let ready : EngineIsReady r.met (hand_of_engine e last) t =
       subst (λ c. EngineBetweenAccesses c r.met (hand_of_engine e last) t) last_calm r.ready in
       let up : EngineTargetUp last t.target = single_up e.ahead e.task last t last_single ready.up in
@@ -313,8 +313,8 @@ module _ (i : ℕ) (list : List Access) (o e : Engine) (answers : List Answer) (
       let memory : u.target.memory ≡ last = ap (λ x. x.memory) passed.target ∙ up.calm.memory in
       let idle : u.target.pending ≡ None = ap (λ x. x.pending) passed.target ∙ up.calm.pending in
       let counts : u.tally.disturbed ≡ t.tally.disturbed = ap (λ x. x.disturbed) passed.tally in
-      let fits = λ (now : PlainMemory) (left : now ≡ last).
-      engine_fits_by (bursts_limit o.bursts) i list m answers e All now (omega arith) r.answered (omega arith)
+      let fits = λ (now : Bus) (left : now ≡ last).
+      engine_fits_by o.requests (bursts_limit o.bursts) i list m answers e All now (omega arith) r.answered (omega arith)
       (λ begun. absurd (begun unbegun)) (λ all. whole) (engine_none_in_flight i list m (engine_begun e) now left) in
       record {
         now = fits u.target.memory memory;
@@ -337,6 +337,8 @@ module _ (i : ℕ) (list : List Access) (o e : Engine) (answers : List Answer) (
             debug = ap (λ x. x.debug_power) passed.target ∙ up.debug;
             system = ap (λ x. x.system_power) passed.target ∙ up.system;
             seen = ap (λ i. i.power_up) passed.target ∙ up.seen;
+            live = ap (λ x. x.reset) passed.target ∙ up.calm.live;
+            increments = ap (λ x. x.increments) passed.target ∙ up.increments;
           },
         );
         least = λ all. omega (arith, sent_least i o e r.sent);

@@ -1,7 +1,7 @@
 -- Lists where accesses are repeated, one access more at a time: the list, and the memory after it.
 use Rattle.swd_host.proofs.Words.{◌≡◌, ◌+◌, ◌<◌, ℕ, false, refl, sym, ap, subst, arith, ◌∙◌, List, [], ◌∷◌, ◌++◌}
-use Rattle.swd_host.proofs.Words.{length, take, get_or, suc, replicate, ◌==◌, if◌then◌else◌, Access, PlainMemory}
-use Rattle.swd_host.proofs.Words.{plain_after, memory_after, resume_repeats_of, list_with_resume_repeats}
+use Rattle.swd_host.proofs.Words.{length, take, get_or, suc, replicate, ◌==◌, if◌then◌else◌, Access, Bus}
+use Rattle.swd_host.proofs.Words.{bus_after, memory_after, resume_repeats_of, list_with_resume_repeats}
 use Rattle.swd_host.proofs.Words.{ResumePlacesBelow, IsAfterResumeRepeats}
 use Rattle.std.proofs.lemmas.Grind.{take_at_read}
 use Rattle.std.proofs.lemmas.List.{append-nil, append_assoc, replicate_more, length-take-le}
@@ -68,9 +68,9 @@ repeated_same js ks i (x ∷ xs) h =
 
 -- THE MEMORY
 -- the next access, done once
-pub resume_after_next : (js : List ℕ) (i : ℕ) (list : List Access) (d : Access) (m q : PlainMemory) → i < length list
+pub resume_after_next : (js : List ℕ) (i : ℕ) (list : List Access) (d : Access) (m q : Bus) → i < length list
     → ResumePlacesBelow i js → IsAfterResumeRepeats js i list m q
-    → IsAfterResumeRepeats js (i + 1) list m (plain_after (get_or list i d) q)
+    → IsAfterResumeRepeats js (i + 1) list m (bus_after (get_or list i d) q)
 resume_after_next js i list d m q l none h =
     let a : Access = get_or list i d in
     let once : list_with_resume_repeats js 0 (take i list) ++ a ∷ []
@@ -79,15 +79,15 @@ resume_after_next js i list d m q l none h =
     ∙ sym (resume_repeats_next js list i d l) in
     record {
       places = below_more i js none;
-      memory = ap (λ x. plain_after a x) h.memory
+      memory = ap (λ x. bus_after a x) h.memory
           ∙ (sym (host_list_memory_append (list_with_resume_repeats js 0 (take i list)) (a ∷ []) m) ∙ ap
           (λ xs. memory_after xs m) once);
     }
 
 -- the last access, once more
-pub resume_after_again : (js : List ℕ) (k : ℕ) (list : List Access) (d : Access) (m q : PlainMemory) → k < length list
+pub resume_after_again : (js : List ℕ) (k : ℕ) (list : List Access) (d : Access) (m q : Bus) → k < length list
     → IsAfterResumeRepeats js (k + 1) list m q
-    → IsAfterResumeRepeats (js ++ k ∷ []) (k + 1) list m (plain_after (get_or list k d) q)
+    → IsAfterResumeRepeats (js ++ k ∷ []) (k + 1) list m (bus_after (get_or list k d) q)
 resume_after_again js k list d m q l h =
     let a : Access = get_or list k d in
     let ks : List ℕ = js ++ k ∷ [] in
@@ -105,13 +105,13 @@ resume_after_again js k list d m q l h =
     ∙ sym (append_assoc left (a ∷ replicate (resume_repeats_of k js) a) (a ∷ []))))) in
     record {
       places = below_append (k + 1) js k (omega arith) h.places;
-      memory = ap (λ x. plain_after a x) h.memory
-          ∙ (ap (λ xs. plain_after a (memory_after xs m)) (resume_repeats_next js list k d l)
+      memory = ap (λ x. bus_after a x) h.memory
+          ∙ (ap (λ xs. bus_after a (memory_after xs m)) (resume_repeats_next js list k d l)
           ∙ (sym (host_list_memory_append (left ++ a ∷ replicate (resume_repeats_of k js) a) (a ∷ []) m)
           ∙ ap (λ xs. memory_after xs m) (sym whole)));
     }
 
 -- no place is repeated
-pub resume_after_none : (k : ℕ) (list : List Access) (m now : PlainMemory) → now ≡ memory_after (take k list) m
+pub resume_after_none : (k : ℕ) (list : List Access) (m now : Bus) → now ≡ memory_after (take k list) m
     → IsAfterResumeRepeats [] k list m now
 resume_after_none k list m now e = grind (arith, resume_repeats_none)

@@ -1,7 +1,7 @@
 -- From the opening after a lost acknowledgement, and the list done after it, to the new report.
 use Rattle.swd_host.proofs.Words.{◌≡◌, ◌+◌, ◌-◌, ◌*◌, ◌%◌, ◌^◌, ◌<◌, ◌≤◌, ℕ, true, refl, sym, ap, subst, inl, inr}
 use Rattle.swd_host.proofs.Words.{arith, ◌∙◌, List, [], ◌∷◌, ◌++◌, length, take, length-append, suc, drop, Access}
-use Rattle.swd_host.proofs.Words.{Answer, PlainMemory, Due, Port, End, Lost, Opened, Stopped, Resting, Engine}
+use Rattle.swd_host.proofs.Words.{Answer, Bus, Due, Port, End, Lost, Opened, Stopped, Resting, Engine}
 use Rattle.swd_host.proofs.Words.{bursts_limit, AreHostAccesses, engine_begun, EngineDueFits, EngineResumes}
 use Rattle.swd_host.proofs.Words.{EngineIsNew, EngineGoesWithPort, HostReport, Fits, HostEndsAt, HostKnowsTarget}
 use Rattle.swd_host.proofs.Words.{Closes, EngineDoes, EngineDoesOver, engine_report, resume_report, MayBecome}
@@ -13,6 +13,8 @@ use Rattle.swd_host.proofs.Ends.{engine_stop_begun, stops_only}
 use Rattle.swd_host.proofs.Opened.{OpeningEnds, OpeningSucceeds, opening_counts_at, new_engine_resumes}
 use Rattle.swd_host.proofs.Opened.{opening_stop_memory, opening_success_memory}
 use Rattle.swd_host.proofs.Openings.{engine_ends_since, opening_spends, opening_asked, opening_unbegun, opening_lost}
+use Rattle.swd_host.proofs.Openings.{opened_sent}
+use Rattle.swd_host.proofs.Fitting.{fits_from_fewer}
 use Rattle.swd_host.proofs.GoingOn.{resumed_rest_length}
 
 -- LISTS
@@ -67,7 +69,7 @@ module _ (list : List Access) (tries : ℕ) (earlier : HostReport) (e f : Engine
     ]
 
     -- nothing of the list was done
-    stop_fits : (now : PlainMemory)
+    stop_fits : (now : Bus)
         → Fits 1 (drop (length earlier.answers) list) now
         (resume_own_report earlier (resume_report raw earlier) raw.begun) now
     stop_fits now = (
@@ -119,7 +121,9 @@ module _ (list : List Access) (tries : ℕ) (earlier : HostReport) (e f : Engine
     one = ap bursts_limit (goes.works.bursts ∙ new.bursts)
 
     later : Fits 1 rest opened.memory (engine_report does.answers last end) done.settled
-    later = subst (λ n. Fits n rest opened.memory (engine_report does.answers last end) done.settled) one done.later
+    later = subst (λ n. Fits n rest opened.memory (engine_report does.answers last end) done.settled) one
+        (fits_from_fewer f.requests 9 (bursts_limit f.bursts) rest opened.memory (engine_report does.answers last end)
+        done.settled (opened_sent Writes true tries e f s t small new goes at) done.later)
 
     done_ends : HostEndsAt end tries s u
     done_ends = grind (arith, done, engine_ends_since, same_tries)
@@ -127,7 +131,7 @@ module _ (list : List Access) (tries : ℕ) (earlier : HostReport) (e f : Engine
     done_added : resume_added earlier (resume_report told earlier) ≡ does.answers
     done_added = ap (drop (length earlier.answers)) after_is ∙ drop-append_seam earlier.answers does.answers
 
-    done_fits : (now : PlainMemory) → MayBecome u now
+    done_fits : (now : Bus) → MayBecome u now
         → Fits 1 rest opened.memory (resume_own_report earlier (resume_report told earlier) told.begun) now
     done_fits now (c, i, is) =
         subst (λ x. Fits 1 rest opened.memory (resume_own_report earlier (resume_report told earlier) told.begun) x)

@@ -1,9 +1,9 @@
 -- From the opening and the list done after it to the report of a run.
-use Rattle.swd_host.proofs.Words.{◌≡◌, ◌≢◌, ◌+◌, ◌%◌, ◌^◌, ◌<◌, ℕ, false, sym, ap, subst, inl, inr, arith, ◌∙◌, List}
-use Rattle.swd_host.proofs.Words.{[], ◌++◌, Access, Answer, PlainMemory, Port, port_completed, MayBecome, End, All}
+use Rattle.swd_host.proofs.Words.{◌≡◌, ◌≢◌, ◌+◌, ◌%◌, ◌^◌, ◌<◌, ◌≤◌, ℕ, false, sym, ap, subst, inl, inr, arith, ◌∙◌, List}
+use Rattle.swd_host.proofs.Words.{[], ◌++◌, Access, Answer, Bus, Port, port_completed, MayBecome, End, All}
 use Rattle.swd_host.proofs.Words.{Lost, Opened, Stopped, Resting, Engine, AreHostAccesses, Bursts, bursts_limit}
 use Rattle.swd_host.proofs.Words.{engine_left_in, EngineDueFits, EngineResumes, EngineIsNew, EngineGoesWithPort}
-use Rattle.swd_host.proofs.Words.{HostReport, Fits, HostEndsAt, IsAtRest, RunFits, RunsWithin, EngineTargetIsOpen}
+use Rattle.swd_host.proofs.Words.{HostReport, Fits, FitsFrom, HostEndsAt, IsAtRest, RunFits, RunsWithin, EngineTargetIsOpen}
 use Rattle.swd_host.proofs.Words.{EngineDoes, engine_report}
 use Rattle.swd_port.proofs.CompletionLaws.{port_may_become_of_none}
 use Rattle.swd_host.proofs.Openings.{engine_ends_since, opening_spends, opening_asked, opening_unbegun, opening_lost}
@@ -11,17 +11,24 @@ use Rattle.swd_host.proofs.Openings.{opened_sent}
 use Rattle.swd_host.proofs.Opened.{OpeningEnds, OpeningSucceeds, opening_counts_at, new_engine_resumes}
 use Rattle.swd_host.proofs.Opened.{opening_stop_memory, opening_success_memory}
 use Rattle.swd_host.proofs.Ends.{stops_only}
+use Rattle.swd_host.proofs.Fitting.{fits_from_fewer}
 
 -- WHAT A REPORT SAYS
-pub host_run_equal_report : (limit : ℕ) (list : List Access) (tries : ℕ) (m : PlainMemory) (x y : HostReport)
+pub host_run_equal_report : (limit : ℕ) (list : List Access) (tries : ℕ) (m : Bus) (x y : HostReport)
     (s t : Port) → y ≡ x → RunFits limit list tries m x s t → RunFits limit list tries m y s t
 host_run_equal_report limit list tries m x y s t is h = subst (λ told. RunFits limit list tries m told s t) (sym is) h
+
+run_list_fits : (f : Engine) (kind : Bursts) (list : List Access) (m : Bus) (told : HostReport) (now : Bus)
+    → 9 ≤ f.requests → bursts_limit f.bursts ≡ bursts_limit kind
+    → FitsFrom f.requests (bursts_limit f.bursts) list m told now → Fits (bursts_limit kind) list m told now
+run_list_fits f kind list m told now sent limit h = subst (λ n. Fits n list m told now) limit
+    (fits_from_fewer f.requests 9 (bursts_limit f.bursts) list m told now sent h)
 
 -- A RUN
 module _ (kind : Bursts) (list : List Access) (tries : ℕ) (e f : Engine) (answers : List Answer) (s t : Port)
     (small : tries < 2 ^ 32) (new : EngineIsNew kind false tries e) (goes : EngineGoesWithPort e s f t)
     (due : EngineDueFits f t) (none : answers ≡ []) (rest : IsAtRest s) where
-  abbrev pub m : PlainMemory
+  abbrev pub m : Bus
   m = s.target.memory
 
   first : EngineResumes (opening_counts_at s) s e s
@@ -37,10 +44,10 @@ module _ (kind : Bursts) (list : List Access) (tries : ℕ) (e f : Engine) (answ
   unbegun = opening_unbegun kind false tries e f s t small new goes
 
   -- nothing was pending: no other memory may have come of the start
-  only : (now : PlainMemory) → MayBecome s now → now ≡ m
+  only : (now : Bus) → MayBecome s now → now ≡ m
   only now may = port_may_become_of_none.only now s rest.settled may
 
-  opening_fits : (now : PlainMemory) (end : End) → end ≢ All → f.state ≡ Resting (Stopped end) → MayBecome s now
+  opening_fits : (now : Bus) (end : End) → end ≢ All → f.state ≡ Resting (Stopped end) → MayBecome s now
       → Fits (bursts_limit kind) list m (engine_report answers f end) now
   opening_fits now end never at may = grind arith
 
@@ -80,20 +87,21 @@ module _ (kind : Bursts) (list : List Access) (tries : ℕ) (e f : Engine) (answ
       let over = does.over m is_open ok in
       let left : engine_left_in f.state ≡ 1 = ap engine_left_in at in
       let limit : bursts_limit f.bursts ≡ bursts_limit kind = ap bursts_limit (goes.works.bursts ∙ new.bursts) in
+      let sent : 9 ≤ f.requests = opened_sent kind false tries e f s t small new goes at in
       let mine : part ≡ does.answers = does.added ∙ ap (λ x. x ++ does.answers) none in
       let ends : HostEndsAt end tries s u = engine_ends_since end tries s t u goes.later.disturbed goes.later.lost
       (subst (λ n. HostEndsAt end n t u) (goes.works.tries ∙ new.tries) over.ends) in
       host_run_equal_report (bursts_limit kind) list tries m (engine_report does.answers last end)
       (engine_report part last end) s u (ap (λ x. engine_report x last end) mine)
       (record {
-        now = subst (λ n. Fits n list m (engine_report does.answers last end) u.target.memory) limit over.now;
+        now = run_list_fits f kind list m (engine_report does.answers last end) u.target.memory sent limit over.now;
         later = λ c. subst (Fits (bursts_limit kind) list m (engine_report does.answers last end))
-            (sym (over.becomes c)) (subst (λ n. Fits n list m (engine_report does.answers last end) over.settled) limit
-            over.later);
+            (sym (over.becomes c))
+            (run_list_fits f kind list m (engine_report does.answers last end) over.settled sent limit over.later);
         ends = ends;
         stops_only = stops_only end tries s u ends;
         counted = omega (arith, does.asked, opening_asked kind false tries e f s t small new goes);
-        least = λ whole. omega (arith, over.least whole, opened_sent kind false tries e f s t small new goes at);
+        least = λ whole. omega (arith, over.least whole, sent);
         most =
             omega (
               arith,

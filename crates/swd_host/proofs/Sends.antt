@@ -1,6 +1,6 @@
 -- Every request keeps what the engine knows.
 use Rattle.swd_host.proofs.Words.{◌≡◌, ◌≤◌, ℕ, Bool, false, refl, sym, ap, subst, inl, inr, arith, ◌∙◌, None, max, Task}
-use Rattle.swd_host.proofs.Words.{BurstRead, PlainMemory, Port, CtrlStatWrite, SelectWrite, CswWrite, TarWrite, Live}
+use Rattle.swd_host.proofs.Words.{BurstRead, Bus, Port, CtrlStatWrite, SelectWrite, CswWrite, TarWrite, Live}
 use Rattle.swd_host.proofs.Words.{PortAsks, Flags, HostStep, Identify, WriteAbort, CheckCtrlStat, Select, Power}
 use Rattle.swd_host.proofs.Words.{Powered, Configure, ReadCsw, Configured, WriteTar, Transfer, Confirm, Behind, Job, At}
 use Rattle.swd_host.proofs.Words.{Resend, Status, LastStatus, Clear, Check, engine_request_for, engine_job_starts}
@@ -24,7 +24,7 @@ pub record HostAtRest (s : Port) : Type 0 where
   pub live : s.target.reset ≡ Live
   pub pending : s.target.pending ≡ None
 
-calm_rest : (m : PlainMemory) (s : Port) → EngineTargetCalm m s.target → HostAtRest s
+calm_rest : (m : Bus) (s : Port) → EngineTargetCalm m s.target → HostAtRest s
 calm_rest m s h = record { select = h.select; live = h.live; pending = h.pending }
 
 broken_rest : (p : HostStep) (b : ℕ) (k : EngineHand) (s : Port) → TaskBusError p b k s.target → HostAtRest s

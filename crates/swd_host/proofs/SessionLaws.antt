@@ -1,22 +1,23 @@
 -- Calls one after the other over one target are as one list. For the laws `sessions` and `made_is_at_rest`.
 use Rattle.swd_host.proofs.Words.{◌≡◌, ◌%◌, ℕ, refl, sym, ap, subst, arith, ◌∙◌, List, ◌++◌, length, take, Access}
-use Rattle.swd_host.proofs.Words.{Answer, PlainMemory, Port, All, memory_after, answers_of, HostReport, FitsAt}
-use Rattle.swd_host.proofs.Words.{HostEndsAt, IsAtRest, RunFits}
+use Rattle.swd_host.proofs.Words.{Answer, Bus, Port, All, memory_after, answers_of, HostReport, FitsFromAt}
+use Rattle.swd_host.proofs.Words.{HostEndsAt, HostIsOpen, IsAtRest, RunFits, RunFitsFrom}
 use Rattle.std.proofs.lemmas.List.{take_all}
 use Rattle.swd_port.specs.Port.{port_made}
-use Rattle.swd_host.specs.Sessions.{HostSession, none, then, HostSessionIsAsOne}
+use Rattle.swd_host.specs.Sessions.{HostSession, none, then, HostSessionIsAsOne, HostLists, none_yet, and_then}
+use Rattle.swd_host.specs.Sessions.{HostListsAreAsOne}
 use Rattle.swd_host.proofs.Lists.{host_list_memory_append, host_list_answers_append}
 
 -- a target that was just made is at rest, if bit 0 of its identification is 1
-pub host_session_made_rests : (identification : ℕ) (m : PlainMemory) → identification % 2 ≡ 1
+pub host_session_made_rests : (identification : ℕ) (m : Bus) → identification % 2 ≡ 1
     → IsAtRest (port_made identification m)
 host_session_made_rests identification m odd =
     record { due = refl; known = record { select = refl; odd = odd }; settled = refl }
 
 -- A CALL THAT ENDED WHOLE
-module _ (limit tries : ℕ) (list : List Access) (told : HostReport) (s t : Port)
-    (runs : RunFits limit list tries s.target.memory told s t) (all : told.ended ≡ All) where
-  whole_fit : FitsAt limit runs.now.0 list s.target.memory told t.target.memory
+module _ (opening limit tries : ℕ) (list : List Access) (told : HostReport) (s t : Port)
+    (runs : RunFitsFrom opening limit list tries s.target.memory told s t) (all : told.ended ≡ All) where
+  whole_fit : FitsFromAt opening limit runs.now.0 list s.target.memory told t.target.memory
   whole_fit = runs.now.1
 
   whole_list : take runs.now.0 list ≡ list
@@ -25,9 +26,8 @@ module _ (limit tries : ℕ) (list : List Access) (told : HostReport) (s t : Por
   pub whole_answers : told.answers ≡ answers_of list s.target.memory
   whole_answers = whole_fit.answers ∙ ap (λ xs. answers_of xs s.target.memory) whole_list
 
-  pub whole_rests : IsAtRest t
-  whole_rests =
-      let ends : HostEndsAt All tries s t = subst (λ end. HostEndsAt end tries s t) all runs.ends in ends.0
+  pub whole_open : HostIsOpen t
+  whole_open = subst (λ end. HostEndsAt end tries s t) all runs.ends
 
   -- no access is begun beside
   unbegun : (b : ℕ) → told.begun ≡ b → b ≡ 0
@@ -44,12 +44,30 @@ host_session_as_one s list answers t rest
     (then {done = done} {answers = old} {t = u} {u = v} before limit tries more told runs all) =
     let b : HostSessionIsAsOne s done old u = host_session_as_one s done old u rest before in
     let r : RunFits limit more tries u.target.memory told u t = runs b.rests in
-    let m : PlainMemory = s.target.memory in
+    let m : Bus = s.target.memory in
     record {
-      rests = whole_rests limit tries more told u v r all;
+      rests = (whole_open 9 limit tries more told u v r all).0;
       answers_are = ap (λ l. l ++ told.answers) b.answers_are
-          ∙ (ap (λ l. answers_of done m ++ l) (whole_answers limit tries more told u v r all
+          ∙ (ap (λ l. answers_of done m ++ l) (whole_answers 9 limit tries more told u v r all
           ∙ ap (answers_of more) b.memory) ∙ sym (host_list_answers_append done more m));
-      memory = whole_memory limit tries more told u v r all
+      memory = whole_memory 9 limit tries more told u v r all
+          ∙ (ap (memory_after more) b.memory ∙ sym (host_list_memory_append done more m));
+    }
+
+-- lists over an open target, as one list
+pub host_lists_as_one : (s : Port) (list : List Access) (answers : List Answer) (t : Port) → HostIsOpen s
+    → HostLists s list answers t → HostListsAreAsOne s list answers t
+host_lists_as_one s list answers t ready none_yet = record { open_again = ready; answers_are = refl; memory = refl }
+host_lists_as_one s list answers t ready
+    (and_then {done = done} {answers = old} {t = u} {u = v} before limit tries more told runs all) =
+    let b : HostListsAreAsOne s done old u = host_lists_as_one s done old u ready before in
+    let r : RunFitsFrom 0 limit more tries u.target.memory told u t = runs b.open_again in
+    let m : Bus = s.target.memory in
+    record {
+      open_again = whole_open 0 limit tries more told u v r all;
+      answers_are = ap (λ l. l ++ told.answers) b.answers_are
+          ∙ (ap (λ l. answers_of done m ++ l) (whole_answers 0 limit tries more told u v r all
+          ∙ ap (answers_of more) b.memory) ∙ sym (host_list_answers_append done more m));
+      memory = whole_memory 0 limit tries more told u v r all
           ∙ (ap (memory_after more) b.memory ∙ sym (host_list_memory_append done more m));
     }

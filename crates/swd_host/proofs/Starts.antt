@@ -1,8 +1,8 @@
 -- An access begins: its task, its first state, and what is known of the port then. For the loops over a list.
 use Rattle.swd_host.proofs.Words.{◌≡◌, ◌+◌, ◌*◌, ◌%◌, ◌<◌, ◌≤◌, ℕ, Bool, true, false, not, refl, sym, ap, subst, inl}
 use Rattle.swd_host.proofs.Words.{arith, ◌∙◌, Option, Some, None, ◌&&◌, if◌then◌else◌, bit, Access, AccessRead}
-use Rattle.swd_host.proofs.Words.{AccessWrite, BusFault, DrwWrite, Due, Nothing, PlainMemory, plain_address}
-use Rattle.swd_host.proofs.Words.{plain_answer, plain_after, Port, PortSent, Answered, Task, Write, BurstWrite, Bursts}
+use Rattle.swd_host.proofs.Words.{AccessWrite, BusFault, DrwWrite, Due, Nothing, Bus, plain_address}
+use Rattle.swd_host.proofs.Words.{bus_answer, bus_after, Port, PortSent, Answered, Task, Write, BurstWrite, Bursts}
 use Rattle.swd_host.proofs.Words.{Transfer, Confirm, At, Ahead, Unsent, NextSent, NextFailed, Data, State, Doing}
 use Rattle.swd_host.proofs.Words.{Resting, Engine, continues_burst, IsHostAccess, access_of_task, task_is_read}
 use Rattle.swd_host.proofs.Words.{is_burst, is_burst_write, task_is_block, task_for, task_most_begun, bursts_limit}
@@ -155,13 +155,13 @@ module _ (a : Access) (following : Option Access) (e g : Engine) (starts : Engin
   pub answered_start : engine_next_failed e ≡ true → IsEngineAnswered g
   answered_start failed = grind arith
 
-  unsent_tracks : (n tries : ℕ) (base : EngineBase) (m : PlainMemory) (s : Port) → engine_is_ahead e ≡ false
+  unsent_tracks : (n tries : ℕ) (base : EngineBase) (m : Bus) (s : Port) → engine_is_ahead e ≡ false
       → e.ahead ≡ Unsent
       → EngineIsReady n (hand_of_engine e m) s
       → EngineStateTracks (engine_first_state false Unsent g.aims) n tries base g.begun (hand_of_engine g m) s
   unsent_tracks n tries base m s is at h = grind arith
 
-  start_tracks : (ahead : Bool) (further : Ahead) (n tries : ℕ) (base : EngineBase) (m : PlainMemory) (s : Port)
+  start_tracks : (ahead : Bool) (further : Ahead) (n tries : ℕ) (base : EngineBase) (m : Bus) (s : Port)
       → engine_is_ahead e ≡ ahead → e.ahead ≡ further
       → (is_burst e.task ≡ true → continues_burst (access_of_task e.task) (Some a) ≡ true)
       → EngineBetweenAccesses ahead n (hand_of_engine e m) s
@@ -196,9 +196,9 @@ module _ (a : Access) (following : Option Access) (e g : Engine) (starts : Engin
       let answered : IsEngineAnswered g = answered_start (failed_by false NextFailed is at) in
       record {
         begun = answered.begun ∙ sym (ap bit (single_task_not_block g.task answered.single));
-        up = subst (λ x. EngineAheadAt x g.task (plain_after (access_of_task g.task) m) s.target) (sym starts.ahead)
-            (subst (λ y. EngineTargetUp y s.target) (sym (ap (λ x. plain_after x m) here ∙ up.2.after)) up.1);
-        answered = ap (λ x. plain_answer x m) here ∙ up.2.answer;
+        up = subst (λ x. EngineAheadAt x g.task (bus_after (access_of_task g.task) m) s.target) (sym starts.ahead)
+            (subst (λ y. EngineTargetUp y s.target) (sym (ap (λ x. bus_after x m) here)) up.1);
+        answered = ap (λ x. bus_answer x m) here ∙ up.2;
         known = subst (λ x. EngineKnowsTarAt x g.tar s.target) (sym starts.ahead)
             (λ place some. absurd (let never : None ≡ Some place = sym (starts.tar ∙ tar) ∙ some in cc));
         flag = h.flag;
@@ -206,7 +206,7 @@ module _ (a : Access) (following : Option Access) (e g : Engine) (starts : Engin
       }
 
   -- from what holds between two accesses the engine's invariant follows at the start of the next one
-  pub start_follows : (n : ℕ) (m : PlainMemory) (s : Port) → IsHostAccess a
+  pub start_follows : (n : ℕ) (m : Bus) (s : Port) → IsHostAccess a
       → (is_burst e.task ≡ true → continues_burst (access_of_task e.task) (Some a) ≡ true)
       → EngineBetweenAccesses (engine_is_ahead e) n (hand_of_engine e m) s
       → EngineFollowsPort (record { disturbed = n; lost = s.tally.lost }) m g s

@@ -1,8 +1,8 @@
 -- The requests of a transfer: DRW, and the request that confirms it.
 use Rattle.swd_host.proofs.Words.{◌≡◌, ◌+◌, ◌≤◌, ℕ, Bool, true, false, refl, sym, ap, subst, inl, inr, arith, ◌∙◌}
 use Rattle.swd_host.proofs.Words.{Option, Some, None, ◌⊎◌, Request, AccessRead, Task, Read, BurstRead, Write}
-use Rattle.swd_host.proofs.Words.{BurstWrite, access_of_task, task_is_block, Value, plain_answer, plain_done_answer}
-use Rattle.swd_host.proofs.Words.{plain_word_at, Port, port_register, Register, RdbuffRead, DrwRead, DrwWrite}
+use Rattle.swd_host.proofs.Words.{BurstWrite, access_of_task, task_is_block, Value, bus_answer, bus_done_answer}
+use Rattle.swd_host.proofs.Words.{bus_word_at, Port, port_register, Register, RdbuffRead, DrwRead, DrwWrite}
 use Rattle.swd_host.proofs.Words.{PortCompletes, PortAsks, port_has_power, pending_drw_once_read, Drw, PortIgnores}
 use Rattle.swd_host.proofs.Words.{PortAccepts, PortRefuses, PortPhaseSpared, okay, wait, lost, PortSent, PortSucceeded}
 use Rattle.swd_host.proofs.Words.{PortBuffered, Transfer, Confirm, Job, At, engine_request_for, task_drw_register}
@@ -152,27 +152,27 @@ confirms_at (Read at) n b k x y flip e single h flag paid more sp d ac =
     (Read at) true flip x y refl ac) h d ac in
     let by : TaskDoneWithAhead (task_ahead k.task) b k y.target =
     subst (λ a. TaskDoneWithAhead (task_ahead a) b k y.target) (sym e) done in
-    let answer : plain_answer (access_of_task k.task) k.memory ≡ Value (plain_word_at at k.memory) =
-    d.answer ∙ ap (λ a. plain_done_answer (access_of_task a) k.memory) e in
-    let buffer : x.target.buffer ≡ Some (plain_word_at at k.memory) =
+    let answer : bus_answer (access_of_task k.task) k.memory ≡ Value (bus_word_at at k.memory) =
+    d.answer ∙ ap (λ a. bus_done_answer (access_of_task a) k.memory) e in
+    let buffer : x.target.buffer ≡ Some (bus_word_at at k.memory) =
     subst (λ a. PortBuffered (access_of_task a) k.memory x.target) e d.buffered in
-    let back = port_buffer_returned RdbuffRead flip (plain_word_at at k.memory) x y refl buffer ac in
-    let resent : (n' : ℕ) → n' ≤ y.tally.disturbed → EngineResendWord Confirm (plain_word_at at k.memory) n' b k y =
+    let back = port_buffer_returned RdbuffRead flip (bus_word_at at k.memory) x y refl buffer ac in
+    let resent : (n' : ℕ) → n' ≤ y.tally.disturbed → EngineResendWord Confirm (bus_word_at at k.memory) n' b k y =
     (λ n' p. record {
       returned = (by, answer);
       last = back.1;
       flag = ap (λ i. i.write_error) ac.target ∙ flag;
       paid = p;
     }) in (
-      plain_word_at at k.memory,
-      host_data_read_due (plain_word_at at k.memory) n
-          (λ c. EngineResendWord Confirm (plain_word_at at k.memory) c b k y) flip x y back.0 sp
+      bus_word_at at k.memory,
+      host_data_read_due (bus_word_at at k.memory) n
+          (λ c. EngineResendWord Confirm (bus_word_at at k.memory) c b k y) flip x y back.0 sp
           (resent n (omega arith)) (λ i. resent (n + 1) (omega arith)),
     )
 confirms_at (Write at word) n b k x y flip e single h flag paid more sp d ac =
     record {
       done = done_there b k RdbuffRead true flip x y (stays_pending (Write at word) true flip x y refl ac) h d ac;
-      answered = d.answer ∙ ap (λ a. plain_done_answer (access_of_task a) k.memory) e;
+      answered = d.answer ∙ ap (λ a. bus_done_answer (access_of_task a) k.memory) e;
       flag = ap (λ i. i.write_error) ac.target ∙ flag;
       paid = omega arith;
     }
@@ -181,7 +181,7 @@ confirms_at (BurstWrite at word) n b k x y flip e single h flag paid more sp d a
     (λ n' i. record {
       done = done_there b k DrwWrite false flip x y
           (stays_pending (BurstWrite at word) false flip x y refl ac) h d ac;
-      answered = d.answer ∙ ap (λ a. plain_done_answer (access_of_task a) k.memory) e;
+      answered = d.answer ∙ ap (λ a. bus_done_answer (access_of_task a) k.memory) e;
       flag = ap (λ i. i.write_error) ac.target ∙ flag;
       paid = i;
     }) in

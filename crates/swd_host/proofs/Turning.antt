@@ -1,6 +1,6 @@
 -- One call of the wire, as the engine asks for it: what the engine and the port keep.
 use Rattle.swd_host.proofs.Words.{◌≡◌, ◌+◌, ◌-◌, ◌*◌, ◌^◌, ◌≤◌, ◌<◌, ℕ, Bool, true, false, refl, sym, ap, subst, inl}
-use Rattle.swd_host.proofs.Words.{inr, arith, ◌∙◌, Some, None, max, Request, PlainMemory, Port, data_phase_number}
+use Rattle.swd_host.proofs.Words.{inr, arith, ◌∙◌, Some, None, max, Request, Bus, Port, data_phase_number}
 use Rattle.swd_host.proofs.Words.{data_phase_word, PortAsks, PortTakes, PortGives, PortPasses, PortLeads, Lost, Stopped}
 use Rattle.swd_host.proofs.Words.{Task, Job, CueAsk, Ask, Data, State, Doing, Resting, Engine, engine_request_for}
 use Rattle.swd_host.proofs.Words.{engine_word_for, engine_job_starts, engine_cue, engine_is_ahead_at, engine_is_resting}
@@ -54,7 +54,7 @@ pub engine_at_give : (x : State) (stray : Bool) (task : Task) (sent : ℕ)
 engine_at_give x stray task sent e = grind arith
 
 -- what holds at a state
-tracked : (base : EngineBase) (m : PlainMemory) (e : Engine) (s : Port) (x : State) → e.state ≡ x
+tracked : (base : EngineBase) (m : Bus) (e : Engine) (s : Port) (x : State) → e.state ≡ x
     → TracksEngine base m e s → EngineStateTracks x (base.disturbed + e.events) e.tries base e.begun
     (hand_of_engine e m) s
 tracked base m e s x at h = subst (λ y. EngineStateTracks y (base.disturbed + e.events) e.tries base e.begun
@@ -89,7 +89,7 @@ engine_ask_goes e f on s t q v cue asks heard =
     λ few. sent ∙ engine_one_more_exact e.requests (omega arith) in
     let open_here : engine_left_in e.state ≡ engine_left_for a.job = ap engine_left_in a.at in
     let asked : PortAsks s (engine_request_for a.job e.task) v t = subst (λ r. PortAsks s r v t) a.is asks in
-    let follows : (base : EngineBase) (m : PlainMemory) → EngineFollowsPort base m e s → EngineFollowsPort base m f t =
+    let follows : (base : EngineBase) (m : Bus) → EngineFollowsPort base m e s → EngineFollowsPort base m f t =
     λ base m h. (
     let before : EngineBefore a.job (base.disturbed + e.events) e.begun (hand_of_engine e m) s =
     tracked base m e s (Doing a.job Ask) a.at h.tracks in
@@ -136,7 +136,7 @@ Steps e s f t = (base : EngineBase) (start : Port) → IsTask e.task → base.lo
 -- a call that is no request, from what the engine and the port keep over it
 moves : (e f : Engine) (on : engine_is_resting e ≡ false) (s t : Port) → engine_lands_from e f → t.tally ≡ s.tally
     → t.target.identification ≡ s.target.identification
-    → ((base : EngineBase) (m : PlainMemory) → EngineFollowsPort base m e s → EngineFollowsPort base m f t)
+    → ((base : EngineBase) (m : Bus) → EngineFollowsPort base m e s → EngineFollowsPort base m f t)
     → Steps e s f t → EngineGoesWithPort e s f t
 moves e f on s t lands tally identified follows steps = record {
   works = engine_moves_works e f on lands;
@@ -153,8 +153,8 @@ moves e f on s t lands tally identified follows steps = record {
 
 -- the engine still follows the memory
 follows_by : (e f : Engine) (s t : Port) → engine_lands_from e f → t.tally ≡ s.tally
-    → ((base : EngineBase) (m : PlainMemory) → EngineFollowsPort base m e s → TracksEngine base m f t)
-    → (base : EngineBase) (m : PlainMemory) → EngineFollowsPort base m e s → EngineFollowsPort base m f t
+    → ((base : EngineBase) (m : Bus) → EngineFollowsPort base m e s → TracksEngine base m f t)
+    → (base : EngineBase) (m : Bus) → EngineFollowsPort base m e s → EngineFollowsPort base m f t
 follows_by e f s t lands tally tracks base m h = grind arith
 
 -- the engine is still early
@@ -184,7 +184,7 @@ engine_take_goes e f on s t bits range cue takes took =
     (read_early (base.disturbed + e.events) e.stray start bits s t range takes p.job e.task p.reads
     (early_at base start e s (Doing p.job Data) p.at h)))))
 
-left_at_state : (base : EngineBase) (m : PlainMemory) (e : Engine) (t : Port) (x : State) → e.state ≡ x
+left_at_state : (base : EngineBase) (m : Bus) (e : Engine) (t : Port) (x : State) → e.state ≡ x
     → EngineHoldsAfterCue x (base.disturbed + e.events) e.begun (hand_of_engine e m) t
     → EngineHoldsAfterCue e.state (base.disturbed + e.events) e.begun (hand_of_engine e m) t
 left_at_state base m e t x at h = subst (λ y. EngineHoldsAfterCue y (base.disturbed + e.events) e.begun
@@ -203,7 +203,7 @@ engine_give_goes e f on s t sent range cue gives did =
     let lands : engine_lands_from e f = did.lands in
     let p : IsEngineGiving e.state e.task sent = engine_at_give e.state e.stray e.task sent cue in
     let tally : t.tally ≡ s.tally = port_others_uncounted (CueGive sent) 0 s t refl gives in
-    let follows : (base : EngineBase) (m : PlainMemory) → EngineFollowsPort base m e s → EngineFollowsPort base m f t =
+    let follows : (base : EngineBase) (m : Bus) → EngineFollowsPort base m e s → EngineFollowsPort base m f t =
     follows_by e f s t lands tally (λ base m h. did.tracks base m t (
       h.task,
       left_at_state base m e t (Doing p.job Data) p.at

@@ -26,8 +26,9 @@ pub use Rattle.swd_host.specs.Plain.{answers_of, AreHostAccesses, IsHostAccess, 
 pub use Rattle.swd_host.specs.Progress.{engine_calls_left, engine_job_is_of, engine_state_is_of, engine_least_for}
 pub use Rattle.swd_host.specs.Progress.{engine_least_in, engine_left_at_place, engine_left_for, engine_left_in}
 pub use Rattle.swd_host.specs.Progress.{engine_open_requests, engine_stray_left}
-pub use Rattle.swd_host.specs.Reports.{Closes, HostEndsAt, Fits, FitsAt, HostNextAccess, IsAtRest, HostKnowsTarget}
-pub use Rattle.swd_host.specs.Reports.{RunFits, RunsOver, RunsWithin, HostReport, host_report_of}
+pub use Rattle.swd_host.specs.Reports.{Closes, HostEndsAt, Fits, FitsAt, FitsFrom, FitsFromAt, HostNextAccess, IsAtRest}
+pub use Rattle.swd_host.specs.Reports.{HostKnowsTarget, HostIsOpen, ListCloses, ListsWithin, RunFits, RunFitsFrom}
+pub use Rattle.swd_host.specs.Reports.{RunsOver, RunsWithin, HostReport, host_report_of}
 pub use Rattle.swd_host.specs.Requests.{engine_job_starts, task_confirm_starts, engine_confirmed}
 pub use Rattle.swd_host.specs.Requests.{task_confirming_register, task_drw_register, engine_place_is_behind}
 pub use Rattle.swd_host.specs.Requests.{engine_place_is_confirm, engine_word_is_ignored, engine_request_for}
@@ -87,8 +88,9 @@ pub use Rattle.swd_port.specs.Moves.{PortWritten, PortPassed, PortWriteSpoiled}
 pub use Rattle.swd_port.specs.Moving.{PortGives, PortPasses, PortTakes}
 pub use Rattle.swd_port.specs.Outcomes.{PortAccepts, fault, IsPortNoAck, lost, okay, PortRefuses, PortPhaseSpared}
 pub use Rattle.swd_port.specs.Outcomes.{PortIgnores, wait}
-pub use Rattle.swd_port.specs.PlainMemory.{plain_address, plain_done_answer, plain_after, plain_answer, PlainMemory}
-pub use Rattle.swd_port.specs.PlainMemory.{plain_word_at}
+pub use Rattle.swd_port.specs.Bus.{bus_done_answer, bus_after, bus_answer, Bus}
+pub use Rattle.swd_port.specs.PlainMemory.{plain_address}
+pub use Rattle.swd_port.specs.Bus.{bus_word_at}
 pub use Rattle.swd_port.specs.Port.{Port, port_register, Target}
 pub use Rattle.swd_port.specs.Registers.{port_select_zero}
 pub use Rattle.swd_port.specs.Transfers.{PortBuffered, PortSent, PortSucceeded}

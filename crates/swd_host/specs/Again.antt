@@ -6,11 +6,11 @@ use Rattle.swd_port.specs.declared.access.Access.{Access}
 use Rattle.swd_port.specs.declared.access.Answer.{Answer}
 use Rattle.swd_port.specs.declared.call.Call.{Call}
 use Rattle.swd_port.specs.declared.wire.Due.{Due}
-use Rattle.swd_port.specs.PlainMemory.{PlainMemory}
+use Rattle.swd_port.specs.Bus.{Bus}
 use Rattle.swd_port.specs.Port.{Port}
 use Rattle.swd_port.specs.Completion.{MayBecome}
 use Rattle.swd_host.specs.declared.outcome.End.TheVariants.{All}
-use Rattle.swd_host.specs.Plain.{memory_after, answers_of}
+use Rattle.swd_host.specs.Plain.{memory_after, answers_of, IsPlainWithRoom}
 use Rattle.swd_host.specs.Reports.{HostReport, Closes, Fits, HostKnowsTarget, HostEndsAt}
 use Rattle.swd_host.specs.Resuming.{resume_begun}
 use Rattle.swd_host.specs.Sent.{HostReportsCalls}
@@ -32,13 +32,13 @@ ResumePlacesBelow n [] = Unit {0}
 ResumePlacesBelow n (j ∷ js) = (j < n) × ResumePlacesBelow n js
 
 -- the memory after the first n accesses, of which those at the places js were repeated
-pub record IsAfterResumeRepeats (js : List ℕ) (n : ℕ) (list : List Access) (m now : PlainMemory) : Type 0 where
+pub record IsAfterResumeRepeats (js : List ℕ) (n : ℕ) (list : List Access) (m now : Bus) : Type 0 where
   pub places : ResumePlacesBelow n js
   pub memory : now ≡ memory_after (list_with_resume_repeats js 0 (take n list)) m
 
 -- The answers are those to the first k accesses, done once each. The memory is that after these, or after these and the
 -- begun one, where the accesses at the places js were repeated.
-pub record AgainAt (k : ℕ) (js : List ℕ) (list : List Access) (m : PlainMemory) (told : HostReport) (now : PlainMemory)
+pub record AgainAt (k : ℕ) (js : List ℕ) (list : List Access) (m : Bus) (told : HostReport) (now : Bus)
     : Type 0 where
   pub reported : k ≤ length list
   pub answers : told.answers ≡ answers_of (take k list) m
@@ -48,12 +48,13 @@ pub record AgainAt (k : ℕ) (js : List ℕ) (list : List Access) (m : PlainMemo
   pub begun : told.begun ≡ 1 → (k < length list) × (told.ended ≢ All)
   pub all : told.ended ≡ All → k ≡ length list
 
-abbrev pub Again : List ℕ → List Access → PlainMemory → HostReport → PlainMemory → Type 0
+abbrev pub Again : List ℕ → List Access → Bus → HostReport → Bus → Type 0
 Again js list m told now = (k : ℕ) × AgainAt k js list m told now
 
--- the log of the memory has room for the transfers of the list, for one more, and for one more for each place
-abbrev pub LogHasRoomForResume : List ℕ → List Access → PlainMemory → Type 0
-LogHasRoomForResume js list m = length (memory_after list m).log + 1 + length js ≤ m.room
+-- the bus is a plain memory, whose log has room for the transfers of the list, for one more, and for one more for each
+-- place
+abbrev pub LogHasRoomForResume : List ℕ → List Access → Bus → Type 0
+LogHasRoomForResume js list m = IsPlainWithRoom (1 + length js) list m
 
 -- RESUMING
 -- the answers that came after those of an earlier report
@@ -81,9 +82,9 @@ ResumeReportsCalls list earlier told calls =
 
 -- The call was a run over the rest of the list that left the memory `now`. It started from a memory that a transfer
 -- pending at the port s may have left.
-pub record ResumeFitsFrom (list : List Access) (earlier told : HostReport) (own : ℕ) (s : Port) (now : PlainMemory) :
+pub record ResumeFitsFrom (list : List Access) (earlier told : HostReport) (own : ℕ) (s : Port) (now : Bus) :
     Type 0 where
-  pub before : PlainMemory
+  pub before : Bus
   pub comes : MayBecome s before
   pub fits : Fits 1 (drop (length earlier.answers) list) before (resume_own_report earlier told own) now
 
@@ -94,7 +95,7 @@ pub record ResumeFits (list : List Access) (tries : ℕ) (earlier told : HostRep
   pub own : ℕ
   pub begun : told.begun ≡ resume_begun earlier told own
   -- for each memory that a transfer that is still pending may leave
-  pub goes : (now : PlainMemory) → MayBecome t now → ResumeFitsFrom list earlier told own s now
+  pub goes : (now : Bus) → MayBecome t now → ResumeFitsFrom list earlier told own s now
   -- an early end can be resumed again; a whole list leaves no transfer pending
   pub ends : HostEndsAt told.ended tries s t
   pub stops_only : t.tally.lost ≡ s.tally.lost → t.tally.disturbed ≤ s.tally.disturbed + tries → told.ended ≡ All

@@ -2,11 +2,12 @@
 use Rattle.std.specs.Prelude.{ℕ, zero, suc, ◌≡◌, ◌+◌, ◌-◌, ◌≤◌, List, [], ◌∷◌, ◌++◌, length, take, drop}
 use Rattle.swd_port.specs.declared.access.Access.{Access}
 use Rattle.swd_port.specs.declared.access.Access.TheVariants.{Read, Write}
-use Rattle.swd_port.specs.PlainMemory.{PlainMemory}
+use Rattle.swd_port.specs.Bus.{Bus}
 use Rattle.swd_port.specs.Port.{Port}
 use Rattle.swd_port.specs.Completion.{MayBecome}
 use Rattle.swd_host.specs.declared.outcome.End.TheVariants.{All}
-use Rattle.swd_host.specs.Plain.{memory_after, answers_of}
+use Rattle.swd_port.specs.PlainBus.{IsPlain, plain_words_of}
+use Rattle.swd_host.specs.Plain.{memory_after, answers_of, IsPlainWithRoom}
 use Rattle.swd_host.specs.Reports.{HostReport, Fits, IsAtRest, RunsWithin}
 use Rattle.swd_host.specs.Again.{Again, ResumePlacesBelow, ResumesOver, resume_added, resume_own_report}
 use Rattle.swd_host.specs.Again.{resume_repeats_of}
@@ -26,10 +27,10 @@ pub data ResumedCalls (limit : ℕ) (list : List Access) (s : Port) : List HostR
 -- WHAT THEY DID
 -- The same calls over memories, from m to `now`. Each call after the first is a run over the rest of the list, from the
 -- memory that the one before left.
-pub data ResumeChain (limit : ℕ) (list : List Access) (m : PlainMemory) : List HostReport → HostReport → PlainMemory
+pub data ResumeChain (limit : ℕ) (list : List Access) (m : Bus) : List HostReport → HostReport → Bus
     → Type 0 where
-  first : {told : HostReport} {now : PlainMemory} → Fits limit list m told now → ResumeChain limit list m [] told now
-  again : {calls : List HostReport} {earlier told : HostReport} {before now : PlainMemory}
+  first : {told : HostReport} {now : Bus} → Fits limit list m told now → ResumeChain limit list m [] told now
+  again : {calls : List HostReport} {earlier told : HostReport} {before now : Bus}
       → ResumeChain limit list m calls earlier before → (own : ℕ)
       → told.answers ≡ earlier.answers ++ resume_added earlier told → told.begun ≡ resume_begun earlier told own
       → Fits 1 (drop (length earlier.answers) list) before (resume_own_report earlier told own) now
@@ -38,7 +39,7 @@ pub data ResumeChain (limit : ℕ) (list : List Access) (m : PlainMemory) : List
 -- over a target at rest, such a chain leads to each memory that the last port may become
 abbrev pub ResumedCallsAreChained : Type 0
 ResumedCallsAreChained = (limit : ℕ) (list : List Access) (s : Port) (calls : List HostReport) (told : HostReport)
-    (t : Port) → IsAtRest s → ResumedCalls limit list s calls told t → (now : PlainMemory) → MayBecome t now
+    (t : Port) → IsAtRest s → ResumedCalls limit list s calls told t → (now : Bus) → MayBecome t now
     → ResumeChain limit list s.target.memory calls told now
 
 -- n places, from i on
@@ -53,8 +54,8 @@ resume_accesses_at (i ∷ places) list = take 1 (drop i list) ++ resume_accesses
 
 -- The places of the accesses that were done, in order: for each call those that it answered, and then those of its
 -- begun ones that took effect.
-abbrev pub resume_chain_places : (limit : ℕ) (list : List Access) (m : PlainMemory) (calls : List HostReport)
-    (told : HostReport) (now : PlainMemory)
+abbrev pub resume_chain_places : (limit : ℕ) (list : List Access) (m : Bus) (calls : List HostReport)
+    (told : HostReport) (now : Bus)
     → ResumeChain limit list m calls told now → List ℕ
 resume_chain_places limit list m calls told now (first fits) = resume_places_from 0 (fits.0 + fits.1.memory.0)
 resume_chain_places limit list m calls told now
@@ -65,16 +66,16 @@ resume_chain_places limit list m calls told now
 -- The memory, with its log, is that after the accesses at these places. No place occurs more often than there were
 -- calls. After the answered accesses only those occur that the report counts as begun. Beside the answered ones there
 -- are at most `limit` more, and one for each call of `resume`.
-pub record ResumeChainHasDone (limit : ℕ) (list : List Access) (m : PlainMemory) (calls : List HostReport)
-    (told : HostReport) (now : PlainMemory) (places : List ℕ) : Type 0 where
+pub record ResumeChainHasDone (limit : ℕ) (list : List Access) (m : Bus) (calls : List HostReport)
+    (told : HostReport) (now : Bus) (places : List ℕ) : Type 0 where
   pub memory : now ≡ memory_after (resume_accesses_at places list) m
   pub copies : (i : ℕ) → resume_repeats_of i places ≤ length calls + 1
   pub within : ResumePlacesBelow (length told.answers + told.begun) places
   pub few : length places ≤ length told.answers + limit + length calls
 
 abbrev pub ResumeChainDoes : Type 0
-ResumeChainDoes = (limit : ℕ) (list : List Access) (m : PlainMemory) (calls : List HostReport) (told : HostReport)
-    (now : PlainMemory) → (chain : ResumeChain limit list m calls told now)
+ResumeChainDoes = (limit : ℕ) (list : List Access) (m : Bus) (calls : List HostReport) (told : HostReport)
+    (now : Bus) → (chain : ResumeChain limit list m calls told now)
     → ResumeChainHasDone limit list m calls told now (resume_chain_places limit list m calls told now chain)
 
 -- LISTS OF READS, such as blocks
@@ -83,17 +84,17 @@ AreBlockReads [] = Unit {0}
 AreBlockReads (Read at ∷ list) = AreBlockReads list
 AreBlockReads (Write at word ∷ list) = ⊥
 
--- No word changed. Where the log has room for the reads that may have been repeated, the answers are those of the plain
--- memory.
-pub record ResumeChainHasRead (limit : ℕ) (list : List Access) (m : PlainMemory) (calls : List HostReport)
-    (told : HostReport) (now : PlainMemory) : Type 0 where
-  pub words : now.words ≡ m.words
-  pub answers : length (memory_after list m).log + limit + (length calls - 1) ≤ m.room
+-- In a plain memory no word changed. Where its log has room for the reads that may have been repeated, the answers are
+-- those of the list done once.
+pub record ResumeChainHasRead (limit : ℕ) (list : List Access) (m : Bus) (calls : List HostReport)
+    (told : HostReport) (now : Bus) : Type 0 where
+  pub words : IsPlain m → plain_words_of now ≡ plain_words_of m
+  pub answers : IsPlainWithRoom (limit + (length calls - 1)) list m
       → told.answers ≡ answers_of (take (length told.answers) list) m
 
 abbrev pub ResumeChainReads : Type 0
-ResumeChainReads = (limit : ℕ) (list : List Access) (m : PlainMemory) (calls : List HostReport) (told : HostReport)
-    (now : PlainMemory)
+ResumeChainReads = (limit : ℕ) (list : List Access) (m : Bus) (calls : List HostReport) (told : HostReport)
+    (now : Bus)
     → 1 ≤ limit → AreBlockReads list → ResumeChain limit list m calls told now
     → ResumeChainHasRead limit list m calls told now
 
@@ -105,17 +106,17 @@ resume_chain_first_begun (earlier ∷ calls) told = earlier.begun
 
 -- The report is that of a list in which some accesses were repeated, each directly after itself, at most one for each
 -- call of `resume`. A whole list leaves the same words as without repetitions.
-pub record ResumeChainHasRepeated (list : List Access) (m : PlainMemory) (calls : List HostReport) (told : HostReport)
-    (now : PlainMemory) : Type 0 where
+pub record ResumeChainHasRepeated (list : List Access) (m : Bus) (calls : List HostReport) (told : HostReport)
+    (now : Bus) : Type 0 where
   pub places : List ℕ
   pub few : length places ≤ length calls
   pub again : Again places list m told now
-  pub words : told.ended ≡ All → now.words ≡ (memory_after list m).words
+  pub words : told.ended ≡ All → plain_words_of now ≡ plain_words_of (memory_after list m)
 
--- This holds where the first call left at most one access begun, and the log has room for the transfers that may have
--- been repeated.
+-- This holds where the first call left at most one access begun, and the bus is a plain memory whose log has room for
+-- the transfers that may have been repeated.
 abbrev pub ResumeChainRepeats : Type 0
-ResumeChainRepeats = (limit : ℕ) (list : List Access) (m : PlainMemory) (calls : List HostReport) (told : HostReport)
-    (now : PlainMemory)
-    → resume_chain_first_begun calls told ≤ 1 → length (memory_after list m).log + length calls ≤ m.room
+ResumeChainRepeats = (limit : ℕ) (list : List Access) (m : Bus) (calls : List HostReport) (told : HostReport)
+    (now : Bus)
+    → resume_chain_first_begun calls told ≤ 1 → IsPlainWithRoom (length calls) list m
     → ResumeChain limit list m calls told now → ResumeChainHasRepeated list m calls told now

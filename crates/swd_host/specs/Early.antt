@@ -2,7 +2,7 @@
 -- until SELECT is written and no transfer is pending any more. After that the invariant is that of a run over one
 -- memory.
 use Rattle.std.specs.Prelude.{ℕ, ◌≡◌, ◌≢◌, ◌+◌, ◌%◌, ◌<◌, ◌≤◌, ◌⊎◌, ◌==◌, Bool, true, false, Option, Some, None}
-use Rattle.swd_port.specs.PlainMemory.{PlainMemory}
+use Rattle.swd_port.specs.Bus.{Bus}
 use Rattle.swd_port.specs.Port.{Port, Target}
 use Rattle.swd_port.specs.declared.register.Register.TheVariants.{AbortWrite, SelectWrite}
 use Rattle.swd_port.specs.declared.state.Reset.TheVariants.{Unreset, Live}
@@ -26,7 +26,7 @@ use Rattle.swd_port.specs.Registers.{port_select_zero}
 -- Each memory that the pending transfer may leave now, it might have left at the start. If no transfer was pending
 -- then, no transfer is pending now.
 pub record ResumeComesFrom (start s : Port) : Type 0 where
-  pub comes : (m : PlainMemory) → MayBecome s m → MayBecome start m
+  pub comes : (m : Bus) → MayBecome s m → MayBecome start m
   pub rests : start.target.pending ≡ None → s.target.pending ≡ None
 
 -- THE FLAG OF A TRANSFER THAT WAS LEFT PENDING, where the engine may still meet it (`stray`)
@@ -120,13 +120,13 @@ ResumedBefore (Check Select owed) n stray start s = ResumedFlagsCleared owed n s
 ResumedBefore job n stray start s = ⊥
 
 -- SELECT's write was answered OK: no transfer is pending any more, and the memory is m
-pub record ResumedSelectSettled (n : ℕ) (m : PlainMemory) (s : Port) : Type 0 where
+pub record ResumedSelectSettled (n : ℕ) (m : Bus) (s : Port) : Type 0 where
   pub calm : EngineTargetCalm m s.target
   pub flag : s.target.write_error ≡ false
   pub paid : n ≤ s.tally.disturbed
 
 pub record ResumedOpeningIsOver (n : ℕ) (start s : Port) : Type 0 where
-  pub memory : PlainMemory
+  pub memory : Bus
   pub comes : MayBecome start memory
   pub writes : EngineWrites SelectWrite n (λ c. ResumedSelectSettled c memory s) s
 
@@ -189,7 +189,7 @@ EngineIsInResumedOpening base start e s = ResumedOpening e.state (base.disturbed
 pub data EngineResumes (base : EngineBase) (start : Port) (e : Engine) (s : Port) : Type 0 where
   early : IsTask e.task → base.lost ≤ s.tally.lost → EngineIsInResumedOpening base start e s
       → EngineResumes base start e s
-  over : (m : PlainMemory) → MayBecome start m → EngineFollowsPort base m e s → EngineResumes base start e s
+  over : (m : Bus) → MayBecome start m → EngineFollowsPort base m e s → EngineResumes base start e s
 
 -- WHAT A CALL OF THE ENGINE ASSUMES
 -- the result of a request

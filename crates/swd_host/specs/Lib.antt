@@ -19,6 +19,7 @@ pub mod Resuming
 pub mod Again
 pub mod Standing
 pub mod Sessions
+pub mod PlainRuns
 pub mod Chains
 pub mod Accepting
 pub mod Fields

@@ -1,19 +1,21 @@
--- Lists of accesses over a plain memory.
-use Rattle.std.specs.Prelude.{◌≡◌, ◌%◌, ◌^◌, ◌<◌, ◌==◌, Bool, List, [], ◌∷◌}
+-- Lists of accesses over a bus.
+use Rattle.std.specs.Prelude.{ℕ, ◌≡◌, ◌+◌, ◌%◌, ◌^◌, ◌<◌, ◌≤◌, ◌==◌, Bool, List, [], ◌∷◌}
 use Rattle.swd_port.specs.declared.access.Access.{Access}
 use Rattle.swd_port.specs.declared.access.Access.TheVariants.{Read, Write}
 use Rattle.swd_port.specs.declared.access.Answer.{Answer}
-use Rattle.swd_port.specs.PlainMemory.{PlainMemory, plain_address, plain_answer, plain_after}
+use Rattle.swd_port.specs.Bus.{Bus, bus_answer, bus_after, plain_of}
+use Rattle.swd_port.specs.PlainBus.{IsPlain, plain_logged}
+use Rattle.swd_port.specs.PlainMemory.{plain_address}
 
--- the memory after a list of accesses, in order
-abbrev pub memory_after : List Access → PlainMemory → PlainMemory
+-- the bus after a list of accesses, in order
+abbrev pub memory_after : List Access → Bus → Bus
 memory_after [] m = m
-memory_after (a ∷ list) m = memory_after list (plain_after a m)
+memory_after (a ∷ list) m = memory_after list (bus_after a m)
 
 -- the answers to them
-abbrev pub answers_of : List Access → PlainMemory → List Answer
+abbrev pub answers_of : List Access → Bus → List Answer
 answers_of [] m = []
-answers_of (a ∷ list) m = plain_answer a m ∷ answers_of list (plain_after a m)
+answers_of (a ∷ list) m = bus_answer a m ∷ answers_of list (bus_after a m)
 
 -- the address is a multiple of 4
 abbrev pub host_access_is_aligned : Access → Bool
@@ -33,3 +35,9 @@ AreHostAccesses (a ∷ list) = IsHostAccess a × AreHostAccesses list
 abbrev pub HostAccessHasRanges : Access → Type 0
 HostAccessHasRanges (Read at) = at < 2 ^ 32
 HostAccessHasRanges (Write at word) = (at < 2 ^ 32) × (word < 2 ^ 32)
+
+-- PLAIN MEMORIES
+-- the bus is a plain memory, and after this list its log has room for so many more transfers
+pub record IsPlainWithRoom (more : ℕ) (list : List Access) (m : Bus) : Type 0 where
+  pub plain : IsPlain m
+  pub room : plain_logged (memory_after list m) + more ≤ (plain_of m).room

@@ -7,7 +7,8 @@ use Rattle.swd_port.specs.declared.access.Answer.{Answer}
 use Rattle.swd_port.specs.declared.wire.Due.{Due}
 use Rattle.swd_port.specs.declared.wire.Due.TheVariants.{Nothing, Lost as DueLost}
 use Rattle.swd_port.specs.declared.state.PowerUp.TheVariants.{Seen}
-use Rattle.swd_port.specs.PlainMemory.{PlainMemory}
+use Rattle.swd_port.specs.declared.state.Reset.TheVariants.{Live}
+use Rattle.swd_port.specs.Bus.{Bus}
 use Rattle.swd_port.specs.Port.{Port, Target}
 use Rattle.swd_port.specs.Choices.{Choice}
 use Rattle.swd_port.specs.Completion.{port_completed}
@@ -45,21 +46,29 @@ host_report_to answers ending = record {
 }
 
 -- The answers are exactly those to the first k accesses of the list over the plain memory. The memory `now` is that
--- after these and a prefix of the begun ones, possibly empty. At most `most` accesses are begun.
-pub record FitsAt (most k : ℕ) (list : List Access) (m : PlainMemory) (told : HostReport) (now : PlainMemory) : Type 0
+-- after these and a prefix of the begun ones, possibly empty. At most `most` accesses are begun. `spent` requests were
+-- sent before the list.
+pub record FitsFromAt (spent most k : ℕ) (list : List Access) (m : Bus) (told : HostReport) (now : Bus) : Type 0
   where
     pub reported : k ≤ length list
     pub answers : told.answers ≡ answers_of (take k list) m
     pub memory : (j : ℕ) × (j ≤ told.begun) × (now ≡ memory_after (take (k + j) list) m)
     pub few : told.begun ≤ most
-    -- Begun accesses are in the list, in a run that isn't whole. A request was sent for each, after nine of the opening,
-    -- one for TAR, and one for each access before.
+    -- Begun accesses are in the list, in a run that isn't whole. A request was sent for each, after those that came
+    -- before the list, one for TAR, and one for each access before.
     pub begun : told.begun ≢ 0 → (k + told.begun ≤ length list) × (told.ended ≢ All) ×
-        (10 + k + told.begun ≤ told.requests)
+        (spent + 1 + k + told.begun ≤ told.requests)
     pub all : told.ended ≡ All → k ≡ length list
 
-abbrev pub Fits : ℕ → List Access → PlainMemory → HostReport → PlainMemory → Type 0
-Fits most list m told now = (k : ℕ) × FitsAt most k list m told now
+abbrev pub FitsFrom : ℕ → ℕ → List Access → Bus → HostReport → Bus → Type 0
+FitsFrom spent most list m told now = (k : ℕ) × FitsFromAt spent most k list m told now
+
+-- the same for a run: its opening takes at least nine requests
+abbrev pub FitsAt : ℕ → ℕ → List Access → Bus → HostReport → Bus → Type 0
+FitsAt most k list m told now = FitsFromAt 9 most k list m told now
+
+abbrev pub Fits : ℕ → List Access → Bus → HostReport → Bus → Type 0
+Fits most list m told now = FitsFrom 9 most list m told now
 
 -- why a list is refused, in the order of the checks
 abbrev pub HostRefusesList : List Access → Refused → Type 0
@@ -76,20 +85,34 @@ abbrev pub host_due_at_end : End → Due
 host_due_at_end Lost = DueLost
 host_due_at_end end = Nothing
 
--- the most requests of an opening and n accesses, where each meets at most `tries` events: the opening takes ten, an
--- access six, and an event costs five more
+-- the most requests of n accesses, where each meets at most `tries` events: an access takes six, and an event costs
+-- five more
+abbrev pub host_list_requests : ℕ → ℕ → ℕ
+host_list_requests tries n = n * (6 + 5 * tries)
+
+-- the most requests of an opening, which takes ten, and of n accesses
 abbrev pub host_most_requests : ℕ → ℕ → ℕ
-host_most_requests tries n = 10 + 5 * tries + n * (6 + 5 * tries)
+host_most_requests tries n = 10 + 5 * tries + host_list_requests tries n
 
 -- What holds of a report whatever the other end did. It has no more answers than the list has accesses, and all of them
 -- at `All`. At most `limit` accesses are begun. `next`, what is due on the wire, follows from the end. The number of
--- requests is at most that of an opening, of each answered access and of one more that the list has, plus `spare`.
-pub record Closes (spare limit : ℕ) (list : List Access) (tries : ℕ) (told : HostReport) (next : Due) : Type 0 where
-  pub number : length told.answers ≤ length list
-  pub whole : told.ended ≡ All → length told.answers ≡ length list
-  pub begun : told.begun ≤ limit
-  pub due : next ≡ host_due_at_end told.ended
-  pub spends : told.requests ≤ spare + host_most_requests tries (min (length list) (length told.answers + 1))
+-- requests is at most the one that `most` gives for each answered access and one more that the list has.
+pub record ClosesWithin (most : ℕ → ℕ) (limit : ℕ) (list : List Access) (told : HostReport) (next : Due) : Type 0
+  where
+    pub number : length told.answers ≤ length list
+    pub whole : told.ended ≡ All → length told.answers ≡ length list
+    pub begun : told.begun ≤ limit
+    pub due : next ≡ host_due_at_end told.ended
+    pub spends : told.requests ≤ most (min (length list) (length told.answers + 1))
+
+-- the same for a call that opens the target first, with `spare` more requests
+abbrev pub Closes : ℕ → ℕ → List Access → ℕ → HostReport → Due → Type 0
+Closes spare limit list tries told next =
+    ClosesWithin (λ n. spare + host_most_requests tries n) limit list told next
+
+-- the same for a list over an open target
+abbrev pub ListCloses : ℕ → List Access → ℕ → HostReport → Due → Type 0
+ListCloses limit list tries told next = ClosesWithin (host_list_requests tries) limit list told next
 
 -- WHERE WHAT WAS OBSERVED IS CONSISTENT WITH THE MODEL
 
@@ -105,36 +128,47 @@ pub record IsAtRest (s : Port) : Type 0 where
   pub known : HostKnowsTarget s.target
   pub settled : s.target.pending ≡ None
 
--- no flag is set, and power is requested and was read as acknowledged
+-- No flag is set, and power is requested and was read as acknowledged. The target is live, and TAR increments.
 pub record HostLeavesPowered (s : Target) : Type 0 where
   pub sticky_error : s.sticky_error ≡ false
   pub write_error : s.write_error ≡ false
   pub debug : s.debug_power ≡ true
   pub system : s.system_power ≡ true
   pub seen : s.power_up ≡ Seen
+  pub live : s.reset ≡ Live
+  pub increments : s.increments ≡ true
+
+-- A target that is open for a list: at rest, powered and without a flag. A call that ends `All` leaves it so.
+abbrev pub HostIsOpen : Port → Type 0
+HostIsOpen s = IsAtRest s × HostLeavesPowered s.target
 
 -- How a call may end, and the target that it leaves. A whole list leaves a target at rest, powered and without a flag.
 -- A lost acknowledgement, or more than `tries` disturbed requests, leaves a known one, whose last transfer may be
 -- pending. No call ends with a wrong identification or confused.
 abbrev pub HostEndsAt : End → ℕ → Port → Port → Type 0
-HostEndsAt All tries s t = IsAtRest t × HostLeavesPowered t.target
+HostEndsAt All tries s t = HostIsOpen t
 HostEndsAt Lost tries s t = (t.link.due ≡ DueLost) × (s.tally.lost < t.tally.lost) × HostKnowsTarget t.target
 HostEndsAt TriesOut tries s t = (t.link.due ≡ Nothing) × (s.tally.disturbed + tries < t.tally.disturbed)
     × HostKnowsTarget t.target
 HostEndsAt end tries s t = ⊥
 
--- The theorem of a run over a target at rest with the memory m. The report fits the memory at the end, and the memory
--- once a transfer that is still pending has taken effect. The run stops early only at a lost acknowledgement or after
--- more than `tries` disturbed requests. At most `limit` unanswered accesses are begun.
-pub record RunFits (limit : ℕ) (list : List Access) (tries : ℕ) (m : PlainMemory) (told : HostReport) (s t : Port)
+-- The theorem of a call over a target with the memory m, which takes `opening` requests at least before its list, and no
+-- more where none is disturbed. The report fits the memory at the end, and the memory once a transfer that is still
+-- pending has taken effect. The call stops early only at a lost acknowledgement or after more than `tries` disturbed
+-- requests. At most `limit` unanswered accesses are begun.
+pub record RunFitsFrom (opening limit : ℕ) (list : List Access) (tries : ℕ) (m : Bus) (told : HostReport) (s t : Port)
     : Type 0 where
-  pub now : Fits limit list m told t.target.memory
-  pub later : (c : Choice) → Fits limit list m told (port_completed c t).target.memory
+  pub now : FitsFrom opening limit list m told t.target.memory
+  pub later : (c : Choice) → FitsFrom opening limit list m told (port_completed c t).target.memory
   pub ends : HostEndsAt told.ended tries s t
   pub stops_only : t.tally.lost ≡ s.tally.lost → t.tally.disturbed ≤ s.tally.disturbed + tries → told.ended ≡ All
   pub counted : t.tally.asked ≡ s.tally.asked + told.requests
-  pub least : told.ended ≡ All → 9 + length list ≤ told.requests
-  pub most : told.requests ≤ 9 + 6 * length list + 5 * (t.tally.disturbed - s.tally.disturbed)
+  pub least : told.ended ≡ All → opening + length list ≤ told.requests
+  pub most : told.requests ≤ opening + 6 * length list + 5 * (t.tally.disturbed - s.tally.disturbed)
+
+-- the theorem of a run, which opens the target by nine requests
+abbrev pub RunFits : ℕ → List Access → ℕ → Bus → HostReport → Port → Port → Type 0
+RunFits limit list tries m told s t = RunFitsFrom 9 limit list tries m told s t
 
 -- a is the access after the one at i
 pub record HostNextAccess (i : ℕ) (list : List Access) (a : Access) : Type 0 where
@@ -144,6 +178,10 @@ pub record HostNextAccess (i : ℕ) (list : List Access) (a : Access) : Type 0 w
 -- the same for every target at rest, whatever its memory; a simulated target that was just made is at rest
 abbrev pub RunsWithin : ℕ → List Access → ℕ → HostReport → Port → Port → Type 0
 RunsWithin limit list tries told s t = IsAtRest s → RunFits limit list tries s.target.memory told s t
+
+-- the theorem of a list over an open target: no request comes before it
+abbrev pub ListsWithin : ℕ → List Access → ℕ → HostReport → Port → Port → Type 0
+ListsWithin limit list tries told s t = HostIsOpen s → RunFitsFrom 0 limit list tries s.target.memory told s t
 
 -- the same for a run, in which at most one unanswered access is begun
 abbrev pub RunsOver : List Access → ℕ → HostReport → Port → Port → Type 0

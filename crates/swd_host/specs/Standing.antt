@@ -5,11 +5,13 @@ use Rattle.swd_port.specs.declared.access.Access.{Access}
 use Rattle.swd_port.specs.declared.access.Answer.{Answer}
 use Rattle.swd_port.specs.declared.register.Register.TheVariants.{DrwWrite}
 use Rattle.swd_port.specs.declared.wire.Due.{Due}
-use Rattle.swd_port.specs.PlainMemory.{PlainMemory, plain_address}
+use Rattle.swd_port.specs.Bus.{Bus}
+use Rattle.swd_port.specs.PlainMemory.{plain_address}
 use Rattle.swd_port.specs.Port.{Port}
 use Rattle.swd_port.specs.Choices.{Choice}
 use Rattle.swd_port.specs.Completion.{port_completed}
 use Rattle.swd_host.specs.declared.outcome.End.{End}
+use Rattle.swd_host.specs.declared.task.Bursts.{Bursts}
 use Rattle.swd_host.specs.declared.outcome.End.TheVariants.{All}
 use Rattle.swd_host.specs.declared.outcome.Outcome.TheVariants.{Opened}
 use Rattle.swd_host.specs.declared.engine.State.TheVariants.{Resting}
@@ -21,7 +23,7 @@ use Rattle.swd_host.specs.Tasks.{access_of_task, is_burst, bursts_limit}
 use Rattle.swd_host.specs.Engines.{engine_begun, engine_is_ahead, engine_outcome, engine_may_start}
 use Rattle.swd_host.specs.Tracks.{EngineHand, EngineTargetUp, EngineWrites, EngineIsReady, hand_of_engine}
 use Rattle.swd_host.specs.Tracks.{EngineDueFits}
-use Rattle.swd_host.specs.Reports.{HostReport, Fits, HostEndsAt, host_due_at_end}
+use Rattle.swd_host.specs.Reports.{HostReport, FitsFrom, HostEndsAt, host_due_at_end}
 use Rattle.swd_host.specs.Turns.{EnginePortLater}
 
 -- the report of an engine
@@ -34,7 +36,7 @@ engine_report answers e ended = record {
 }
 
 -- the DRW write of the next access was answered OK and awaits its data: TAR has its address
-pub record BurstWriteIsPoised (n at : ℕ) (m : PlainMemory) (s : Port) : Type 0 where
+pub record BurstWriteIsPoised (n at : ℕ) (m : Bus) (s : Port) : Type 0 where
   pub up : EngineTargetUp m s.target
   pub tar : s.target.tar ≡ Some at
   pub flag : s.target.write_error ≡ false
@@ -47,7 +49,7 @@ EngineBetweenAccesses true n k s = EngineWrites DrwWrite n
 EngineBetweenAccesses false n k s = EngineIsReady n k s
 
 -- the target is up over this memory, no flag is set, and TAR is unknown to the engine
-pub record EngineTargetIsOpen (m : PlainMemory) (e : Engine) (s : Port) : Type 0 where
+pub record EngineTargetIsOpen (m : Bus) (e : Engine) (s : Port) : Type 0 where
   pub up : EngineTargetUp m s.target
   pub odd : s.target.identification % 2 ≡ 1
   pub flag : s.target.write_error ≡ false
@@ -67,7 +69,7 @@ pub data EngineHasSentFor (i : ℕ) (o e : Engine) : Type 0 where
   on : o.requests + 2 + i ≤ e.requests → EngineHasSentFor i o e
 
 -- What is known of the memory after i accesses, for an engine that opened the target as o and is e now.
-pub record EngineReachedMemory (i : ℕ) (list : List Access) (m : PlainMemory) (o : Engine) (s : Port) (e : Engine)
+pub record EngineReachedMemory (i : ℕ) (list : List Access) (m : Bus) (o : Engine) (s : Port) (e : Engine)
     (answers : List Answer) (t : Port) : Type 0 where
   -- How many disturbances were met as events. One of the data phase of the request that confirmed the last access
   -- belongs to the next access.
@@ -101,17 +103,27 @@ pub record EngineStands (i : ℕ) (list : List Access) (o : Engine) (s : Port) (
   pub stays : EngineStays i list o e answers t
   pub asked : t.tally.asked + o.requests ≡ s.tally.asked + e.requests
   pub later : EnginePortLater s t
-  pub reached : (m : PlainMemory) → EngineTargetIsOpen m o s → AreHostAccesses list
+  pub reached : (m : Bus) → EngineTargetIsOpen m o s → AreHostAccesses list
       → EngineReachedMemory i list m o s e answers t
 
--- an engine that has opened its target, after at least nine requests
+-- an engine that has opened its target
 pub record EngineHasOpened (e : Engine) : Type 0 where
   pub at : e.state ≡ Resting Opened
   pub plain : is_burst e.task ≡ false
   pub unbegun : e.begun ≡ 0
-  pub least : 9 ≤ e.requests
   pub most : e.requests ≤ 2 ^ 35
   pub tries : e.tries < 2 ^ 32
+
+-- an engine for a list over an open target: it has sent no request, and knows nothing of TAR
+pub record EngineIsOpened (kind : Bursts) (most : ℕ) (e : Engine) : Type 0 where
+  pub has : EngineHasOpened e
+  pub tries : e.tries ≡ most
+  pub bursts : e.bursts ≡ kind
+  pub requests : e.requests ≡ 0
+  pub tar : e.tar ≡ None
+  pub ahead : e.ahead ≡ Unsent
+  pub events : e.events ≡ 0
+  pub stray : e.stray ≡ false
 
 -- What an engine that opened its target as o reaches by itself with a list. The requests that it sent for the list are
 -- at most those of the answered accesses and of one more.
@@ -126,13 +138,13 @@ pub record EnginePerforms (list : List Access) (o f : Engine) (before after : Li
   pub spends : f.requests ≤ o.requests + min (length list) (length answers + 1) * (6 + 5 * o.tries)
 
 -- The result of a list over this memory.
-pub record EngineDoesOver (list : List Access) (m : PlainMemory) (o f : Engine) (answers : List Answer) (end : End)
+pub record EngineDoesOver (list : List Access) (m : Bus) (o f : Engine) (answers : List Answer) (end : End)
     (s t : Port) : Type 0 where
-  pub now : Fits (bursts_limit o.bursts) list m (engine_report answers f end) t.target.memory
+  pub now : FitsFrom o.requests (bursts_limit o.bursts) list m (engine_report answers f end) t.target.memory
   -- the memory once a transfer that is still pending has taken effect, whatever the target chooses
-  pub settled : PlainMemory
+  pub settled : Bus
   pub becomes : (c : Choice) → (port_completed c t).target.memory ≡ settled
-  pub later : Fits (bursts_limit o.bursts) list m (engine_report answers f end) settled
+  pub later : FitsFrom o.requests (bursts_limit o.bursts) list m (engine_report answers f end) settled
   pub ends : HostEndsAt end o.tries s t
   pub least : end ≡ All → o.requests + length list ≤ f.requests
   pub most : f.requests ≤ o.requests + 6 * length list + 5 * (t.tally.disturbed - s.tally.disturbed)
@@ -144,5 +156,5 @@ pub record EngineDoes (list : List Access) (o f : Engine) (before after : List A
   pub added : after ≡ before ++ answers
   pub asked : t.tally.asked + o.requests ≡ s.tally.asked + f.requests
   pub later : EnginePortLater s t
-  pub over : (m : PlainMemory) → EngineTargetIsOpen m o s → AreHostAccesses list
+  pub over : (m : Bus) → EngineTargetIsOpen m o s → AreHostAccesses list
       → EngineDoesOver list m o f answers end s t

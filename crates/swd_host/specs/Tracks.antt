@@ -37,7 +37,8 @@ use Rattle.swd_port.specs.declared.access.Answer.{Answer}
 use Rattle.swd_port.specs.declared.access.Answer.TheVariants.{Value, Written, BusFault}
 use Rattle.swd_port.specs.declared.wire.Due.{Due}
 use Rattle.swd_port.specs.declared.wire.Due.TheVariants.{Nothing, Take, Give, Pass, Lost as DueLost}
-use Rattle.swd_port.specs.PlainMemory.{PlainMemory, plain_address, plain_answer, plain_after}
+use Rattle.swd_port.specs.Bus.{Bus, bus_answer, bus_after}
+use Rattle.swd_port.specs.PlainMemory.{plain_address}
 use Rattle.swd_port.specs.Registers.{port_select_zero}
 use Rattle.swd_bits.specs.Phases.{data_phase_number}
 use Rattle.swd_port.specs.Phases.{port_flipped}
@@ -84,17 +85,17 @@ pub record EngineHand : Type 0 where
   pub aims : Bool
   pub tar : Option ℕ
   pub ahead : Ahead
-  pub memory : PlainMemory
+  pub memory : Bus
 
 -- the memory after the current access
-abbrev pub memory_once_task_done : EngineHand → PlainMemory
-memory_once_task_done k = plain_after (access_of_task k.task) k.memory
+abbrev pub memory_once_task_done : EngineHand → Bus
+memory_once_task_done k = bus_after (access_of_task k.task) k.memory
 
 -- the next access of a block of reads, over the memory before it
 abbrev pub block_next_read : Task → Access
 block_next_read task = AccessRead (plain_address (access_of_task task) + 4)
 
-abbrev pub block_next_hand : Task → PlainMemory → EngineHand
+abbrev pub block_next_hand : Task → Bus → EngineHand
 block_next_hand task m = record {
   task = Read (plain_address (access_of_task task) + 4);
   aims = false;
@@ -106,7 +107,7 @@ block_next_hand task m = record {
 -- THE PORT, as the host knows it before each request of its sequences
 
 -- a target that had a line reset, at rest
-pub record OpeningIsReachable (m : PlainMemory) (s : Target) : Type 0 where
+pub record OpeningIsReachable (m : Bus) (s : Target) : Type 0 where
   pub reset : s.reset ≢ Unreset
   pub select : s.select ≡ port_select_zero
   pub pending : s.pending ≡ None
@@ -115,7 +116,7 @@ pub record OpeningIsReachable (m : PlainMemory) (s : Target) : Type 0 where
   pub odd : s.identification % 2 ≡ 1
 
 -- a live target at rest, STICKYERR clear
-pub record EngineTargetCalm (m : PlainMemory) (s : Target) : Type 0 where
+pub record EngineTargetCalm (m : Bus) (s : Target) : Type 0 where
   pub live : s.reset ≡ Live
   pub select : s.select ≡ port_select_zero
   pub pending : s.pending ≡ None
@@ -123,34 +124,34 @@ pub record EngineTargetCalm (m : PlainMemory) (s : Target) : Type 0 where
   pub sticky : s.sticky_error ≡ false
 
 -- power was requested
-pub record OpeningAsksPower (m : PlainMemory) (s : Target) : Type 0 where
+pub record OpeningAsksPower (m : Bus) (s : Target) : Type 0 where
   pub calm : EngineTargetCalm m s
   pub debug : s.debug_power ≡ true
   pub system : s.system_power ≡ true
 
 -- power was read as acknowledged
-pub record OpeningHasPower (m : PlainMemory) (s : Target) : Type 0 where
+pub record OpeningHasPower (m : Bus) (s : Target) : Type 0 where
   pub calm : EngineTargetCalm m s
   pub debug : s.debug_power ≡ true
   pub system : s.system_power ≡ true
   pub seen : s.power_up ≡ Seen
 
 -- ready for transfers
-pub record EngineTargetUp (m : PlainMemory) (s : Target) : Type 0 where
+pub record EngineTargetUp (m : Bus) (s : Target) : Type 0 where
   pub calm : EngineTargetCalm m s
   pub debug : s.debug_power ≡ true
   pub system : s.system_power ≡ true
   pub seen : s.power_up ≡ Seen
   pub increments : s.increments ≡ true
 
-pub record OpeningHasCsw (m : PlainMemory) (s : Target) : Type 0 where
+pub record OpeningHasCsw (m : Bus) (s : Target) : Type 0 where
   pub up : EngineTargetUp m s
   pub upper : s.csw_upper ≡ 0x23
 
 abbrev pub csw_word_in_opening : ℕ
 csw_word_in_opening = 0x2300_0052
 
-pub record OpeningHasReadCsw (m : PlainMemory) (s : Target) : Type 0 where
+pub record OpeningHasReadCsw (m : Bus) (s : Target) : Type 0 where
   pub up : EngineTargetUp m s
   pub buffer : s.buffer ≡ Some csw_word_in_opening
 
@@ -212,19 +213,14 @@ pub record EngineWriteDamaged (p : HostStep) (n b : ℕ) (k : EngineHand) (s : P
   pub flag : s.target.write_error ≡ true
   pub paid : n + 1 ≤ s.tally.disturbed
 
--- an access is a bus error over this memory
-pub record HostAccessIsBusError (a : Access) (m : PlainMemory) : Type 0 where
-  pub after : plain_after a m ≡ m
-  pub answer : plain_answer a m ≡ BusFault
-
 -- the transfer was a bus error, apart from STICKYERR
 pub record TaskBusError (p : HostStep) (b : ℕ) (k : EngineHand) (s : Target) : Type 0 where
   pub place : engine_place_is_confirm p ≡ true
   pub begun : 1 ≤ b
   pub serves : EngineTargetServes s
   pub pending : s.pending ≡ None
-  pub memory : s.memory ≡ k.memory
-  pub fails : HostAccessIsBusError (access_of_task k.task) k.memory
+  pub memory : s.memory ≡ memory_once_task_done k
+  pub answer : bus_answer (access_of_task k.task) k.memory ≡ BusFault
 
 -- RESEND met the bus error of the next read of a block; it returns this word once STICKYERR is cleared
 pub record BlockNextBusError (p : HostStep) (b : ℕ) (k : EngineHand) (s : Target) : Type 0 where
@@ -232,7 +228,7 @@ pub record BlockNextBusError (p : HostStep) (b : ℕ) (k : EngineHand) (s : Targ
   pub begun : 2 ≤ b
   pub block : task_is_block k.task ≡ true
   pub word : ℕ
-  pub answer : plain_answer (access_of_task k.task) k.memory ≡ Value word
+  pub answer : bus_answer (access_of_task k.task) k.memory ≡ Value word
   pub last : s.last_returned ≡ Some word
   pub broken : TaskBusError Confirm 1 (block_next_hand k.task (memory_once_task_done k)) s
 
@@ -281,11 +277,11 @@ pub record TaskTransferDone (b : ℕ) (k : EngineHand) (s : Target) : Type 0 whe
 
 -- what is known of the next access, over the memory before it: in a block of reads it was sent, or was a bus error
 -- whose flag is cleared
-abbrev pub EngineAheadAt : Ahead → Task → PlainMemory → Target → Type 0
+abbrev pub EngineAheadAt : Ahead → Task → Bus → Target → Type 0
 EngineAheadAt Unsent task m s = EngineTargetUp m s
 EngineAheadAt NextSent task m s = (task_is_block task ≡ true) × TaskTransferSent 1 (block_next_hand task m) s
-EngineAheadAt NextFailed task m s = (task_is_block task ≡ true) × EngineTargetUp m s
-    × HostAccessIsBusError (block_next_read task) m
+EngineAheadAt NextFailed task m s = (task_is_block task ≡ true)
+    × EngineTargetUp (bus_after (block_next_read task) m) s × (bus_answer (block_next_read task) m ≡ BusFault)
 
 -- TAR is what the engine knows, where no transfer is in flight; after a bus error it knows nothing
 abbrev pub EngineKnowsTarAt : Ahead → Option ℕ → Target → Type 0
@@ -304,9 +300,9 @@ task_ahead task = if task_is_block task then NextSent else Unsent
 abbrev pub EngineWordReturned : HostStep → ℕ → ℕ → EngineHand → Target → Type 0
 EngineWordReturned Configured word b k s = EngineTargetUp k.memory s × (word ≡ csw_word_in_opening)
 EngineWordReturned Confirm word b k s =
-    TaskDoneWithAhead (task_ahead k.task) b k s × (plain_answer (access_of_task k.task) k.memory ≡ Value word)
+    TaskDoneWithAhead (task_ahead k.task) b k s × (bus_answer (access_of_task k.task) k.memory ≡ Value word)
 EngineWordReturned Behind word b k s = TaskDoneWithAhead NextFailed b k s
-    × (plain_answer (access_of_task k.task) k.memory ≡ Value word)
+    × (bus_answer (access_of_task k.task) k.memory ≡ Value word)
 EngineWordReturned p word b k s = ⊥
 
 -- this word was returned, and RESEND returns it again
@@ -369,7 +365,7 @@ pub record OpeningIsAwake (n : ℕ) (k : EngineHand) (s : Port) : Type 0 where
 pub record TaskIsFinished (answer : Answer) (n b : ℕ) (k : EngineHand) (s : Port) : Type 0 where
   pub begun : b ≡ bit (task_is_block k.task)
   pub up : EngineAheadAt k.ahead k.task (memory_once_task_done k) s.target
-  pub answered : plain_answer (access_of_task k.task) k.memory ≡ answer
+  pub answered : bus_answer (access_of_task k.task) k.memory ≡ answer
   pub known : EngineKnowsTarAt k.ahead k.tar s.target
   pub flag : s.target.write_error ≡ false
   pub paid : n ≤ s.tally.disturbed
@@ -377,7 +373,7 @@ pub record TaskIsFinished (answer : Answer) (n b : ℕ) (k : EngineHand) (s : Po
 -- the OK that confirms a write came
 pub record TaskWriteConfirmed (n b : ℕ) (k : EngineHand) (s : Port) : Type 0 where
   pub done : TaskTransferDone b k s.target
-  pub answered : plain_answer (access_of_task k.task) k.memory ≡ Written
+  pub answered : bus_answer (access_of_task k.task) k.memory ≡ Written
   pub flag : s.target.write_error ≡ false
   pub paid : n ≤ s.tally.disturbed
 
@@ -421,16 +417,16 @@ EngineDuring (Check p owed) n b k s = EngineReadsStatus (Check p owed) n b k s
 
 -- The memory is that before the access. Where the access is begun it may be that after it, and where the next one of
 -- its block is begun too, that after both.
-pub data EngineAllowsMemory (b : ℕ) (k : EngineHand) (m : PlainMemory) : Type 0 where
+pub data EngineAllowsMemory (b : ℕ) (k : EngineHand) (m : Bus) : Type 0 where
   within_none : m ≡ k.memory → EngineAllowsMemory b k m
   within_first : 1 ≤ b → m ≡ memory_once_task_done k → EngineAllowsMemory b k m
-  within_both : 2 ≤ b → task_is_block k.task ≡ true → m ≡ plain_after (block_next_read k.task) (memory_once_task_done k)
+  within_both : 2 ≤ b → task_is_block k.task ≡ true → m ≡ bus_after (block_next_read k.task) (memory_once_task_done k)
       → EngineAllowsMemory b k m
 
 -- the memory is within these now, and once nothing is pending
 pub record EngineMemoryWithin (b : ℕ) (k : EngineHand) (s : Target) : Type 0 where
   pub now : EngineAllowsMemory b k s.memory
-  pub later : PlainMemory
+  pub later : Bus
   pub becomes : PortBecomes later s
   pub ends : EngineAllowsMemory b k later
 
@@ -498,11 +494,11 @@ EngineStateTracks (Doing job Waited) n tries base b k s = EngineWaitAtJob job n 
 EngineStateTracks (Doing job Faulted) n tries base b k s = EngineFaultAtJob job n b k s
 EngineStateTracks (Resting outcome) n tries base b k s = EngineRestsAt outcome n tries base b k s
 
-abbrev pub hand_of_engine : Engine → PlainMemory → EngineHand
+abbrev pub hand_of_engine : Engine → Bus → EngineHand
 hand_of_engine e m = record { task = e.task; aims = e.aims; tar = e.tar; ahead = e.ahead; memory = m }
 
 -- what the engine's state implies about the port, from the counts and the memory at the start
-abbrev pub TracksEngine : EngineBase → PlainMemory → Engine → Port → Type 0
+abbrev pub TracksEngine : EngineBase → Bus → Engine → Port → Type 0
 TracksEngine base m e s = EngineStateTracks e.state (base.disturbed + e.events) e.tries base e.begun
     (hand_of_engine e m) s
 
@@ -514,7 +510,7 @@ IsTask (Write at word) = IsHostAccess (AccessWrite at word)
 IsTask (BurstWrite at word) = IsHostAccess (AccessWrite at word) × (at % 1024 < 1020)
 
 -- the same for a whole engine: what it keeps over a target that conforms to the model
-pub record EngineFollowsPort (base : EngineBase) (m : PlainMemory) (e : Engine) (s : Port) : Type 0 where
+pub record EngineFollowsPort (base : EngineBase) (m : Bus) (e : Engine) (s : Port) : Type 0 where
   pub task : IsTask e.task
   pub lost : base.lost ≤ s.tally.lost
   pub tracks : TracksEngine base m e s
@@ -550,7 +546,7 @@ EngineTookWordAt p word n b k s = ⊥
 
 -- why an access has this answer, with this known of the next one
 pub data TaskEarnsAnswer (answer : Answer) (ahead : Ahead) (n b : ℕ) (k : EngineHand) (s : Port) : Type 0 where
-  by_transfer : TaskDoneWithAhead ahead b k s.target → plain_answer (access_of_task k.task) k.memory ≡ answer
+  by_transfer : TaskDoneWithAhead ahead b k s.target → bus_answer (access_of_task k.task) k.memory ≡ answer
       → (answer ≡ BusFault → ⊥) → s.target.write_error ≡ false → n ≤ s.tally.disturbed
       → TaskEarnsAnswer answer ahead n b k s
   by_fault : (p : HostStep) → ahead ≡ Unsent → TaskBusError p b k s.target → answer ≡ BusFault
@@ -629,32 +625,32 @@ engine_state_after_ack job seen =
 -- WHAT A STEP OF THE ENGINE KEEPS, from an assumption about a target with these counts at the start and this memory
 -- before the access
 abbrev pub EngineStepKeeps : (ℕ → ℕ → EngineHand → Port → Type 0) → Engine → Engine → Type 0
-EngineStepKeeps Was e f = (base : EngineBase) (m : PlainMemory) (s : Port) → IsTask e.task
+EngineStepKeeps Was e f = (base : EngineBase) (m : Bus) (s : Port) → IsTask e.task
     → Was (base.disturbed + e.events) e.begun (hand_of_engine e m) s → TracksEngine base m f s
 
 -- the same, where these flags were read
 abbrev pub EngineStepKeepsFlags : Flags → (ℕ → ℕ → EngineHand → Port → Type 0) → Engine → Engine → Type 0
-EngineStepKeepsFlags flags Was e f = (base : EngineBase) (m : PlainMemory) (s : Port) → IsTask e.task →
+EngineStepKeepsFlags flags Was e f = (base : EngineBase) (m : Bus) (s : Port) → IsTask e.task →
     flags.error ≡ s.target.sticky_error → flags.damaged ≡ s.target.write_error
     → Was (base.disturbed + e.events) e.begun (hand_of_engine e m) s → TracksEngine base m f s
 
 -- WHAT THE CALLS OF AN ENGINE ASSUME about a target with these counts at the start and this memory before the access
 -- three bits were seen after the request
-abbrev pub EngineHearsAck : ℕ → EngineBase → PlainMemory → Engine → Port → Type 0
+abbrev pub EngineHearsAck : ℕ → EngineBase → Bus → Engine → Port → Type 0
 EngineHearsAck seen base m e s = EngineSawResult (engine_job e.state) seen (base.disturbed + e.events) base
     (engine_begun_once_sent e.state e.task e.begun) (hand_of_engine e m) s
 
 -- the cue was sent
-abbrev pub EngineHasSentCue : EngineBase → PlainMemory → Engine → Port → Type 0
+abbrev pub EngineHasSentCue : EngineBase → Bus → Engine → Port → Type 0
 EngineHasSentCue base m e s = IsTask e.task
     × EngineHoldsAfterCue e.state (base.disturbed + e.events) e.begun (hand_of_engine e m) s
 
 -- a data phase was read, with its word if the parity is right
-abbrev pub EngineHasReadData : Option ℕ → EngineBase → PlainMemory → Engine → Port → Type 0
+abbrev pub EngineHasReadData : Option ℕ → EngineBase → Bus → Engine → Port → Type 0
 EngineHasReadData word base m e s = IsTask e.task
     × EngineTookForJob (engine_job e.state) word (base.disturbed + e.events) e.begun (hand_of_engine e m) s
 
 -- a call keeps what the engine and the port keep together
-abbrev pub EngineCallKeeps : (EngineBase → PlainMemory → Engine → Port → Type 0) → Engine → Engine → Type 0
-EngineCallKeeps WasTold e f = (base : EngineBase) (m : PlainMemory) (s : Port) → WasTold base m e s
+abbrev pub EngineCallKeeps : (EngineBase → Bus → Engine → Port → Type 0) → Engine → Engine → Type 0
+EngineCallKeeps WasTold e f = (base : EngineBase) (m : Bus) (s : Port) → WasTold base m e s
     → TracksEngine base m f s

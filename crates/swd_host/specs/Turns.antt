@@ -5,7 +5,8 @@ use Rattle.swd_host.specs.declared.task.Task.{Task}
 use Rattle.swd_bits.specs.Bits.{bit}
 use Rattle.swd_port.specs.declared.access.Access.{Access}
 use Rattle.swd_port.specs.declared.access.Answer.{Answer}
-use Rattle.swd_port.specs.PlainMemory.{PlainMemory, plain_address}
+use Rattle.swd_port.specs.Bus.{Bus}
+use Rattle.swd_port.specs.PlainMemory.{plain_address}
 use Rattle.swd_port.specs.Port.{Port}
 use Rattle.swd_host.specs.declared.outcome.End.{End}
 use Rattle.swd_host.specs.declared.outcome.End.TheVariants.{All, Lost}
@@ -165,7 +166,7 @@ pub record EnginePortLater (s t : Port) : Type 0 where
 -- what the engine keeps with the port, over a target that conforms to the model
 pub record EngineGoesWithPort (e : Engine) (s : Port) (f : Engine) (t : Port) : Type 0 where
   pub works : EngineWorks e f
-  pub follows : (base : EngineBase) (m : PlainMemory) → EngineFollowsPort base m e s → EngineFollowsPort base m f t
+  pub follows : (base : EngineBase) (m : Bus) → EngineFollowsPort base m e s → EngineFollowsPort base m f t
   pub resumes : (base : EngineBase) (start : Port) → EngineResumes base start e s → EngineResumes base start f t
   pub later : EnginePortLater s t
   pub asked : EngineIsCountable e → t.tally.asked + e.requests ≡ s.tally.asked + f.requests

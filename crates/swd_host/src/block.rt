@@ -55,7 +55,7 @@ pub fn run_block<W: Wire, A: Allocator + Copy>(
 }
 
 // Returns why a block is refused, if it is.
-fn refusal(addr: u32, count: u32) -> Option<Refused>
+pub(crate) fn refusal(addr: u32, count: u32) -> Option<Refused>
     requires { addr + 4 * count ≤ 2 ^ 32 }
     ensures none { IfNone result ((count ≤ 65536) × AreHostAccesses (plain_reads addr count)) }
     ensures refused { IfSome result (HostRefusesList (plain_reads addr count)) }
@@ -74,7 +74,11 @@ fn refusal(addr: u32, count: u32) -> Option<Refused>
 }
 
 // Returns the reads of a block.
-fn reads_of<A: Allocator>(alloc: A, addr: u32, count: u32) -> Result<Vec<Access, A>, AllocError>
+pub(crate) fn reads_of<A: Allocator>(
+    alloc: A,
+    addr: u32,
+    count: u32,
+) -> Result<Vec<Access, A>, AllocError>
     requires { addr + 4 * count ≤ 2 ^ 32 }
     ensures { IfOk result (λ accesses. accesses.items ≡ plain_reads addr count) }
 {

@@ -11,6 +11,7 @@ ghost use Rattle.swd_host.specs.Engines.{engine_job, EngineHasCue, IsEnginePhase
 ghost use Rattle.swd_host.specs.Engines.{engine_count_more, engine_requests, engine_tries};
 ghost use Rattle.swd_host.specs.Progress.{engine_job_is_of, engine_open_requests};
 ghost use Rattle.swd_host.specs.Replies.{EngineTookReply};
+ghost use Rattle.swd_host.specs.Standing.{EngineIsOpened};
 ghost use Rattle.swd_host.specs.Steps.{EngineGoesTo, EngineRestsWith, engine_ahead_to, engine_after_read};
 ghost use Rattle.swd_host.specs.Steps.{engine_after_cue};
 ghost use Rattle.swd_host.specs.Turns.{EngineIsNew, EngineStarts, EngineSeesAck, engine_first_state, engine_lands_from};
@@ -158,6 +159,22 @@ impl Engine {
     {
         let mut engine = Engine::new(tries);
         engine.stray = true;
+        engine
+    }
+
+    /// Creates an engine for a list over a target that is open: powered, at rest and without a flag, as a run leaves it
+    /// that ended [`All`](End::All). It starts at the outcome `Opened`, so it sends no opening. It writes TAR before its
+    /// first access, whatever the calls before left there.
+    pub fn opened(bursts: Bursts, tries: u32) -> Engine
+        ensures opened { EngineIsOpened bursts tries result }
+        ensures fits { (s : Port) → s.link.due ≡ Nothing → EngineDueFits result s }
+    {
+        let mut engine = Engine::new(tries);
+        engine.state = State::Resting(Outcome::Opened);
+        engine.task = Task::Read(0);
+        engine.tar = None;
+        engine.ahead = Ahead::Unsent;
+        engine.bursts = bursts;
         engine
     }
 

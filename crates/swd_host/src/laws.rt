@@ -3,11 +3,13 @@ ghost use Rattle.std.specs.Prelude.{◌≡◌, List, Option, true};
 ghost use Rattle.swd_port.specs.declared.access.Access.{Access};
 ghost use Rattle.swd_port.specs.declared.access.Answer.{Answer};
 ghost use Rattle.swd_port.specs.Port.{Port};
-ghost use Rattle.swd_host.specs.Reports.{IsAtRest};
+ghost use Rattle.swd_host.specs.Reports.{HostIsOpen, IsAtRest};
 ghost use Rattle.swd_host.specs.declared.engine.Engine.{Engine};
 ghost use Rattle.swd_host.specs.Engines.{engine_outcome, engine_may_start};
 ghost use Rattle.swd_host.specs.Chains.{ResumedCallsAreChained, ResumeChainDoes, ResumeChainReads, ResumeChainRepeats};
-ghost use Rattle.swd_host.specs.Sessions.{HostFindsMadeAtRest, HostSession, HostSessionIsAsOne};
+ghost use Rattle.swd_host.specs.PlainRuns.{FitsOverPlain, RunsOverPlain};
+ghost use Rattle.swd_host.specs.Sessions.{HostFindsMadeAtRest, HostLists, HostListsAreAsOne, HostSession};
+ghost use Rattle.swd_host.specs.Sessions.{HostSessionIsAsOne};
 ghost use Rattle.swd_host.specs.Tracks.{EngineDueFits};
 ghost use Rattle.swd_host.specs.Turns.{EngineContinuesBurst, EngineStarts};
 
@@ -16,11 +18,26 @@ pub fn made_is_at_rest()
     ensures { HostFindsMadeAtRest }
 {}
 
+/// States what a run reports where the bus is a plain memory: the answers that this memory gives to a prefix of the
+/// list. The bus is still a plain memory then, which is that after this prefix and some of the accesses begun.
+pub fn plain_runs()
+    ensures fits { FitsOverPlain }
+    ensures runs { RunsOverPlain }
+{}
+
 /// States that successive lists and blocks, each of which ended `All`, are as one list. Their answers are those of a
 /// plain memory to the concatenated list, and the target's memory is that after it. The target is at rest again.
 pub fn sessions()
     ensures { (s : Port) (list : List Access) (answers : List Answer) (t : Port) → IsAtRest s
         → HostSession s list answers t → HostSessionIsAsOne s list answers t }
+{}
+
+/// States that successive lists and blocks over an open target, each of which ended `All`, are as one list. Their answers
+/// are those of a plain memory to the concatenated list, and the target's memory is that after it. The target is open
+/// again.
+pub fn lists()
+    ensures { (s : Port) (list : List Access) (answers : List Answer) (t : Port) → HostIsOpen s
+        → HostLists s list answers t → HostListsAreAsOne s list answers t }
 {}
 
 /// States what a call and the calls of `resume` after it do, over a target that was at rest. Each is a run over the

@@ -133,7 +133,7 @@ fn is_aligned(access: Access) -> bool
 }
 
 // Returns why a list is refused, if it is.
-fn refusal(accesses: &[Access]) -> Option<Refused>
+pub(crate) fn refusal(accesses: &[Access]) -> Option<Refused>
     ensures none { IfNone result ((length accesses.now ≤ 65536) × AreHostAccesses accesses.now) }
     ensures refused { IfSome result (HostRefusesList accesses.now) }
     ensures memory { IfSome result (λ refused. refused ≢ Memory) }
@@ -366,7 +366,7 @@ pub(crate) fn conduct<W: Wire, A: Allocator>(
 }
 
 // The same, with the answers handed on.
-fn conduct_to<W: Wire, K: AnswerSink>(
+pub(crate) fn conduct_to<W: Wire, K: AnswerSink>(
     wire: &mut W,
     engine: Engine,
     accesses: &[Access],

@@ -56,3 +56,27 @@ impl<A: Allocator> AnswerSink for Vec<Answer, A> {
 
     ghost keeps_on = { λ a b c first next. tt };
 }
+
+// Takes no answer, for a list without accesses.
+#[derive(Drop)]
+pub(crate) struct NoAnswers;
+
+impl AnswerSink for NoAnswers {
+    ghost taken = { λ _. [] };
+
+    ghost most = { λ _. 0 };
+
+    ghost keeps = { λ _ _. Unit {0} };
+
+    fn count(&self) -> usize {
+        0
+    }
+
+    fn take(&mut self, _answer: Answer) {
+        unreachable!()
+    }
+
+    ghost keeps_all = { λ a. tt };
+
+    ghost keeps_on = { λ a b c first next. tt };
+}

@@ -13,6 +13,8 @@ use Rattle.swd_port.specs.PlainMemory.{plain_address}
 use Rattle.swd_port.specs.Port.{Port}
 use Rattle.swd_host.specs.declared.outcome.End.TheVariants.{All}
 use Rattle.swd_host.specs.Again.{resume_added}
+use Rattle.swd_port.specs.PlainBus.{IsPlain, plain_words_of}
+use Rattle.swd_host.proofs.ReadChains.{resume_chain_plain}
 use Rattle.swd_host.specs.Reports.{HostReport, IsAtRest}
 use Rattle.swd_script.specs.Scripts.{ScriptListed}
 use Rattle.swd_run.specs.GoingOn.{ScriptCalls, ran, resumed}
@@ -279,36 +281,52 @@ module _ {W : Type 0} (port : W → Port) (plan : W → List Mark) (lawful : W �
   pub record Leaves (want : ℕ → ℕ) (P : ℕ → Type 0) (s : W) (list : List Access) (answers : List Answer) (t : W)
       : Type 0 where
     pub at_rest : IsAtRest (port t)
-    pub held : Held want P (port s).target.memory.words (port t).target.memory.words
-    pub tells : AllTell want P (port s).target.memory.words (port t).target.memory.words list answers
+    pub plain : IsPlain (port t).target.memory
+    pub held : Held want P (plain_words_of (port s).target.memory) (plain_words_of (port t).target.memory)
+    pub tells : AllTell want P (plain_words_of (port s).target.memory) (plain_words_of (port t).target.memory) list answers
 
-  module _ (want : ℕ → ℕ) (P : ℕ → Type 0) (s : W) (rest : IsAtRest (port s)) where
-    -- over a lawful wire, from a target at rest, consecutive calls leave it at rest; each word is the one before or
-    -- the one to write there; a read word is the one before, unless its address is written; a written word is there
-    pub leaves : (t : W) (list : List Access) (answers : List Answer)
-        → Calls port plan lawful tries resumes s list answers t
-        → AllIn want P (port s).target.memory.words list → lawful t → Leaves want P s list answers t
-    leaves t list answers none i law =
-        record { at_rest = rest; held = λ q. inl refl; tells = tt }
-    leaves t list answers
-        (more {list = xs} {answers = vs} {t = r} {u = v} {batch = batch} {run = run} before call all done) i law =
-        let words = (port s).target.memory.words in
-        let n : ℕ = batch_limit batch in
-        let went = call.goes.went in
-        let back : lawful r = law_before port plan lawful n batch.accesses tries r run.stops run.told v went law in
-        let h = leaves r xs vs before (all_front want P words xs batch.accesses i) back in
-        let turns = (tell_of port plan lawful n batch.accesses tries r h.at_rest run.stops run.told v went law).turns in
-        let kept = chain_keeps want P words n batch.accesses (port r).target.memory turns.calls run.told turns.memory
-        (all_back want P words xs batch.accesses i) h.held turns.chain in
-        let there : Kept want P words batch.accesses (port r).target.memory.words (port v).target.memory.words
-        run.told.answers =
-        subst (λ m. Kept want P words batch.accesses (port r).target.memory.words m.words run.told.answers)
-        (turns.left all) kept in
-        record {
-          at_rest = rests port plan lawful n batch.accesses tries r h.at_rest run.stops run.told v went law all;
-          held = there.held;
-          tells = tells_both want P words (port v).target.memory.words xs batch.accesses vs run.told.answers
-              (calls_done s r xs vs before)
-              (all_later want P words (port r).target.memory.words (port v).target.memory.words xs vs there.later
-              h.tells) there.tells;
-        }
+  -- over a lawful wire, from a target at rest, consecutive calls leave it at rest
+  pub calls_rest : (s t : W) (list : List Access) (answers : List Answer)
+      → Calls port plan lawful tries resumes s list answers t → lawful t → IsAtRest (port s) → IsAtRest (port t)
+  calls_rest s t list answers none law rest = rest
+  calls_rest s t list answers
+      (more {list = xs} {answers = vs} {t = r} {u = v} {batch = batch} {run = run} before call all done) law rest =
+      let n : ℕ = batch_limit batch in
+      let went = call.goes.went in
+      let back : lawful r = law_before port plan lawful n batch.accesses tries r run.stops run.told v went law in
+      rests port plan lawful n batch.accesses tries r (calls_rest s r xs vs before back rest) run.stops run.told v went
+      law all
+
+  module _ (want : ℕ → ℕ) (P : ℕ → Type 0) (s : W) (rest : IsAtRest (port s)) (plain : IsPlain (port s).target.memory)
+    where
+      -- over a lawful wire, from a target at rest, consecutive calls leave it at rest; each word is the one before or
+      -- the one to write there; a read word is the one before, unless its address is written; a written word is there
+      pub leaves : (t : W) (list : List Access) (answers : List Answer)
+          → Calls port plan lawful tries resumes s list answers t
+          → AllIn want P (plain_words_of (port s).target.memory) list → lawful t → Leaves want P s list answers t
+      leaves t list answers none i law =
+          record { at_rest = rest; plain = plain; held = λ q. inl refl; tells = tt }
+      leaves t list answers
+          (more {list = xs} {answers = vs} {t = r} {u = v} {batch = batch} {run = run} before call all done) i law =
+          let words = (plain_words_of (port s).target.memory) in
+          let n : ℕ = batch_limit batch in
+          let went = call.goes.went in
+          let back : lawful r = law_before port plan lawful n batch.accesses tries r run.stops run.told v went law in
+          let h = leaves r xs vs before (all_front want P words xs batch.accesses i) back in
+          let turns = (tell_of port plan lawful n batch.accesses tries r h.at_rest run.stops run.told v went law).turns in
+          let kept = chain_keeps want P words n batch.accesses (port r).target.memory turns.calls run.told turns.memory h.plain
+          (all_back want P words xs batch.accesses i) h.held turns.chain in
+          let there : Kept want P words batch.accesses (plain_words_of (port r).target.memory) (plain_words_of (port v).target.memory)
+          run.told.answers =
+          subst (λ m. Kept want P words batch.accesses (plain_words_of (port r).target.memory) (plain_words_of m) run.told.answers)
+          (turns.left all) kept in
+          record {
+            plain = subst IsPlain (turns.left all) (resume_chain_plain n batch.accesses (port r).target.memory turns.calls
+                run.told turns.memory h.plain turns.chain);
+            at_rest = rests port plan lawful n batch.accesses tries r h.at_rest run.stops run.told v went law all;
+            held = there.held;
+            tells = tells_both want P words (plain_words_of (port v).target.memory) xs batch.accesses vs run.told.answers
+                (calls_done s r xs vs before)
+                (all_later want P words (plain_words_of (port r).target.memory) (plain_words_of (port v).target.memory) xs vs there.later
+                h.tells) there.tells;
+          }

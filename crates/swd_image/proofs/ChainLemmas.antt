@@ -12,10 +12,14 @@ use Rattle.swd_port.specs.declared.access.Answer.{Answer}
 use Rattle.swd_port.specs.declared.access.Answer.TheVariants.{Value, Written, BusFault}
 use Rattle.swd_port.specs.PlainMemory.{PlainMemory, plain_address, plain_done_answer, plain_done, plain_after}
 use Rattle.swd_port.specs.PlainMemory.{plain_answer, succeeds_at}
+use Rattle.swd_port.specs.Bus.{Bus, bus_after, bus_answer, plain_of}
 use Rattle.swd_port.proofs.MapLemmas.{port_map_get_other, port_map_get_same}
 use Rattle.swd_host.specs.Again.{resume_added}
 use Rattle.swd_host.specs.Chains.{ResumeChain, first, again}
+use Rattle.swd_port.specs.PlainBus.{IsPlain, plain_words_of}
 use Rattle.swd_host.specs.Plain.{memory_after, answers_of}
+use Rattle.swd_host.proofs.ReadChains.{resume_chain_plain}
+use Rattle.swd_port.proofs.PlainBusLaws.{is_plain_next, plain_answers, plain_of_next}
 use Rattle.swd_host.specs.Reports.{HostReport}
 use Rattle.swd_image.specs.Bytes.{image_word_in}
 
@@ -146,30 +150,48 @@ module _ (want : ℕ → ℕ) (P : ℕ → Type 0) (words : FinMap nat_cmp ℕ) 
   stepped a p i h = elim (succeeds_at (plain_address a) p) as (λ b. succeeds_at (plain_address a) p ≡ b → Stepped a p)
       [ true ↦ λ e. made a p i h e | false ↦ λ e. refused a p h e ] refl
 
-  -- SOME ACCESSES OF A LIST
-  record Ran (n : ℕ) (list : List Access) (p : PlainMemory) : Type 0 where
-    held : Held (memory_after (take n list) p).words
-    later : Later p.words (memory_after (take n list) p).words
+  -- the same of a bus that is a plain memory
+  record Moved (a : Access) (p : Bus) : Type 0 where
+    held : Held (plain_words_of (bus_after a p))
+    later : Later (plain_words_of p) (plain_words_of (bus_after a p))
+    tells : Tells (plain_words_of (bus_after a p)) a (bus_answer a p)
 
-  ran : (n : ℕ) (list : List Access) (p : PlainMemory) → AllIn list → Held p.words → Ran n list p
-  ran zero list p i h = record { held = h; later = λ q is. is }
-  ran (suc n) [] p i h = record { held = h; later = λ q is. is }
-  ran (suc n) (a ∷ list) p i h =
-      let s = stepped a p i.0 h in
-      let r = ran n list (plain_after a p) i.1 s.held in
+  moved : (a : Access) (p : Bus) → IsPlain p → IsIn a → Held (plain_words_of p) → Moved a p
+  moved a p plain i h =
+      let s = stepped a (plain_of p) i h in
+      let e : plain_after a (plain_of p) ≡ plain_of (bus_after a p) = sym (plain_of_next a p plain) in
+      record {
+        held = subst (λ m. Held m.words) e s.held;
+        later = subst (λ m. Later (plain_words_of p) m.words) e s.later;
+        tells = subst (Tells (plain_words_of (bus_after a p)) a) (sym (plain_answers a p plain))
+            (subst (λ m. Tells m.words a (plain_answer a (plain_of p))) e s.tells);
+      }
+
+  -- SOME ACCESSES OF A LIST
+  record Ran (n : ℕ) (list : List Access) (p : Bus) : Type 0 where
+    held : Held (plain_words_of (memory_after (take n list) p))
+    later : Later (plain_words_of p) (plain_words_of (memory_after (take n list) p))
+
+  ran : (n : ℕ) (list : List Access) (p : Bus) → IsPlain p → AllIn list → Held (plain_words_of p) → Ran n list p
+  ran zero list p plain i h = record { held = h; later = λ q is. is }
+  ran (suc n) [] p plain i h = record { held = h; later = λ q is. is }
+  ran (suc n) (a ∷ list) p plain i h =
+      let s = moved a p plain i.0 h in
+      let r = ran n list (bus_after a p) (is_plain_next a p plain) i.1 s.held in
       record { held = r.held; later = λ q is. r.later q (s.later q is) }
 
-  ran_tells : (k n : ℕ) (list : List Access) (p : PlainMemory) → k ≤ n → AllIn list → Held p.words
-      → AllTell (memory_after (take n list) p).words list (answers_of (take k list) p)
-  ran_tells k n [] p l i h = tt
-  ran_tells zero n (a ∷ list) p l i h = tt
-  ran_tells (suc k) zero (a ∷ list) p l i h = absurd (omega arith)
-  ran_tells (suc k) (suc n) (a ∷ list) p l i h =
-      let s = stepped a p i.0 h in
-      let now = memory_after (take n list) (plain_after a p) in (
-        tells_later (plain_after a p).words now.words a (plain_answer a p)
-            (ran n list (plain_after a p) i.1 s.held).later s.tells,
-        ran_tells k n list (plain_after a p) (omega arith) i.1 s.held,
+  ran_tells : (k n : ℕ) (list : List Access) (p : Bus) → k ≤ n → IsPlain p → AllIn list → Held (plain_words_of p)
+      → AllTell (plain_words_of (memory_after (take n list) p)) list (answers_of (take k list) p)
+  ran_tells k n [] p l plain i h = tt
+  ran_tells zero n (a ∷ list) p l plain i h = tt
+  ran_tells (suc k) zero (a ∷ list) p l plain i h = absurd (omega arith)
+  ran_tells (suc k) (suc n) (a ∷ list) p l plain i h =
+      let s = moved a p plain i.0 h in
+      let next = is_plain_next a p plain in
+      let now = memory_after (take n list) (bus_after a p) in (
+        tells_later (plain_words_of (bus_after a p)) (plain_words_of now) a (bus_answer a p)
+            (ran n list (bus_after a p) next i.1 s.held).later s.tells,
+        ran_tells k n list (bus_after a p) (omega arith) next i.1 s.held,
       )
 
   tells_append : (now : FinMap nat_cmp ℕ) (list : List Access) (xs ys : List Answer) → AllTell now list xs
@@ -186,41 +208,43 @@ module _ (want : ℕ → ℕ) (P : ℕ → Type 0) (words : FinMap nat_cmp ℕ) 
 
   -- a call, however often it was resumed, leaves each word as before or as it is to be written there; a read word is
   -- the one before, unless its address is written; a written word is there, and stays
-  pub chain_keeps : (limit : ℕ) (list : List Access) (m : PlainMemory) (calls : List HostReport) (told : HostReport)
-      (now : PlainMemory)
-      → AllIn list → Held m.words → ResumeChain limit list m calls told now → Kept list m.words now.words told.answers
-  chain_keeps limit list m calls told now i h (first fits) =
+  pub chain_keeps : (limit : ℕ) (list : List Access) (m : Bus) (calls : List HostReport) (told : HostReport)
+      (now : Bus)
+      → IsPlain m → AllIn list → Held (plain_words_of m) → ResumeChain limit list m calls told now
+      → Kept list (plain_words_of m) (plain_words_of now) told.answers
+  chain_keeps limit list m calls told now plain i h (first fits) =
       let k = fits.0 in
       let fit = fits.1 in
       let j = fit.memory.0 in
       let is : now ≡ memory_after (take (k + j) list) m = fit.memory.2 in
-      let r = ran (k + j) list m i h in
+      let r = ran (k + j) list m plain i h in
       record {
-        held = subst (λ x. Held x.words) (sym is) r.held;
-        later = subst (λ x. Later m.words x.words) (sym is) r.later;
-        tells = subst (AllTell now.words list) (sym fit.answers)
-            (subst (λ x. AllTell x.words list (answers_of (take k list) m)) (sym is)
-            (ran_tells k (k + j) list m (omega arith) i h));
+        held = subst (λ x. Held (plain_words_of x)) (sym is) r.held;
+        later = subst (λ x. Later (plain_words_of m) (plain_words_of x)) (sym is) r.later;
+        tells = subst (AllTell (plain_words_of now) list) (sym fit.answers)
+            (subst (λ x. AllTell (plain_words_of x) list (answers_of (take k list) m)) (sym is)
+            (ran_tells k (k + j) list m (omega arith) plain i h));
       }
-  chain_keeps limit list m calls told now i h
+  chain_keeps limit list m calls told now plain i h
       (again {calls = before} {earlier = earlier} {before = left} chain own kept begun fits) =
-      let c = chain_keeps limit list m before earlier left i h chain in
+      let c = chain_keeps limit list m before earlier left plain i h chain in
+      let plain_left = resume_chain_plain limit list m before earlier left plain chain in
       let k = fits.0 in
       let fit = fits.1 in
       let j = fit.memory.0 in
       let rest : List Access = drop (length earlier.answers) list in
       let inside : AllIn rest = all_drop (length earlier.answers) list i in
       let is : now ≡ memory_after (take (k + j) rest) left = fit.memory.2 in
-      let r = ran (k + j) rest left inside c.held in
-      let later : Later left.words now.words = subst (λ x. Later left.words x.words) (sym is) r.later in
-      let added : AllTell now.words rest (resume_added earlier told) =
-      subst (AllTell now.words rest) (sym fit.answers)
-      (subst (λ x. AllTell x.words rest (answers_of (take k rest) left)) (sym is)
-      (ran_tells k (k + j) rest left (omega arith) inside c.held)) in
+      let r = ran (k + j) rest left plain_left inside c.held in
+      let later : Later (plain_words_of left) (plain_words_of now) = subst (λ x. Later (plain_words_of left) (plain_words_of x)) (sym is) r.later in
+      let added : AllTell (plain_words_of now) rest (resume_added earlier told) =
+      subst (AllTell (plain_words_of now) rest) (sym fit.answers)
+      (subst (λ x. AllTell (plain_words_of x) rest (answers_of (take k rest) left)) (sym is)
+      (ran_tells k (k + j) rest left (omega arith) plain_left inside c.held)) in
       record {
-        held = subst (λ x. Held x.words) (sym is) r.held;
+        held = subst (λ x. Held (plain_words_of x)) (sym is) r.held;
         later = λ q is. later q (c.later q is);
-        tells = subst (AllTell now.words list) (sym kept)
-            (tells_append now.words list earlier.answers (resume_added earlier told)
-            (all_later left.words now.words list earlier.answers later c.tells) added);
+        tells = subst (AllTell (plain_words_of now) list) (sym kept)
+            (tells_append (plain_words_of now) list earlier.answers (resume_added earlier told)
+            (all_later (plain_words_of left) (plain_words_of now) list earlier.answers later c.tells) added);
       }

@@ -7,6 +7,9 @@ use Rattle.std.specs.FinMap.{FinMap}
 use Rattle.swd_port.specs.declared.mark.Mark.{Mark}
 use Rattle.swd_port.specs.PlainMemory.{PlainMemory}
 use Rattle.swd_port.specs.Port.{Port}
+use Rattle.swd_port.specs.Bus.{plain_of}
+use Rattle.swd_port.specs.PlainBus.{IsPlain, plain_words_of}
+use Rattle.swd_image.proofs.CallLemmas.{calls_rest}
 use Rattle.swd_host.specs.Reports.{IsAtRest}
 use Rattle.swd_image.specs.Bytes.{image_byte_in, image_bytes_at, image_bytes_of, image_word_in, image_word_of}
 use Rattle.swd_image.specs.Bytes.{image_words_at}
@@ -77,19 +80,21 @@ module _ {W : Type 0} (port : W → Port) (plan : W → List Mark) (lawful : W �
   dumped bytes words fits reads are =
       let first : ℕ = image_word_of addr in
       let many : ℕ = image_word_count addr count in
-      let read = λ (law : lawful t) (rest : IsAtRest (port s)).
+      let read = λ (law : lawful t) (rest : IsAtRest (port s)) (plain : IsPlain (port s).target.memory).
       has_read port plan lawful tries resumes s t (image_dump_list addr count) words (image_reads_are_reads first many)
-      reads law rest in
+      reads law rest plain in
       record {
         fits = fits;
         words = words;
         reads = reads;
         are = are;
-        memory = λ law rest. are
+        memory = λ law rest plain. are
             ∙ ap (λ l. image_bytes_of l (addr % 4) count)
-            ((read law rest).words_are ∙ image_reads_from_memory (port s).target.memory.words first many)
-            ∙ memory_bytes (port s).target.memory first many (addr % 4) addr count (omega arith) (omega arith)
+            ((read law rest plain).words_are ∙ image_reads_from_memory (plain_words_of (port s).target.memory) first many)
+            ∙ memory_bytes (plain_of (port s).target.memory) first many (addr % 4) addr count (omega arith) (omega arith)
             (dump_words_enough addr count);
-        same = λ law rest. (read law rest).same;
-        rests = λ law rest. (read law rest).at_rest;
+        same = λ law rest plain. (read law rest plain).same;
+        plain = λ law rest plain. (read law rest plain).plain;
+        rests = λ law rest. calls_rest port plan lawful tries resumes s t (image_dump_list addr count) reads.answers
+            reads.calls law rest;
       }

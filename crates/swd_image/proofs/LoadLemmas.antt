@@ -10,6 +10,8 @@ use Rattle.swd_port.specs.declared.access.Answer.TheVariants.{Value, Written, Bu
 use Rattle.swd_port.specs.declared.mark.Mark.{Mark}
 use Rattle.swd_port.specs.PlainMemory.{plain_address, plain_reads}
 use Rattle.swd_port.specs.Port.{Port}
+use Rattle.swd_port.specs.Bus.{plain_of}
+use Rattle.swd_port.specs.PlainBus.{IsPlain, plain_words_of}
 use Rattle.swd_host.specs.Chains.{AreBlockReads}
 use Rattle.swd_host.specs.Reports.{IsAtRest}
 use Rattle.swd_image.specs.declared.fault.ImageFault.{ImageFault}
@@ -119,22 +121,24 @@ module _ {W : Type 0} (port : W → Port) (plan : W → List Mark) (lawful : W �
   -- what some reads leave and gave, from a target at rest
   pub record HasRead (list : List Access) (words : List ℕ) (s t : W) : Type 0 where
     pub at_rest : IsAtRest (port t)
-    pub same : (q : ℕ) → get (port t).target.memory.words q ≡ get (port s).target.memory.words q
-    pub words_are : words ≡ map (λ a. image_word_in (port s).target.memory.words (plain_address a)) list
+    pub plain : IsPlain (port t).target.memory
+    pub same : (q : ℕ) → get (plain_words_of (port t).target.memory) q ≡ get (plain_words_of (port s).target.memory) q
+    pub words_are : words ≡ map (λ a. image_word_in (plain_words_of (port s).target.memory) (plain_address a)) list
 
   -- over a lawful wire, from a target at rest, calls that only read return the memory's words, change none and leave
   -- the target at rest
   pub has_read : (s t : W) (list : List Access) (words : List ℕ) → AreBlockReads list
       → ReadsAs port plan lawful tries resumes list words s t → lawful t → IsAtRest (port s)
-      → HasRead list words s t
-  has_read s t list words r h law rest =
-      let before = (port s).target.memory.words in
-      let l = leaves port plan lawful tries resumes no_word Never s rest t list h.answers h.calls
+      → IsPlain (port s).target.memory → HasRead list words s t
+  has_read s t list words r h law rest plain =
+      let before = (plain_words_of (port s).target.memory) in
+      let l = leaves port plan lawful tries resumes no_word Never s rest plain t list h.answers h.calls
       (all_reads before list r) law in
       record {
         at_rest = l.at_rest;
+        plain = l.plain;
         same = λ q. elim (l.held q) [ inl e ↦ e | inr both ↦ absurd both.0 ];
-        words_are = h.told ∙ told_words before (port t).target.memory.words list h.answers r
+        words_are = h.told ∙ told_words before (plain_words_of (port t).target.memory) list h.answers r
             (calls_done port plan lawful tries resumes s t list h.answers h.calls) l.tells;
       }
 
@@ -157,23 +161,24 @@ module _ {W : Type 0} (port : W → Port) (plan : W → List Mark) (lawful : W �
         → ReadsAs port plan lawful tries resumes (image_edge_list addr (length bytes))
         (image_edge_words addr (length bytes) head tail) s reached
         → MadeAll port plan lawful tries resumes (image_load_list addr bytes head tail) reached t
-        → lawful t → IsAtRest (port s)
-        → IsImageLoaded addr bytes (port s).target.memory (port t).target.memory × IsAtRest (port t)
-    loaded small head tail reached edges made law rest =
+        → lawful t → IsAtRest (port s) → IsPlain (port s).target.memory
+        → IsImageLoaded addr bytes (plain_of (port s).target.memory) (plain_of (port t).target.memory)
+        × IsAtRest (port t) × IsPlain (port t).target.memory
+    loaded small head tail reached edges made law rest plain =
         let len : ℕ = length bytes in
         let word : ℕ → ℕ = image_loaded_word addr bytes head tail in
         let list : List Access = image_load_list addr bytes head tail in
-        let old : FinMap nat_cmp ℕ = (port s).target.memory.words in
-        let middle : FinMap nat_cmp ℕ = (port reached).target.memory.words in
-        let now : FinMap nat_cmp ℕ = (port t).target.memory.words in
+        let old : FinMap nat_cmp ℕ = (plain_words_of (port s).target.memory) in
+        let middle : FinMap nat_cmp ℕ = (plain_words_of (port reached).target.memory) in
+        let now : FinMap nat_cmp ℕ = (plain_words_of (port t).target.memory) in
         let back : lawful reached = calls_law port plan lawful tries resumes reached t list made.answers made.calls law
         in
         let r = has_read s reached (image_edge_list addr len) (image_edge_words addr len head tail)
         (edge_reads (image_needs_head addr len) (image_needs_tail addr len) (image_word_of addr)
-        (image_last_word addr len)) edges back rest in
+        (image_last_word addr len)) edges back rest plain in
         let e = edged (λ a. image_word_in old (plain_address a)) (image_needs_head addr len) (image_needs_tail addr len)
         (image_word_of addr) (image_last_word addr len) head tail r.words_are in
-        let l = leaves port plan lawful tries resumes word (InImageWords addr len) reached r.at_rest t list made.answers
+        let l = leaves port plan lawful tries resumes word (InImageWords addr len) reached r.at_rest r.plain t list made.answers
         made.calls (all_writes word (InImageWords addr len) middle (image_word_of addr) (image_word_count addr len)
         (λ k low. record { low = omega arith; high = omega arith; aligned = omega arith })) law in
         let written : (k : ℕ) → k < image_word_count addr len
@@ -187,6 +192,7 @@ module _ {W : Type 0} (port : W → Port) (plan : W → List Mark) (lawful : W �
             others = others addr bytes head tail old now small e.is_head e.is_tail written held;
           },
           l.at_rest,
+          l.plain,
         )
 
     -- why a load failed, among its reads, or among its writes

@@ -3,6 +3,8 @@ use Rattle.std.specs.Prelude.{ℕ, ◌≡◌, ◌+◌, ◌<◌, ◌≤◌, ◌%�
 use Rattle.std.specs.FinMap.{get}
 use Rattle.swd_port.specs.declared.mark.Mark.{Mark}
 use Rattle.swd_port.specs.Port.{Port}
+use Rattle.swd_port.specs.Bus.{plain_of}
+use Rattle.swd_port.specs.PlainBus.{IsPlain, plain_words_of}
 use Rattle.swd_host.specs.Reports.{IsAtRest}
 use Rattle.swd_image.specs.declared.fault.ImageFault.{ImageFault}
 use Rattle.swd_image.specs.declared.fault.ImageFault.TheVariants.{Range, Memory, Stopped, Report, BusFault as FaultAt}
@@ -21,9 +23,11 @@ module _ {W : Type 0} (port : W → Port) (plan : W → List Mark) (lawful : W �
     pub words : List ℕ
     pub reads : ReadsAs port plan lawful tries resumes (image_dump_list addr count) words s t
     pub are : bytes ≡ image_bytes_of words (addr % 4) count
-    pub memory : lawful t → IsAtRest (port s) → bytes ≡ image_bytes_at (port s).target.memory addr count
-    pub same : lawful t → IsAtRest (port s)
-        → (q : ℕ) → get (port t).target.memory.words q ≡ get (port s).target.memory.words q
+    pub memory : lawful t → IsAtRest (port s) → IsPlain (port s).target.memory
+        → bytes ≡ image_bytes_at (plain_of (port s).target.memory) addr count
+    pub plain : lawful t → IsAtRest (port s) → IsPlain (port s).target.memory → IsPlain (port t).target.memory
+    pub same : lawful t → IsAtRest (port s) → IsPlain (port s).target.memory
+        → (q : ℕ) → get (plain_words_of (port t).target.memory) q ≡ get (plain_words_of (port s).target.memory) q
     pub rests : lawful t → IsAtRest (port s) → IsAtRest (port t)
 
   -- the error of a dump: for a range that extends past the addresses no call was made
@@ -50,5 +54,5 @@ pub record VerifiesImage {W : Type 0} (port : W → Port) (plan : W → List Mar
   pub found : List ℕ
   pub dumps : Dumps port plan lawful tries resumes addr (length bytes) found s t
   pub tells : ComparesImage addr bytes found difference
-  pub memory : lawful t → IsAtRest (port s)
-      → ComparesImage addr bytes (image_bytes_at (port s).target.memory addr (length bytes)) difference
+  pub memory : lawful t → IsAtRest (port s) → IsPlain (port s).target.memory
+      → ComparesImage addr bytes (image_bytes_at (plain_of (port s).target.memory) addr (length bytes)) difference

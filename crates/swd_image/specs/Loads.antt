@@ -2,6 +2,8 @@
 use Rattle.std.specs.Prelude.{ℕ, ◌≡◌, ◌+◌, ◌<◌, ◌≤◌, ◌^◌, ◌⊎◌, List, length}
 use Rattle.swd_port.specs.declared.mark.Mark.{Mark}
 use Rattle.swd_port.specs.Port.{Port}
+use Rattle.swd_port.specs.Bus.{plain_of}
+use Rattle.swd_port.specs.PlainBus.{IsPlain}
 use Rattle.swd_host.specs.Reports.{IsAtRest}
 use Rattle.swd_image.specs.declared.fault.ImageFault.{ImageFault}
 use Rattle.swd_image.specs.declared.fault.ImageFault.TheVariants.{Range, Memory, Stopped, Report, BusFault as FaultAt}
@@ -12,8 +14,8 @@ use Rattle.swd_image.specs.Sessions.{FailsAs, MadeAll, ReadsAs}
 module _ {W : Type 0} (port : W → Port) (plan : W → List Mark) (lawful : W → Type 0) (tries resumes addr : ℕ)
     (bytes : List ℕ) (s t : W) where
   -- The image was loaded. Whatever was seen, these are the calls: they read the partial words, and then wrote each
-  -- word, a partial one as it was read, with the image's bytes in it. If the wire was lawful and the target at rest,
-  -- the memory contains the image, and nothing else of it changed. The target is then at rest again.
+  -- word, a partial one as it was read, with the image's bytes in it. If the wire was lawful, the target at rest and
+  -- the bus a plain memory, this contains the image, and nothing else of it changed. The target is then at rest again.
   pub record Loads : Type 0 where
     pub fits : addr + length bytes ≤ 2 ^ 32
     pub head : ℕ
@@ -23,7 +25,9 @@ module _ {W : Type 0} (port : W → Port) (plan : W → List Mark) (lawful : W �
         (image_edge_words addr (length bytes) head tail) s reached
     pub writes : MadeAll port plan lawful tries resumes (image_load_list addr bytes head tail) reached t
     pub memory : lawful t → IsAtRest (port s)
-        → IsImageLoaded addr bytes (port s).target.memory (port t).target.memory × IsAtRest (port t)
+        → IsPlain (port s).target.memory
+        → IsImageLoaded addr bytes (plain_of (port s).target.memory) (plain_of (port t).target.memory)
+        × IsAtRest (port t) × IsPlain (port t).target.memory
 
   -- the load failed in its writes
   pub record FailsLate (fault : ImageFault) : Type 0 where

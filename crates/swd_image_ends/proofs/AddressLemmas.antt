@@ -1,5 +1,5 @@
 -- No call makes a word of the memory appear or go, at a wire that is always lawful.
-use Rattle.std.proofs.Common.{◌≡◌, ◌+◌, ℕ, true, false, refl, sym, ap, ◌∙◌, List, [], ◌∷◌, length, take, drop}
+use Rattle.std.proofs.Common.{◌≡◌, ◌+◌, ℕ, true, false, refl, sym, ap, subst, ◌∙◌, List, [], ◌∷◌, length, take, drop}
 use Rattle.std.proofs.Common.{Option, inl, inr, Bool, Result, Ok, Err}
 use Rattle.std.specs.Prelude.{◌&&◌, OnOk, is_some}
 use Rattle.std.proofs.lemmas.Bool.{cases_eq}
@@ -9,10 +9,14 @@ use Rattle.swd_port.specs.declared.access.Access.TheVariants.{Read, Write}
 use Rattle.swd_port.specs.declared.access.Answer.{Answer}
 use Rattle.swd_port.specs.declared.mark.Mark.{Mark}
 use Rattle.swd_port.specs.PlainMemory.{PlainMemory, plain_address, plain_done, plain_after, succeeds_at}
+use Rattle.swd_port.specs.Bus.{Bus, bus_after, plain_of}
 use Rattle.swd_port.specs.Port.{Port}
 use Rattle.swd_port.proofs.MapLemmas.{port_map_get_other, port_map_get_same}
 use Rattle.swd_host.specs.Chains.{ResumeChain, first, again}
+use Rattle.swd_port.specs.PlainBus.{IsPlain, plain_words_of}
 use Rattle.swd_host.specs.Plain.{memory_after}
+use Rattle.swd_host.proofs.ReadChains.{resume_chain_plain}
+use Rattle.swd_port.proofs.PlainBusLaws.{is_plain_next, plain_of_next}
 use Rattle.swd_host.specs.Reports.{IsAtRest, HostReport}
 use Rattle.swd_run.specs.Sessions.{batch_limit}
 use Rattle.swd_run.proofs.WentLemmas.{rests, tell_of}
@@ -54,93 +58,108 @@ same_after a p q =
       | false ↦ λ e. ap (λ m. is_some (get m.words q)) (unchanged a p e)
     ] refl
 
-same_list : (list : List Access) (p : PlainMemory) → ImageEndSameAddresses p (memory_after list p)
-same_list [] p q = refl
-same_list (a ∷ list) p q = same_list list (plain_after a p) q ∙ same_after a p q
+same_list : (list : List Access) (p : Bus) → IsPlain p
+    → ImageEndSameAddresses (plain_of p) (plain_of (memory_after list p))
+same_list [] p plain q = refl
+same_list (a ∷ list) p plain q =
+    same_list list (bus_after a p) (is_plain_next a p plain) q
+    ∙ (ap (λ m. is_some (get m.words q)) (plain_of_next a p plain) ∙ same_after a (plain_of p) q)
 
 -- ---- a call, resumed
 
-same_chain : (limit : ℕ) (list : List Access) (m : PlainMemory) (calls : List HostReport) (told : HostReport)
-    (now : PlainMemory) → ResumeChain limit list m calls told now → ImageEndSameAddresses m now
-same_chain limit list m calls told now (first fits) q =
+same_chain : (limit : ℕ) (list : List Access) (m : Bus) (calls : List HostReport) (told : HostReport)
+    (now : Bus) → IsPlain m → ResumeChain limit list m calls told now
+    → ImageEndSameAddresses (plain_of m) (plain_of now)
+same_chain limit list m calls told now plain (first fits) q =
     let k = fits.0 in
     let j = fits.1.memory.0 in
-    ap (λ x. is_some (get x.words q)) fits.1.memory.2 ∙ same_list (take (k + j) list) m q
-same_chain limit list m calls told now
+    ap (λ x. is_some (get (plain_words_of x) q)) fits.1.memory.2 ∙ same_list (take (k + j) list) m plain q
+same_chain limit list m calls told now plain
     (again {calls = before} {earlier = earlier} {before = left} chain own kept begun fits) q =
     let k = fits.0 in
     let j = fits.1.memory.0 in
-    ap (λ x. is_some (get x.words q)) fits.1.memory.2
-    ∙ same_list (take (k + j) (drop (length earlier.answers) list)) left q
-    ∙ same_chain limit list m before earlier left chain q
+    ap (λ x. is_some (get (plain_words_of x) q)) fits.1.memory.2
+    ∙ same_list (take (k + j) (drop (length earlier.answers) list)) left
+    (resume_chain_plain limit list m before earlier left plain chain) q
+    ∙ same_chain limit list m before earlier left plain chain q
 
 -- ---- calls that all succeeded
 
 module _ {W : Type 0} (port : W → Port) (plan : W → List Mark) (tries resumes : ℕ) where
   record Keeps (s t : W) : Type 0 where
     at_rest : IsAtRest (port t)
-    addresses : ImageEndSameAddresses (port s).target.memory (port t).target.memory
+    plain : IsPlain (port t).target.memory
+    addresses : ImageEndSameAddresses (plain_of (port s).target.memory) (plain_of (port t).target.memory)
 
-  same_calls : (s t : W) (list : List Access) (answers : List Answer) → IsAtRest (port s)
+  same_calls : (s t : W) (list : List Access) (answers : List Answer) → IsAtRest (port s) → IsPlain (port s).target.memory
       → Calls port plan AnyImageWire tries resumes s list answers t → Keeps s t
-  same_calls s t list answers rest none = record { at_rest = rest; addresses = λ q. refl }
-  same_calls s t list answers rest
+  same_calls s t list answers rest plain none = record { at_rest = rest; plain = plain; addresses = λ q. refl }
+  same_calls s t list answers rest plain
       (more {list = xs} {answers = vs} {t = r} {u = v} {batch = batch} {run = run} before call all plain_done) =
-      let h = same_calls s r xs vs rest before in
+      let h = same_calls s r xs vs rest plain before in
       let n : ℕ = batch_limit batch in
       let went = call.goes.went in
       let turns =
       (tell_of port plan AnyImageWire n batch.accesses tries r h.at_rest run.stops run.told v went tt).turns in
-      let same = same_chain n batch.accesses (port r).target.memory turns.calls run.told turns.memory turns.chain in
+      let same = same_chain n batch.accesses (port r).target.memory turns.calls run.told turns.memory h.plain
+      turns.chain in
       record {
         at_rest = rests port plan AnyImageWire n batch.accesses tries r h.at_rest run.stops run.told v went tt all;
-        addresses = λ q. ap (λ x. is_some (get x.words q)) (sym (turns.left all)) ∙ same q ∙ h.addresses q;
+        plain = subst IsPlain (turns.left all) (resume_chain_plain n batch.accesses (port r).target.memory turns.calls
+            run.told turns.memory h.plain turns.chain);
+        addresses = λ q. ap (λ x. is_some (get (plain_words_of x) q)) (sym (turns.left all)) ∙ same q ∙ h.addresses q;
       }
 
-  same_load : (addr : ℕ) (bytes : List ℕ) (s t : W) → IsAtRest (port s)
+  same_load : (addr : ℕ) (bytes : List ℕ) (s t : W) → IsAtRest (port s) → IsPlain (port s).target.memory
       → Loads port plan AnyImageWire tries resumes addr bytes s t → Keeps s t
-  same_load addr bytes s t rest h =
-      let edges = same_calls s h.reached (image_edge_list addr (length bytes)) h.edges.answers rest h.edges.calls in
+  same_load addr bytes s t rest plain h =
+      let edges = same_calls s h.reached (image_edge_list addr (length bytes)) h.edges.answers rest plain
+      h.edges.calls in
       let writes = same_calls h.reached t (image_load_list addr bytes h.head h.tail) h.writes.answers edges.at_rest
-      h.writes.calls in
+      edges.plain h.writes.calls in
       record {
         at_rest = writes.at_rest;
+        plain = writes.plain;
         addresses = λ q. writes.addresses q ∙ edges.addresses q;
       }
 
-  same_each : (pieces : List ImageFileBytes) (s u : W) → IsAtRest (port s)
+  same_each : (pieces : List ImageFileBytes) (s u : W) → IsAtRest (port s) → IsPlain (port s).target.memory
       → LoadsEach port plan AnyImageWire tries resumes pieces s u
-      → ImageEndSameAddresses (port s).target.memory (port u).target.memory
-  same_each [] s u rest h q = ap (λ w. is_some (get (port w).target.memory.words q)) h
-  same_each (piece ∷ rest) s u at_rest h q =
-      let one = same_load piece.addr piece.bytes s h.0 at_rest h.1 in
-      same_each rest h.0 u one.at_rest h.2 q ∙ one.addresses q
+      → ImageEndSameAddresses (plain_of (port s).target.memory) (plain_of (port u).target.memory)
+  same_each [] s u rest plain h q = ap (λ w. is_some (get (plain_words_of (port w).target.memory) q)) h
+  same_each (piece ∷ rest) s u at_rest plain h q =
+      let one = same_load piece.addr piece.bytes s h.0 at_rest plain h.1 in
+      same_each rest h.0 u one.at_rest one.plain h.2 q ∙ one.addresses q
 
   -- what a load of pieces over such a wire leaves of the memory
-  pub loaded_there : (pieces : List ImageFileBytes) (s u : W) → IsAtRest (port s)
+  pub loaded_there : (pieces : List ImageFileBytes) (s u : W) → IsAtRest (port s) → IsPlain (port s).target.memory
       → LoadsAll port plan AnyImageWire tries resumes pieces s u
-      → LoadsSimulatedMemory pieces (port s).target.memory (port u).target.memory
-  loaded_there pieces s u rest h = record {
-    loaded = (h.memory tt rest).0;
-    addresses = same_each pieces s u rest h.each;
+      → LoadsSimulatedMemory pieces (plain_of (port s).target.memory) (plain_of (port u).target.memory)
+  loaded_there pieces s u rest plain h = record {
+    loaded = (h.memory tt rest plain).0;
+    addresses = same_each pieces s u rest plain h.each;
   }
 
   same_words : (pieces : List ImageFileBytes) (difference : Option ByteDifference) (s u : W) → IsAtRest (port s)
+      → IsPlain (port s).target.memory
       → VerifiesEach port plan AnyImageWire tries resumes pieces difference s u
-      → ImageEndSameWords (port s).target.memory (port u).target.memory
-  same_words [] difference s u rest h q = ap (λ w. get (port w).target.memory.words q) h.1
-  same_words (piece ∷ rest) difference s u at_rest (inl here) q = here.2.dumps.same tt at_rest q
-  same_words (piece ∷ rest) difference s u at_rest (inr later) q =
+      → ImageEndSameWords (plain_of (port s).target.memory) (plain_of (port u).target.memory)
+  same_words [] difference s u rest plain h q = ap (λ w. get (plain_words_of (port w).target.memory) q) h.1
+  same_words (piece ∷ rest) difference s u at_rest plain (inl here) q = here.2.dumps.same tt at_rest plain q
+  same_words (piece ∷ rest) difference s u at_rest plain (inr later) q =
       let h = later.1.dumps in
-      same_words rest difference later.0 u (h.rests tt at_rest) later.2 q ∙ h.same tt at_rest q
+      same_words rest difference later.0 u (h.rests tt at_rest) (h.plain tt at_rest plain) later.2 q
+      ∙ h.same tt at_rest plain q
 
   -- and a verification
   pub verified_there : (pieces : List ImageFileBytes) (difference : Option ByteDifference) (s u : W) → IsAtRest (port s)
+      → IsPlain (port s).target.memory
       → VerifiesAll port plan AnyImageWire tries resumes pieces difference s u
-      → VerifiesSimulatedMemory pieces difference (port s).target.memory (port u).target.memory
-  verified_there pieces difference s u rest h = record {
-    compared = h.memory tt rest;
-    words = same_words pieces difference s u rest h.each;
+      → VerifiesSimulatedMemory pieces difference (plain_of (port s).target.memory)
+      (plain_of (port u).target.memory)
+  verified_there pieces difference s u rest plain h = record {
+    compared = h.memory tt rest plain;
+    words = same_words pieces difference s u rest plain h.each;
   }
 
 -- what follows from a result that is known of it

@@ -7,6 +7,8 @@ use Rattle.std.specs.FinMap.{get}
 use Rattle.swd_port.specs.declared.mark.Mark.{Mark}
 use Rattle.swd_port.specs.PlainMemory.{PlainMemory}
 use Rattle.swd_port.specs.Port.{Port}
+use Rattle.swd_port.specs.Bus.{plain_of}
+use Rattle.swd_port.specs.PlainBus.{IsPlain, plain_words_of}
 use Rattle.swd_host.specs.Reports.{IsAtRest}
 use Rattle.swd_image.specs.declared.fault.ImageFault.{ImageFault}
 use Rattle.swd_image.specs.declared.verifying.ByteDifference.{ByteDifference}
@@ -59,25 +61,28 @@ module _ {W : Type 0} (port : W → Port) (plan : W → List Mark) (lawful : W �
 
   -- the memory after such loads
   pub each_memory : (pieces : List ImageFileBytes) (s u : W) → LoadsEach port plan lawful tries resumes pieces s u
-      → lawful u → IsAtRest (port s)
-      → ArePiecesLoaded pieces (port s).target.memory (port u).target.memory × IsAtRest (port u)
-  each_memory [] s u h law at_rest = (
+      → lawful u → IsAtRest (port s) → IsPlain (port s).target.memory
+      → ArePiecesLoaded pieces (plain_of (port s).target.memory) (plain_of (port u).target.memory)
+      × IsAtRest (port u) × IsPlain (port u).target.memory
+  each_memory [] s u h law at_rest plain = (
     record {
-      bytes_are = λ at. ap (λ w. image_byte_at (port w).target.memory at) h;
-      others = λ at all. ap (λ w. get (port w).target.memory.words at) h;
+      bytes_are = λ at. ap (λ w. image_byte_at (plain_of (port w).target.memory) at) h;
+      others = λ at all. ap (λ w. get (plain_words_of (port w).target.memory) at) h;
     },
     subst (λ w. IsAtRest (port w)) (sym h) at_rest,
+    subst (λ w. IsPlain (port w).target.memory) (sym h) plain,
   )
-  each_memory (piece ∷ rest) s u h law at_rest =
+  each_memory (piece ∷ rest) s u h law at_rest plain =
       let t = h.0 in
-      let first = h.1.memory (each_law rest t u h.2 law) at_rest in
-      let later = each_memory rest t u h.2 law first.1 in (
+      let first = h.1.memory (each_law rest t u h.2 law) at_rest plain in
+      let later = each_memory rest t u h.2 law first.1 first.2 in (
         record {
           bytes_are = λ at. later.0.bytes_are at ∙ ap (λ b. loaded_pieces_byte rest b at) (first.0.bytes_are at);
           others = λ at all. later.0.others at (All-tail (IsBesideLoadedPiece at) piece rest all)
               ∙ first.0.others at (All-head (IsBesideLoadedPiece at) piece rest all);
         },
         later.1,
+        later.2,
       )
 
   -- a wire that is lawful after a verification was so before it
@@ -99,17 +104,19 @@ module _ {W : Type 0} (port : W → Port) (plan : W → List Mark) (lawful : W �
   -- the result of such verifications holds for the memory
   pub each_compared : (pieces : List ImageFileBytes) (difference : Option ByteDifference) (s u : W)
       → VerifiesEach port plan lawful tries resumes pieces difference s u → lawful u → IsAtRest (port s)
-      → ComparesEachPiece (port s).target.memory pieces difference
-  each_compared [] difference s u h law at_rest = h.0
-  each_compared (piece ∷ rest) difference s u (inl first) law at_rest =
-      inl (first.0, first.1, first.2.memory law at_rest)
-  each_compared (piece ∷ rest) difference s u (inr later) law at_rest =
+      → IsPlain (port s).target.memory → ComparesEachPiece (plain_of (port s).target.memory) pieces difference
+  each_compared [] difference s u h law at_rest plain = h.0
+  each_compared (piece ∷ rest) difference s u (inl first) law at_rest plain =
+      inl (first.0, first.1, first.2.memory law at_rest plain)
+  each_compared (piece ∷ rest) difference s u (inr later) law at_rest plain =
       let t = later.0 in
       let h = later.1 in
       let back = each_verified_law rest difference t u later.2 law in inr (
-        h.memory back at_rest,
-        compares_same (port s).target.memory (port t).target.memory (h.dumps.same back at_rest) rest difference
-            (each_compared rest difference t u later.2 law (h.dumps.rests back at_rest)),
+        h.memory back at_rest plain,
+        compares_same (plain_of (port s).target.memory) (plain_of (port t).target.memory)
+            (h.dumps.same back at_rest plain) rest difference
+            (each_compared rest difference t u later.2 law (h.dumps.rests back at_rest)
+            (h.dumps.plain back at_rest plain)),
       )
 
   -- What is left of a load, from the state that is reached, makes the whole one, from its start.

@@ -135,6 +135,7 @@ module _ {W V : Type 0} (by : W → V) (port : V → Port) (plan : V → List Ma
       reads = reads_by _ dumps.words s t dumps.reads;
       are = dumps.are;
       memory = dumps.memory;
+      plain = dumps.plain;
       same = dumps.same;
       rests = dumps.rests;
     }

@@ -5,6 +5,8 @@ use Rattle.std.specs.FinMap.{get}
 use Rattle.swd_port.specs.declared.mark.Mark.{Mark}
 use Rattle.swd_port.specs.PlainMemory.{PlainMemory}
 use Rattle.swd_port.specs.Port.{Port}
+use Rattle.swd_port.specs.Bus.{plain_of}
+use Rattle.swd_port.specs.PlainBus.{IsPlain}
 use Rattle.swd_host.specs.Reports.{IsAtRest}
 use Rattle.swd_image.specs.declared.fault.ImageFault.{ImageFault}
 use Rattle.swd_image.specs.declared.verifying.ByteDifference.{ByteDifference}
@@ -55,12 +57,13 @@ module _ {W : Type 0} (port : W → Port) (plan : W → List Mark) (lawful : W �
   LoadsEach (piece ∷ rest) s u =
       (t : W) × Loads port plan lawful tries resumes piece.addr piece.bytes s t × LoadsEach rest t u
 
-  -- The pieces were loaded. If the wire was lawful and the target at rest, the memory contains them, and nothing else
-  -- of it changed. The target is then at rest again.
+  -- The pieces were loaded. If the wire was lawful, the target at rest and the bus a plain memory, this contains them,
+  -- and nothing else of it changed. The target is then at rest again.
   pub record LoadsAll (pieces : List ImageFileBytes) (s u : W) : Type 0 where
     pub each : LoadsEach pieces s u
-    pub memory : lawful u → IsAtRest (port s)
-        → ArePiecesLoaded pieces (port s).target.memory (port u).target.memory × IsAtRest (port u)
+    pub memory : lawful u → IsAtRest (port s) → IsPlain (port s).target.memory
+        → ArePiecesLoaded pieces (plain_of (port s).target.memory) (plain_of (port u).target.memory)
+        × IsAtRest (port u) × IsPlain (port u).target.memory
 
   -- the error of such a load: that of the first piece that failed, after those before it were loaded
   abbrev pub LoadFailsAt : List ImageFileBytes → W → W → ImageFault → Type 0
@@ -81,7 +84,8 @@ module _ {W : Type 0} (port : W → Port) (plan : W → List Mark) (lawful : W �
   -- The pieces were read and compared. If the wire was lawful and the target at rest, the result holds for the memory.
   pub record VerifiesAll (pieces : List ImageFileBytes) (difference : Option ByteDifference) (s u : W) : Type 0 where
     pub each : VerifiesEach pieces difference s u
-    pub memory : lawful u → IsAtRest (port s) → ComparesEachPiece (port s).target.memory pieces difference
+    pub memory : lawful u → IsAtRest (port s) → IsPlain (port s).target.memory
+        → ComparesEachPiece (plain_of (port s).target.memory) pieces difference
 
   -- the error of such a verification: that of the first piece that failed, after those before it had no difference
   abbrev pub VerifyFailsAt : List ImageFileBytes → W → W → ImageFault → Type 0

@@ -1,4 +1,5 @@
 //! The memory of a simulated target as bytes.
+ghost use Rattle.swd_port.specs.Bus.{plain_of};
 ghost use Rattle.std.specs.Prelude.{◌≡◌, ◌+◌, ◌/◌, ◌%◌, ◌<◌, ◌≤◌, ◌^◌, IfSome, Some, length};
 ghost use Rattle.std.specs.FinMap.{get, insert};
 ghost use Rattle.swd_host.specs.Reports.{IsAtRest};
@@ -72,7 +73,7 @@ pub fn simulated_target<A: Allocator + Copy>(
     requires whole { length bytes.now % 4 ≡ 0 }
     requires fits { base + length bytes.now ≤ 2 ^ 32 }
     requires plan { IsLegalPlan plan.items }
-    ensures words { IfSome result (λ bench. (bench_port bench).target.memory.words
+    ensures words { IfSome result (λ bench. (plain_of (bench_port bench).target.memory).words
         ≡ target_words_from base (image_end_words_in bytes.now)) }
     ensures rests { IfSome result (λ bench. IsAtRest (bench_port bench)) }
     ensures plan { IfSome result (λ bench. bench_plan bench ≡ plan.items) }

@@ -1,5 +1,6 @@
 //! Loads, verifies and dumps images at a simulated target.
 ghost use Rattle.std.specs.Prelude.{◌≡◌, ◌+◌, IfErr, IfOk, OnOk};
+ghost use Rattle.swd_port.specs.Bus.{plain_of};
 ghost use Rattle.swd_host.specs.Reports.{IsAtRest};
 ghost use Rattle.swd_run.specs.Records.{run_file_held};
 ghost use Rattle.swd_image.specs.Reports.{DumpReports, image_fault_of};
@@ -34,8 +35,8 @@ pub fn load_simulated<O: Write, A: Allocator + Copy>(
     report: &mut Option<O>,
 ) -> Result<(), ImageFault>
     requires { IsAtRest (bench_port bench.old) }
-    ensures memory { OnOk result (LoadsSimulatedMemory (pieces_to_load image.now) (bench_port bench.old).target.memory
-        (bench_port bench.new).target.memory) }
+    ensures memory { OnOk result (LoadsSimulatedMemory (pieces_to_load image.now) (plain_of (bench_port bench.old).target.memory)
+        (plain_of (bench_port bench.new).target.memory)) }
     ensures calls { OnOk result (LoadsAll bench_port bench_plan AnyImageWire tries resumes (pieces_to_load image.now)
         bench.old
         bench.new) }
@@ -68,7 +69,7 @@ pub fn verify_simulated<O: Write, A: Allocator + Copy>(
 ) -> Result<Option<ByteDifference>, ImageFault>
     requires { IsAtRest (bench_port bench.old) }
     ensures memory { IfOk result (λ difference. VerifiesSimulatedMemory (pieces_to_load image.now) difference
-        (bench_port bench.old).target.memory (bench_port bench.new).target.memory) }
+        (plain_of (bench_port bench.old).target.memory) (plain_of (bench_port bench.new).target.memory)) }
     ensures calls { IfOk result (λ difference. VerifiesAll bench_port bench_plan AnyImageWire tries resumes
         (pieces_to_load image.now)
         difference bench.old bench.new) }
@@ -101,8 +102,8 @@ pub fn dump_simulated<O: Write, A: Allocator + Copy>(
 ) -> Result<Vec<u8, A>, ImageFault>
     requires { IsAtRest (bench_port bench.old) }
     ensures memory { IfOk result (λ bytes. DumpsSimulatedMemory addr count bytes.items
-        (bench_port bench.old).target.memory
-        (bench_port bench.new).target.memory) }
+        (plain_of (bench_port bench.old).target.memory)
+        (plain_of (bench_port bench.new).target.memory)) }
     ensures calls { IfOk result (λ bytes. Dumps bench_port bench_plan AnyImageWire tries resumes addr count bytes.items
         bench.old
         bench.new) }

@@ -2,6 +2,7 @@
 //! remote_bitbang.
 ghost use Rattle.std.specs.FinMap.{empty};
 ghost use Rattle.std.specs.Prelude.{[]};
+ghost use Rattle.swd_port.specs.Bus.{bus_of};
 ghost use Rattle.swd_port.specs.Port.{port_made};
 
 use crate::whole::{BASE, Failure, QUIRKS, TRIES, writes};
@@ -17,7 +18,7 @@ use swd_target::Memory;
 struct Untold;
 
 impl Story for Untold {
-    ghost at = { λ _. port_made 0 (record { words = empty; log = []; room = 0 }) };
+    ghost at = { λ _. port_made 0 (bus_of (record { words = empty; log = []; room = 0 })) };
 }
 
 /// Loads the image over a probe, here one that clocks a simulated target.

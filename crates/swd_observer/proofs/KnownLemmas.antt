@@ -4,7 +4,7 @@ use Rattle.std.proofs.Common.{arith, ◌∙◌}
 use Rattle.std.specs.Prelude.{Option, Some, None, IfSome, unwrap_or, ◌&&◌, ◌==◌, if◌then◌else◌, not as no}
 use Rattle.std.specs.Option.{option_map}
 use Rattle.swd_port.specs.declared.access.Transfer.{Transfer}
-use Rattle.swd_port.specs.PlainMemory.{succeeds_at, plain_transfer_of}
+use Rattle.swd_port.specs.Bus.{bus_succeeds, bus_transfer_of}
 use Rattle.swd_port.specs.Port.{Port, Target}
 use Rattle.swd_port.specs.declared.state.Drw.{Drw}
 use Rattle.swd_port.specs.declared.state.Drw.TheVariants.{Reads, Writes}
@@ -70,7 +70,7 @@ observed_transfer_at_tar (Some a) c x h = ap (λ o. unwrap_or o c.address) h
 -- a transfer that is owed is done or fails
 took_off : (E : List Transfer → Type 0) (b : StartedTransfer) (increments : Option Bool) (tar : Option ℕ) (c : Choice)
     (x : Target)
-    (drw : Drw) (test : Bool) → succeeds_at (unwrap_or x.tar c.address) x.memory ≡ test
+    (drw : Drw) (test : Bool) → bus_succeeds (pending_access_at (unwrap_or x.tar c.address) drw) x.memory ≡ test
     → IfSome increments (λ b. x.increments ≡ b) → IfSome tar (λ a. a < 2 ^ 32)
     → ObservedCalm x → x.pending ≡ Some drw → IsObservedPending b drw → IfSome tar (λ a. x.tar ≡ Some a)
     → E x.memory.log
@@ -81,7 +81,7 @@ took_off E b increments tar c x Reads true test inc range calm pending of at e =
       write_error = calm.write_error;
       debug_power = calm.debug_power;
       power_up = calm.power_up;
-    }) refl (plain_transfer_of (pending_access_at (unwrap_or x.tar c.address) Reads) x.memory) x.memory.log (record {
+    }) refl (bus_transfer_of (pending_access_at (unwrap_or x.tar c.address) Reads) x.memory) x.memory.log (record {
       read = sym of;
       addr = observed_transfer_at_tar tar c x at;
       word = λ w. absurd (cc);
@@ -93,7 +93,7 @@ took_off E b increments tar c x (Writes word) true test inc range calm pending o
       write_error = calm.write_error;
       debug_power = calm.debug_power;
       power_up = calm.power_up;
-    }) refl (plain_transfer_of (pending_access_at (unwrap_or x.tar c.address) (Writes word)) x.memory) x.memory.log
+    }) refl (bus_transfer_of (pending_access_at (unwrap_or x.tar c.address) (Writes word)) x.memory) x.memory.log
     (record {
       read = sym of.0;
       addr = observed_transfer_at_tar tar c x at;

@@ -12,7 +12,8 @@ use Rattle.swd_port.specs.declared.state.Drw.{Drw}
 use Rattle.swd_port.specs.declared.state.Drw.TheVariants.{Reads as DrwReads}
 use Rattle.swd_port.specs.declared.state.Reply.{Reply}
 use Rattle.swd_port.specs.declared.state.Reply.TheVariants.{Okay, Waits, Faults, Silent}
-use Rattle.swd_port.specs.PlainMemory.{succeeds_at, plain_transfer_of}
+use Rattle.swd_port.specs.declared.access.Access.TheVariants.{Read as AccessRead}
+use Rattle.swd_port.specs.Bus.{bus_succeeds, bus_transfer_of}
 use Rattle.swd_port.specs.Port.{Port, Target, port_register}
 use Rattle.swd_port.specs.Choices.{Choice, is_port_wait}
 use Rattle.swd_port.specs.Completion.{port_completion, pending_access_at}
@@ -78,13 +79,13 @@ aimed_at None x h = tt
 aimed_at (Some a) x h = h.0
 
 later_read : (before : List Transfer) (told : List ObservedAccess) (place : ℕ) (tar : Option ℕ) (x : Target)
-    (c : Choice) (busy : Bool) (test : Bool) → succeeds_at (unwrap_or x.tar c.address) x.memory ≡ test
+    (c : Choice) (busy : Bool) (test : Bool) → bus_succeeds (AccessRead (unwrap_or x.tar c.address)) x.memory ≡ test
     → IfSome tar (λ a. x.tar ≡ Some a) → ObservedSince before told x.memory.log
     → ObservedSince before (told ++ lost_read tar place ∷ [])
     (port_completion c (port_after_okay busy DrwRead x)).memory.log
 later_read before told place tar x c busy true test at e = rw test
     (observed_since_may_took before told (lost_read tar place)
-    (plain_transfer_of (pending_access_at (unwrap_or x.tar c.address) DrwReads) x.memory) x.memory.log refl
+    (bus_transfer_of (pending_access_at (unwrap_or x.tar c.address) DrwReads) x.memory) x.memory.log refl
     (record { read = refl; addr = observed_transfer_at_tar tar c x at; word = tt }) e)
 later_read before told place tar x c busy false test at e = rw test
     (observed_since_may_not before told (lost_read tar place) x.memory.log refl e)
@@ -101,7 +102,7 @@ observer_holds_lost_read before told place d x busy rest h =
     let s : ObservedResting (ObservedSince before (told ++ lost_read d.tar place ∷ [])) None
     (port_after_okay busy DrwRead x) = record {
       now = observed_since_may_not before told (lost_read d.tar place) x.memory.log refl r.now;
-      later = λ c k. later_read before told place d.tar x c busy (succeeds_at (unwrap_or x.tar c.address) x.memory) refl
+      later = λ c k. later_read before told place d.tar x c busy (bus_succeeds (AccessRead (unwrap_or x.tar c.address)) x.memory) refl
           (aimed_at d.tar x r.aimed) r.now;
       aimed = tt;
     } in

@@ -10,7 +10,8 @@ use Rattle.swd_port.specs.declared.select.Select.{Select}
 use Rattle.swd_port.specs.declared.register.Register.{Register}
 use Rattle.swd_port.specs.declared.register.Register.TheVariants.{DrwRead, DrwWrite, CswWrite, TarWrite}
 use Rattle.swd_port.specs.declared.state.Drw.TheVariants.{Writes as DrwWrites}
-use Rattle.swd_port.specs.PlainMemory.{succeeds_at, plain_transfer_of}
+use Rattle.swd_port.specs.declared.access.Access.TheVariants.{Write as AccessWrite}
+use Rattle.swd_port.specs.Bus.{bus_succeeds, bus_transfer_of}
 use Rattle.swd_port.specs.Port.{Target, port_selects_mem_ap}
 use Rattle.swd_port.specs.Choices.{Choice}
 use Rattle.swd_port.specs.Completion.{port_completion, pending_access_at}
@@ -145,13 +146,13 @@ may_unmoved before told o y ToDrw word place other rest h =
     }
 
 later_write : (before : List Transfer) (told : List ObservedAccess) (place : ℕ) (tar word : Option ℕ) (x : Target)
-    (c : Choice) (found : ℕ) (test : Bool) → succeeds_at (unwrap_or x.tar c.address) x.memory ≡ test
+    (c : Choice) (found : ℕ) (test : Bool) → bus_succeeds (AccessWrite (unwrap_or x.tar c.address) found) x.memory ≡ test
     → IfSome tar (λ a. x.tar ≡ Some a) → IfSome word (λ w. found ≡ w) → ObservedSince before told x.memory.log
     → ObservedSince before (told ++ may_told tar word place ∷ [])
     (port_completion c (port_after_bits (Arrives DrwWrite found) x)).memory.log
 later_write before told place tar word x c found true test at is e = rw test
     (observed_since_may_took before told (may_told tar word place)
-    (plain_transfer_of (pending_access_at (unwrap_or x.tar c.address) (DrwWrites found)) x.memory) x.memory.log refl
+    (bus_transfer_of (pending_access_at (unwrap_or x.tar c.address) (DrwWrites found)) x.memory) x.memory.log refl
     (record { read = refl; addr = observed_transfer_at_tar tar c x at; word = is }) e)
 later_write before told place tar word x c found false test at is e = rw test
     (observed_since_may_not before told (may_told tar word place) x.memory.log refl e)
@@ -194,7 +195,7 @@ may_moved before told o y ToDrw word place found other rest is h =
       flight = resting _ o None o.increments (port_after_bits (Arrives DrwWrite found) y) rest (record {
         now = observed_since_may_not before told (may_told o.tar word place) y.memory.log refl h.now;
         later = λ c k. later_write before told place o.tar word y c found
-            (succeeds_at (unwrap_or y.tar c.address) y.memory) refl h.aimed is h.now;
+            (bus_succeeds (AccessWrite (unwrap_or y.tar c.address) found) y.memory) refl h.aimed is h.now;
         aimed = tt;
       });
     }

@@ -2,7 +2,7 @@
 use Rattle.std.specs.Prelude.{ℕ, ◌≡◌, true, false, List, [], ◌∷◌, None}
 use Rattle.swd_bits.specs.declared.tx.Tx.{Tx}
 use Rattle.swd_port.specs.declared.access.Transfer.{Transfer}
-use Rattle.swd_port.specs.PlainMemory.{PlainMemory}
+use Rattle.swd_port.specs.Bus.{Bus}
 use Rattle.swd_port.specs.Port.{Port, port_made}
 use Rattle.swd_port.specs.Choices.{Choice, IsPortChoice}
 use Rattle.swd_port.specs.Completion.{port_completed}
@@ -68,7 +68,7 @@ ObservedRunsAccounted = (before : List Transfer) (told : List ObservedAccess) (o
 
 -- the same from a target in its reset state,
 abbrev pub ObservedMadeAccounted : Type 0
-ObservedMadeAccounted = (identification : ℕ) (m : PlainMemory) (events : List ObservedEvent) (t : Port) →
+ObservedMadeAccounted = (identification : ℕ) (m : Bus) (events : List ObservedEvent) (t : Port) →
     ObservedRuns events (port_made identification m) t →
     Accounted m.log (and_observed (observed_in_events events [] observer_as_made)
     (observed_last_accesses (observer_after events observer_as_made))) t

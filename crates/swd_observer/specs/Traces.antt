@@ -5,7 +5,7 @@ use Rattle.swd_bits.specs.declared.tx.TxEnd.{TxEnd}
 use Rattle.swd_bits.specs.declared.tx.TxEnd.TheVariants.{Moved, Wait, Fault, NoAck}
 use Rattle.swd_trace.specs.declared.item.Item.{Item}
 use Rattle.swd_trace.specs.declared.item.Item.TheVariants.{Reset, Switch, Idle, Tx, Junk, Cut}
-use Rattle.swd_port.specs.PlainMemory.{PlainMemory}
+use Rattle.swd_port.specs.Bus.{Bus}
 use Rattle.swd_port.specs.Port.{Port, port_made}
 use Rattle.swd_observer.specs.declared.told.ObservedAccess.{ObservedAccess}
 use Rattle.swd_observer.specs.declared.trace.TraceObserver.{TraceObserver}
@@ -103,7 +103,7 @@ observed_moves_of (Lifts ones ∷ events) = observed_moves_of events
 -- model from a target in its reset state. Then the reported accesses are those that the memory logged in that
 -- run.
 abbrev pub ObservedTraceAccounted : Type 0
-ObservedTraceAccounted = (identification : ℕ) (m : PlainMemory) (items : List Item) (events : List ObservedEvent)
+ObservedTraceAccounted = (identification : ℕ) (m : Bus) (items : List Item) (events : List ObservedEvent)
     (t : Port) → ObservedRuns events (port_made identification m) t → is_observed_gapless items ≡ true
     → observed_moves_in items 0 ≡ observed_moves_of events
     → Accounted m.log (observed_in_trace items trace_observer_made) t

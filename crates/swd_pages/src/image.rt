@@ -1,6 +1,8 @@
 //! An image that is loaded over a wire.
 ghost use Rattle.std.specs.Prelude.{◌≡◌, OnOk};
 ghost use Rattle.swd_port.specs.declared.wire.Due.TheVariants.{Nothing};
+ghost use Rattle.swd_port.specs.Bus.{plain_of};
+ghost use Rattle.swd_port.specs.PlainBus.{IsPlain};
 ghost use Rattle.swd_host.specs.Reports.{IsAtRest};
 ghost use Rattle.swd_image.specs.Images.{IsImageLoaded};
 
@@ -18,7 +20,9 @@ pub fn flash<W: Wire>(
 ) -> Result<(), ImageFault>
     requires { (W.port wire.old).link.due ≡ Nothing }
     ensures { OnOk result (W.lawful wire.new → IsAtRest (W.port wire.old)
-        → IsImageLoaded addr bytes.now (W.port wire.old).target.memory (W.port wire.new).target.memory) }
+        → IsPlain (W.port wire.old).target.memory
+        → IsImageLoaded addr bytes.now (plain_of (W.port wire.old).target.memory)
+        (plain_of (W.port wire.new).target.memory)) }
 {
     load(alloc, wire, addr, bytes, 8, 1)
 }

@@ -1,6 +1,7 @@
 //! Bytes that are loaded over a line of remote_bitbang characters.
 ghost use Rattle.std.specs.FinMap.{empty};
 ghost use Rattle.std.specs.Prelude.{[]};
+ghost use Rattle.swd_port.specs.Bus.{bus_of};
 ghost use Rattle.swd_port.specs.Port.{port_made};
 
 use std::alloc::Global;
@@ -14,7 +15,7 @@ use swd_remote::RemoteStreams;
 struct Untold;
 
 impl Story for Untold {
-    ghost at = { λ _. port_made 0 (record { words = empty; log = []; room = 0 }) };
+    ghost at = { λ _. port_made 0 (bus_of (record { words = empty; log = []; room = 0 })) };
 }
 
 /// Writes bytes from an address on, at the target behind a server of remote_bitbang: a reader of levels and a writer of

@@ -5,7 +5,7 @@ use Rattle.swd_port.specs.declared.access.Access.TheVariants.{Read, Write}
 use Rattle.swd_port.specs.declared.access.Answer.TheVariants.{Value}
 use Rattle.swd_bits.specs.Phases.{IsDataPhaseOf, data_phase_number}
 use Rattle.swd_port.specs.Phases.{port_flipped}
-use Rattle.swd_port.specs.PlainMemory.{PlainMemory, plain_word_at, plain_answer, plain_after}
+use Rattle.swd_port.specs.Bus.{Bus, bus_word_at, bus_answer, bus_after}
 use Rattle.swd_port.specs.Port.{Port, Target, RdbuffRead, DrwRead, DrwWrite, Idle, Drives, Awaits, Live, port_register}
 use Rattle.swd_port.specs.Port.{port_request_for}
 use Rattle.swd_port.specs.Completion.{PortCompletes}
@@ -29,7 +29,7 @@ not_drw_read : DrwWrite ≢ DrwRead
 not_drw_read e = cc
 
 -- the request of DRW, seen as OK
-drw_seen : (at : ℕ) (m : PlainMemory) (s t : Port) → PortReady s.target → PortAimed at m s.target
+drw_seen : (at : ℕ) (m : Bus) (s t : Port) → PortReady s.target → PortAimed at m s.target
     → PortAsks s (port_request_for DrwWrite) 1 t → PortOkaySeen DrwWrite false 1 s t
 drw_seen at m s t r h asks =
     elim (port_free_exact DrwWrite (port_request_for DrwWrite) 1 s t
@@ -51,12 +51,12 @@ given_whole word s t (got_whole e g) = g
 given_whole word s t (got_damaged place e g) = absurd (cc)
 
 -- what is due and what stands after its data phase
-record WordGiven (at word : ℕ) (m : PlainMemory) (x : Target) : Type 0 where
+record WordGiven (at word : ℕ) (m : Bus) (x : Target) : Type 0 where
   pub live : x.reset ≡ Live
   pub write_error : x.write_error ≡ false
   pub sent : PortSent (Write at word) m x
 
-given_word : (at word sent : ℕ) (m : PlainMemory) (s asked given : Port) → PortReady s.target → PortAimed at m s.target
+given_word : (at word sent : ℕ) (m : Bus) (s asked given : Port) → PortReady s.target → PortAimed at m s.target
     → word < 2 ^ 32 → sent < 2 ^ 33 → IsDataPhaseOf word sent →
     PortOkaySeen DrwWrite false 1 s asked → asked.tally.disturbed ≡ s.tally.disturbed → PortGives asked sent given
     → WordGiven at word m given.target
@@ -80,7 +80,7 @@ given_word at word sent m s asked given r h range fits is o clean gives =
     }
 
 -- the confirming read of RDBUFF
-confirmed_done : (at word : ℕ) (m : PlainMemory) (s t : Port)
+confirmed_done : (at word : ℕ) (m : Bus) (s t : Port)
     → PortConfirms (Write at word) m RdbuffRead (port_request_for RdbuffRead) 1 s t
     → PortSucceeded (Write at word) m t.target
 confirmed_done at word m s t (confirms_okay done o) = subst (PortSucceeded (Write at word) m) (sym o.accepts.target)
@@ -96,7 +96,7 @@ confirmed_done at word m s t (confirms_wait sent w) = absurd (let e : 1 ≡ 2 = 
 confirmed_done at word m s t (confirms_fault failed f) = absurd (let e : 1 ≡ 4 = f.is in cc)
 confirmed_done at word m s t (confirms_lost sent n e) = absurd (let e : true ≡ false = n.none.not_okay in cc)
 
-confirmed_call : (at word : ℕ) (m : PlainMemory) (s t : Port)
+confirmed_call : (at word : ℕ) (m : Bus) (s t : Port)
     → PortAround (PortConfirms (Write at word) m RdbuffRead (port_request_for RdbuffRead) 1) s t
     → PortSucceeded (Write at word) m t.target
 confirmed_call at word m s t (a, b, first, step, last) =
@@ -116,13 +116,13 @@ port_word_written at word sent bits m s asked given confirmed t r h range fits i
     done
 
 -- what stands from the request of a DRW read on
-record ReadGiven (at : ℕ) (m : PlainMemory) (x : Target) : Type 0 where
+record ReadGiven (at : ℕ) (m : Bus) (x : Target) : Type 0 where
   pub live : x.reset ≡ Live
   pub write_error : x.write_error ≡ false
   pub sent : PortSent (Read at) m x
 
 -- the request of a DRW read, seen as OK
-read_seen : (at : ℕ) (m : PlainMemory) (s t : Port) → PortReady s.target → PortAimed at m s.target
+read_seen : (at : ℕ) (m : Bus) (s t : Port) → PortReady s.target → PortAimed at m s.target
     → PortAsks s (port_request_for DrwRead) 1 t → ReadGiven at m t.target
 read_seen at m s t r h asks =
     let found : (b : Port) × PortOkayWaitOrLost DrwRead true 1 s b × PortCompletes b t =
@@ -141,7 +141,7 @@ read_seen at m s t r h asks =
     ]
 
 -- its data phase
-read_taken : (at bits : ℕ) (m : PlainMemory) (s t : Port) → ReadGiven at m s.target → PortTakes s bits t
+read_taken : (at bits : ℕ) (m : Bus) (s t : Port) → ReadGiven at m s.target → PortTakes s bits t
     → ReadGiven at m t.target
 read_taken at bits m s t h takes =
     let found : (a : Port) × PortCompletes s a × PortPassed a t × (t.link.line ≡ Idle) =
@@ -156,34 +156,34 @@ read_taken at bits m s t h takes =
     })
 
 -- RDBUFF, seen as OK and undisturbed, has the word
-record WordOut (at : ℕ) (m : PlainMemory) (t : Port) : Type 0 where
-  pub answer : plain_answer (Read at) m ≡ Value (plain_word_at at m)
-  pub memory : t.target.memory ≡ plain_after (Read at) m
+record WordOut (at : ℕ) (m : Bus) (t : Port) : Type 0 where
+  pub answer : bus_answer (Read at) m ≡ Value (bus_word_at at m)
+  pub memory : t.target.memory ≡ bus_after (Read at) m
   pub pending : t.target.pending ≡ None
-  pub range : plain_word_at at m < 2 ^ 32
-  pub line : t.link.line ≡ Drives (port_flipped None (data_phase_number (plain_word_at at m)))
+  pub range : bus_word_at at m < 2 ^ 32
+  pub line : t.link.line ≡ Drives (port_flipped None (data_phase_number (bus_word_at at m)))
 
-buffer_seen : (at : ℕ) (m : PlainMemory) (s t : Port)
+buffer_seen : (at : ℕ) (m : Bus) (s t : Port)
     → PortConfirms (Read at) m RdbuffRead (port_request_for RdbuffRead) 1 s t
     → t.tally.disturbed ≡ s.tally.disturbed → WordOut at m t
 buffer_seen at m s t (confirms_okay done o) clean =
     let whole_phase : o.flip ≡ None = not_flipped o.flip s t o.spares clean in
-    let back : PortOnLine (plain_word_at at m) o.flip t
-    × (t.target.last_returned ≡ Some (plain_word_at at m)) =
-    port_buffer_returned RdbuffRead o.flip (plain_word_at at m) s t refl
+    let back : PortOnLine (bus_word_at at m) o.flip t
+    × (t.target.last_returned ≡ Some (bus_word_at at m)) =
+    port_buffer_returned RdbuffRead o.flip (bus_word_at at m) s t refl
     done.buffered o.accepts in
     record {
       answer = done.answer;
       memory = ap (λ x. x.memory) o.accepts.target ∙ done.memory;
       pending = ap (λ x. x.pending) o.accepts.target ∙ done.pending;
       range = back.0.range;
-      line = back.0.line ∙ ap (λ f. Drives (port_flipped f (data_phase_number (plain_word_at at m)))) whole_phase;
+      line = back.0.line ∙ ap (λ f. Drives (port_flipped f (data_phase_number (bus_word_at at m)))) whole_phase;
     }
 buffer_seen at m s t (confirms_wait sent w) clean = absurd (let e : 1 ≡ 2 = w.is in cc)
 buffer_seen at m s t (confirms_fault failed f) clean = absurd (let e : 1 ≡ 4 = f.is in cc)
 buffer_seen at m s t (confirms_lost sent n e) clean = absurd (let e : true ≡ false = n.none.not_okay in cc)
 
-buffer_call : (at : ℕ) (m : PlainMemory) (s t : Port)
+buffer_call : (at : ℕ) (m : Bus) (s t : Port)
     → PortAround (PortConfirms (Read at) m RdbuffRead (port_request_for RdbuffRead) 1) s t
     → t.tally.disturbed ≡ s.tally.disturbed → WordOut at m t
 buffer_call at m s t (a, b, first, step, last) clean =
@@ -205,7 +205,7 @@ port_word_read at first_bits bits m s asked taken confirmed t r h fits asks firs
     let out : WordOut at m confirmed = buffer_call at m taken confirmed
     (port_confirming_request (Read at) m RdbuffRead (port_request_for RdbuffRead) 1 taken confirmed sent.sent refl refl
     sent.live sent.write_error (λ e. absurd (cc)) reads) clean in (
-      got_phase (plain_word_at at m) bits (port_data_taken None (plain_word_at at m) bits confirmed t out.line out.range
+      got_phase (bus_word_at at m) bits (port_data_taken None (bus_word_at at m) bits confirmed t out.line out.range
           fits takes),
       out.answer,
       ap (λ x. x.memory) ((port_take_keeps_at_rest bits confirmed t out.pending takes).0.target) ∙ out.memory,

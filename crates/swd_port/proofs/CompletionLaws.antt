@@ -4,7 +4,8 @@ use Rattle.std.proofs.Common.{◌∙◌}
 use Rattle.std.specs.Prelude.{Option, Some, None, ◌⊎◌, ◌||◌, not, unwrap_or}
 use Rattle.swd_port.specs.declared.access.Access.{Access}
 use Rattle.swd_port.specs.declared.access.Access.TheVariants.{Read, Write}
-use Rattle.swd_port.specs.PlainMemory.{PlainMemory, plain_after, succeeds_at, plain_address, plain_done}
+use Rattle.swd_port.specs.Bus.{Bus, bus_after, bus_succeeds}
+use Rattle.swd_port.specs.PlainMemory.{plain_address}
 use Rattle.swd_port.specs.Port.{Port, Target, Drw, TarWrite, DrwRead, DrwWrite}
 use Rattle.swd_port.specs.Choices.{Choice}
 use Rattle.swd_port.specs.Completion.{PortCompletes, port_completed, port_completion, memory_after_pending}
@@ -97,42 +98,34 @@ pub pending_access_same : (access : Access) → pending_access_at (plain_address
 pending_access_same (Read at) = refl
 pending_access_same (Write at word) = refl
 
--- an access at an address with a word takes effect
-pub plain_after_success : (access : Access) (m : PlainMemory) → succeeds_at (plain_address access) m ≡ true
-    → plain_after access m ≡ plain_done access m
-plain_after_success access m e = rw e refl
-
--- an access at an address without a word changes nothing
-pub plain_after_bus_error : (access : Access) (m : PlainMemory) → succeeds_at (plain_address access) m ≡ false
-    → plain_after access m ≡ m
-plain_after_bus_error access m e = rw e refl
-
-done_error : (c : Choice) (access : Access) (m : PlainMemory) (x : Target) (b : Bool)
+done_error : (c : Choice) (access : Access) (m : Bus) (x : Target) (b : Bool)
     → x.tar ≡ Some (plain_address access)
     → x.pending ≡ Some (pending_drw_of access) → x.memory ≡ m → x.sticky_error ≡ false →
-    succeeds_at (plain_address access) m ≡ b → (port_completion c x).sticky_error ≡ not b
-done_error c access m x b tar pending memory error fits = rw (error, pending, tar, memory, fits)
+    bus_succeeds access m ≡ b → (port_completion c x).sticky_error ≡ not b
+done_error c (Read at) m x b tar pending memory error fits = rw (error, pending, tar, memory, fits)
+done_error c (Write at word) m x b tar pending memory error fits = rw (error, pending, tar, memory, fits)
 
 pub pending_done_memory : (c : Choice) (access : Access) (x : Target) → x.tar ≡ Some (plain_address access)
-    → x.pending ≡ Some (pending_drw_of access) → (port_completion c x).memory ≡ plain_after access x.memory
+    → x.pending ≡ Some (pending_drw_of access) → (port_completion c x).memory ≡ bus_after access x.memory
 pending_done_memory c access x tar pending =
-    rw (pending, tar) (ap (λ a. plain_after a x.memory) (pending_access_same access))
+    rw (pending, tar) (ap (λ a. bus_after a x.memory) (pending_access_same access))
 
-done_buffer : (c : Choice) (access : Access) (m : PlainMemory) (x : Target) → x.tar ≡ Some (plain_address access)
+done_buffer : (c : Choice) (access : Access) (m : Bus) (x : Target) → x.tar ≡ Some (plain_address access)
     → x.pending ≡ Some (pending_drw_of access) → x.memory ≡ m →
-    succeeds_at (plain_address access) m ≡ true → PortBuffered access m (port_completion c x)
+    bus_succeeds access m ≡ true → PortBuffered access m (port_completion c x)
 done_buffer c (Read at) m x tar pending memory fits = rw (pending, tar, memory, fits) refl
 done_buffer c (Write at word) m x tar pending memory fits = tt
 
 -- a bus error leaves them unknown
-lost_tar : (c : Choice) (access : Access) (m : PlainMemory) (x : Target) → x.tar ≡ Some (plain_address access)
+lost_tar : (c : Choice) (access : Access) (m : Bus) (x : Target) → x.tar ≡ Some (plain_address access)
     → x.pending ≡ Some (pending_drw_of access) → x.memory ≡ m →
-    succeeds_at (plain_address access) m ≡ false → (port_completion c x).tar ≡ None
-lost_tar c access m x tar pending memory fits = rw (pending, tar, memory, fits) refl
+    bus_succeeds access m ≡ false → (port_completion c x).tar ≡ None
+lost_tar c (Read at) m x tar pending memory fits = rw (pending, tar, memory, fits) refl
+lost_tar c (Write at word) m x tar pending memory fits = rw (pending, tar, memory, fits) refl
 
-lost_buffer : (c : Choice) (access : Access) (m : PlainMemory) (x : Target) → x.tar ≡ Some (plain_address access)
+lost_buffer : (c : Choice) (access : Access) (m : Bus) (x : Target) → x.tar ≡ Some (plain_address access)
     → x.pending ≡ Some (pending_drw_of access) → x.memory ≡ m →
-    succeeds_at (plain_address access) m ≡ false → (port_completion c x).buffer ≡ None
+    bus_succeeds access m ≡ false → (port_completion c x).buffer ≡ None
 lost_buffer c (Read at) m x tar pending memory fits = rw (pending, tar, memory, fits) refl
 lost_buffer c (Write at word) m x tar pending memory fits = rw (pending, tar, memory, fits) refl
 
@@ -142,32 +135,34 @@ next_inside : (wraps : Bool) (at : ℕ) → at % 4 ≡ 0 → at < 2 ^ 32 → (at
 next_inside true at aligned fits inside = omega arith
 next_inside false at aligned fits inside = omega arith
 
-done_tar : (c : Choice) (access : Access) (m : PlainMemory) (x : Target) → x.tar ≡ Some (plain_address access)
-    → x.pending ≡ Some (pending_drw_of access) → x.memory ≡ m →
-    succeeds_at (plain_address access) m ≡ true → PortTarAdvanced (plain_address access) (port_completion c x)
-done_tar c access m x tar pending memory fits increments aligned range inside =
-    let same_tar : (port_completion c x).tar ≡ Some (port_tar_next_address c.wraps (plain_address access)) =
-    rw (pending, tar, memory, fits, increments) refl in
-    same_tar ∙ ap (λ n. Some n) (next_inside c.wraps (plain_address access) aligned range inside)
+next_tar : (c : Choice) (access : Access) (m : Bus) (x : Target) → x.tar ≡ Some (plain_address access)
+    → x.pending ≡ Some (pending_drw_of access) → x.memory ≡ m → bus_succeeds access m ≡ true → x.increments ≡ true
+    → (port_completion c x).tar ≡ Some (port_tar_next_address c.wraps (plain_address access))
+next_tar c (Read at) m x tar pending memory fits increments = rw (pending, tar, memory, fits, increments) refl
+next_tar c (Write at word) m x tar pending memory fits increments = rw (pending, tar, memory, fits, increments) refl
 
-stays_buffered : (access : Access) (m : PlainMemory) (x y : Target) → y.buffer ≡ x.buffer → PortBuffered access m x
+done_tar : (c : Choice) (access : Access) (m : Bus) (x : Target) → x.tar ≡ Some (plain_address access)
+    → x.pending ≡ Some (pending_drw_of access) → x.memory ≡ m →
+    bus_succeeds access m ≡ true → PortTarAdvanced (plain_address access) (port_completion c x)
+done_tar c access m x tar pending memory fits increments aligned range inside =
+    next_tar c access m x tar pending memory fits increments ∙ ap (λ n. Some n) (next_inside c.wraps (plain_address access) aligned range inside)
+
+stays_buffered : (access : Access) (m : Bus) (x y : Target) → y.buffer ≡ x.buffer → PortBuffered access m x
     → PortBuffered access m y
 stays_buffered (Read at) m x y e h = e ∙ h
 stays_buffered (Write at word) m x y e h = tt
 
 -- the life of a transfer
-pub port_sent_completed : (access : Access) (m : PlainMemory) (c : Choice) (x : Target) → PortSent access m x
+pub port_sent_completed : (access : Access) (m : Bus) (c : Choice) (x : Target) → PortSent access m x
     → PortSent access m (port_completion c x)
 port_sent_completed access m c x (owed pending tar memory error) =
-    elim (succeeds_at (plain_address access) m) as
-    (λ b. succeeds_at (plain_address access) m ≡ b → PortSent access m (port_completion c x)) [
+    elim (bus_succeeds access m) as
+    (λ b. bus_succeeds access m ≡ b → PortSent access m (port_completion c x)) [
       | true ↦ λ fits. gone fits refl
-          (pending_done_memory c access x tar pending ∙ ap (plain_after access) memory ∙ plain_after_success access m
-          fits) (done_error c access m x true tar pending memory error fits)
+          (pending_done_memory c access x tar pending ∙ ap (bus_after access) memory) (done_error c access m x true tar pending memory error fits)
           (done_buffer c access m x tar pending memory fits) (done_tar c access m x tar pending memory fits)
       | false ↦ λ fits. failed fits refl
-          (pending_done_memory c access x tar pending ∙ ap (plain_after access) memory ∙ plain_after_bus_error access m
-          fits) (done_error c access m x false tar pending memory error fits)
+          (pending_done_memory c access x tar pending ∙ ap (bus_after access) memory) (done_error c access m x false tar pending memory error fits)
           (lost_tar c access m x tar pending memory fits) (lost_buffer c access m x tar pending memory fits)
     ] refl
 port_sent_completed access m c x (gone fits pending memory error buffered advanced) = subst (PortSent access m)
@@ -176,12 +171,12 @@ port_sent_completed access m c x (failed fits pending memory error tar buffer) =
     (sym (no_pending_same_target c x pending)) (failed fits pending memory error tar buffer)
 
 -- a sent transfer, pending, done or failed, is one of these after a possible completion, too
-pub port_sent_stays : (access : Access) (m : PlainMemory) (s t : Port) → PortCompletes s t → PortSent access m s.target
+pub port_sent_stays : (access : Access) (m : Bus) (s t : Port) → PortCompletes s t → PortSent access m s.target
     → PortSent access m t.target
 port_sent_stays access m s t may = port_completion_keeps_fact (PortSent access m) (port_sent_completed access m) s t may
 
 -- the memory that is bound to be
-pub port_becomes_done : (m : PlainMemory) (c : Choice) (x : Target) → PortBecomes m x
+pub port_becomes_done : (m : Bus) (c : Choice) (x : Target) → PortBecomes m x
     → PortBecomes m (port_completion c x)
 port_becomes_done m c x (idle pending memory) =
     subst (PortBecomes m) (sym (no_pending_same_target c x pending)) (idle pending memory)
@@ -189,21 +184,19 @@ port_becomes_done m c x (pends access pending tar memory) =
     idle refl (pending_done_memory c access x tar pending ∙ memory)
 
 -- a possible completion keeps the memory that `PortBecomes` states
-pub port_becomes_stays : (m : PlainMemory) (s t : Port) → PortCompletes s t → PortBecomes m s.target
+pub port_becomes_stays : (m : Bus) (s t : Port) → PortCompletes s t → PortBecomes m s.target
     → PortBecomes m t.target
 port_becomes_stays m s t may = port_completion_keeps_fact (PortBecomes m) (port_becomes_done m) s t may
 
 -- a sent transfer, pending, done or failed, leaves the memory after the plain access, once none is pending
-pub port_sent_becomes : (access : Access) (m : PlainMemory) (x : Target) → PortSent access m x
-    → PortBecomes (plain_after access m) x
-port_sent_becomes access m x (owed pending tar memory error) = pends access pending tar (ap (plain_after access) memory)
-port_sent_becomes access m x (gone fits pending memory error buffered advanced) = idle pending
-    (memory ∙ sym (plain_after_success access m fits))
-port_sent_becomes access m x (failed fits pending memory error tar buffer) = idle pending
-    (memory ∙ sym (plain_after_bus_error access m fits))
+pub port_sent_becomes : (access : Access) (m : Bus) (x : Target) → PortSent access m x
+    → PortBecomes (bus_after access m) x
+port_sent_becomes access m x (owed pending tar memory error) = pends access pending tar (ap (bus_after access) memory)
+port_sent_becomes access m x (gone fits pending memory error buffered advanced) = idle pending memory
+port_sent_becomes access m x (failed fits pending memory error tar buffer) = idle pending memory
 
 -- what has the same fields has the same transfer
-pub port_sent_carried : (access : Access) (m : PlainMemory) (x y : Target) → PortCarries x y → PortSent access m x
+pub port_sent_carried : (access : Access) (m : Bus) (x y : Target) → PortCarries x y → PortSent access m x
     → PortSent access m y
 port_sent_carried access m x y f (owed pending tar memory error) = owed (f.pending ∙ pending) (f.tar ∙ tar)
     (f.memory ∙ memory) (f.sticky_error ∙ error)
@@ -215,21 +208,20 @@ port_sent_carried access m x y f (failed fits pending memory error tar buffer) =
     failed fits (f.pending ∙ pending) (f.memory ∙ memory) (f.sticky_error ∙ error) (f.tar ∙ tar) (f.buffer ∙ buffer)
 
 -- a state with the same pending transfer, TAR and memory keeps the memory that `PortBecomes` states
-pub port_becomes_carried : (m : PlainMemory) (x y : Target) → y.pending ≡ x.pending → y.tar ≡ x.tar
+pub port_becomes_carried : (m : Bus) (x y : Target) → y.pending ≡ x.pending → y.tar ≡ x.tar
     → y.memory ≡ x.memory → PortBecomes m x → PortBecomes m y
 port_becomes_carried m x y e f g (idle pending memory) = idle (e ∙ pending) (g ∙ memory)
 port_becomes_carried m x y e f g (pends access pending tar memory) = pends access (e ∙ pending) (f ∙ tar)
-    (ap (plain_after access) g ∙ memory)
+    (ap (bus_after access) g ∙ memory)
 
 -- what the host learns of it
-pub port_sent_succeeds : (access : Access) (m : PlainMemory) (x : Target) → x.pending ≡ None → x.sticky_error ≡ false
+pub port_sent_succeeds : (access : Access) (m : Bus) (x : Target) → x.pending ≡ None → x.sticky_error ≡ false
     → PortSent access m x → PortSucceeded access m x
 port_sent_succeeds access m x none fine (owed pending tar memory error) = absurd (cc)
 port_sent_succeeds access m x none fine (gone fits pending memory error buffered advanced) =
     record {
       answer = rw fits refl;
-      memory = memory
-          ∙ sym (plain_after_success access m fits);
+      memory = memory;
       pending = none;
       sticky_error = fine;
       buffered = buffered;
@@ -238,16 +230,14 @@ port_sent_succeeds access m x none fine (gone fits pending memory error buffered
 port_sent_succeeds access m x none fine (failed fits pending memory error tar buffer) = absurd (cc)
 
 -- once no transfer is pending, a set STICKYERR shows that the sent one was a bus error
-pub port_sent_fails : (access : Access) (m : PlainMemory) (x : Target) → x.pending ≡ None → x.sticky_error ≡ true
+pub port_sent_fails : (access : Access) (m : Bus) (x : Target) → x.pending ≡ None → x.sticky_error ≡ true
     → PortSent access m x → PortFailed access m x
 port_sent_fails access m x none bad (owed pending tar memory error) = absurd (cc)
 port_sent_fails access m x none bad (gone fits pending memory error buffered advanced) = absurd (cc)
 port_sent_fails access m x none bad (failed fits pending memory error tar buffer) =
     record {
       answer = rw fits refl;
-      memory = memory
-          ∙ sym (plain_after_bus_error access m fits);
-      unchanged = memory;
+      memory = memory;
       pending = none;
       sticky_error = bad;
       tar = tar;
@@ -256,46 +246,45 @@ port_sent_fails access m x none bad (failed fits pending memory error tar buffer
     }
 
 -- once no transfer is pending, the memory that `PortBecomes` states is the target's
-pub port_becomes_is : (m : PlainMemory) (x : Target) → x.pending ≡ None → PortBecomes m x → x.memory ≡ m
+pub port_becomes_is : (m : Bus) (x : Target) → x.pending ≡ None → PortBecomes m x → x.memory ≡ m
 port_becomes_is m x none (idle pending memory) = memory
 port_becomes_is m x none (pends access pending tar memory) = absurd (cc)
 
 -- how it begins
-pub port_drw_read_sent : (at : ℕ) (m : PlainMemory) (flip : Option ℕ) (s t : Port) → PortAimed at m s.target
+pub port_drw_read_sent : (at : ℕ) (m : Bus) (flip : Option ℕ) (s t : Port) → PortAimed at m s.target
     → PortAccepts DrwRead true flip s t → PortSent (Read at) m t.target
 port_drw_read_sent at m flip s t h a = subst (PortSent (Read at) m) (sym a.target)
     (owed refl h.tar h.memory h.sticky_error)
 
 -- a DRW write whose word arrived, where TAR is known, none is pending and STICKYERR is clear, is a sent transfer at
 -- that address
-pub port_drw_write_sent : (at word : ℕ) (m : PlainMemory) (s t : Port) → PortAimed at m s.target
+pub port_drw_write_sent : (at word : ℕ) (m : Bus) (s t : Port) → PortAimed at m s.target
     → PortWritten DrwWrite word s t → PortSent (Write at word) m t.target
 port_drw_write_sent at word m s t h g = subst (PortSent (Write at word) m) (sym g.target)
     (owed refl h.tar h.memory h.sticky_error)
 
 -- the memory that `PortBecomes` states is the target's once the pending transfer took effect, whatever the target chooses
-pub port_becomes_completed : (m : PlainMemory) (c : Choice) (x : Target) → PortBecomes m x
+pub port_becomes_completed : (m : Bus) (c : Choice) (x : Target) → PortBecomes m x
     → (port_completion c x).memory ≡ m
 port_becomes_completed m c x h = port_becomes_is m (port_completion c x) refl (port_becomes_done m c x h)
 
 -- while a sent transfer is pending, done or failed, the memory is that before it or that after it
-pub port_sent_memory : (access : Access) (m : PlainMemory) (x : Target) → PortSent access m x
-    → (x.memory ≡ m) ⊎ (x.memory ≡ plain_after access m)
+pub port_sent_memory : (access : Access) (m : Bus) (x : Target) → PortSent access m x
+    → (x.memory ≡ m) ⊎ (x.memory ≡ bus_after access m)
 port_sent_memory access m x (owed pending tar memory error) = inl memory
-port_sent_memory access m x (gone fits pending memory error buffered advanced) = inr
-    (memory ∙ sym (plain_after_success access m fits))
-port_sent_memory access m x (failed fits pending memory error tar buffer) = inl memory
+port_sent_memory access m x (gone fits pending memory error buffered advanced) = inr memory
+port_sent_memory access m x (failed fits pending memory error tar buffer) = inr memory
 
 -- a TAR write whose word arrived aims at this word, where no transfer is pending and STICKYERR is clear
-pub port_aimed_by_tar : (at : ℕ) (m : PlainMemory) (s t : Port) → s.target.memory ≡ m → s.target.pending ≡ None
+pub port_aimed_by_tar : (at : ℕ) (m : Bus) (s t : Port) → s.target.memory ≡ m → s.target.pending ≡ None
     → s.target.sticky_error ≡ false → PortWritten TarWrite at s t → PortAimed at m t.target
 port_aimed_by_tar at m s t memory none fine g = subst (PortAimed at m) (sym g.target)
     (record { tar = refl; memory = memory; pending = none; sticky_error = fine })
 
 -- with AddrInc single a transfer that was done aims at the next word, except at the end of a kilobyte
-pub port_aimed_by_transfer : (access : Access) (m : PlainMemory) (x : Target) → PortSucceeded access m x
+pub port_aimed_by_transfer : (access : Access) (m : Bus) (x : Target) → PortSucceeded access m x
     → x.increments ≡ true → plain_address access % 4 ≡ 0 → plain_address access < 2 ^ 32 →
-    (plain_address access + 4) % 1024 ≢ 0 → PortAimed (plain_address access + 4) (plain_after access m) x
+    (plain_address access + 4) % 1024 ≢ 0 → PortAimed (plain_address access + 4) (bus_after access m) x
 port_aimed_by_transfer access m x h increments aligned range inside =
     record {
       tar = h.advanced increments aligned range inside;
@@ -306,7 +295,7 @@ port_aimed_by_transfer access m x h increments aligned range inside =
     }
 
 -- a state with the same TAR, memory, pending transfer and STICKYERR is aimed at the same address
-pub port_aimed_carried : (at : ℕ) (m : PlainMemory) (x y : Target) → y.tar ≡ x.tar → y.memory ≡ x.memory
+pub port_aimed_carried : (at : ℕ) (m : Bus) (x y : Target) → y.tar ≡ x.tar → y.memory ≡ x.memory
     → y.pending ≡ x.pending → y.sticky_error ≡ x.sticky_error → PortAimed at m x → PortAimed at m y
 port_aimed_carried at m x y e f g h aimed =
     record {
@@ -321,19 +310,19 @@ port_aimed_carried at m x y e f g h aimed =
 memory_same : (c : Choice) (x y : Target) → y.pending ≡ x.pending → y.tar ≡ x.tar → y.memory ≡ x.memory
     → (port_completion c y).memory ≡ (port_completion c x).memory
 memory_same c x y p a e =
-    let f : Option Drw → Option ℕ → PlainMemory → PlainMemory =
+    let f : Option Drw → Option ℕ → Bus → Bus =
     (λ i j k. memory_after_pending i (unwrap_or j c.address) k) in
     ap (λ i. f i y.tar y.memory) p ∙ (ap (λ j. f x.pending j y.memory) a ∙ ap (λ k. f x.pending x.tar k) e)
 
 -- what the memory may become after a possible completion, it might have become before it
-pub port_may_become_stays : (m : PlainMemory) (s t : Port) → PortCompletes s t → MayBecome t m → MayBecome s m
+pub port_may_become_stays : (m : Bus) (s t : Port) → PortCompletes s t → MayBecome t m → MayBecome s m
 port_may_become_stays m s t (inl e) h = subst (λ p. MayBecome p m) e h
 port_may_become_stays m s t (inr (c, fits, e)) (d, more, is) =
     let none : t.target.pending ≡ None = ap (λ p. p.target.pending) e in
     (c, fits, is ∙ ap (λ p. p.target.memory) (no_pending_same_port d t none) ∙ ap (λ p. p.target.memory) e)
 
 -- what the memory may become, it may become in each state with the same pending transfer, TAR and memory
-pub port_may_become_carried : (m : PlainMemory) (s t : Port) → t.target.pending ≡ s.target.pending
+pub port_may_become_carried : (m : Bus) (s t : Port) → t.target.pending ≡ s.target.pending
     → t.target.tar ≡ s.target.tar → t.target.memory ≡ s.target.memory → MayBecome t m → MayBecome s m
 port_may_become_carried m s t p a e (c, fits, is) = (c, fits, is ∙ memory_same c s.target t.target p a e)
 
@@ -348,7 +337,7 @@ may_become_same s none = (
       (ap (λ p. p.target.memory) (no_pending_same_port any_choice s none)),
 )
 
-may_become_only : (m : PlainMemory) (s : Port) → s.target.pending ≡ None → MayBecome s m → m ≡ s.target.memory
+may_become_only : (m : Bus) (s : Port) → s.target.pending ≡ None → MayBecome s m → m ≡ s.target.memory
 may_become_only m s none (c, fits, is) = is ∙ ap (λ p. p.target.memory) (no_pending_same_port c s none)
 
 -- without a pending transfer the memory may become what it is, and nothing else

@@ -6,6 +6,8 @@ pub mod RegisterLemmas
 pub mod PhaseBits
 pub mod AnswerLaws
 mod WorkedRuns
+pub mod PlainLaws
+pub mod PlainBusLaws
 pub mod CompletionLaws
 pub mod RequestLaws
 pub mod MovingLaws

@@ -1,8 +1,8 @@
 -- A step for each state: the pending transfer takes effect, and an unknown word is 0.
-use Rattle.std.proofs.Common.{ℕ, ◌<◌, ◌^◌, Bool, true, false, Option, Some, None, refl, inl, inr, arith}
+use Rattle.std.proofs.Common.{ℕ, ◌<◌, ◌^◌, Bool, true, false, Option, Some, None, [], refl, inl, inr, arith}
 use Rattle.std.specs.Prelude.{IfSome, unwrap_or}
 use Rattle.swd_port.specs.Registers.{ctrl_stat_read}
-use Rattle.swd_port.specs.PlainMemory.{PlainMemory, plain_word_at}
+use Rattle.swd_port.specs.Bus.{Bus}
 use Rattle.swd_port.specs.Port.{Target, Register, DpidrRead, CtrlStatRead, ResendRead, DpZeroRead, Drw, Reads, Writes}
 use Rattle.swd_port.specs.Port.{port_register, Port}
 use Rattle.swd_port.specs.Choices.{is_port_wait, Choice, IsPortChoice, Mark, IsPortMark}
@@ -14,7 +14,7 @@ use Rattle.swd_port.specs.Moving.{port_bits_driven, port_after_take, port_arriva
 use Rattle.swd_port.specs.Leading.{port_after_lead}
 use Rattle.swd_port.specs.declared.cue.Cue.TheVariants.{Lead, Ask, Take, Give, Pass}
 use Rattle.swd_bits.specs.declared.request.Request.{Request}
-use Rattle.swd_port.specs.Laws.NeverStuck.{PortRequestNeverStuck, PortCallNeverStuck, PortReadsWords}
+use Rattle.swd_port.specs.Laws.NeverStuck.{PortRequestNeverStuck, PortCallNeverStuck, PortReadsWords, BusReadsWords}
 use Rattle.swd_port.proofs.AnswerLaws.{port_sees_seen_at, port_deaf_silent}
 
 -- a target's choice: 0 for an unknown address and an unknown word, and TAR carries at the end of a kilobyte
@@ -33,12 +33,12 @@ status_word : (a b d e f g : Bool) → ctrl_stat_read a b d e f g < 2 ^ 32
 status_word a b d e f g = grind arith
 
 -- the read buffer, once the pending transfer took effect
-pub buffer_word_after_pending : (pending : Option Drw) (failed : Bool) (at : ℕ) (m : PlainMemory) (buffer : Option ℕ) →
-    ((k : ℕ) → plain_word_at k m < 2 ^ 32) → IfSome buffer (λ word. word < 2 ^ 32) →
+pub buffer_word_after_pending : (pending : Option Drw) (failed : Bool) (at : ℕ) (m : Bus) (buffer : Option ℕ) →
+    BusReadsWords m → IfSome buffer (λ word. word < 2 ^ 32) →
     IfSome (buffer_after_pending pending failed at m buffer) (λ word. word < 2 ^ 32)
 buffer_word_after_pending None failed at m buffer words h = h
 buffer_word_after_pending (Some Reads) true at m buffer words h = tt
-buffer_word_after_pending (Some Reads) false at m buffer words h = words at
+buffer_word_after_pending (Some Reads) false at m buffer words h = words [] tt at
 buffer_word_after_pending (Some (Writes word)) true at m buffer words h = tt
 buffer_word_after_pending (Some (Writes word)) false at m buffer words h = h
 

@@ -4,7 +4,7 @@ use Rattle.std.proofs.Common.{◌∙◌}
 use Rattle.std.specs.Prelude.{Option, Some, None, ◌⊎◌, ◌||◌, ◌&&◌, if◌then◌else◌}
 use Rattle.swd_bits.specs.declared.request.Request.{Request}
 use Rattle.swd_port.specs.declared.wire.Due.TheVariants.{Lost}
-use Rattle.swd_port.specs.PlainMemory.{PlainMemory}
+use Rattle.swd_port.specs.Bus.{Bus}
 use Rattle.swd_port.specs.declared.access.Access.{Access}
 use Rattle.swd_port.specs.Port.{Port, Target, PowerUp, Seen, Register, DpidrRead, DrwRead, Drw, Reset, Unreset, Live}
 use Rattle.swd_port.specs.Port.{port_register}
@@ -630,7 +630,7 @@ port_unmoved_by_refused r access seen s t power (lost n (inl h)) = stays_unmoved
 port_unmoved_by_refused r access seen s t power (lost n (inr h)) = refuses_unmoved r access s t power h
 
 -- a request that tells what came of a transfer
-confirms : (access : Access) (m : PlainMemory) (r : Register) (q : Request) (seen : ℕ) (s t : Port)
+confirms : (access : Access) (m : Bus) (r : Register) (q : Request) (seen : ℕ) (s t : Port)
     → PortSent access m s.target → is_exempt_register r ≡ false → PortFreeOrFault r q seen s t
     → PortConfirms access m r q seen s t
 confirms access m r q seen s t sent plain (inl h) =

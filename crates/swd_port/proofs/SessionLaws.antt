@@ -1,13 +1,10 @@
 -- A story for every session, step by step: the pending transfer takes effect before each request, and an unknown word
 -- is 0.
 use Rattle.std.proofs.Common.{◌≡◌, ◌<◌, ◌^◌, ◌%◌, ℕ, zero, suc, Bool, true, false, List, [], ◌∷◌, length, Option, Some}
-use Rattle.std.proofs.Common.{None, refl, sym, ap, subst, inl, inr, ◌⊎◌, arith}
+use Rattle.std.proofs.Common.{None, refl, sym, ap, subst, inl, inr, arith}
 use Rattle.std.specs.Prelude.{IfSome, unwrap_or, if◌then◌else◌, ◌==◌, not}
-use Rattle.std.specs.FinMap.{FinMap, insert, get}
-use Rattle.std.specs.Ordering.{nat_cmp}
 use Rattle.std.specs.Int.RustNames.{count_ones}
 use Rattle.std.proofs.lemmas.Nat.{xor_lt}
-use Rattle.std.proofs.lemmas.Bool.{cases_eq}
 use Rattle.std.proofs.Math.Pow.{pow-lt}
 use Rattle.swd_bits.specs.declared.request.Request.{Request}
 use Rattle.swd_bits.specs.Phases.{data_phase_number, data_phase_word}
@@ -16,7 +13,8 @@ use Rattle.swd_port.specs.declared.cue.Cue.TheVariants.{Lead, Ask, Take, Give, P
 use Rattle.swd_port.specs.declared.call.Call.{Call}
 use Rattle.swd_port.specs.declared.wire.Due.{Due}
 use Rattle.swd_port.specs.declared.wire.Due.TheVariants.{Nothing}
-use Rattle.swd_port.specs.PlainMemory.{PlainMemory, plain_word_at}
+use Rattle.swd_port.specs.declared.access.Access.TheVariants.{Read, Write}
+use Rattle.swd_port.specs.Bus.{Bus}
 use Rattle.swd_port.specs.Registers.{csw_read}
 use Rattle.swd_port.specs.Phases.{port_flipped}
 use Rattle.swd_port.specs.Port.{Port, Target, Register, Drw, Reads, Writes, AfterAck, Drives, Awaits, Idle}
@@ -31,34 +29,20 @@ use Rattle.swd_port.specs.Moving.{port_arrival, port_arrival_of, port_after_arri
 use Rattle.swd_port.specs.Moving.{port_value_forgotten, tar_after_write, pending_after_write}
 use Rattle.swd_port.specs.Leading.{port_after_lead}
 use Rattle.swd_port.specs.Stories.{IsPortStep, port_due_by, port_at, FitsStory}
-use Rattle.swd_port.specs.Laws.NeverStuck.{PortReadsWords}
+use Rattle.swd_port.specs.Laws.NeverStuck.{PortReadsWords, BusReadsWords}
 use Rattle.swd_port.specs.Laws.Sessions.{PortHasWords, PortCallsChosen, PortSession, pending_write_word}
 use Rattle.swd_port.specs.Laws.Sessions.{MadePortHasWords, PortStepForEachCue, PortSessionFits}
 use Rattle.swd_port.proofs.AnswerLaws.{answer_laws}
 use Rattle.swd_port.proofs.CallLaws.{port_due_after_step}
-use Rattle.swd_port.proofs.MapLemmas.{port_map_get_same, port_map_get_other}
 use Rattle.swd_port.proofs.NeverStuckLaws.{port_zeros, port_zeros_fit, port_asks_with_zeros, buffer_word_after_pending}
 use Rattle.swd_port.proofs.NeverStuckLaws.{port_value_range}
 
--- words of the memory after a write
-stored : (m : FinMap nat_cmp ℕ) (k v q : ℕ) → v < 2 ^ 32 → unwrap_or (get m q) 0 < 2 ^ 32
-    → (q ≡ k) ⊎ (q ≡ k → ⊥) → unwrap_or (get (insert m k v) q) 0 < 2 ^ 32
-stored m k v q word h (inl e) = subst (λ o. unwrap_or o 0 < 2 ^ 32) (sym (port_map_get_same m k v q e)) word
-stored m k v q word h (inr d) = subst (λ o. unwrap_or o 0 < 2 ^ 32) (sym (port_map_get_other m k v q d)) h
-
-abbrev AreStored : PlainMemory → Type 0
-AreStored m = (at : ℕ) → plain_word_at at m < 2 ^ 32
-
-stored_if : (b : Bool) (m n : PlainMemory) → AreStored m → AreStored n → AreStored (if b then m else n)
-stored_if true m n g h = g
-stored_if false m n g h = h
-
-stored_after : (pending : Option Drw) (at : ℕ) (m : PlainMemory) → pending_write_word pending < 2 ^ 32 → AreStored m
-    → AreStored (memory_after_pending pending at m)
+-- the words of the bus after the pending transfer
+stored_after : (pending : Option Drw) (at : ℕ) (m : Bus) → pending_write_word pending < 2 ^ 32 → BusReadsWords m
+    → BusReadsWords (memory_after_pending pending at m)
 stored_after None at m word h = h
-stored_after (Some Reads) at m word h = stored_if _ _ m h h
-stored_after (Some (Writes v)) at m word h =
-    stored_if _ _ m (λ q. stored m.words at v q word (h q) (cases_eq q at)) h
+stored_after (Some Reads) at m word h = λ made are. h (Read at ∷ made) are
+stored_after (Some (Writes v)) at m word h = λ made are. h (Write at v ∷ made) (word, are)
 
 -- TAR after the pending transfer
 advanced : (pending : Option Drw) (failed increments : Bool) (tar : Option ℕ) → IfSome tar (λ word. word < 2 ^ 32)
@@ -242,7 +226,7 @@ same_words s t w i b l m a p d = record {
     identification = subst (λ n. n < 2 ^ 32) (sym i) w.reads.identification;
     buffer = subst (λ o. IfSome o (λ word. word < 2 ^ 32)) (sym b) w.reads.buffer;
     last_returned = subst (λ o. IfSome o (λ word. word < 2 ^ 32)) (sym l) w.reads.last_returned;
-    memory = subst AreStored (sym m) w.reads.memory;
+    memory = subst BusReadsWords (sym m) w.reads.memory;
   };
   tar = subst (λ o. IfSome o (λ word. word < 2 ^ 32)) (sym a) w.tar;
   pending = subst (λ o. pending_write_word o < 2 ^ 32) (sym p) w.pending;

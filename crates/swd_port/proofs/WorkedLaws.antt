@@ -6,7 +6,7 @@ use Rattle.swd_bits.specs.declared.request.Request.{Request}
 use Rattle.swd_bits.specs.declared.request.Reg4.{Reg4}
 use Rattle.swd_bits.specs.declared.request.Reg4.TheVariants.{R0, R4, RC}
 use Rattle.swd_port.specs.declared.access.Access.TheVariants.{Write}
-use Rattle.swd_port.specs.PlainMemory.{PlainMemory, succeeds_at}
+use Rattle.swd_port.specs.Bus.{Bus, bus_succeeds, bus_of}
 use Rattle.swd_bits.specs.Phases.{data_phase_number}
 use Rattle.swd_port.specs.Port.{Port, Live, DrwWrite, port_made_target, port_made, port_register}
 use Rattle.swd_port.specs.Choices.{Mark, Clean, Wait, Flip, Deaf, Mute, IsPortMark, is_port_wait, Choice, IsPortChoice}
@@ -65,10 +65,10 @@ asks mark q s legal settled word = (
 )
 
 -- a memory of one word
-abbrev memory : PlainMemory
-memory = record { words = insert empty 0x2000_0000 0; log = []; room = 1 }
+abbrev memory : Bus
+memory = bus_of (record { words = insert empty 0x2000_0000 0; log = []; room = 1 })
 
-one_word : succeeds_at 0x2000_0000 memory ≡ true
+one_word : bus_succeeds (Write 0x2000_0000 0xdead_beef) memory ≡ true
 one_word = grind (arith, gets)
 
 -- a target that is ready for a transfer at that word

@@ -1,10 +1,11 @@
 -- Short runs of the port machine, computed by its definitions: what each last read gives.
-use Rattle.std.proofs.Common.{◌≡◌, ℕ, Bool, true, false, refl}
+use Rattle.std.proofs.Common.{◌≡◌, ℕ, Bool, true, false, None, refl, sym, subst}
 use Rattle.swd_bits.specs.declared.request.Request.{Request}
 use Rattle.swd_bits.specs.declared.request.Reg4.{Reg4}
 use Rattle.swd_bits.specs.declared.request.Reg4.TheVariants.{R0, R4, R8, RC}
 use Rattle.swd_port.specs.declared.wire.Due.TheVariants.{Lost}
-use Rattle.swd_port.specs.PlainMemory.{PlainMemory, succeeds_at}
+use Rattle.swd_port.specs.declared.access.Access.TheVariants.{Write}
+use Rattle.swd_port.specs.Bus.{Bus, bus_succeeds, bus_after}
 use Rattle.swd_bits.specs.Phases.{data_phase_number}
 use Rattle.swd_port.specs.Port.{Port, CtrlStatRead, Drives, port_made, port_register}
 use Rattle.swd_port.specs.Choices.{Clean, Wait, Choice}
@@ -57,120 +58,138 @@ abbrev damaged : Request → Port → Port
 damaged q s = port_after_arrival Damaged (asked q s)
 
 -- a target that was reset and read, and one that is set up for transfers
-abbrev live : PlainMemory → Port
+abbrev live : Bus → Port
 live m = taken (dp_read R0) (port_after_lead 56 (port_made 0x2ba0_1477 m))
 
-abbrev up : PlainMemory → Port
+abbrev up : Bus → Port
 up m = given (ap_write R0) 0x2300_0012 (given (dp_write R4) 0x5000_0000 (live m))
 
-before_any_lead : (m : PlainMemory) → seen (dp_read R0) (port_made 0x2ba0_1477 m) ≡ 7
+before_any_lead : (m : Bus) → seen (dp_read R0) (port_made 0x2ba0_1477 m) ≡ 7
 before_any_lead m = refl
 
-lost_before_any_lead : (m : PlainMemory) → (asked (dp_read R0) (port_made 0x2ba0_1477 m)).link.due ≡ Lost
+lost_before_any_lead : (m : Bus) → (asked (dp_read R0) (port_made 0x2ba0_1477 m)).link.due ≡ Lost
 lost_before_any_lead m = refl
 
-dpidr : (m : PlainMemory)
+dpidr : (m : Bus)
     → (asked (dp_read R0) (port_after_lead 56 (port_made 0x2ba0_1477 m))).link.line
     ≡ Drives (data_phase_number 0x2ba0_1477)
 dpidr m = refl
 
-unknown_buffer : (m : PlainMemory) → (asked (dp_read RC) (live m)).link.line ≡ Drives (data_phase_number 0xa5a5_a5a5)
+unknown_buffer : (m : Bus) → (asked (dp_read RC) (live m)).link.line ≡ Drives (data_phase_number 0xa5a5_a5a5)
 unknown_buffer m = refl
 
-read_ok : (m : PlainMemory) → value (dp_read R4) (taken (dp_read RC) (live m)) ≡ 0x0000_0040
+read_ok : (m : Bus) → value (dp_read R4) (taken (dp_read RC) (live m)) ≡ 0x0000_0040
 read_ok m = refl
 
 -- a line reset in place of the data of a SELECT write
-abbrev cut_short : PlainMemory → Port
+abbrev cut_short : Bus → Port
 cut_short m = port_after_lead 100 (asked (dp_write R8) (live m))
 
-silent_while_fresh : (m : PlainMemory) → seen (dp_read R4) (cut_short m) ≡ 7
+silent_while_fresh : (m : Bus) → seen (dp_read R4) (cut_short m) ≡ 7
 silent_while_fresh m = refl
 
-cut_short_sets_write_error : (m : PlainMemory) → value (dp_read R4) (taken (dp_read R0) (cut_short m)) ≡ 0x0000_0080
+cut_short_sets_write_error : (m : Bus) → value (dp_read R4) (taken (dp_read R0) (cut_short m)) ≡ 0x0000_0080
 cut_short_sets_write_error m = refl
 
-other_bank_ignores : (m : PlainMemory)
+other_bank_ignores : (m : Bus)
     → value (dp_read R4) (given (dp_write R8) 0 (given (dp_write R4) 0x5000_0000 (given (dp_write R8) 1 (live m)))) ≡ 0
 other_bank_ignores m = refl
 
-no_power : (m : PlainMemory) → seen (ap_read R0) (live m) ≡ 4
+no_power : (m : Bus) → seen (ap_read R0) (live m) ≡ 4
 no_power m = refl
 
-no_power_sets_sticky_error : (m : PlainMemory) → value (dp_read R4) (asked (ap_read R0) (live m)) ≡ 0x0000_0020
+no_power_sets_sticky_error : (m : Bus) → value (dp_read R4) (asked (ap_read R0) (live m)) ≡ 0x0000_0020
 no_power_sets_sticky_error m = refl
 
-no_power_beside_write_error : (m : PlainMemory)
+no_power_beside_write_error : (m : Bus)
     → value (dp_read R4) (asked (ap_read R0) (damaged (dp_write R8) (live m))) ≡ 0x0000_00a0
 no_power_beside_write_error m = refl
 
-powered : (m : PlainMemory) → value (dp_read R4) (up m) ≡ 0xf000_0000
+powered : (m : Bus) → value (dp_read R4) (up m) ≡ 0xf000_0000
 powered m = refl
 
 -- power that a busy target finds late when CTRL/STAT is read, then seen when it is read again
-abbrev late : PlainMemory → Port
+abbrev late : Bus → Port
 late m = asked_busy (dp_read R4) (given (dp_write R4) 0x5000_0000 (live m))
 
-late_in_status : (m : PlainMemory)
+late_in_status : (m : Bus)
     → port_value_in true CtrlStatRead choice.filler (given (dp_write R4) 0x5000_0000 (live m)).target ≡ 0x5000_0000
 late_in_status m = refl
 
-late_is_disturbed : (m : PlainMemory) → (late m).tally.disturbed ≡ 1
+late_is_disturbed : (m : Bus) → (late m).tally.disturbed ≡ 1
 late_is_disturbed m = refl
 
-late_is_a_fault : (m : PlainMemory) → seen (ap_read R0) (late m) ≡ 4
+late_is_a_fault : (m : Bus) → seen (ap_read R0) (late m) ≡ 4
 late_is_a_fault m = refl
 
-late_no_more : (m : PlainMemory) → value (dp_read R4) (late m) ≡ 0xf000_0000
+late_no_more : (m : Bus) → value (dp_read R4) (late m) ≡ 0xf000_0000
 late_no_more m = refl
 
-late_no_more_for_access_ports : (m : PlainMemory) → seen (ap_read R0) (asked (dp_read R4) (late m)) ≡ 1
+late_no_more_for_access_ports : (m : Bus) → seen (ap_read R0) (asked (dp_read R4) (late m)) ≡ 1
 late_no_more_for_access_ports m = refl
 
 -- once it was seen, no busy target finds it late
-stays_there : (m : PlainMemory)
+stays_there : (m : Bus)
     → port_value_in true CtrlStatRead choice.filler (asked (dp_read R4) (late m)).target ≡ 0xf000_0000
 stays_there m = refl
 
 -- an access port that answers has it
-there_by_access : (m : PlainMemory) → port_value_in true CtrlStatRead choice.filler (up m).target ≡ 0xf000_0000
+there_by_access : (m : Bus) → port_value_in true CtrlStatRead choice.filler (up m).target ≡ 0xf000_0000
 there_by_access m = refl
 
-csw_is_posted : (m : PlainMemory) → value (ap_read R0) (up m) ≡ 0xa5a5_a5a5
+csw_is_posted : (m : Bus) → value (ap_read R0) (up m) ≡ 0xa5a5_a5a5
 csw_is_posted m = refl
 
-csw : (m : PlainMemory) → value (dp_read RC) (taken (ap_read R0) (up m)) ≡ 0x2300_0052
+csw : (m : Bus) → value (dp_read RC) (taken (ap_read R0) (up m)) ≡ 0x2300_0052
 csw m = refl
 
-damaged_write_keeps_returned : (m : PlainMemory) →
+damaged_write_keeps_returned : (m : Bus) →
     value (dp_read R8) (given (dp_write R0) 8
     (damaged (ap_write R4) (taken (dp_read RC) (taken (ap_read R0) (up m))))) ≡ 0x2300_0052
 damaged_write_keeps_returned m = refl
 
--- a write to an address where the memory has no word, done at once
-abbrev failed : PlainMemory → Port
+-- a write that the bus refuses, done at once
+abbrev failed : Bus → Port
 failed m = port_completed choice (given (ap_write RC) 1 (given (ap_write R4) 0x3000_0000 (up m)))
 
-bus_error_is_a_fault : (m : PlainMemory) → succeeds_at 0x3000_0000 m ≡ false → seen (dp_read RC) (failed m) ≡ 4
+abbrev refused : Bus → Port
+refused m =
+    let p = given (ap_write RC) 1 (given (ap_write R4) 0x3000_0000 (up m)) in
+    record p {
+      target = record p.target {
+        sticky_error = true;
+        tar = None;
+        buffer = None;
+        pending = None;
+        memory = bus_after (Write 0x3000_0000 1) m;
+      };
+    }
+
+failed_refused : (m : Bus) → bus_succeeds (Write 0x3000_0000 1) m ≡ false → failed m ≡ refused m
+failed_refused m none = rw none refl
+
+bus_error_is_a_fault : (m : Bus) → bus_succeeds (Write 0x3000_0000 1) m ≡ false → seen (dp_read RC) (failed m) ≡ 4
 bus_error_is_a_fault m none = rw none refl
 
-bus_error_in_status : (m : PlainMemory) → succeeds_at 0x3000_0000 m ≡ false
+bus_error_in_status : (m : Bus) → bus_succeeds (Write 0x3000_0000 1) m ≡ false
     → value (dp_read R4) (asked (dp_read RC) (failed m)) ≡ 0xf000_0020
 bus_error_in_status m none = rw none refl
 
-bus_error_cleared : (m : PlainMemory) → succeeds_at 0x3000_0000 m ≡ false
+bus_error_cleared : (m : Bus) → bus_succeeds (Write 0x3000_0000 1) m ≡ false
     → value (dp_read R4) (given (dp_write R0) 4 (asked (dp_read RC) (failed m))) ≡ 0xf000_0000
-bus_error_cleared m none = rw none refl
+bus_error_cleared m none =
+    subst (λ p. value (dp_read R4) (given (dp_write R0) 4 (asked (dp_read RC) p)) ≡ 0xf000_0000)
+    (sym (failed_refused m none)) refl
 
--- a write to an address where it has one, at the end of a kilobyte
-abbrev moved : Bool → PlainMemory → Port
+-- one that it takes, at the end of a kilobyte
+abbrev moved : Bool → Bus → Port
 moved wraps m = port_completed (record choice { wraps = wraps })
     (given (ap_write RC) 1 (given (ap_write R4) 0x2000_03fc (up m)))
 
-wraps_inside : (m : PlainMemory) → succeeds_at 0x2000_03fc m ≡ true
+wraps_inside : (m : Bus) → bus_succeeds (Write 0x2000_03fc 1) m ≡ true
     → value (dp_read RC) (taken (ap_read R4) (moved true m)) ≡ 0x2000_0000
 wraps_inside m there = rw there refl
 
-carries_on : (m : PlainMemory) → succeeds_at 0x2000_03fc m ≡ true
+carries_on : (m : Bus) → bus_succeeds (Write 0x2000_03fc 1) m ≡ true
     → value (dp_read RC) (taken (ap_read R4) (moved false m)) ≡ 0x2000_0400
 carries_on m there = rw there refl

@@ -6,24 +6,24 @@ use Rattle.std.specs.Prelude.{Some, None, unwrap_or}
 use Rattle.std.specs.Option.{option_map}
 use Rattle.swd_port.specs.declared.access.Access.{Access}
 use Rattle.swd_port.specs.declared.access.Access.TheVariants.{Read, Write}
-use Rattle.swd_port.specs.PlainMemory.{PlainMemory, succeeds_at, plain_word_at, plain_after}
+use Rattle.swd_port.specs.Bus.{Bus, bus_succeeds, bus_word_at, bus_after}
 use Rattle.swd_port.specs.Port.{Port, Target, Drw, Reads, Writes}
 use Rattle.swd_port.specs.Choices.{Choice, IsPortChoice}
 
--- a DRW transfer at an address, as an access of the plain memory
+-- a DRW transfer at an address, as an access of the bus
 abbrev pub pending_access_at : ℕ → Drw → Access
 pending_access_at at Reads = Read at
 pending_access_at at (Writes word) = Write at word
 
 -- the pending transfer is a bus error
-abbrev pub pending_fails : Option Drw → ℕ → PlainMemory → Bool
+abbrev pub pending_fails : Option Drw → ℕ → Bus → Bool
 pending_fails None at m = false
-pending_fails (Some drw) at m = not (succeeds_at at m)
+pending_fails (Some drw) at m = not (bus_succeeds (pending_access_at at drw) m)
 
--- the memory after the transfer (this project's choice)
-abbrev pub memory_after_pending : Option Drw → ℕ → PlainMemory → PlainMemory
+-- the bus after the transfer (this project's choice)
+abbrev pub memory_after_pending : Option Drw → ℕ → Bus → Bus
 memory_after_pending None at m = m
-memory_after_pending (Some drw) at m = plain_after (pending_access_at at drw) m
+memory_after_pending (Some drw) at m = bus_after (pending_access_at at drw) m
 
 -- the address plus 4; at the end of a kilobyte the low ten bits wrap to 0, or it carries, modulo 2^32
 abbrev pub port_tar_next_address : Bool → ℕ → ℕ
@@ -37,9 +37,9 @@ tar_after_pending (Some drw) failed increments wraps tar =
     if failed then None else if increments then option_map (port_tar_next_address wraps) tar else tar
 
 -- the read buffer after the transfer: the word of a read; unknown after a bus error (this project's choice)
-abbrev pub buffer_after_pending : Option Drw → Bool → ℕ → PlainMemory → Option ℕ → Option ℕ
+abbrev pub buffer_after_pending : Option Drw → Bool → ℕ → Bus → Option ℕ → Option ℕ
 buffer_after_pending None failed at m buffer = buffer
-buffer_after_pending (Some Reads) failed at m buffer = if failed then None else Some (plain_word_at at m)
+buffer_after_pending (Some Reads) failed at m buffer = if failed then None else Some (bus_word_at at m)
 buffer_after_pending (Some (Writes word)) failed at m buffer = if failed then None else buffer
 
 -- The target after the pending transfer took effect, at TAR, or at the choice's address where TAR is unknown. Without a
@@ -64,5 +64,5 @@ abbrev pub PortCompletes : Port → Port → Type 0
 PortCompletes s t = (t ≡ s) ⊎ ((c : Choice) × IsPortChoice c × (t ≡ port_completed c s))
 
 -- the memory may become m once the pending transfer has taken effect
-abbrev pub MayBecome : Port → PlainMemory → Type 0
+abbrev pub MayBecome : Port → Bus → Type 0
 MayBecome s m = (c : Choice) × IsPortChoice c × (m ≡ (port_completed c s).target.memory)

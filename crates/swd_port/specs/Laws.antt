@@ -11,5 +11,6 @@ pub mod DataPhases
 pub mod WordsRead
 pub mod LineResets
 pub mod Accesses
+pub mod Buses
 pub mod NeverStuck
 pub mod Sessions

@@ -1,4 +1,6 @@
 pub mod PlainMemory
+pub mod Bus
+pub mod PlainBus
 pub mod Registers
 pub mod Phases
 pub mod Port

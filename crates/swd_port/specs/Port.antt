@@ -21,7 +21,7 @@ use Rattle.swd_bits.specs.declared.request.Reg4.TheVariants.{R0, R4, R8, RC}
 use Rattle.swd_port.specs.declared.wire.Due.{Due}
 use Rattle.swd_port.specs.declared.wire.Due.TheVariants.{Nothing}
 use Rattle.swd_port.specs.declared.select.Select.{Select}
-use Rattle.swd_port.specs.PlainMemory.{PlainMemory}
+use Rattle.swd_port.specs.Bus.{Bus}
 use Rattle.swd_port.specs.Registers.{port_select_zero}
 
 -- the debug port's registers by direction, address and whether DPBANKSEL is 0, on which address 4 alone depends
@@ -137,7 +137,7 @@ pub record Target : Type 0 where
   -- the word that DPIDR returns; no call changes it
   pub identification : ℕ
   -- the memory behind the access port
-  pub memory : PlainMemory
+  pub memory : Bus
 
 -- Counts beside the state: the requests so far, and how many of them were disturbed and lost, by their marks.
 pub record PortTally : Type 0 where
@@ -152,7 +152,7 @@ pub record Port : Type 0 where
   pub tally : PortTally
 
 -- the target before any call, with any identification and memory (this project's choice)
-abbrev pub port_made_target : ℕ → PlainMemory → Target
+abbrev pub port_made_target : ℕ → Bus → Target
 port_made_target identification memory = record {
   reset = Unreset;
   sticky_error = false;
@@ -173,7 +173,7 @@ port_made_target identification memory = record {
 }
 
 -- the state before any call (this project's choice)
-abbrev pub port_made : ℕ → PlainMemory → Port
+abbrev pub port_made : ℕ → Bus → Port
 port_made identification memory = record {
   link = port_idle_link;
   target = port_made_target identification memory;

@@ -8,6 +8,7 @@ use Rattle.swd_port.specs.declared.wire.Due.TheVariants.{Nothing, Lost}
 use Rattle.swd_port.specs.declared.state.Reset.{Reset}
 use Rattle.swd_port.specs.declared.state.Reset.TheVariants.{Fresh}
 use Rattle.swd_port.specs.declared.state.AfterAck.TheVariants.{Idle}
+use Rattle.swd_port.specs.Bus.{bus_of}
 use Rattle.swd_port.specs.Port.{Port, port_made_target}
 use Rattle.swd_port.specs.Phases.{port_undriven}
 use Rattle.swd_port.specs.declared.mark.Mark.TheVariants.{Deaf}
@@ -22,7 +23,7 @@ use Rattle.swd_port.proofs.WorkedLaws.{port_case_choice, port_case_choice_fits}
 abbrev pub open_wire_port : Due → Reset → ℕ → Port
 open_wire_port due reset asked = record {
   link = record { due = due; line = Idle };
-  target = record (port_made_target 0 (record { words = empty; log = []; room = 0 })) { reset = reset };
+  target = record (port_made_target 0 (bus_of (record { words = empty; log = []; room = 0 }))) { reset = reset };
   tally = record { asked = asked; disturbed = 0; lost = asked };
 }
 

@@ -5,6 +5,7 @@ ghost use Rattle.std.specs.FinMap.{empty};
 ghost use Rattle.swd_port.specs.declared.state.AfterAck.TheVariants.{Idle};
 ghost use Rattle.swd_port.specs.declared.state.Reset.TheVariants.{Fresh};
 ghost use Rattle.swd_port.specs.declared.wire.Due.TheVariants.{Nothing};
+ghost use Rattle.swd_port.specs.Bus.{bus_of};
 ghost use Rattle.swd_port.specs.Port.{port_made_target, port_made};
 
 mod expect;
@@ -30,7 +31,7 @@ struct OpenWire {
 impl Wire for OpenWire {
     ghost port = { λ wire. record {
       link = record { due = wire.due; line = Idle };
-      target = record (port_made_target 0 (record { words = empty; log = []; room = 0 })) { reset = wire.reset };
+      target = record (port_made_target 0 (bus_of (record { words = empty; log = []; room = 0 }))) { reset = wire.reset };
       tally = record { asked = wire.asked.ticks; disturbed = 0; lost = wire.asked.ticks };
     } };
 
@@ -216,7 +217,7 @@ impl Transport for Breaking {
 struct Untold;
 
 impl Story for Untold {
-    ghost at = { λ _. port_made 0 (record { words = empty; log = []; room = 0 }) };
+    ghost at = { λ _. port_made 0 (bus_of (record { words = empty; log = []; room = 0 })) };
 }
 
 #[test]

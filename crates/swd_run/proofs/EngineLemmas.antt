@@ -9,7 +9,7 @@ use Rattle.swd_trace.specs.declared.item.Item.{Item}
 use Rattle.swd_port.specs.declared.access.Access.{Access}
 use Rattle.swd_port.specs.declared.mark.Mark.{Mark}
 use Rattle.swd_port.specs.Choices.{port_disturbed_among, port_lost_among}
-use Rattle.swd_port.specs.PlainMemory.{PlainMemory}
+use Rattle.swd_port.specs.Bus.{Bus}
 use Rattle.swd_port.specs.Port.{Port, port_made}
 use Rattle.swd_port.specs.Laws.Calls.{port_with_asked}
 use Rattle.swd_port.specs.declared.wire.Wire.{Ghosts}
@@ -34,7 +34,7 @@ use Rattle.swd_run.specs.Records.{IsRunFileStarted, IsRunFileLeft, run_files_of,
 use Rattle.swd_run.specs.Records.{no_run_files}
 use Rattle.swd_observer.specs.Explained.{ObservedLog}
 use Rattle.swd_observer.specs.Traces.{trace_observer_made, observed_in_trace}
-use Rattle.swd_run.specs.Running.{ScriptRunAnswers, IsTraceIn, RunsScript, full_room, script_memory, with_full_room}
+use Rattle.swd_run.specs.Running.{ScriptRunAnswers, IsTraceIn, RunsScript, full_room, script_bus, with_full_room}
 use Rattle.swd_run.specs.Sessions.{ScriptRun, RunsBatch, IsBatchRefused, RunsBatches, batch_limit, none}
 use Rattle.swd_run.specs.Sessions.{script_requests, then, unresumed, unsent}
 use Rattle.swd_run.specs.Unfoldings.{AreBatchesDone, BatchRuns, IsCutShort, Unfolds, batch_again, calls_of, runs_of}
@@ -354,7 +354,7 @@ law_cut port plan lawful tries resumes batch s t over law =
     law_runs port plan lawful tries resumes s over.between (batch_again batch over.runs) over.runs over.earlier
     (law_refused port plan lawful tries resumes batch over.between t over.refused law)
 
-made_seen : {W : Type 0} (traced : Bool) (port : W → Port) (m : PlainMemory) (w : W) → port w ≡ port_made 731911287 m
+made_seen : {W : Type 0} (traced : Bool) (port : W → Port) (m : Bus) (w : W) → port w ≡ port_made 731911287 m
     → run_port_seen traced port (0, w) ≡ port_made 731911287 m
 made_seen false port m w is_made = is_made
 made_seen true port m w is_made = ap (port_with_asked 0) is_made
@@ -399,11 +399,11 @@ full_answers batches used runs before IsWhole IsPart (Err TraceCut) old new held
 -- over a lawful wire to a target that was just made, where a plan bounds what is disturbed and lost, an answer states
 -- what the theorem of the host says for the script's memory, and whether its log is full
 pub script_run_answers : {W : Type 0} (port : W → Port) (plan : W → List Mark) (lawful : W → Type 0) (tries resumes : ℕ)
-    (script : ScriptMeaning) (marks : List Mark) (s t : W) → port s ≡ port_made 731911287 (script_memory script)
+    (script : ScriptMeaning) (marks : List Mark) (s t : W) → port s ≡ port_made 731911287 (script_bus script)
     → plan s ≡ marks → ((w : W) → plan w ≡ marks
     → ((port w).tally.disturbed ≤ port_disturbed_among marks) × ((port w).tally.lost ≤ port_lost_among marks))
     → lawful t
-    → (memory : PlainMemory) → memory ≡ (port t).target.memory → (answer : Result Finished EngineFault)
+    → (memory : Bus) → memory ≡ (port t).target.memory → (answer : Result Finished EngineFault)
     (old new : Option (List ℕ)) (before after : RunFiles)
     → BatchAnswersAt port plan lawful tries resumes script.batches s t answer old new before after
     → ScriptRunAnswers tries resumes script marks (with_full_room (full_room script.room memory) answer) old new before
@@ -412,9 +412,9 @@ script_run_answers port plan lawful tries resumes script marks s t is_made plann
     before after h =
     let traced : Bool = wants_run_files before in
     let seen = run_port_seen traced port in
-    let begins : seen (0, s) ≡ port_made 731911287 (script_memory script) =
-    made_seen traced port (script_memory script) s is_made in
-    let rest : IsAtRest (seen (0, s)) = script_target_at_rest (script_memory script) (seen (0, s)) begins in
+    let begins : seen (0, s) ≡ port_made 731911287 (script_bus script) =
+    made_seen traced port (script_bus script) s is_made in
+    let rest : IsAtRest (seen (0, s)) = script_target_at_rest (script_bus script) (seen (0, s)) begins in
     let runs_at = λ (runs : List BatchRuns) (end : ℕ × _) (law : lawful end.1)
     (unfolds : Unfolds (take (length runs) script.batches) runs)
     (are : RunsBatches seen (λ x. plan x.1) (λ x. lawful x.1) batch_limit tries resumes (0, s)
@@ -446,10 +446,10 @@ script_run_answers port plan lawful tries resumes script marks s t is_made plann
           })
           (λ over items is. record {
             is = is.whole law rest;
-            explained = ∥∥₁_map (is.explained law rest 731911287 (script_memory script) begins)
-                (λ told. subst (λ (m : PlainMemory). ObservedLog (observed_in_trace items trace_observer_made) m.log)
+            explained = ∥∥₁_map (is.explained law rest 731911287 (script_bus script) begins)
+                (λ told. subst (λ (m : Bus). ObservedLog (observed_in_trace items trace_observer_made) m.log)
                 left_seen (subst (ObservedLog (observed_in_trace items trace_observer_made)) (sym told.now.is)
                 told.now.explains));
-            reported = λ whole. is.reported law rest whole 731911287 (script_memory script) begins;
+            reported = λ whole. is.reported law rest whole 731911287 (script_bus script) begins;
           }) (λ over items is. is.part law rest) answer old new before after h.1),
     )

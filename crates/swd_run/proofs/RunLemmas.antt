@@ -10,7 +10,7 @@ use Rattle.swd_port.specs.declared.mark.Mark.{Mark}
 use Rattle.swd_port.specs.Choices.{port_disturbed_among, port_lost_among}
 use Rattle.swd_host.specs.declared.outcome.End.{End}
 use Rattle.swd_host.specs.declared.outcome.End.TheVariants.{All, Lost, TriesOut, WrongId, Confused}
-use Rattle.swd_port.specs.PlainMemory.{PlainMemory}
+use Rattle.swd_port.specs.Bus.{Bus}
 use Rattle.swd_host.specs.Reports.{Closes, HostEndsAt, IsAtRest, RunFits, RunsWithin, HostReport}
 use Rattle.swd_script.specs.Scripts.{ScriptListed}
 use Rattle.swd_run.specs.Running.{IsRunExcused, RunsAs}
@@ -28,7 +28,7 @@ script_run_end_excused (WrongId word) tries marks s t p q e = absurd e
 script_run_end_excused Confused tries marks s t p q e = absurd e
 
 -- a target that was just made is at rest
-pub script_target_at_rest : (m : PlainMemory) (s : Port) → s ≡ port_made 731911287 m → IsAtRest s
+pub script_target_at_rest : (m : Bus) (s : Port) → s ≡ port_made 731911287 m → IsAtRest s
 script_target_at_rest m s is_made = record {
   due = ap (λ x. x.link.due) is_made;
   known = record {

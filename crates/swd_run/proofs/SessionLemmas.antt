@@ -13,7 +13,7 @@ use Rattle.swd_host.specs.declared.outcome.End.TheVariants.{All, Lost}
 use Rattle.swd_host.specs.Reports.{IsAtRest, host_due_at_end}
 use Rattle.swd_script.specs.Scripts.{ScriptListed, ScriptMeaning}
 use Rattle.swd_run.specs.GoingOn.{script_calls_in_all}
-use Rattle.swd_run.specs.Running.{RunsScript, ScriptSession, script_memory, none as no_run, then as then_run}
+use Rattle.swd_run.specs.Running.{RunsScript, ScriptSession, script_bus, none as no_run, then as then_run}
 use Rattle.swd_run.specs.Sessions.{batch_limit, ScriptRun, RunsBatch, RunsBatches, script_ended, none, then}
 use Rattle.swd_run.specs.Sessions.{script_requests}
 use Rattle.swd_run.specs.Unfoldings.{BatchRuns, Unfolds, calls_of, runs_of}
@@ -156,7 +156,7 @@ each_batch_at P f xs i x each is low =
 
 module _ {W : Type 0} (port : W → Port) (plan : W → List Mark) (lawful : W → Type 0) (tries resumes : ℕ)
     (script : ScriptMeaning) (marks : List Mark) (made : List BatchRuns) (s t : W)
-    (is_made : port s ≡ made_port 731911287 (script_memory script)) (planned : plan s ≡ marks)
+    (is_made : port s ≡ made_port 731911287 (script_bus script)) (planned : plan s ≡ marks)
     (marked : (w : W) → plan w ≡ marks
     → ((port w).tally.disturbed ≤ port_disturbed_among marks) × ((port w).tally.lost ≤ port_lost_among marks))
     (law : lawful t) (unfolds : Unfolds (take (length made) script.batches) made)
@@ -166,7 +166,7 @@ module _ {W : Type 0} (port : W → Port) (plan : W → List Mark) (lawful : W �
     -- memory
     pub script_runs : RunsScript tries resumes script marks made (port t).target.memory
     script_runs =
-        let rest : IsAtRest (port s) = script_target_at_rest (script_memory script) (port s) is_made in
+        let rest : IsAtRest (port s) = script_target_at_rest (script_bus script) (port s) is_made in
         let calls : List ScriptListed = calls_of script.batches made in
         let (same, session) = sessions port plan lawful tries resumes s rest marks planned marked calls (runs_of made) t
         all law in

@@ -9,8 +9,7 @@ use Rattle.swd_port.specs.declared.access.Answer.{Answer}
 use Rattle.swd_port.specs.declared.access.Answer.TheVariants.{BusFault}
 use Rattle.swd_port.specs.declared.access.Transfer.{Transfer}
 use Rattle.swd_port.specs.declared.mark.Mark.{Mark}
-use Rattle.swd_port.specs.PlainMemory.{PlainMemory, plain_address, plain_done_answer, plain_done, plain_after}
-use Rattle.swd_port.specs.PlainMemory.{plain_answer, succeeds_at}
+use Rattle.swd_port.specs.Bus.{Bus, bus_done_answer, bus_after, bus_answer, bus_succeeds, bus_transfer_of}
 use Rattle.swd_port.specs.Port.{Port}
 use Rattle.swd_observer.specs.declared.told.ObservedAccess.{ObservedAccess as Shown}
 use Rattle.swd_observer.specs.declared.told.How.{How}
@@ -32,22 +31,22 @@ use Rattle.swd_run.proofs.WentLemmas.{alone, script_calls_answer_count, law_befo
 
 -- ---- a list over the plain memory
 
-logged_by : (a : Access) (m : PlainMemory) (well : Bool)
-    → (if well then plain_done a m else m).log ≡ m.log
-    ++ report_transfer_by a (if well then plain_done_answer a m else BusFault)
+logged_by : (a : Access) (m : Bus) (well : Bool)
+    → (if well then m.log ++ bus_transfer_of a m ∷ [] else m.log) ≡ m.log
+    ++ report_transfer_by a (if well then bus_done_answer a m else BusFault)
 logged_by (Read at) m true = refl
 logged_by (Write at word) m true = refl
 logged_by (Read at) m false = sym (append-nil m.log)
 logged_by (Write at word) m false = sym (append-nil m.log)
 
 -- the log after a list has the transfers of its answers
-logged_after : (list : List Access) (m : PlainMemory)
+logged_after : (list : List Access) (m : Bus)
     → (memory_after list m).log ≡ m.log ++ report_transfers_by list (answers_of list m)
 logged_after [] m = sym (append-nil m.log)
 logged_after (a ∷ list) m =
-    let rest = report_transfers_by list (answers_of list (plain_after a m)) in
-    logged_after list (plain_after a m) ∙ ap (λ log. log ++ rest) (logged_by a m (succeeds_at (plain_address a) m))
-    ∙ append_assoc m.log (report_transfer_by a (plain_answer a m)) rest
+    let rest = report_transfers_by list (answers_of list (bus_after a m)) in
+    logged_after list (bus_after a m) ∙ ap (λ log. log ++ rest) (logged_by a m (bus_succeeds a m))
+    ∙ append_assoc m.log (report_transfer_by a (bus_answer a m)) rest
 
 -- ---- a call that ended whole
 
@@ -73,7 +72,7 @@ module _ (limit tries : ℕ) (list : List Access) (told : HostReport) (s t : Por
 
   logged_call : t.target.memory.log ≡ s.target.memory.log ++ report_transfers_by list told.answers
   logged_call =
-      ap (λ (m : PlainMemory). m.log) whole_memory ∙ logged_after list s.target.memory
+      ap (λ (m : Bus). m.log) whole_memory ∙ logged_after list s.target.memory
       ∙ ap (λ answers. s.target.memory.log ++ report_transfers_by list answers)
       (sym answers_whole)
 

@@ -7,7 +7,7 @@ use Rattle.swd_port.specs.declared.access.Access.{Access}
 use Rattle.swd_port.specs.declared.access.Answer.{Answer}
 use Rattle.swd_port.specs.declared.mark.Mark.{Mark}
 use Rattle.swd_port.specs.declared.wire.Due.TheVariants.{Lost as DueLost}
-use Rattle.swd_port.specs.PlainMemory.{PlainMemory, plain_after}
+use Rattle.swd_port.specs.Bus.{Bus, bus_after}
 use Rattle.swd_port.specs.Port.{Port}
 use Rattle.swd_port.specs.Choices.{Choice, IsPortChoice, port_disturbed_among, port_lost_among}
 use Rattle.swd_port.specs.Completion.{port_completed}
@@ -15,7 +15,8 @@ use Rattle.swd_port.proofs.CompletionLaws.{port_may_become_of_none}
 use Rattle.swd_recorder.specs.Steps.{recorded_due_count}
 use Rattle.swd_host.specs.declared.outcome.End.{End}
 use Rattle.swd_host.specs.declared.outcome.End.TheVariants.{All, Lost, TriesOut, WrongId, Confused}
-use Rattle.swd_host.specs.Plain.{memory_after, answers_of}
+use Rattle.swd_port.specs.PlainBus.{plain_words_of}
+use Rattle.swd_host.specs.Plain.{answers_of, IsPlainWithRoom}
 use Rattle.swd_host.specs.Reports.{HostReport, Closes, HostEndsAt, host_due_at_end, Fits, IsAtRest, HostKnowsTarget}
 use Rattle.swd_host.specs.Reports.{RunsWithin, host_most_requests}
 use Rattle.swd_host.specs.Again.{ResumeCloses, ResumeFits, resume_added}
@@ -39,9 +40,9 @@ one_more : {X : Type 0} (xs : List X) (x : X) → length (xs ++ x ∷ []) ≡ le
 one_more xs x = length-append xs (x ∷ [])
 
 -- a list has as many answers of the plain memory as it has accesses
-pub script_calls_answer_count : (list : List Access) (m : PlainMemory) → length (answers_of list m) ≡ length list
+pub script_calls_answer_count : (list : List Access) (m : Bus) → length (answers_of list m) ≡ length list
 script_calls_answer_count [] m = refl
-script_calls_answer_count (a ∷ list) m = ap (λ n. suc n) (script_calls_answer_count list (plain_after a m))
+script_calls_answer_count (a ∷ list) m = ap (λ n. suc n) (script_calls_answer_count list (bus_after a m))
 
 requests_more : (stops : List Stop) (stop : Stop)
     → script_requests_before (stops ++ stop ∷ []) ≡ script_requests_before stops + stop.requests
@@ -76,7 +77,7 @@ open_first (WrongId word) begun answered never = omega arith
 open_first Confused begun answered never = omega arith
 
 -- a run
-call_ran : (limit tries : ℕ) (list : List Access) (m : PlainMemory) (told : HostReport) (now : PlainMemory) (due : _)
+call_ran : (limit tries : ℕ) (list : List Access) (m : Bus) (told : HostReport) (now : Bus) (due : _)
     → Closes 0 limit list tries told due → Fits limit list m told now
     → IsScriptCall 0 limit tries (length list) 0 0 (length told.answers) told.begun told.requests told.ended
 call_ran limit tries list m told now due closes (k, fit) =
@@ -227,16 +228,16 @@ in_turn_at limit list s stops told t ended is rest at_rest h = by ended is
     by (WrongId word) x = early (λ all. absurd cc)
     by Confused x = early (λ all. absurd cc)
 
-again_in_turn : (limit : ℕ) (list : List Access) (m : PlainMemory) (stops : List Stop) (told : HostReport)
-    (after : PlainMemory)
+again_in_turn : (limit : ℕ) (list : List Access) (m : Bus) (stops : List Stop) (told : HostReport)
+    (after : Bus)
     → ScriptCallsInTurn limit stops list m told after → script_begun_first stops told ≤ 1
-    → length (memory_after list m).log + length stops ≤ m.room → ScriptCallsAgain stops list m told after
+    → IsPlainWithRoom (length stops) list m → ScriptCallsAgain stops list m told after
 again_in_turn limit list m stops told after h few room =
     let many : length stops ≡ length h.calls = ap length h.are ∙ stops_many h.calls in
     let begun : script_begun_first stops told ≡ first_begun h.calls told =
     ap (λ l. script_begun_first l told) h.are ∙ begun_there h.calls told in
     let r = resume_chain_repeats limit list m h.calls told h.memory (omega (arith, few, begun))
-    (omega (arith, room, many)) h.chain in
+    (record { plain = room.plain; room = omega (arith, room.room, many) }) h.chain in
     let r_few = r.few in
     record {
       places = r.places;
@@ -244,19 +245,19 @@ again_in_turn limit list m stops told after h few room =
       memory = h.memory;
       again = r.again;
       left = h.left;
-      words = λ all. ap (λ x. x.words) (sym (h.left all)) ∙ r.words all;
+      words = λ all. ap plain_words_of (sym (h.left all)) ∙ r.words all;
     }
 
-reads_in_turn : (limit : ℕ) (list : List Access) (m : PlainMemory) (stops : List Stop) (told : HostReport)
-    (after : PlainMemory)
+reads_in_turn : (limit : ℕ) (list : List Access) (m : Bus) (stops : List Stop) (told : HostReport)
+    (after : Bus)
     → ScriptCallsInTurn limit stops list m told after → 1 ≤ limit → AreBlockReads list
     → ScriptCallsOfReads limit stops list m told after
 reads_in_turn limit list m stops told after h some reads =
     let many : length stops ≡ length h.calls = ap length h.are ∙ stops_many h.calls in
     let r = resume_chain_reads limit list m h.calls told h.memory some reads h.chain in
     record {
-      answers = λ room. r.answers (omega (arith, room, many));
-      words = λ all. ap (λ x. x.words) (sym (h.left all)) ∙ r.words;
+      answers = λ room. r.answers (record { plain = room.plain; room = omega (arith, room.room, many) });
+      words = λ plain all. ap plain_words_of (sym (h.left all)) ∙ r.words plain;
     }
 
 module _ {W : Type 0} (port : W → Port) (plan : W → List Mark) (lawful : W → Type 0) (limit : ℕ) (list : List Access)
@@ -328,7 +329,7 @@ module _ {W : Type 0} (port : W → Port) (plan : W → List Mark) (lawful : W �
       (port s).target.memory
   first_answers stops told t (ran {told = a} {t = u} same closes over) law = whole ((over law).1 rest).now
     where
-      m : PlainMemory
+      m : Bus
       m = (port s).target.memory
 
       whole : Fits limit list m a (port u).target.memory
@@ -340,7 +341,7 @@ module _ {W : Type 0} (port : W → Port) (plan : W → List Mark) (lawful : W �
           ∙ ap (λ n. answers_of (take n list) m) (sym many)
   first_answers stops told t
       (resumed {stops = before} {earlier = e} {told = a} {t = u} {u = v} went lost same goes over) law =
-      let m : PlainMemory = (port s).target.memory in
+      let m : Bus = (port s).target.memory in
       let f = answered_same before e a in
       ap (λ n. take n a.answers) f ∙ ap (λ l. take (script_answered_first before e) l) goes.kept
       ∙ take-append-le (script_answered_first before e) e.answers (resume_added e a) (first_within before e u went)

@@ -9,7 +9,7 @@ use Rattle.swd_trace.specs.Texts.{bits_of_items}
 use Rattle.swd_recorder.specs.Steps.{recorded_transactions, RecordedEndsUnacknowledged}
 use Rattle.swd_port.specs.declared.mark.Mark.{Mark}
 use Rattle.swd_port.specs.Leading.{port_line_awaits}
-use Rattle.swd_port.specs.PlainMemory.{PlainMemory}
+use Rattle.swd_port.specs.Bus.{Bus}
 use Rattle.swd_port.specs.Port.{Port, port_made}
 use Rattle.swd_port.specs.Laws.Calls.{port_with_asked}
 use Rattle.swd_observer.specs.Explained.{ObservedLog}
@@ -96,7 +96,7 @@ module _ {W : Type 0} {port : W → Port} {plan : W → List Mark} {lawful : W �
       pub whole : lawful end → IsAtRest (port start)
           → IsRunTraceOf (script_requests (runs_of ran.made)) (script_ended (runs_of ran.made)) items
       -- if the target began in its reset state, the accesses that the items show explain the log of its memory
-      pub explained : lawful end → IsAtRest (port start) → (identification : ℕ) (m : PlainMemory)
+      pub explained : lawful end → IsAtRest (port start) → (identification : ℕ) (m : Bus)
           → port start ≡ port_made identification m
           → ∥ Accounted m.log (observed_in_trace items trace_observer_made) (port end) ∥₁
       -- of any other target at rest that awaits no write data, those do which they show where nothing is known at first
@@ -105,7 +105,7 @@ module _ {W : Type 0} {port : W → Port} {plan : W → List Mark} {lawful : W �
       -- If also each call ended `All` and none was resumed, the same accesses explain the transfers that the reports
       -- state: those of the lists, but for bus errors, with their addresses and words.
       pub reported : lawful end → IsAtRest (port start) → AreWholeRuns (runs_of ran.made) → (identification : ℕ)
-          (m : PlainMemory) → port start ≡ port_made identification m
+          (m : Bus) → port start ≡ port_made identification m
           → ∥ ObservedLog (observed_in_trace items trace_observer_made)
           (report_transfers_in (calls_of batches ran.made) (runs_of ran.made)) ∥₁
       pub reported_any : lawful end → IsAtRest (port start) → AreWholeRuns (runs_of ran.made)

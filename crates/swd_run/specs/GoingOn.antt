@@ -2,11 +2,12 @@
 use Rattle.std.specs.Prelude.{ℕ, ◌≡◌, ◌≢◌, ◌+◌, ◌-◌, ◌≤◌, List, [], ◌∷◌, ◌++◌, length, take, min, max, if◌then◌else◌}
 use Rattle.swd_port.specs.declared.access.Access.{Access}
 use Rattle.swd_port.specs.declared.mark.Mark.{Mark}
-use Rattle.swd_port.specs.PlainMemory.{PlainMemory}
+use Rattle.swd_port.specs.Bus.{Bus}
 use Rattle.swd_port.specs.Port.{Port}
 use Rattle.swd_host.specs.declared.outcome.End.{End}
 use Rattle.swd_host.specs.declared.outcome.End.TheVariants.{All, Lost}
-use Rattle.swd_host.specs.Plain.{memory_after, answers_of}
+use Rattle.swd_port.specs.PlainBus.{IsPlain, plain_words_of}
+use Rattle.swd_host.specs.Plain.{memory_after, answers_of, IsPlainWithRoom}
 use Rattle.swd_host.specs.Reports.{HostReport, Closes, RunsWithin, host_most_requests}
 use Rattle.swd_host.specs.Again.{Again, ResumeCloses, ResumesOver}
 use Rattle.swd_host.specs.Resuming.{host_end_is_all}
@@ -83,42 +84,42 @@ script_begun_first (stop ∷ stops) told = stop.begun
 
 -- The reports of the calls, where each call is a run over the rest of the list from the memory that the one before
 -- left. The last call left `memory`, which is `after` if the list is whole.
-pub record ScriptCallsInTurn (limit : ℕ) (stops : List Stop) (list : List Access) (m : PlainMemory) (told : HostReport)
-    (after : PlainMemory) : Type 0 where
+pub record ScriptCallsInTurn (limit : ℕ) (stops : List Stop) (list : List Access) (m : Bus) (told : HostReport)
+    (after : Bus) : Type 0 where
   pub calls : List HostReport
   pub are : stops ≡ script_stops_of calls
-  pub memory : PlainMemory
+  pub memory : Bus
   pub chain : ResumeChain limit list m calls told memory
   pub left : told.ended ≡ All → memory ≡ after
 
 -- The report is that of `Again`: the accesses at some places were repeated, at most one for each time that the run was
 -- resumed. A whole list leaves the memory `after`, which has the same words as without repetitions.
-pub record ScriptCallsAgain (stops : List Stop) (list : List Access) (m : PlainMemory) (told : HostReport)
-    (after : PlainMemory) : Type 0 where
+pub record ScriptCallsAgain (stops : List Stop) (list : List Access) (m : Bus) (told : HostReport)
+    (after : Bus) : Type 0 where
   pub places : List ℕ
   pub few : length places ≤ length stops
-  pub memory : PlainMemory
+  pub memory : Bus
   pub again : Again places list m told memory
   pub left : told.ended ≡ All → memory ≡ after
-  pub words : told.ended ≡ All → after.words ≡ (memory_after list m).words
+  pub words : told.ended ≡ All → plain_words_of after ≡ plain_words_of (memory_after list m)
 
--- A list of reads, such as a block. The answers are the plain memory's, if the log has room for the reads that may have
--- been repeated. A whole list changes no word.
-pub record ScriptCallsOfReads (limit : ℕ) (stops : List Stop) (list : List Access) (m : PlainMemory) (told : HostReport)
-    (after : PlainMemory) : Type 0 where
-  pub answers : length (memory_after list m).log + limit + (length stops - 1) ≤ m.room
+-- A list of reads, such as a block, over a plain memory. The answers are those of the list done once, if the log has room
+-- for the reads that may have been repeated. A whole list changes no word.
+pub record ScriptCallsOfReads (limit : ℕ) (stops : List Stop) (list : List Access) (m : Bus) (told : HostReport)
+    (after : Bus) : Type 0 where
+  pub answers : IsPlainWithRoom (limit + (length stops - 1)) list m
       → told.answers ≡ answers_of (take (length told.answers) list) m
-  pub words : told.ended ≡ All → after.words ≡ m.words
+  pub words : IsPlain m → told.ended ≡ All → plain_words_of after ≡ plain_words_of m
 
 -- What the reports of the calls state about the plain memory. The first call's answers are the plain memory's. So are
 -- all answers of a list of reads, if the log has room for the repeated reads. And so are those of any list of which the
 -- first call left at most one access begun, if the log has room for the repeated accesses.
-pub record ScriptCallsReport (limit tries : ℕ) (list : List Access) (m : PlainMemory) (stops : List Stop)
-    (told : HostReport) (after : PlainMemory) : Type 0 where
+pub record ScriptCallsReport (limit tries : ℕ) (list : List Access) (m : Bus) (stops : List Stop)
+    (told : HostReport) (after : Bus) : Type 0 where
   pub calls : AreScriptCalls 0 limit tries (length list) 0 0 stops told
   pub first : take (script_answered_first stops told) told.answers
       ≡ answers_of (take (script_answered_first stops told) list) m
   pub turns : ScriptCallsInTurn limit stops list m told after
-  pub again : script_begun_first stops told ≤ 1 → length (memory_after list m).log + length stops ≤ m.room
+  pub again : script_begun_first stops told ≤ 1 → IsPlainWithRoom (length stops) list m
       → ScriptCallsAgain stops list m told after
   pub reads : 1 ≤ limit → AreBlockReads list → ScriptCallsOfReads limit stops list m told after

@@ -3,7 +3,7 @@ use Rattle.std.specs.Prelude.{ℕ, ◌≡◌, ◌≤◌, false, List, [], ◌∷
 use Rattle.swd_port.specs.declared.call.Call.{Call}
 use Rattle.swd_port.specs.declared.wire.Due.TheVariants.{Nothing}
 use Rattle.swd_port.specs.Leading.{port_line_awaits}
-use Rattle.swd_port.specs.PlainMemory.{PlainMemory}
+use Rattle.swd_port.specs.Bus.{Bus}
 use Rattle.swd_port.specs.Port.{Port, port_made}
 use Rattle.swd_port.specs.Stories.{IsPortSeen, IsPortStep, PortMayStep, port_due_once}
 use Rattle.swd_recorder.specs.Items.{recorded_items_by}
@@ -23,7 +23,7 @@ pub data RunCallsStepped (start : Port) : List Call → Port → Type 0 where
 -- THE THEOREM of a recorded run. Let the calls be steps of the port model from a target in its reset state, each of
 -- whose requests led to a whole transaction. Then the accesses that their items show are those that the memory logged.
 abbrev pub RunTraceIsAccounted : Type 0
-RunTraceIsAccounted = (identification : ℕ) (m : PlainMemory) (calls : List Call) (t : Port)
+RunTraceIsAccounted = (identification : ℕ) (m : Bus) (calls : List Call) (t : Port)
     → RunCallsStepped (port_made identification m) calls t
     → recorder_ask_count calls ≤ recorded_transactions (recorded_items_by calls)
     → Accounted m.log (observed_in_trace (recorded_items_by calls) trace_observer_made) t

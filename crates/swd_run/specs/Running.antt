@@ -10,6 +10,7 @@ use Rattle.swd_observer.specs.Traces.{trace_observer_made, observed_in_trace}
 use Rattle.swd_port.specs.declared.mark.Mark.{Mark}
 use Rattle.swd_port.specs.Choices.{port_disturbed_among, port_lost_among}
 use Rattle.swd_port.specs.PlainMemory.{PlainMemory}
+use Rattle.swd_port.specs.Bus.{Bus, bus_of}
 use Rattle.swd_target.specs.MemoryWords.{target_zero_memory}
 use Rattle.swd_host.specs.declared.outcome.End.{End}
 use Rattle.swd_host.specs.declared.outcome.End.TheVariants.{All, Lost, TriesOut, WrongId, Confused}
@@ -32,9 +33,12 @@ use Rattle.swd_run.specs.Sessions.{ScriptRun, script_ended, batch_limit, script_
 use Rattle.swd_run.specs.Transfers.{AreWholeRuns, report_transfers_in}
 use Rattle.swd_run.specs.Unfoldings.{BatchRuns, Unfolds, calls_of, ends_until, runs_of}
 
--- the memory of a script before its run
+-- the memory of a script before its run, and the bus that it is
 abbrev pub script_memory : ScriptMeaning → PlainMemory
 script_memory script = target_zero_memory script.base script.words script.room
+
+abbrev pub script_bus : ScriptMeaning → Bus
+script_bus script = bus_of (script_memory script)
 
 -- a run stops early only if a mark of the plan loses a request, or more marks disturb requests than the tries allow
 abbrev pub IsRunExcused : End → ℕ → List Mark → Type 0
@@ -45,8 +49,8 @@ IsRunExcused (WrongId word) tries marks = ⊥
 IsRunExcused Confused tries marks = ⊥
 
 -- The result of a run over a memory with the marks of a plan. The report fits the memories before and after it.
-pub record RunsAs (tries : ℕ) (batch : ScriptListed) (before : PlainMemory) (marks : List Mark) (told : HostReport)
-    (after : PlainMemory)
+pub record RunsAs (tries : ℕ) (batch : ScriptListed) (before : Bus) (marks : List Mark) (told : HostReport)
+    (after : Bus)
     : Type 0 where
   pub fits : Fits (batch_limit batch) batch.accesses before told after
   pub excused : IsRunExcused told.ended tries marks
@@ -59,8 +63,8 @@ pub record RunsAs (tries : ℕ) (batch : ScriptListed) (before : PlainMemory) (m
 -- The result of a run that may be resumed `resumes` times. If it wasn't resumed, `RunsAs` holds of it. `ScriptCallsReport` holds
 -- of its calls in any case. It was resumed at most as often as marks of the plan lose a request. It ends at a lost
 -- acknowledgement only if more than `resumes` marks lose a request.
-pub record RunsOn (tries resumes : ℕ) (batch : ScriptListed) (before : PlainMemory) (marks : List Mark)
-    (stops : List Stop) (told : HostReport) (after : PlainMemory) : Type 0 where
+pub record RunsOn (tries resumes : ℕ) (batch : ScriptListed) (before : Bus) (marks : List Mark)
+    (stops : List Stop) (told : HostReport) (after : Bus) : Type 0 where
   pub alone : stops ≡ [] → RunsAs tries batch before marks told after
   pub tells : ScriptCallsReport (batch_limit batch) tries batch.accesses before stops told after
   pub few : length stops ≤ resumes
@@ -74,10 +78,10 @@ pub record RunsOn (tries resumes : ℕ) (batch : ScriptListed) (before : PlainMe
 
 -- The successive runs of a script over the plain memory. `RunsOn` holds of each run, from the memory that the one
 -- before left. A run starts only if the one before ended `All`.
-pub data ScriptSession (tries resumes : ℕ) (marks : List Mark) (m : PlainMemory) : List ScriptListed → List ScriptRun
-    → PlainMemory → Type 0 where
+pub data ScriptSession (tries resumes : ℕ) (marks : List Mark) (m : Bus) : List ScriptListed → List ScriptRun
+    → Bus → Type 0 where
   none : ScriptSession tries resumes marks m [] [] m
-  then : {batches : List ScriptListed} {runs : List ScriptRun} {before after : PlainMemory} {batch : ScriptListed}
+  then : {batches : List ScriptListed} {runs : List ScriptRun} {before after : Bus} {batch : ScriptListed}
       {run : ScriptRun} → ScriptSession tries resumes marks m batches runs before → script_ended runs ≡ All
       → RunsOn tries resumes batch before marks run.stops run.told after
       → ScriptSession tries resumes marks m (batches ++ batch ∷ []) (runs ++ run ∷ []) after
@@ -85,13 +89,13 @@ pub data ScriptSession (tries resumes : ℕ) (marks : List Mark) (m : PlainMemor
 -- The runs of a script's first batches from its initial memory, and the memory that they left: the session of the calls
 -- that these batches unfold to.
 pub record RunsScript (tries resumes : ℕ) (script : ScriptMeaning) (marks : List Mark) (made : List BatchRuns)
-    (memory : PlainMemory) : Type 0 where
+    (memory : Bus) : Type 0 where
   pub unfolds : Unfolds (take (length made) script.batches) made
-  pub session : ScriptSession tries resumes marks (script_memory script) (calls_of script.batches made) (runs_of made)
+  pub session : ScriptSession tries resumes marks (script_bus script) (calls_of script.batches made) (runs_of made)
       memory
 
 -- the capacity of a memory's log, if the log is full: each later transfer is a bus error
-abbrev pub full_room : ℕ → PlainMemory → Option ℕ
+abbrev pub full_room : ℕ → Bus → Option ℕ
 full_room room memory = if length memory.log == room then Some room else None
 
 -- a result with the capacity of the full log
@@ -109,7 +113,7 @@ pub record AreScriptAndPlan (script plan : Option (List ℕ)) (meaning : ScriptM
   pub plans : plan_of plan_text ≡ Ok marks
 
 -- the runs of a script from its initial memory
-pub record RanScript (tries resumes : ℕ) (script : ScriptMeaning) (marks : List Mark) (memory : PlainMemory) : Type 0
+pub record RanScript (tries resumes : ℕ) (script : ScriptMeaning) (marks : List Mark) (memory : Bus) : Type 0
   where
     pub made : List BatchRuns
     pub are : RunsScript tries resumes script marks made memory
@@ -117,7 +121,7 @@ pub record RanScript (tries resumes : ℕ) (script : ScriptMeaning) (marks : Lis
 -- such runs, each of which ended `All`, before one that ran out of memory
 pub record RanScriptShort (tries resumes : ℕ) (script : ScriptMeaning) (marks : List Mark) : Type 0 where
   pub made : List BatchRuns
-  pub memory : PlainMemory
+  pub memory : Bus
   pub are : RunsScript tries resumes script marks made memory
   pub all : script_ended (runs_of made) ≡ All
   pub came : ends_until script.batches made ≡ false
@@ -125,7 +129,7 @@ pub record RanScriptShort (tries resumes : ℕ) (script : ScriptMeaning) (marks 
 -- The complete trace of a script's calls and runs. The accesses that it shows explain the log of the target's memory. If
 -- each call ended `All` and none was resumed, they explain the transfers that the reports state: those of the lists, but
 -- for bus errors, with their addresses and words.
-pub record IsTraceIn (memory : PlainMemory) (batches : List ScriptListed) (runs : List ScriptRun) (items : List Item) :
+pub record IsTraceIn (memory : Bus) (batches : List ScriptListed) (runs : List ScriptRun) (items : List Item) :
     Type 0
   where
     pub is : IsRunTraceOf (script_requests runs) (script_ended runs) items
@@ -137,7 +141,7 @@ pub record IsTraceIn (memory : PlainMemory) (batches : List ScriptListed) (runs 
 abbrev pub ScriptRunAnswers : ℕ → ℕ → ScriptMeaning → List Mark → Result Finished EngineFault → Option (List ℕ)
     → Option (List ℕ) → RunFiles → RunFiles → Type 0
 ScriptRunAnswers tries resumes script marks answer old new before after =
-    (memory : PlainMemory)
+    (memory : Bus)
     × Answers {Came = RanScript tries resumes script marks memory} {Short = RanScriptShort tries resumes script marks}
     script.batches (full_room script.room memory) (λ ran. ran.made) (λ short. short.made)
     (λ ran items. IsTraceIn memory (calls_of script.batches ran.made) (runs_of ran.made) items)

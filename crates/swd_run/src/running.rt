@@ -6,7 +6,9 @@ ghost use Rattle.swd_script.specs.Laws.{IsScriptRunnable};
 ghost use Rattle.swd_target.specs.Marks.{IsLegalPlan};
 ghost use Rattle.swd_target.specs.Benches.{bench_port, bench_plan, bench_simulation};
 ghost use Rattle.swd_run.specs.Records.{run_files_of};
-ghost use Rattle.swd_run.specs.Running.{ScriptRunAnswers, RunsText, full_room, script_memory, with_full_room};
+ghost use Rattle.swd_port.specs.Bus.{bus_of};
+ghost use Rattle.swd_run.specs.Running.{ScriptRunAnswers, RunsText, full_room, script_bus, script_memory};
+ghost use Rattle.swd_run.specs.Running.{with_full_room};
 
 use crate::engine::{Finished, run_batches};
 use crate::fault::{EngineFault, RunFault};
@@ -41,7 +43,7 @@ pub fn zero_memory<A: Allocator + Copy>(alloc: A, script: &Script<A>) -> Option<
 
 /// Returns the capacity of a memory's log, if the log is full.
 fn full_room<A: Allocator>(memory: &Memory<A>, room: u32) -> Option<u32>
-    ensures { result ≡ full_room room memory.now }
+    ensures { result ≡ full_room room (bus_of memory.now) }
 {
     if memory.log().len() == room as usize {
         Some(room)
@@ -72,7 +74,7 @@ fn target_of<A: Allocator + Copy>(
     requires script { IsScriptRunnable (read_script_meaning script.now) }
     requires plan { IsLegalPlan plan.items }
     ensures port { IfSome result (λ bench. bench_port bench
-        ≡ port_made 0x2ba0_1477 (script_memory (read_script_meaning script.now))) }
+        ≡ port_made 0x2ba0_1477 (script_bus (read_script_meaning script.now))) }
     ensures plan { IfSome result (λ bench. bench_plan bench ≡ plan.items) }
     // A transfer takes effect at once, TAR wraps at the end of a kilobyte, and a value that is unknown is 0.
     ensures choices { IfSome result (λ bench.

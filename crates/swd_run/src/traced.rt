@@ -3,6 +3,7 @@
 ghost use Rattle.std.specs.Prelude.{◌≡◌, ◌-◌, ◌≤◌, [], List, None, Option, length, ℕ};
 ghost use Rattle.std.specs.FinMap.{empty};
 ghost use Rattle.swd_port.specs.declared.wire.Due.TheVariants.{Nothing};
+ghost use Rattle.swd_port.specs.Bus.{bus_of};
 ghost use Rattle.swd_port.specs.Port.{Port, port_made};
 ghost use Rattle.swd_port.specs.Laws.Calls.{port_with_asked};
 ghost use Rattle.swd_recorder.specs.Recorders.{recorder_calls, recorder_kept, recorder_lawful, recorder_port};
@@ -26,7 +27,7 @@ pub(crate) trait Origin {
 }
 
 impl Origin for Brand {
-    ghost start = { port_made 0 (record { words = empty; log = []; room = 0 }) };
+    ghost start = { port_made 0 (bus_of (record { words = empty; log = []; room = 0 })) };
 
     ghost before = { None };
 }

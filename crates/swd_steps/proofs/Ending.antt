@@ -1,5 +1,5 @@
 -- How many calls are made for a run at most. For the law `stepped_run_ends`.
-use Rattle.std.proofs.Common.{arith, sym, ap, subst, ◌∙◌, ◌≡◌, ◌+◌, ◌*◌, ◌<◌, ◌≤◌, ℕ, Bool, true, false, inl, inr, List}
+use Rattle.std.proofs.Common.{arith, sym, subst, ◌∙◌, ◌≡◌, ◌+◌, ◌*◌, ◌<◌, ◌≤◌, ℕ, Bool, true, false, inl, inr, List}
 use Rattle.std.proofs.Common.{[], ◌∷◌, ◌++◌, length, length-append}
 use Rattle.std.specs.Prelude.{◌⊎◌, Some, slice_get, drop}
 use Rattle.std.proofs.lemmas.Option.{slice_get_within}
@@ -13,15 +13,16 @@ use Rattle.swd_host.specs.declared.task.Bursts.{Bursts}
 use Rattle.swd_host.specs.Calls.{EngineTurned, host_idle_call}
 use Rattle.swd_host.specs.Engines.{engine_outcome}
 use Rattle.swd_host.specs.Progress.{engine_calls_left, engine_state_is_of, engine_stray_left}
+use Rattle.swd_host.specs.Standing.{EngineIsOpened}
 use Rattle.swd_host.specs.Turns.{EngineIsNew, EngineStarts}
 use Rattle.swd_host.proofs.Folding.{engine_moves_few, engine_access_not_opened, start_access, start_left}
 use Rattle.swd_host.proofs.Folding.{engine_turn_falls, engine_turn_works}
 use Rattle.swd_steps.specs.declared.run.Stage.{Stage}
 use Rattle.swd_steps.specs.declared.run.Stage.TheVariants.{Driving, Between, Ended}
 use Rattle.swd_steps.specs.Laws.{SteppedRunEnds, stepped_most_calls}
-use Rattle.swd_steps.specs.Runs.{SteppedSetup, SteppedCame, has_begun, has_turned, has_opened, has_answered}
+use Rattle.swd_steps.specs.Runs.{SteppedBeginsBy, SteppedSetup, SteppedCame, has_begun, has_turned, has_opened, has_answered}
 use Rattle.swd_steps.specs.Runs.{has_started, has_idled, has_stopped}
-use Rattle.swd_steps.proofs.Keeping.{stepped_opening_no_answer}
+use Rattle.swd_steps.proofs.Keeping.{stepped_begins_part, stepped_opening_no_answer}
 use Rattle.swd_steps.proofs.Running.{stepped_few_answers}
 
 -- ALONG A RUN
@@ -44,6 +45,19 @@ Spends how list calls e (Ended end) answers = length calls ≤ for_opening how +
 new_calls : (kind : Bursts) (again : Bool) (tries : ℕ) (e : Engine) → EngineIsNew kind again tries e
     → engine_calls_left e ≤ 2 * (10 + 5 * tries + engine_stray_left again) + 1
 new_calls kind again tries e new = grind arith
+
+begins_tries : (opened : Bool) (how : SteppedSetup) (e : Engine) → SteppedBeginsBy opened how e → e.tries ≡ how.tries
+begins_tries false how e new = new.tries
+begins_tries true how e new = new.tries
+
+opened_calls : (kind : Bursts) (again : Bool) (tries : ℕ) (e : Engine) → EngineIsOpened kind tries e
+    → engine_calls_left e ≤ 2 * (10 + 5 * tries + engine_stray_left again) + 1
+opened_calls kind again tries e new = grind arith
+
+begins_calls : (opened : Bool) (how : SteppedSetup) (e : Engine) → SteppedBeginsBy opened how e
+    → engine_calls_left e ≤ for_opening how
+begins_calls false how e new = new_calls how.kind how.again how.tries e new
+begins_calls true how e new = opened_calls how.kind how.again how.tries e new
 
 start_calls : (a : Access) (e g : Engine) (tries : ℕ) → engine_calls_left g ≤ 2 * (6 + 5 * e.tries) + 1
     → e.tries ≡ tries → engine_calls_left g ≤ 2 * (6 + 5 * tries) + 1
@@ -128,10 +142,10 @@ module _ (how : SteppedSetup) (list : List Access) where
   made : {calls : List Call} {e : Engine} {stage : Stage} {answers : List Answer}
       → SteppedCame how list calls e stage answers → Spends how list calls e stage answers
   made (has_begun e new) = (
-    new.tries,
+    begins_tries how.opened how e new,
     inl (
-      ap (engine_state_is_of true) new.leads,
-      omega (arith, new_calls how.kind how.again how.tries e new),
+      stepped_begins_part how.opened how e new,
+      omega (arith, begins_calls how.opened how e new),
     ),
   )
   made (has_turned call e f came turned phase) = turned_made _ _ call e f turned (made came)

@@ -1,7 +1,7 @@
 -- Each step of a run keeps what is known of it. For `Running`.
 use Rattle.std.proofs.Common.{arith, refl, sym, ap, subst, ◌∙◌, ◌≡◌, ◌+◌, ◌^◌, ◌<◌, ◌≤◌, ℕ, Bool, true, false, List, []}
 use Rattle.std.proofs.Common.{◌∷◌, ◌++◌, length, get_or, length-append}
-use Rattle.std.specs.Prelude.{Some, slice_get}
+use Rattle.std.specs.Prelude.{Some, is_some, slice_get}
 use Rattle.std.proofs.lemmas.List.{append_assoc}
 use Rattle.std.proofs.lemmas.Option.{get_or_from_slice_get, slice_get_within}
 use Rattle.swd_port.specs.declared.access.Access.{Access}
@@ -21,9 +21,9 @@ use Rattle.swd_host.specs.declared.outcome.Outcome.TheVariants.{Opened, Answered
 use Rattle.swd_host.specs.declared.task.Bursts.{Bursts}
 use Rattle.swd_host.specs.declared.task.Task.{Task}
 use Rattle.swd_host.specs.Calls.{EngineTurned, host_idle_call}
-use Rattle.swd_host.specs.Engines.{IsEnginePhaseCue, engine_outcome_at, engine_outcome}
+use Rattle.swd_host.specs.Engines.{IsEnginePhaseCue, engine_is_resting, engine_outcome_at, engine_outcome}
 use Rattle.swd_host.specs.Progress.{engine_state_is_of}
-use Rattle.swd_host.specs.Standing.{EngineHasOpened, EngineStands, EngineStays}
+use Rattle.swd_host.specs.Standing.{EngineHasOpened, EngineIsOpened, EngineStands, EngineStays}
 use Rattle.swd_host.specs.Tracks.{EngineDueAt, EngineDueFits}
 use Rattle.swd_host.specs.Turns.{EngineIsNew, EngineStarts, EngineWorks}
 use Rattle.swd_host.proofs.Folding.{engine_turn_moves, engine_turn_works, engine_turn_due, engine_turn_goes}
@@ -33,7 +33,7 @@ use Rattle.swd_host.proofs.Folding.{engine_stop_not_all, engine_stopped_state, e
 use Rattle.swd_host.proofs.Folding.{engine_access_not_opened, opened_engine_stays, opened_engine_stands, answered_stays}
 use Rattle.swd_host.proofs.Folding.{answered_stands, engine_sent_answered, access_performs, access_does}
 use Rattle.swd_host.proofs.Folding.{engine_sent_stopped, engine_performs_all, all_does, engine_sent_all}
-use Rattle.swd_steps.specs.Runs.{SteppedSetup}
+use Rattle.swd_steps.specs.Runs.{SteppedBegins, SteppedBeginsBy, SteppedSetup}
 use Rattle.swd_steps.proofs.Lists.{stepped_next_access}
 use Rattle.swd_steps.proofs.Standing.{SteppedWent, SteppedInOpening, SteppedBetweenAccesses, SteppedInAccess}
 use Rattle.swd_steps.proofs.Standing.{SteppedAtEnd, never_opened, performed}
@@ -52,9 +52,41 @@ new_due : (kind : Bursts) (again : Bool) (tries : ℕ) (e : Engine) (s : Port) �
     → (again ≡ false → s.link.due ≡ Nothing) → EngineDueFits e s
 new_due kind again tries e s new clear = grind arith
 
+opened_fits : (kind : Bursts) (tries : ℕ) (e : Engine) (s : Port) → EngineIsOpened kind tries e → s.link.due ≡ Nothing
+    → EngineDueFits e s
+opened_fits kind tries e s opened clear =
+    subst (λ x. EngineDueAt x e.stray e.task s.link.due) (sym opened.has.at) clear
+
 has_opened : (kind : Bursts) (again : Bool) (tries : ℕ) (e o : Engine) → tries < 2 ^ 32 → EngineIsNew kind again tries e
     → EngineWorks e o → o.state ≡ Resting Opened → EngineHasOpened o
 has_opened kind again tries e o small new works at = grind arith
+
+-- an engine of an open target rests
+pub stepped_opened_rests : (kind : Bursts) (tries : ℕ) (e : Engine) → EngineIsOpened kind tries e
+    → engine_is_resting e ≡ true
+stepped_opened_rests kind tries e opened = ap (λ x. is_some (engine_outcome_at x e.task)) opened.has.at
+
+-- so nothing was done in its opening
+pub stepped_opened_same : (kind : Bursts) (tries : ℕ) (e o : Engine) → EngineIsOpened kind tries e → EngineWorks e o
+    → o ≡ e
+stepped_opened_same kind tries e o opened works = works.rests (stepped_opened_rests kind tries e opened)
+
+begins_due : (opened : Bool) (how : SteppedSetup) (e : Engine) (s : Port) → SteppedBeginsBy opened how e
+    → (how.again ≡ false → s.link.due ≡ Nothing) → (opened ≡ true → s.link.due ≡ Nothing) → EngineDueFits e s
+begins_due false how e s new clear rests = new_due how.kind how.again how.tries e s new clear
+begins_due true how e s new clear rests = opened_fits how.kind how.tries e s new (rests refl)
+
+-- whether the line reset comes first or the target is open, the engine is in its opening
+pub stepped_begins_part : (opened : Bool) (how : SteppedSetup) (e : Engine) → SteppedBeginsBy opened how e
+    → engine_state_is_of true e.state ≡ true
+stepped_begins_part false how e new = ap (engine_state_is_of true) new.leads
+stepped_begins_part true how e new = ap (engine_state_is_of true) new.has.at
+
+begins_opened : (opened : Bool) (how : SteppedSetup) (e o : Engine) → how.tries < 2 ^ 32 → SteppedBeginsBy opened how e
+    → EngineWorks e o → o.state ≡ Resting Opened → EngineHasOpened o
+begins_opened false how e o small new works at = has_opened how.kind how.again how.tries e o small new works at
+begins_opened true how e o small new works at =
+    subst EngineHasOpened (sym (stepped_opened_same how.kind how.tries e o new works)) new.has
 
 -- ONE CALL AFTER THE OTHER
 went_none : (story : ℕ → Port) (calls : List Call) (e : Engine) → EngineDueFits e (port_at story calls)
@@ -85,16 +117,17 @@ went_then story older newer made call first e f h turned phase =
     }
 
 module _ (story : ℕ → Port) (past : List Call) (how : SteppedSetup) (list : List Access) (small : how.tries < 2 ^ 32)
-    (clear : how.again ≡ false → port_due_by past ≡ Nothing) (few : length list ≤ 65536) where
+    (clear : how.again ≡ false → port_due_by past ≡ Nothing) (rests : how.opened ≡ true → port_due_by past ≡ Nothing)
+    (few : length list ≤ 65536) where
   abbrev port : List Call → Port
   port calls = port_at story (calls ++ past)
 
   -- THE OPENING
-  pub begins_holds : (e : Engine) → EngineIsNew how.kind how.again how.tries e → SteppedInOpening story past how [] e
+  pub begins_holds : (e : Engine) → SteppedBegins how e → SteppedInOpening story past how [] e
   begins_holds e new = record {
     first = e;
     new = new;
-    went = went_none story past e (new_due how.kind how.again how.tries e (port []) new clear);
+    went = went_none story past e (begins_due how.opened how e (port []) new clear rests);
   }
 
   -- a call that the engine asks for in the opening keeps what is known of the opening
@@ -109,11 +142,11 @@ module _ (story : ℕ → Port) (past : List Call) (how : SteppedSetup) (list : 
 
   opening_part : (calls : List Call) (e : Engine) → SteppedInOpening story past how calls e
       → engine_state_is_of true e.state ≡ true
-  opening_part calls e h = h.went.works.part true (ap (engine_state_is_of true) h.new.leads)
+  opening_part calls e h = h.went.works.part true (stepped_begins_part how.opened how h.first h.new)
 
   opened : (calls : List Call) (e : Engine) (h : SteppedInOpening story past how calls e) → e.state ≡ Resting Opened →
       EngineHasOpened e
-  opened calls e h at = has_opened how.kind how.again how.tries h.first e small h.new h.went.works at
+  opened calls e h at = begins_opened how.opened how h.first e small h.new h.went.works at
 
   -- where the opening succeeded, what holds between two accesses holds, with no answer yet
   pub opening_rests : (calls : List Call) (e : Engine) → SteppedInOpening story past how calls e

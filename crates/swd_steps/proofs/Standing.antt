@@ -18,11 +18,11 @@ use Rattle.swd_host.specs.Reports.{HostNextAccess}
 use Rattle.swd_host.specs.Stages.{EngineListCalls}
 use Rattle.swd_host.specs.Standing.{EngineDoes, EnginePerforms, EngineStands, EngineStays}
 use Rattle.swd_host.specs.Tracks.{EngineDueFits}
-use Rattle.swd_host.specs.Turns.{EngineGoesWithPort, EngineIsNew, EngineStarts, EngineWorks}
+use Rattle.swd_host.specs.Turns.{EngineGoesWithPort, EngineStarts, EngineWorks}
 use Rattle.swd_host.proofs.Folding.{EngineSentSoFar}
 use Rattle.swd_steps.specs.declared.run.Stage.{Stage}
 use Rattle.swd_steps.specs.declared.run.Stage.TheVariants.{Driving, Between, Ended}
-use Rattle.swd_steps.specs.Runs.{SteppedSetup}
+use Rattle.swd_steps.specs.Runs.{SteppedBegins, SteppedSetup}
 
 -- From one moment, after the older calls, to a later one, after the newer: these were made for the engine. What it
 -- keeps by itself, and with the port, where the story fits.
@@ -40,7 +40,7 @@ pub record SteppedInOpening (story : ℕ → Port) (past : List Call) (how : Ste
     : Type 0
   where
     pub first : Engine
-    pub new : EngineIsNew how.kind how.again how.tries first
+    pub new : SteppedBegins how first
     pub went : SteppedWent story past (calls ++ past) first calls e
 
 -- between two accesses

@@ -19,17 +19,20 @@ use Rattle.swd_host.specs.declared.outcome.End.TheVariants.{All}
 use Rattle.swd_host.specs.declared.outcome.Outcome.TheVariants.{Opened, Answered, Stopped}
 use Rattle.swd_host.specs.declared.task.Task.{Task}
 use Rattle.swd_host.specs.Engines.{EngineHasCue, IsEnginePhaseCue, engine_cue, engine_outcome, engine_is_ahead}
-use Rattle.swd_host.specs.Engines.{engine_is_ahead_in, engine_is_resting}
+use Rattle.swd_host.specs.Engines.{engine_is_ahead_in, engine_is_resting, engine_outcome_at}
 use Rattle.swd_host.specs.Plain.{AreHostAccesses}
 use Rattle.swd_host.specs.Replies.{EngineTookReply}
+use Rattle.swd_host.specs.Standing.{EngineHasOpened, EngineIsOpened}
+use Rattle.swd_host.specs.declared.task.Bursts.{Bursts}
 use Rattle.swd_host.specs.Turns.{EngineIsNew, EngineStarts, engine_first_state}
 use Rattle.swd_steps.specs.declared.run.Run.{Run}
 use Rattle.swd_steps.specs.declared.run.Stage.{Stage}
 use Rattle.swd_steps.specs.declared.run.Stage.TheVariants.{Driving, Between, Ended}
+use Rattle.swd_steps.specs.Runs.{SteppedBeginsBy, SteppedListAccepted}
 use Rattle.swd_steps.specs.Runs.{SteppedSetup, SteppedCame, SteppedLeaves, SteppedExtends, SteppedHasCome}
 use Rattle.swd_steps.specs.Runs.{SteppedListFits, SteppedRan, SteppedMakesCall, stepped_cue_at, has_answered, has_begun}
 use Rattle.swd_steps.specs.Runs.{has_idled, has_opened, has_started, has_stopped, has_turned, stepped_cue_is_lead}
-use Rattle.swd_steps.specs.Runs.{stepped_answer_list, stepped_run_cue, stepped_seen}
+use Rattle.swd_steps.specs.Runs.{stepped_answer_list, stepped_opened, stepped_run_cue, stepped_seen}
 use Rattle.swd_steps.proofs.Lists.{stepped_get_in_rest, stepped_none_past_end}
 use Rattle.swd_steps.proofs.Running.{stepped_leads_first, stepped_few_answers}
 
@@ -39,16 +42,17 @@ new_moves e leads = grind arith
 
 -- a run that was just made is in its state before any call, with a cue and no answer
 pub stepped_new_ran : (how : SteppedSetup) (list : List Access) (run : Run) (e : Engine)
-    → EngineIsNew how.kind how.again how.tries e
+    → how.opened ≡ false → EngineIsNew how.kind how.again how.tries e
     → run.engine ≡ e → run.stage ≡ Driving → run.answered ≡ how.from → SteppedRan how list [] run []
-stepped_new_ran how list run e new engine stage answered = record {
+stepped_new_ran how list run e closed new engine stage answered = record {
   come = record {
     came = subst (λ x. SteppedCame how (drop how.from list) [] run.engine x []) (sym stage)
-        (subst (λ x. SteppedCame how (drop how.from list) [] x Driving []) (sym engine) (has_begun e new));
+        (subst (λ x. SteppedCame how (drop how.from list) [] x Driving []) (sym engine)
+        (has_begun e (subst (λ b. SteppedBeginsBy b how e) (sym closed) new)));
     number = omega (arith, answered);
     last = λ at. absurd (let both : Driving ≡ Between = sym stage ∙ at in cc);
   };
-  accepted = tt;
+  accepted = subst (λ b. SteppedListAccepted b how.from list []) (sym closed) tt;
   drives = λ at. ap engine_is_resting engine ∙ new_moves e new.leads;
 }
 
@@ -122,6 +126,33 @@ module _ (accesses : List Access) (before after : Run)
       (λ a at. start_drives a (slice_get accesses (before.answered + 1)) before.engine after.engine (starts a at) unsent
       calm)
       (λ at. absurd (let both : Driving ≡ Between = sym driving ∙ (none at).1 in cc))
+
+-- A RUN OVER AN OPEN TARGET, once its first access has started
+open_outcome : (e : Engine) → EngineHasOpened e → engine_outcome e ≡ Some Opened
+open_outcome e has = ap (λ x. engine_outcome_at x e.task) has.at
+
+open_calm : (e : Engine) → EngineHasOpened e → engine_is_ahead e ≡ false
+open_calm e has = ap (λ x. engine_is_ahead_in x e.task) has.at
+
+-- a run over an open target, before its first call
+pub stepped_open_ran : (kind : Bursts) (tries : ℕ) (accesses : List Access) (e : Engine) (before after : Run)
+    → EngineIsOpened kind tries e → before.engine ≡ e → before.answered ≡ 0
+    → (length accesses ≤ 65536) × AreHostAccesses accesses
+    → ((a : Access) → slice_get accesses before.answered ≡ Some a
+    → EngineStarts a (slice_get accesses (before.answered + 1)) before.engine after.engine)
+    → ((a : Access) → slice_get accesses before.answered ≡ Some a → after.stage ≡ Driving)
+    → (slice_get accesses before.answered ≡ None → (after.engine ≡ before.engine) × (after.stage ≡ Between))
+    → after.answered ≡ before.answered → SteppedRan (stepped_opened kind tries) accesses [] after []
+stepped_open_ran kind tries accesses e before after opened engine answered accepted starts drives none same =
+    let how : SteppedSetup = stepped_opened kind tries in
+    let first : EngineIsOpened kind tries before.engine = subst (EngineIsOpened kind tries) (sym engine) opened in
+    let came : SteppedCame how (drop 0 accesses) [] before.engine Between [] =
+    has_opened before.engine (has_begun before.engine first) (open_outcome before.engine first.has) in
+    record {
+      come = begun_comes accesses before after starts none drives same how [] [] came (omega (arith, answered));
+      accepted = (accepted.0, accepted.1, omega arith);
+      drives = begun_drives accesses before after starts none first.ahead (open_calm before.engine first.has);
+    }
 
 driven : (how : SteppedSetup) (accesses : List Access) (calls : List Call) (run : Run) (answers : List Answer)
     → run.stage ≡ Driving → SteppedHasCome how accesses calls run answers
@@ -252,11 +283,27 @@ stepped_two_outcomes_drive mid one two same calm further drives driven at =
 leads_first : (e : Engine) → e.state ≡ Leading → stepped_cue_is_lead (engine_cue e) ≡ true
 leads_first e at = grind arith
 
+accepted_by : (opened : Bool) (how : SteppedSetup) (accesses : List Access) (calls : List Call) (run : Run)
+    (answers : List Answer) → how.opened ≡ opened → SteppedListAccepted opened how.from accesses calls
+    → SteppedCame how (drop how.from accesses) calls run.engine run.stage answers → SteppedListFits accesses run
+    → AreHostAccesses accesses
+accepted_by false how accesses [] run answers is accepted came fit =
+    fit.are (leads_first run.engine (stepped_leads_first is came).1)
+accepted_by false how accesses (call ∷ calls) run answers is accepted came fit = accepted.1
+accepted_by true how accesses [] run answers is accepted came fit = accepted.1
+accepted_by true how accesses (call ∷ calls) run answers is accepted came fit = accepted.1
+
 accepted_first : (how : SteppedSetup) (accesses : List Access) (calls : List Call) (run : Run) (answers : List Answer)
     → SteppedRan how accesses calls run answers → SteppedListFits accesses run → AreHostAccesses accesses
-accepted_first how accesses [] run answers ran fit =
-    fit.are (leads_first run.engine (stepped_leads_first ran.come.came).1)
-accepted_first how accesses (call ∷ calls) run answers ran fit = ran.accepted.1
+accepted_first how accesses calls run answers ran fit =
+    accepted_by how.opened how accesses calls run answers refl ran.accepted ran.come.came fit
+
+-- what a list needs for a further call holds of it after the call, whether or not the target was open already
+accepted_then : (opened : Bool) (from : ℕ) (accesses : List Access) (call : Call) (calls : List Call)
+    → (length accesses ≤ 65536) × AreHostAccesses accesses × (from ≤ length accesses)
+    → SteppedListAccepted opened from accesses (call ∷ calls)
+accepted_then false from accesses call calls h = h
+accepted_then true from accesses call calls h = h
 
 -- a call for a list that fits the run extends the run's calls by this one, and its answers by those of this call
 pub stepped_call_extends_run : (accesses : List Access) (before after : Run) (cue : Cue) (reply seen : ℕ)
@@ -269,7 +316,7 @@ stepped_call_extends_run accesses before after cue reply seen came fit is turns 
     record {
       come = subst (λ n. SteppedHasCome how accesses (record { cue = cue; seen = n } ∷ calls) after (answers ++ came))
           is (turns how calls answers ran.come);
-      accepted = (
+      accepted = accepted_then how.opened how.from accesses _ calls (
         fit.few,
         accepted_first how accesses calls before answers ran fit,
         omega (arith, ran.come.number, fit.answered),

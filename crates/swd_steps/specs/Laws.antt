@@ -1,8 +1,9 @@
 -- The theorem of a run whose caller makes the calls.
-use Rattle.std.specs.Prelude.{ℕ, ◌≡◌, ◌+◌, ◌*◌, ◌<◌, ◌≤◌, ◌^◌, ◌++◌, Bool, List, length, drop}
+use Rattle.std.specs.Prelude.{ℕ, ◌≡◌, ◌+◌, ◌*◌, ◌<◌, ◌≤◌, ◌^◌, ◌++◌, Bool, true, false, List, length, drop}
 use Rattle.swd_port.specs.declared.access.Access.{Access}
 use Rattle.swd_port.specs.declared.access.Answer.{Answer}
 use Rattle.swd_port.specs.declared.call.Call.{Call}
+use Rattle.swd_port.specs.declared.wire.Due.{Due}
 use Rattle.swd_port.specs.declared.wire.Due.TheVariants.{Nothing}
 use Rattle.swd_port.specs.Port.{Port}
 use Rattle.swd_port.specs.Stories.{FitsStory, port_due_by, port_at}
@@ -12,7 +13,7 @@ use Rattle.swd_host.specs.declared.task.Bursts.{Bursts}
 use Rattle.swd_host.specs.Again.{ResumesOver}
 use Rattle.swd_host.specs.Fields.{engine_outcome_fields}
 use Rattle.swd_host.specs.Progress.{engine_stray_left}
-use Rattle.swd_host.specs.Reports.{Closes, RunsWithin, HostReport}
+use Rattle.swd_host.specs.Reports.{Closes, ListCloses, ListsWithin, RunsWithin, HostReport}
 use Rattle.swd_host.specs.Resuming.{resume_report}
 use Rattle.swd_host.specs.Sent.{HostReportsCalls}
 use Rattle.swd_host.specs.Standing.{engine_report}
@@ -21,16 +22,22 @@ use Rattle.swd_steps.specs.declared.fields.RunFields.{RunFields}
 use Rattle.swd_steps.specs.declared.run.Run.{Run}
 use Rattle.swd_steps.specs.declared.run.Stage.TheVariants.{Ended}
 use Rattle.swd_steps.specs.Fields.{stepped_fields}
-use Rattle.swd_steps.specs.Runs.{SteppedSetup, SteppedRan, stepped_anew, stepped_again}
+use Rattle.swd_steps.specs.Runs.{SteppedSetup, SteppedRan, stepped_anew, stepped_again, stepped_opened}
 
 -- the report of a run that ended: what the run shows, and the answers that came
 abbrev pub stepped_report : Run → List Answer → End → HostReport
 stepped_report run answers end = engine_report answers run.engine end
 
+-- what a report has whatever came back, by whether the target was open already
+abbrev pub SteppedReportCloses : Bool → SteppedSetup → List Access → HostReport → Due → Type 0
+SteppedReportCloses false how list report due =
+    Closes (engine_stray_left how.again) (bursts_limit how.kind) list how.tries report due
+SteppedReportCloses true how list report due = ListCloses (bursts_limit how.kind) list how.tries report due
+
 -- whatever came back: what the report states about the list and about the calls that were made
 pub record SteppedCloses (how : SteppedSetup) (list : List Access) (calls : List Call) (report : HostReport) : Type 0
   where
-    pub closes : Closes (engine_stray_left how.again) (bursts_limit how.kind) list how.tries report (port_due_by calls)
+    pub closes : SteppedReportCloses how.opened how list report (port_due_by calls)
     pub sent : HostReportsCalls list report calls
 
 abbrev pub SteppedAlwaysCloses : Type 0
@@ -57,6 +64,16 @@ SteppedRunFits = (kind : Bursts) (tries : ℕ) (accesses : List Access) (calls :
     → run.stage ≡ Ended end → (story : ℕ → Port) (past : List Call) → port_due_by past ≡ Nothing
     → FitsStory story (calls ++ past)
     → RunsWithin (bursts_limit kind) accesses tries (stepped_report run answers end) (port_at story past)
+    (port_at story (calls ++ past))
+
+-- The same for a run over a target that is open already.
+abbrev pub SteppedOpenFits : Type 0
+SteppedOpenFits = (kind : Bursts) (tries : ℕ) (accesses : List Access) (calls : List Call) (run : Run)
+    (answers : List Answer) (end : End) → tries < 2 ^ 32
+    → SteppedRan (stepped_opened kind tries) accesses calls run answers
+    → run.stage ≡ Ended end → (story : ℕ → Port) (past : List Call) → port_due_by past ≡ Nothing
+    → FitsStory story (calls ++ past)
+    → ListsWithin (bursts_limit kind) accesses tries (stepped_report run answers end) (port_at story past)
     (port_at story (calls ++ past))
 
 -- The same for a run that resumes after an earlier report.

@@ -18,6 +18,7 @@ use Rattle.swd_host.specs.Calls.{EngineTurned, host_idle_call}
 use Rattle.swd_host.specs.Engines.{EngineHasCue, IsEnginePhaseCue, engine_cue, engine_outcome, engine_is_resting}
 use Rattle.swd_host.specs.Plain.{AreHostAccesses}
 use Rattle.swd_host.specs.Reports.{HostRefusesList}
+use Rattle.swd_host.specs.Standing.{EngineIsOpened}
 use Rattle.swd_host.specs.Turns.{EngineIsNew, EngineStarts}
 use Rattle.swd_steps.specs.declared.run.Answers.{Answers}
 use Rattle.swd_steps.specs.declared.run.Refusal.{Refusal}
@@ -26,25 +27,37 @@ use Rattle.swd_steps.specs.declared.run.Run.{Run}
 use Rattle.swd_steps.specs.declared.run.Stage.{Stage}
 use Rattle.swd_steps.specs.declared.run.Stage.TheVariants.{Driving, Between, Ended}
 
--- How a run was made: for bursts of writes or of reads, whether it resumes, its tries, and the number of accesses
--- answered before it.
+-- How a run was made: for bursts of writes or of reads, whether its target was open already, whether it resumes, its
+-- tries, and the number of accesses answered before it.
 pub record SteppedSetup : Type 0 where
   pub kind : Bursts
+  pub opened : Bool
   pub again : Bool
   pub tries : ℕ
   pub from : ℕ
 
--- a new run, and one that resumes after `from` answers
+-- a new run, one over a target that is open already, and one that resumes after `from` answers
 abbrev pub stepped_anew : Bursts → ℕ → SteppedSetup
-stepped_anew kind tries = record { kind = kind; again = false; tries = tries; from = 0 }
+stepped_anew kind tries = record { kind = kind; opened = false; again = false; tries = tries; from = 0 }
+
+abbrev pub stepped_opened : Bursts → ℕ → SteppedSetup
+stepped_opened kind tries = record { kind = kind; opened = true; again = false; tries = tries; from = 0 }
 
 abbrev pub stepped_again : ℕ → ℕ → SteppedSetup
-stepped_again from tries = record { kind = Writes; again = true; tries = tries; from = from }
+stepped_again from tries = record { kind = Writes; opened = false; again = true; tries = tries; from = from }
+
+-- the engine of a run that was just made
+abbrev pub SteppedBeginsBy : Bool → SteppedSetup → Engine → Type 0
+SteppedBeginsBy false how e = EngineIsNew how.kind how.again how.tries e
+SteppedBeginsBy true how e = EngineIsOpened how.kind how.tries e
+
+abbrev pub SteppedBegins : SteppedSetup → Engine → Type 0
+SteppedBegins how e = SteppedBeginsBy how.opened how e
 
 -- The engine, the stage and the answers after these calls for a list. An access starts, with the one that follows it,
 -- when the one before it is answered. When all are answered, eight idle cycles follow.
 pub data SteppedCame (how : SteppedSetup) (list : List Access) : List Call → Engine → Stage → List Answer → Type 0 where
-  has_begun : (e : Engine) → EngineIsNew how.kind how.again how.tries e → SteppedCame how list [] e Driving []
+  has_begun : (e : Engine) → SteppedBegins how e → SteppedCame how list [] e Driving []
   has_turned : {calls : List Call} {answers : List Answer} (call : Call) (e f : Engine)
       → SteppedCame how list calls e Driving answers → EngineTurned call e f → IsEnginePhaseCue call.cue
       → SteppedCame how list (call ∷ calls) f Driving answers
@@ -62,10 +75,11 @@ pub data SteppedCame (how : SteppedSetup) (list : List Access) : List Call → E
       → SteppedCame how list calls e Driving answers → engine_outcome e ≡ Some (Stopped end)
       → SteppedCame how list calls e (Ended end) answers
 
--- a list for which calls were made is valid, and has the accesses answered before the run
-abbrev pub SteppedListAccepted : ℕ → List Access → List Call → Type 0
-SteppedListAccepted from accesses [] = Unit {0}
-SteppedListAccepted from accesses (call ∷ calls) =
+-- a list for which calls were made is valid, and has the accesses answered before the run; where the target was open
+-- already, the list was checked before the first call
+abbrev pub SteppedListAccepted : Bool → ℕ → List Access → List Call → Type 0
+SteppedListAccepted false from accesses [] = Unit {0}
+SteppedListAccepted opened from accesses calls =
     (length accesses ≤ 65536) × AreHostAccesses accesses × (from ≤ length accesses)
 
 -- if no access is in progress, all are answered
@@ -84,7 +98,7 @@ pub record SteppedHasCome (how : SteppedSetup) (accesses : List Access) (calls :
 pub record SteppedRan (how : SteppedSetup) (accesses : List Access) (calls : List Call) (run : Run)
     (answers : List Answer) : Type 0 where
   pub come : SteppedHasCome how accesses calls run answers
-  pub accepted : SteppedListAccepted how.from accesses calls
+  pub accepted : SteppedListAccepted how.opened how.from accesses calls
   pub drives : run.stage ≡ Driving → engine_is_resting run.engine ≡ false
 
 -- WHAT A RUN SHOWS

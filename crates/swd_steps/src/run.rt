@@ -12,11 +12,12 @@ ghost use Rattle.swd_host.specs.Plain.{AreHostAccesses, HostAccessHasRanges, hos
 ghost use Rattle.swd_host.specs.Turns.{EngineStarts};
 ghost use Rattle.swd_steps.specs.Runs.{SteppedExtends, SteppedRefusalReason, SteppedListFits, SteppedLeaves};
 ghost use Rattle.swd_steps.specs.Runs.{SteppedMakesCall, SteppedRan, stepped_again, stepped_anew, stepped_answers};
+ghost use Rattle.swd_steps.specs.Runs.{stepped_opened};
 ghost use Rattle.swd_steps.specs.Runs.{stepped_run_end, stepped_cue_is_lead, stepped_answer_list, stepped_may_resume};
 ghost use Rattle.swd_steps.specs.Runs.{stepped_run_cue, stepped_seen};
 
 use crate::accesses::Accesses;
-use swd_host::{End, Engine, Outcome};
+use swd_host::{Bursts, End, Engine, Outcome};
 use swd_port::{Access, Answer, Cue, MOST_ACCESSES};
 
 /// The stage of a run.
@@ -89,6 +90,29 @@ impl Run {
         ensures { (list : List AccessType) → SteppedRan (stepped_anew Reads tries) list [] result [] }
     {
         Run::beginning(Engine::blocks(tries), 0)
+    }
+
+    /// Creates a run over a target that is open already, as a run leaves it that ended `All`: it sends no opening. The
+    /// bursts are of writes or of reads, for this list alone. Pass the same list to each call of [`next`](Run::next).
+    ///
+    /// # Errors
+    ///
+    /// Returns `TooMany` or `Unaligned` if the list isn't valid.
+    pub fn opened<L: Accesses>(accesses: &L, bursts: Bursts, tries: u32) -> Result<Run, Refusal>
+        ensures ran { IfOk result (λ run. SteppedRan (stepped_opened bursts tries) (L.list accesses.now) [] run []) }
+        ensures refused { IfErr result (λ refusal. (run : RunType) (reply : ℕ)
+            → SteppedRefusalReason run (L.list accesses.now) reply refusal) }
+    {
+        let count = accesses.count();
+        if count > MOST_ACCESSES as usize {
+            return Err(Refusal::TooMany);
+        }
+        if let Some(refusal) = unaligned(accesses, count) {
+            return Err(refusal);
+        }
+        let mut run = Run::beginning(Engine::opened(bursts, tries), 0);
+        run.begin(accesses);
+        Ok(run)
     }
 
     /// Creates a run that resumes this one over the same list, from the first unanswered access on. Returns `None` if

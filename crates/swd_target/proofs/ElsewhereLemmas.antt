@@ -2,8 +2,9 @@
 use Rattle.std.proofs.Common.{◌≡◌, ◌⊎◌, not, unwrap_or, inr, Bool, true, false, ℕ, Option, Some, None, List, ◌∷◌, []}
 use Rattle.std.proofs.Common.{◌++◌, refl, sym, ap, subst, ◌∙◌, inl, arith, if◌then◌else◌}
 use Rattle.swd_bits.specs.declared.request.Request.{Request}
-use Rattle.swd_port.specs.PlainMemory.{PlainMemory, plain_done, plain_answer, succeeds_at, plain_transfer_of}
-use Rattle.swd_port.specs.PlainMemory.{plain_word_at}
+use Rattle.swd_port.specs.PlainMemory.{PlainMemory}
+use Rattle.swd_port.specs.Bus.{Bus, bus_of, bus_answer, bus_succeeds, bus_transfer_of, bus_word_at}
+use Rattle.swd_port.proofs.PlainLaws.{bus_of_after}
 use Rattle.swd_port.specs.declared.access.Answer.{Answer}
 use Rattle.swd_port.specs.declared.access.Answer.TheVariants.{Value, Written, BusFault}
 use Rattle.swd_port.specs.declared.access.Access.TheVariants.{Read, Write}
@@ -37,7 +38,7 @@ use Rattle.swd_target.specs.Targets.{TargetSteps, target_answer_at, target_choic
 use Rattle.swd_target.specs.Targets.{target_reply_when, target_settled_when, target_simulation}
 use Rattle.swd_target.specs.Targets.{target_stand_in, target_state}
 use Rattle.swd_target.specs.Requests.{TargetAnswersUnder}
-use Rattle.swd_target.specs.Elsewhere.{IsTargetReady, IsTargetReadyIf, TargetStays, target_over_memory}
+use Rattle.swd_target.specs.Elsewhere.{IsTargetReady, IsTargetReadyIf, TargetStays, target_over_memory, plain_after_pending}
 use Rattle.swd_target.proofs.AskLemmas.{simulated_answers_under}
 use Rattle.swd_target.proofs.TargetLemmas.{simulation_at_rest, target_settling_owed, simulation_settled_at_rest}
 
@@ -50,19 +51,18 @@ grows : (xs : List Transfer) (x : Transfer) → xs ++ x ∷ [] ≡ xs → ⊥
 grows [] x e = cc
 grows (y ∷ ys) x e = grows ys x (ap rest e)
 
-logs_if : (b : Bool) (m n : PlainMemory) (x : Transfer) → not b ≡ false → n.log ≡ m.log ++ x ∷ []
-    → (if b then n else m).log ≡ m.log → ⊥
-logs_if true m n x h new e = grows m.log x (sym new ∙ e)
-logs_if false m n x h new e = cc
+logs_if : (b : Bool) (log : List Transfer) (x : Transfer) → not b ≡ false → (if b then log ++ x ∷ [] else log) ≡ log
+    → ⊥
+logs_if true log x h e = grows log x e
+logs_if false log x h e = cc
 
 -- a transfer that succeeds is logged
-logs : (p : Option Drw) (at : ℕ) (m : PlainMemory) → pending_fails p at m ≡ false
+logs : (p : Option Drw) (at : ℕ) (m : Bus) → pending_fails p at m ≡ false
     → (memory_after_pending p at m).log ≡ m.log → p ≡ None
 logs None at m h e = refl
-logs (Some Reads) at m h e = absurd (logs_if (succeeds_at at m) m (plain_done (Read at) m)
-    (plain_transfer_of (Read at) m) h refl e)
+logs (Some Reads) at m h e = absurd (logs_if (bus_succeeds (Read at) m) m.log (bus_transfer_of (Read at) m) h e)
 logs (Some (Writes word)) at m h e =
-    absurd (logs_if (succeeds_at at m) m (plain_done (Write at word) m) (plain_transfer_of (Write at word) m) h refl e)
+    absurd (logs_if (bus_succeeds (Write at word) m) m.log (bus_transfer_of (Write at word) m) h e)
 
 -- the address of a transfer
 tar_is : (known : Bool) (word : ℕ) → unwrap_or (if known then Some word else None) word ≡ word
@@ -75,9 +75,10 @@ none_pending : {A : Type 0} (s t : Target A) → TargetSteps port_completion s t
 none_pending s t steps ready same =
     let at = unwrap_or (target_known_word s.tar) s.tar.word in
     let here : at ≡ s.tar.word = tar_is s.tar.known s.tar.word in
-    let after : t.memory ≡ memory_after_pending s.pending at s.memory = ap (λ (x : State). x.memory) steps.state in
-    logs s.pending at s.memory (ap (λ n. pending_fails s.pending n s.memory) here ∙ ready)
-    (ap (λ (m : PlainMemory). m.log) (sym after) ∙ same)
+    let after : bus_of t.memory ≡ memory_after_pending s.pending at (bus_of s.memory) =
+    ap (λ (x : State). x.memory) steps.state in
+    logs s.pending at (bus_of s.memory) (ap (λ n. pending_fails s.pending n (bus_of s.memory)) here ∙ ready)
+    (ap (λ (m : Bus). m.log) (sym after) ∙ same)
 
 -- with nothing pending no completion changes anything
 state_at_rest : {A : Type 0} (c : Choice) (t : Target A) → t.pending ≡ None
@@ -130,7 +131,7 @@ settles_over waits r ap_ t ready settled =
     let owes : simulation_is_owed r (target_reply_when waits r
     (target_answer_at r ap_ (simulation_transferred (target_simulation t)).state)) ≡ is_target_settling waits r
     a false = target_settling_owed waits r ap_ t ∙ settling_alike waits r a
-    (pending_fails t.pending t.tar.word t.memory) ready in
+    (pending_fails t.pending t.tar.word (bus_of t.memory)) ready in
     elim (true_or_false (is_target_settling waits r a false)) [
       | inl e ↦ simulation_settled_at_rest waits r ap_ t (decided waits r ap_ t e settled)
       | inr e ↦ ap (λ b. if b then simulation_transferred (target_simulation t) else target_simulation t)
@@ -138,7 +139,7 @@ settles_over waits r ap_ t ready settled =
     ]
 
 -- a reply changes no memory, and looks at none
-state_over : (m : PlainMemory) (waits : Bool) (reply : Reply) (r : Register) (ap_ : Bool) (x : State)
+state_over : (m : Bus) (waits : Bool) (reply : Reply) (r : Register) (ap_ : Bool) (x : State)
     → record (port_target_after waits reply r ap_ x) { memory = m } ≡ port_target_after waits reply r ap_
     (record x { memory = m })
 state_over m waits Okay r ap_ x = refl
@@ -148,7 +149,7 @@ state_over m waits Silent r ap_ x = refl
 
 -- a simulated target over another memory
 abbrev pub simulation_placed : PlainMemory → Simulation → Simulation
-simulation_placed m s = record s { state = record s.state { memory = m } }
+simulation_placed m s = record s { state = record s.state { memory = bus_of m } }
 
 exact_over : (m : PlainMemory) (waits : Bool) (reply : Reply) (r : Register) (ap_ : Bool) (s : Simulation)
     → simulation_placed m (simulation_stepped (λ c. port_target_after waits reply r ap_) s)
@@ -206,9 +207,9 @@ pub target_log_before_reply : {A : Type 0} (waits : Bool) (reply : Reply) (r : R
     → target_state b ≡ port_target_after waits reply r ap_ (target_state a) → t ≡ b → t.memory.log ≡ s.memory.log
     → a.memory.log ≡ s.memory.log
 target_log_before_reply waits reply r ap_ s a b t after last log =
-    let memory : b.memory ≡ a.memory = ap (λ (x : State). x.memory) after
+    let memory : bus_of b.memory ≡ bus_of a.memory = ap (λ (x : State). x.memory) after
     ∙ target_reply_keeps_memory waits reply r ap_ (target_state a) in
-    ap (λ (m : PlainMemory). m.log) (sym memory) ∙ (ap (λ (x : Target _). x.memory.log) (sym last) ∙ log)
+    ap (λ (m : Bus). m.log) (sym memory) ∙ (ap (λ (x : Target _). x.memory.log) (sym last) ∙ log)
 
 -- the word that stands for an unknown one is the target's own
 stand_over : {A : Type 0} (m : PlainMemory) (r : Register) (t : Target A)
@@ -230,7 +231,7 @@ accepts_late Silent s e = refl
 
 pub target_state_placed : {A : Type 0} (m : PlainMemory) (s t : Target A) → target_state t ≡ target_state s
     → target_state (target_over_memory m t) ≡ target_state (target_over_memory m s)
-target_state_placed m s t e = ap (λ (x : State). record x { memory = m }) e
+target_state_placed m s t e = ap (λ (x : State). record x { memory = bus_of m }) e
 
 pub simulation_same_placed : {A : Type 0} (m : PlainMemory) (s t : Target A) → target_simulation t ≡ target_simulation s
     → target_simulation (target_over_memory m t) ≡ target_simulation (target_over_memory m s)
@@ -272,15 +273,15 @@ target_answers_elsewhere m mark waits q s a b r reply phase legal deaf wait name
     (sym (stand_over m r a)) word) (lawful ∙ ap (λ f. port_line_after reply
     (port_phase_after q.read r None (port_value_in waits r f (target_state (target_over_memory m a)))) Idle)
     (sym (stand_over m r a))) exact
-    (ap (λ (x : State). record x { memory = m }) after ∙ state_over m waits reply r q.ap (target_state a))
+    (ap (λ (x : State). record x { memory = bus_of m }) after ∙ state_over (bus_of m) waits reply r q.ap (target_state a))
     (ap (simulation_placed m) after' ∙ exact_over m waits reply r q.ap (target_simulation a))
     (inl refl) (sym last)
 
--- the pending transfer is answered alike by two memories
-abbrev pub IsTargetAnsweredAlike : Option Drw → ℕ → PlainMemory → PlainMemory → Type 0
+-- the pending transfer is answered alike by two buses
+abbrev pub IsTargetAnsweredAlike : Option Drw → ℕ → Bus → Bus → Type 0
 IsTargetAnsweredAlike None at m n = Unit {0}
-IsTargetAnsweredAlike (Some drw) at m n = plain_answer (pending_access_at at drw) m
-    ≡ plain_answer (pending_access_at at drw) n
+IsTargetAnsweredAlike (Some drw) at m n = bus_answer (pending_access_at at drw) m
+    ≡ bus_answer (pending_access_at at drw) n
 
 reads_alike : (b c : Bool) (v w : ℕ) → (if b then Value v else BusFault) ≡ (if c then Value w else BusFault) → b ≡ c
 reads_alike true true v w e = refl
@@ -304,24 +305,25 @@ words_alike true true v w e h = ap value_in_answer e
 words_alike true false v w e h = cc
 words_alike false c v w e h = cc
 
-fails_alike : (p : Option Drw) (at : ℕ) (m n : PlainMemory) → IsTargetAnsweredAlike p at m n
+fails_alike : (p : Option Drw) (at : ℕ) (m n : Bus) → IsTargetAnsweredAlike p at m n
     → pending_fails p at m ≡ pending_fails p at n
 fails_alike None at m n e = refl
 fails_alike (Some Reads) at m n e = ap not
-    (reads_alike (succeeds_at at m) (succeeds_at at n) (plain_word_at at m) (plain_word_at at n) e)
-fails_alike (Some (Writes word)) at m n e = ap not (writes_alike (succeeds_at at m) (succeeds_at at n) e)
+    (reads_alike (bus_succeeds (Read at) m) (bus_succeeds (Read at) n) (bus_word_at at m) (bus_word_at at n) e)
+fails_alike (Some (Writes word)) at m n e = ap not (writes_alike (bus_succeeds (Write at word) m)
+    (bus_succeeds (Write at word) n) e)
 
-buffer_alike : (p : Option Drw) (failed : Bool) (at : ℕ) (m n : PlainMemory) (buffer : Option ℕ)
+buffer_alike : (p : Option Drw) (failed : Bool) (at : ℕ) (m n : Bus) (buffer : Option ℕ)
     → pending_fails p at m ≡ failed → IsTargetAnsweredAlike p at m n
     → buffer_after_pending p failed at m buffer ≡ buffer_after_pending p failed at n buffer
 buffer_alike None failed at m n buffer f e = refl
 buffer_alike (Some Reads) true at m n buffer f e = refl
 buffer_alike (Some Reads) false at m n buffer f e = ap Some
-    (words_alike (succeeds_at at m) (succeeds_at at n) (plain_word_at at m) (plain_word_at at n) e f)
+    (words_alike (bus_succeeds (Read at) m) (bus_succeeds (Read at) n) (bus_word_at at m) (bus_word_at at n) e f)
 buffer_alike (Some (Writes word)) failed at m n buffer f e = refl
 
 -- so it does the same over both, but for the memory
-completion_alike : (c : Choice) (x : State) (m : PlainMemory)
+completion_alike : (c : Choice) (x : State) (m : Bus)
     → IsTargetAnsweredAlike x.pending (unwrap_or x.tar c.address) m x.memory
     → record (port_completion c x) { memory = memory_after_pending x.pending (unwrap_or x.tar c.address) m }
     ≡ port_completion c (record x { memory = m })
@@ -334,21 +336,31 @@ completion_alike c x m e =
     buffer_alike x.pending (pending_fails x.pending at x.memory) at m x.memory x.buffer f e in
     rw (f, b) refl
 
+bus_after_pending : (p : Option Drw) (at : ℕ) (m : PlainMemory)
+    → bus_of (plain_after_pending p at m) ≡ memory_after_pending p at (bus_of m)
+bus_after_pending None at m = refl
+bus_after_pending (Some drw) at m = sym (bus_of_after (pending_access_at at drw) m)
+
 -- a completion takes the same step over a memory that gives the pending transfer the same answer
 pub target_completes_elsewhere : {A : Type 0} (m : PlainMemory) (s t : Target A)
-    → IsTargetAnsweredAlike s.pending s.tar.word m s.memory → TargetSteps port_completion s t
+    → IsTargetAnsweredAlike s.pending s.tar.word (bus_of m) (bus_of s.memory) → TargetSteps port_completion s t
     → TargetSteps port_completion (target_over_memory m s)
-    (target_over_memory (memory_after_pending s.pending s.tar.word m) t)
+    (target_over_memory (plain_after_pending s.pending s.tar.word m) t)
 target_completes_elsewhere m s t e steps =
     let here : unwrap_or (target_known_word s.tar) s.tar.word ≡ s.tar.word = tar_is s.tar.known s.tar.word in
-    let after = memory_after_pending s.pending s.tar.word m in
-    let there = completion_alike (target_choice_for DrwRead s) (target_state s) m
-    (subst (λ at. IsTargetAnsweredAlike s.pending at m s.memory) (sym here) e) in
+    let after = plain_after_pending s.pending s.tar.word m in
+    let is : bus_of after ≡ memory_after_pending s.pending s.tar.word (bus_of m) =
+    bus_after_pending s.pending s.tar.word m in
+    let there = completion_alike (target_choice_for DrwRead s) (target_state s) (bus_of m)
+    (subst (λ at. IsTargetAnsweredAlike s.pending at (bus_of m) (bus_of s.memory)) (sym here) e) in
     record {
-      state = ap (λ (x : State). record x { memory = after }) steps.state
+      state = ap (λ (x : State). record x { memory = bus_of after }) steps.state
+          ∙ (ap (λ b. record (port_completion (target_choice_for DrwRead s) (target_state s)) { memory = b }) is
           ∙ (ap (λ at. record (port_completion (target_choice_for DrwRead s) (target_state s))
-          { memory = memory_after_pending s.pending at m }) (sym here) ∙ there);
+          { memory = memory_after_pending s.pending at (bus_of m) }) (sym here) ∙ there));
       exact = ap (simulation_placed after) steps.exact
-          ∙ ap (simulation_filled (target_simulation (target_over_memory m s)))
-          (completion_alike (simulation_choice (target_simulation s)) (target_simulation s).state m e);
+          ∙ (ap (λ b. simulation_filled (target_simulation (target_over_memory m s))
+          (record (port_completion (simulation_choice (target_simulation s)) (target_simulation s).state) { memory = b }))
+          is ∙ ap (simulation_filled (target_simulation (target_over_memory m s)))
+          (completion_alike (simulation_choice (target_simulation s)) (target_simulation s).state (bus_of m) e));
     }

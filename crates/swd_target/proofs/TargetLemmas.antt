@@ -2,6 +2,7 @@
 use Rattle.std.proofs.Common.{◌≡◌, ◌<◌, ◌^◌, ◌||◌, Bool, true, false, Option, None, refl, sym, ap, subst, arith}
 use Rattle.std.proofs.Common.{if◌then◌else◌}
 use Rattle.std.specs.Prelude.{is_some}
+use Rattle.swd_port.specs.Bus.{bus_of}
 use Rattle.swd_port.specs.Port.{Target as State}
 use Rattle.swd_port.specs.declared.register.Register.{Register}
 use Rattle.swd_port.specs.declared.register.Register.TheVariants.{ResendRead}
@@ -43,9 +44,9 @@ owed_by exempt waits r reset sticky write unpowered failing x = grind arith
 pub target_settling_owed : {A : Type 0} (waits : Bool) (r : Register) (ap_ : Bool) (t : Target A)
     → simulation_is_owed r (target_reply_when waits r
     (target_answer_at r ap_ (simulation_transferred (target_simulation t)).state)) ≡ is_target_settling waits r
-    (target_answer_at r ap_ (target_state t)) (pending_fails t.pending t.tar.word t.memory)
+    (target_answer_at r ap_ (target_state t)) (pending_fails t.pending t.tar.word (bus_of t.memory))
 target_settling_owed waits r ap_ t = owed_by _ waits r t.reset t.sticky_error t.write_error
-    (is_port_unpowered ap_ (port_has_power (target_state t))) (pending_fails t.pending t.tar.word t.memory) refl
+    (is_port_unpowered ap_ (port_has_power (target_state t))) (pending_fails t.pending t.tar.word (bus_of t.memory)) refl
 
 -- where the code does not settle, it need not
 pub target_settled_unless : (waits : Bool) (r : Register) (a : Reply) (failing : Bool) (pending : Option Drw)

@@ -1,7 +1,9 @@
 -- A target over a memory other than its own. All of it is this project's choice.
-use Rattle.std.specs.Prelude.{◌≡◌, Bool, true, false}
-use Rattle.swd_port.specs.PlainMemory.{PlainMemory}
-use Rattle.swd_port.specs.Completion.{pending_fails}
+use Rattle.std.specs.Prelude.{ℕ, ◌≡◌, Bool, true, false, Option, Some, None}
+use Rattle.swd_port.specs.PlainMemory.{PlainMemory, plain_after}
+use Rattle.swd_port.specs.Bus.{bus_of}
+use Rattle.swd_port.specs.declared.state.Drw.{Drw}
+use Rattle.swd_port.specs.Completion.{pending_fails, pending_access_at}
 use Rattle.swd_target.specs.declared.target.Target.{Target}
 use Rattle.swd_target.specs.Targets.{target_state, target_simulation}
 
@@ -9,9 +11,14 @@ use Rattle.swd_target.specs.Targets.{target_state, target_simulation}
 abbrev pub target_over_memory : {A : Type 0} → PlainMemory → Target A → Target A
 target_over_memory m t = record t { memory = m }
 
+-- the memory after the pending transfer, if any
+abbrev pub plain_after_pending : Option Drw → ℕ → PlainMemory → PlainMemory
+plain_after_pending None at m = m
+plain_after_pending (Some drw) at m = plain_after (pending_access_at at drw) m
+
 -- the pending transfer, if any, would succeed over this memory
 abbrev pub IsTargetReady : {A : Type 0} → PlainMemory → Target A → Type 0
-IsTargetReady m t = pending_fails t.pending t.tar.word m ≡ false
+IsTargetReady m t = pending_fails t.pending t.tar.word (bus_of m) ≡ false
 
 -- the same, only if WAIT is asked for
 abbrev pub IsTargetReadyIf : {A : Type 0} → Bool → PlainMemory → Target A → Type 0

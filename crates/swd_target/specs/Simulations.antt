@@ -9,6 +9,7 @@ use Rattle.swd_port.specs.declared.state.AfterAck.TheVariants.{Idle}
 use Rattle.swd_port.specs.declared.state.Reply.{Reply}
 use Rattle.swd_port.specs.declared.state.Reply.TheVariants.{Okay, Faults}
 use Rattle.swd_port.specs.PlainMemory.{PlainMemory}
+use Rattle.swd_port.specs.Bus.{bus_of}
 use Rattle.swd_port.specs.Port.{PortLink, Target as State, port_made_target, port_register}
 use Rattle.swd_port.specs.Choices.{Choice, port_flip_of, is_port_wait}
 use Rattle.swd_port.specs.Answers.{is_exempt_register, is_port_okay, port_seen_at, port_due_after}
@@ -44,7 +45,7 @@ simulation_stepped f s = simulation_filled s (f (simulation_choice s) s.state)
 -- the simulated target before any call; DPIDR reads 2ba01477
 abbrev pub simulation_made_with : Quirks → PlainMemory → Simulation
 simulation_made_with quirks memory = simulation_stepped (λ c s. s)
-    (record { quirks = quirks; state = port_made_target 0x2ba0_1477 memory })
+    (record { quirks = quirks; state = port_made_target 0x2ba0_1477 (bus_of memory) })
 
 -- the simulated target after the pending transfer, if any, took effect
 abbrev pub simulation_transferred : Simulation → Simulation

@@ -9,6 +9,7 @@ use Rattle.swd_port.specs.declared.state.Reset.TheVariants.{Fresh}
 use Rattle.swd_port.specs.declared.state.Reply.{Reply}
 use Rattle.swd_port.specs.declared.state.Reply.TheVariants.{Okay, Waits, Silent}
 use Rattle.swd_port.specs.Registers.{register_bit}
+use Rattle.swd_port.specs.Bus.{bus_of}
 use Rattle.swd_port.specs.Port.{Target as State}
 use Rattle.swd_port.specs.declared.state.PowerUp.TheVariants.{Unseen}
 use Rattle.swd_port.specs.Choices.{Choice, IsPortChoice}
@@ -38,7 +39,7 @@ target_state t = record {
   last_returned = target_known_word t.last_returned;
   pending = t.pending;
   identification = 0x2ba0_1477;
-  memory = t.memory;
+  memory = bus_of t.memory;
 }
 
 -- the simulated target: the same state with each word known
@@ -96,7 +97,7 @@ is_target_settling waits r a failing = not (is_exempt_register r)
 -- the same test for a target
 abbrev pub target_settles_first : {A : Type 0} → Bool → Register → Bool → Target A → Bool
 target_settles_first waits r ap t = is_target_settling waits r (target_answer_at r ap (target_state t))
-    (pending_fails t.pending t.tar.word t.memory)
+    (pending_fails t.pending t.tar.word (bus_of t.memory))
 
 -- the data phase that follows a reply, where this word replaces an unknown one
 abbrev pub target_phase_in : Bool → Reply → Bool → Register → ℕ → State → AfterAck

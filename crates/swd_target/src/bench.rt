@@ -4,6 +4,7 @@ ghost use Rattle.swd_port.specs.declared.cue.Cue.TheVariants.{Ask};
 ghost use Rattle.swd_port.specs.declared.wire.Due.TheVariants.{Nothing, Take, Give, Pass};
 ghost use Rattle.swd_port.specs.Stories.{PortMayStep, IsPortSeen, IsPortStep};
 ghost use Rattle.swd_port.specs.Port.{port_idle_link, port_made};
+ghost use Rattle.swd_port.specs.Bus.{bus_of};
 ghost use Rattle.swd_port.specs.Completion.{port_completed};
 ghost use Rattle.swd_port.specs.Asking.{PortAsks, port_tally_after};
 ghost use Rattle.swd_port.specs.Leading.{PortLeadsNow};
@@ -57,7 +58,7 @@ impl<A: Allocator> Bench<A> {
     /// Creates a target before its first line reset, with this memory behind its access port.
     pub fn new(memory: Memory<A>, quirks: Quirks, plan: Vec<Mark, A>) -> Bench<A>
         requires { IsLegalPlan plan.items }
-        ensures port { bench_port result ≡ port_made 0x2ba0_1477 memory }
+        ensures port { bench_port result ≡ port_made 0x2ba0_1477 (bus_of memory) }
         ensures exact { bench_simulation result ≡ simulation_made_with quirks memory }
         ensures plan { bench_plan result ≡ plan.items }
     {
@@ -81,7 +82,7 @@ impl<A: Allocator> Bench<A> {
 
     /// Returns the memory behind the access port.
     pub fn memory(&self) -> &Memory<A>
-        ensures { result.now ≡ (bench_port self.now).target.memory }
+        ensures { (bench_port self.now).target.memory ≡ bus_of result.now }
     {
         &self.target.memory
     }

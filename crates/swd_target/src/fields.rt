@@ -3,7 +3,6 @@ ghost use Rattle.std.specs.Prelude.{◌≡◌, ◌==◌};
 ghost use Rattle.swd_target.specs.Fields.{target_content_fields, target_pending_fields, target_power_number};
 ghost use Rattle.swd_target.specs.Fields.{target_reset_number, restored_target_content, restored_target_pending};
 ghost use Rattle.swd_target.specs.Fields.{restored_target_power, restored_target_reset, restored_target, target_fields};
-ghost use Rattle.swd_target.specs.Targets.{target_state};
 
 use crate::content::Content;
 use crate::memory::Memory;
@@ -143,7 +142,7 @@ impl TargetFields {
     /// of the result to reject it.
     pub fn target<A: Allocator>(&self, memory: Memory<A>) -> Target<A>
         ensures numbers { target_fields result ≡ restored_target self.now }
-        ensures memory { (target_state result).memory ≡ memory }
+        ensures memory { result.memory ≡ memory }
     {
         Target {
             quirks: self.quirks(),

@@ -26,7 +26,7 @@ impl<A: Allocator> Target<A> {
         ensures answers { TargetAnswers waits request self.old result.0 result.1 self.new }
         ensures quirks { (target_simulation self.new).quirks ≡ (target_simulation self.old).quirks }
         ensures quiet { (target_simulation self.old).quirks.late ≡ true → (target_state self.old).pending ≡ None
-            → (target_state self.new).memory ≡ (target_state self.old).memory }
+            → self.new.memory ≡ self.old.memory }
         ensures driven { port_bits_driven result.1 < 2 ^ 33 }
     {
         let register = register_named(self.select, request);
@@ -111,7 +111,7 @@ impl<A: Allocator> Target<A> {
         ensures comes { DataComes (port_arrival_of register (data_phase_word bits)) self.old self.new }
         ensures quirks { (target_simulation self.new).quirks ≡ (target_simulation self.old).quirks }
         ensures quiet { (target_simulation self.old).quirks.late ≡ true
-            → (target_state self.new).memory ≡ (target_state self.old).memory }
+            → self.new.memory ≡ self.old.memory }
     {
         match word_of(bits) {
             Some(word) => {

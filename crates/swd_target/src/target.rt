@@ -1,6 +1,7 @@
 //! The target behind a wire: a debug port with one memory access port.
 ghost use Rattle.std.specs.Prelude.{◌≡◌, ◌&&◌, ◌||◌, not, true, false};
 ghost use Rattle.swd_port.specs.Port.{port_made_target};
+ghost use Rattle.swd_port.specs.Bus.{bus_of};
 ghost use Rattle.swd_port.specs.declared.state.Reset.TheVariants.{Fresh};
 ghost use Rattle.swd_port.specs.declared.register.Register.TheVariants.{DrwRead};
 ghost use Rattle.swd_port.specs.Answers.{port_is_answered};
@@ -58,7 +59,7 @@ impl<A: Allocator> Target<A> {
 
     /// Creates a target before its first line reset, with this memory behind its access port. DPIDR reads 2ba01477.
     pub fn new(memory: Memory<A>, quirks: Quirks) -> Target<A>
-        ensures state { target_state result ≡ port_made_target 0x2ba0_1477 memory }
+        ensures state { target_state result ≡ port_made_target 0x2ba0_1477 (bus_of memory) }
         ensures exact { target_simulation result ≡ simulation_made_with quirks memory }
     {
         Target {
@@ -87,14 +88,14 @@ impl<A: Allocator> Target<A> {
 
     /// Returns the memory behind the access port.
     pub fn memory(&self) -> &Memory<A>
-        ensures { result.now ≡ (target_state self.now).memory }
+        ensures { (target_state self.now).memory ≡ bus_of result.now }
     {
         &self.memory
     }
 
     /// Consumes the target, and returns the memory behind the access port.
     pub fn into_memory(self) -> Memory<A>
-        ensures { result ≡ (target_state self).memory }
+        ensures { (target_state self).memory ≡ bus_of result }
     {
         self.memory
     }
@@ -435,7 +436,7 @@ impl<A: Allocator> Target<A> {
 
     // Returns whether the pending transfer would be a bus error.
     fn is_failing(&self) -> bool
-        ensures { result ≡ pending_fails self.now.pending self.now.tar.word self.now.memory }
+        ensures { result ≡ pending_fails self.now.pending self.now.tar.word (bus_of self.now.memory) }
     {
         match self.pending {
             Some(_) => !self.memory.is_ready(self.tar.word),

@@ -1,5 +1,6 @@
 //! What the tests need of a simulated target, whichever it is.
 ghost use Rattle.std.specs.Prelude.{◌≡◌, IfOk};
+ghost use Rattle.swd_port.specs.Bus.{bus_of};
 ghost use Rattle.swd_port.specs.Port.{port_made};
 ghost use Rattle.swd_port.specs.Choices.{Choice, IsPortChoice};
 ghost use Rattle.swd_port.specs.Completion.{port_completed};
@@ -21,7 +22,7 @@ pub trait Simulated: Wire {
         plan: Vec<Mark>,
     ) -> Result<Self, AllocError>
         requires { IsLegalPlan plan.items }
-        ensures { IfOk result (λ target. Self.Wire.port target ≡ port_made 0x2ba0_1477 memory) };
+        ensures { IfOk result (λ target. Self.Wire.port target ≡ port_made 0x2ba0_1477 (bus_of memory)) };
 
     /// Completes the transfer that was accepted and has not taken effect yet, where there is one.
     fn settle(&mut self)
@@ -30,7 +31,7 @@ pub trait Simulated: Wire {
 
     /// The memory behind the access port.
     fn memory(&self) -> &Memory
-        ensures { result.now ≡ (Self.Wire.port self.now).target.memory };
+        ensures { (Self.Wire.port self.now).target.memory ≡ bus_of result.now };
 }
 
 impl Simulated for Bench {

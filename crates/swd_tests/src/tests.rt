@@ -15,6 +15,7 @@ mod items;
 mod late_power;
 mod listing;
 mod losses;
+mod polls;
 mod recorder;
 mod refusals;
 mod replies;

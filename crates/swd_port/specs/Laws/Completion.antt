@@ -1,7 +1,7 @@
 -- Laws of completion: the pending DRW transfer takes effect, now or later.
 use Rattle.std.specs.Prelude.{◌≡◌, None}
 use Rattle.swd_port.specs.Port.{Port}
-use Rattle.swd_port.specs.PlainMemory.{PlainMemory}
+use Rattle.swd_port.specs.Bus.{Bus}
 use Rattle.swd_port.specs.Completion.{PortCompletes, MayBecome}
 use Rattle.swd_port.specs.Moves.{PortKept}
 
@@ -23,14 +23,14 @@ PortCompletionKeeps = (s t : Port) → PortCompletes s t → PortKept s t
 
 -- what the memory may become after a completion, it might have become before it
 abbrev pub PortMayBecomeStays : Type 0
-PortMayBecomeStays = (m : PlainMemory) (s t : Port) → PortCompletes s t → MayBecome t m → MayBecome s m
+PortMayBecomeStays = (m : Bus) (s t : Port) → PortCompletes s t → MayBecome t m → MayBecome s m
 
 -- and the same between any two states with the same pending transfer, TAR and memory
 abbrev pub PortMayBecomeCarried : Type 0
-PortMayBecomeCarried = (m : PlainMemory) (s t : Port) → t.target.pending ≡ s.target.pending →
+PortMayBecomeCarried = (m : Bus) (s t : Port) → t.target.pending ≡ s.target.pending →
     t.target.tar ≡ s.target.tar → t.target.memory ≡ s.target.memory → MayBecome t m → MayBecome s m
 
 -- without a pending transfer the memory may become only what it is
 pub record PortMayBecomeOfNone : Type 0 where
   pub same : (s : Port) → s.target.pending ≡ None → MayBecome s s.target.memory
-  pub only : (m : PlainMemory) (s : Port) → s.target.pending ≡ None → MayBecome s m → m ≡ s.target.memory
+  pub only : (m : Bus) (s : Port) → s.target.pending ≡ None → MayBecome s m → m ≡ s.target.memory

@@ -1,6 +1,6 @@
 -- Laws of line resets and idle cycles.
 use Rattle.std.specs.Prelude.{ℕ, ◌≡◌, ◌≢◌, None}
-use Rattle.swd_port.specs.PlainMemory.{PlainMemory}
+use Rattle.swd_port.specs.Bus.{Bus}
 use Rattle.swd_port.specs.Port.{Port, Fresh, port_made_target, port_made}
 use Rattle.swd_port.specs.Completion.{PortCompletes}
 use Rattle.swd_port.specs.Leading.{PortLeads}
@@ -22,6 +22,6 @@ PortIdleCyclesAtRest = (s t : Port) → s.target.pending ≡ None → PortLeads 
 
 -- the first line reset of a target as it was made
 abbrev pub PortFirstLineReset : Type 0
-PortFirstLineReset = (identification ones : ℕ) (m : PlainMemory) (t : Port) → ones ≢ 0 →
+PortFirstLineReset = (identification ones : ℕ) (m : Bus) (t : Port) → ones ≢ 0 →
     PortLeads (port_made identification m) ones t →
     t ≡ record (port_made identification m) { target = record (port_made_target identification m) { reset = Fresh } }

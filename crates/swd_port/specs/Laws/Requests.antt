@@ -2,7 +2,7 @@
 use Rattle.std.specs.Prelude.{ℕ, ◌≡◌, ◌≢◌, ◌⊎◌, Bool, true, false, None}
 use Rattle.swd_bits.specs.declared.request.Request.{Request}
 use Rattle.swd_port.specs.declared.access.Access.{Access}
-use Rattle.swd_port.specs.PlainMemory.{PlainMemory}
+use Rattle.swd_port.specs.Bus.{Bus}
 use Rattle.swd_port.specs.Port.{Port, Target, Register, DpidrRead, DrwRead, Unreset, Live, port_register}
 use Rattle.swd_port.specs.Answers.{is_exempt_register}
 use Rattle.swd_port.specs.Completion.{PortCompletes}
@@ -114,14 +114,14 @@ PortLostRequest = (r : Register) (read : Bool) (s t : Port) →
     PortIgnores s t ⊎ PortAccepts r read None s t → PortLeftByLost r s.target t.target
 
 -- a lost request had no effect, or that of the OK that confirms success, or that of the FAULT that shows a bus error
-abbrev pub PortLostAfter : Access → PlainMemory → Register → Request → Port → Port → Type 0
+abbrev pub PortLostAfter : Access → Bus → Register → Request → Port → Port → Type 0
 PortLostAfter access m r q s t =
     PortIgnores s t ⊎ ((PortSucceeded access m s.target × PortAccepts r q.read None s t)
     ⊎ (PortFailed access m s.target × PortRefuses r q.ap s t))
 
 -- The result of a request that isn't exempt, after a transfer was sent, at a live target with WDATAERR clear that is
 -- powered for it. OK confirms that the transfer was done, FAULT shows that it was a bus error, and WAIT shows neither.
-pub data PortConfirms (a : Access) (m : PlainMemory) (r : Register) (q : Request) (seen : ℕ) (s t : Port) : Type 0 where
+pub data PortConfirms (a : Access) (m : Bus) (r : Register) (q : Request) (seen : ℕ) (s t : Port) : Type 0 where
   confirms_okay : PortSucceeded a m s.target → PortOkaySeen r q.read seen s t → PortConfirms a m r q seen s t
   confirms_wait : PortSent a m s.target → PortWaitSeen r seen s t → PortConfirms a m r q seen s t
   confirms_fault : PortFailed a m s.target → PortFaultSeen r q.ap seen s t → PortConfirms a m r q seen s t
@@ -129,7 +129,7 @@ pub data PortConfirms (a : Access) (m : PlainMemory) (r : Register) (q : Request
       → PortConfirms a m r q seen s t
 
 abbrev pub PortConfirmingRequest : Type 0
-PortConfirmingRequest = (access : Access) (m : PlainMemory) (r : Register) (q : Request) (seen : ℕ) (s t : Port) →
+PortConfirmingRequest = (access : Access) (m : Bus) (r : Register) (q : Request) (seen : ℕ) (s t : Port) →
     PortSent access m s.target → port_register s.target.select q ≡ r → is_exempt_register r ≡ false
     → s.target.reset ≡ Live → s.target.write_error ≡ false → PortIsPowered q.ap s.target → PortAsks s q seen t →
     PortAround (PortConfirms access m r q seen) s t

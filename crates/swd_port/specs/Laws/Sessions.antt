@@ -5,12 +5,12 @@ use Rattle.std.specs.Prelude.{ℕ, ◌≡◌, ◌<◌, ◌^◌, List, [], ◌∷
 use Rattle.swd_port.specs.declared.cue.Cue.{Cue}
 use Rattle.swd_port.specs.declared.call.Call.{Call}
 use Rattle.swd_port.specs.declared.wire.Due.TheVariants.{Nothing}
-use Rattle.swd_port.specs.PlainMemory.{PlainMemory, plain_word_at}
+use Rattle.swd_port.specs.Bus.{Bus}
 use Rattle.swd_port.specs.Port.{Port, Drw, Writes, port_made}
 use Rattle.swd_port.specs.Choices.{Mark, IsPortMark}
 use Rattle.swd_port.specs.Moving.{port_bits_driven}
 use Rattle.swd_port.specs.Stories.{IsPortSeen, IsPortStep, FitsStory}
-use Rattle.swd_port.specs.Laws.NeverStuck.{PortReadsWords}
+use Rattle.swd_port.specs.Laws.NeverStuck.{PortReadsWords, BusReadsWords}
 
 -- the word that a pending transfer writes
 abbrev pub pending_write_word : Option Drw → ℕ
@@ -24,10 +24,10 @@ pub record PortHasWords (s : Port) : Type 0 where
   pub pending : pending_write_word s.target.pending < 2 ^ 32
   pub driven : port_bits_driven s.link.line < 2 ^ 33
 
--- a state before any call, over words, is such a state
+-- a state before any call, over a bus that answers words, is such a state
 abbrev pub MadePortHasWords : Type 0
-MadePortHasWords = (identification : ℕ) (m : PlainMemory) → identification < 2 ^ 32
-    → ((at : ℕ) → plain_word_at at m < 2 ^ 32) → PortHasWords (port_made identification m)
+MadePortHasWords = (identification : ℕ) (m : Bus) → identification < 2 ^ 32
+    → BusReadsWords m → PortHasWords (port_made identification m)
 
 -- From such a state each cue has a step to such a state again.
 abbrev pub PortStepForEachCue : Type 0

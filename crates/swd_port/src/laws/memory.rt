@@ -8,6 +8,7 @@ ghost use Rattle.swd_port.specs.Laws.Transfers.{PortBecomesStays};
 ghost use Rattle.swd_port.specs.Laws.Transfers.{PortBecomesCarried, PortBecomesIs, PortBecomesCompleted};
 ghost use Rattle.swd_port.specs.Laws.Transfers.{PortAimedCarried, PortAimedByTar, PortAimedByTransfer};
 ghost use Rattle.swd_port.specs.Laws.Accesses.{PortWordWritten, PortWordRead};
+ghost use Rattle.swd_port.specs.Laws.Buses.{BusOfAnswers, BusOfChanges, BusOfHolds};
 
 /// States what completion of the pending transfer does. It may occur or not, occurs once, and does nothing where no
 /// transfer is pending. It changes only what belongs to the transfer. What the memory may become depends on the
@@ -48,4 +49,12 @@ pub fn transfers()
 pub fn accesses()
     ensures written { PortWordWritten }
     ensures read { PortWordRead }
+{}
+
+/// States that a plain memory is a bus: it answers as the memory does, and after an access it is that of the memory
+/// after the access. The buses of two memories differ.
+pub fn plain_memories()
+    ensures answers { BusOfAnswers }
+    ensures changes { BusOfChanges }
+    ensures holds { BusOfHolds }
 {}

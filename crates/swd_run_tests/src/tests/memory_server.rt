@@ -1,6 +1,7 @@
 //! A server in memory: what a host writes moves the pins of a simulated target, and what it asks for can
 //! be read.
 ghost use Rattle.std.specs.Prelude.{◌≤◌, IfOk, IsTrue, []};
+ghost use Rattle.swd_port.specs.Bus.{bus_of};
 ghost use Rattle.swd_port.specs.Port.{port_made};
 ghost use Rattle.std.specs.FinMap.{empty};
 ghost use Rattle.swd_target.specs.Marks.{IsLegalPlan};
@@ -30,7 +31,7 @@ const QUIRKS: Quirks = Quirks {
 pub(super) struct Untold;
 
 impl Story for Untold {
-    ghost at = { λ _. port_made 0 (record { words = empty; log = []; room = 0 }) };
+    ghost at = { λ _. port_made 0 (bus_of (record { words = empty; log = []; room = 0 })) };
 }
 
 /// What happens to the line.

@@ -2,6 +2,7 @@
 //! language. The levels go in, and the characters and the report have to come out.
 ghost use Rattle.std.specs.Prelude.{[]};
 ghost use Rattle.std.specs.FinMap.{empty};
+ghost use Rattle.swd_port.specs.Bus.{bus_of};
 ghost use Rattle.swd_port.specs.Port.{port_made};
 
 use super::expect::{expect_eq, expect_eq_at};
@@ -21,7 +22,7 @@ use swd_run::{Difference, EngineFault, Finished, Records, run_text};
 struct Untold;
 
 impl Story for Untold {
-    ghost at = { λ _. port_made 0 (record { words = empty; log = []; room = 0 }) };
+    ghost at = { λ _. port_made 0 (bus_of (record { words = empty; log = []; room = 0 })) };
 }
 
 const SCRIPT: &[u8] = b"memory 20000000 16\nw 20000000 deadbeef\nr 20000000\n";

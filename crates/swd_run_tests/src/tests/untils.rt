@@ -1,6 +1,7 @@
 //! Reads that wait for a word: of a memory that stays, and of a target whose words change.
 ghost use Rattle.std.specs.FinMap.{empty};
 ghost use Rattle.std.specs.Prelude.{[]};
+ghost use Rattle.swd_port.specs.Bus.{bus_of};
 ghost use Rattle.swd_port.specs.Port.{port_made};
 
 use super::expect::{expect_eq, expect_eq_at};
@@ -253,7 +254,7 @@ fn passed_on(bench: &mut Bench, cue: Cue) -> Result<u64, Disconnected> {
 struct Untold;
 
 impl Story for Untold {
-    ghost at = { λ _. port_made 0 (record { words = empty; log = []; room = 0 }) };
+    ghost at = { λ _. port_made 0 (bus_of (record { words = empty; log = []; room = 0 })) };
 }
 
 // The calls of a script at a target whose reads give these words, and their report.

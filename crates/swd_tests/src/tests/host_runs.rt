@@ -1,6 +1,7 @@
 //! Runs of a host over a simulated target, and what has to come of them.
 ghost use Rattle.std.specs.Prelude.{◌≡◌, IfOk, IfSome, IsTrue};
 ghost use Rattle.swd_port.specs.PlainMemory.{PlainMemory};
+ghost use Rattle.swd_port.specs.Bus.{bus_of};
 ghost use Rattle.swd_port.specs.Port.{port_made};
 ghost use Rattle.swd_target.specs.Marks.{IsLegalPlan};
 
@@ -173,7 +174,7 @@ pub(super) fn target_of<S: Simulated>(
     quirks: Quirks,
 ) -> Result<Option<S>, Fail>
     ensures { IfOk result (λ found. IfSome found (λ target.
-        (m : PlainMemory) × (S.Wire.port target ≡ port_made 0x2ba0_1477 m))) }
+        (m : PlainMemory) × (S.Wire.port target ≡ port_made 0x2ba0_1477 (bus_of m)))) }
 {
     let memory = Memory::new(alloc, BASE, run.words, run.room)?;
     let plan = plan_of(alloc, run.marks)?;

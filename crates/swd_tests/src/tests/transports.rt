@@ -1,6 +1,7 @@
 //! Runs over a transport: at a simulated target that can be reached for some calls only.
 ghost use Rattle.std.specs.FinMap.{empty};
 ghost use Rattle.std.specs.Prelude.{[]};
+ghost use Rattle.swd_port.specs.Bus.{bus_of};
 ghost use Rattle.swd_port.specs.Port.{port_made};
 
 use super::expect::{expect_eq, expect_eq_at};
@@ -66,7 +67,7 @@ fn passed_on(bench: &mut Bench, cue: Cue) -> Result<u64, Disconnected> {
 pub(super) struct Untold;
 
 impl Story for Untold {
-    ghost at = { λ _. port_made 0 (record { words = empty; log = []; room = 0 }) };
+    ghost at = { λ _. port_made 0 (bus_of (record { words = empty; log = []; room = 0 })) };
 }
 
 // A target that so many calls reach.

@@ -2,6 +2,7 @@ use Rattle.std.proofs.Common.{◌≡◌, ◌==◌, Bool, true, false, Option, Li
 use Rattle.std.proofs.Common.{arith}
 use Rattle.swd_bits.specs.Bits.{bit}
 use Rattle.swd_port.specs.PlainMemory.{PlainMemory}
+use Rattle.swd_port.specs.Bus.{Bus}
 use Rattle.swd_port.specs.declared.access.Transfer.{Transfer}
 use Rattle.swd_target.specs.Elsewhere.{IsUntouched}
 use Rattle.swd_target.specs.declared.quirks.Quirks.{Quirks}
@@ -37,7 +38,7 @@ returns-then-not-is_empty-clause-wants c = λ yes.
         clocks,
         λ none.
             let empty : c.log.result.now ≡ [] = c.log.ensures
-            ∙ (ap (λ (m : PlainMemory). m.log) c.memory.ensures ∙ none) in
+            ∙ (ap (λ (b : Bus). b.log) (sym c.memory.ensures) ∙ none) in
             let is : c.is_empty.result ≡ true = c.is_empty.ensures
             ∙ ap (λ (xs : List Transfer). length xs == 0) empty in
             let not_is : c.is_empty.result ≡ false = c.if-not-is_empty.true in
@@ -55,7 +56,7 @@ returns-clause-clocks c = λ yes m there.
     let here : clocked_memory before ≡ c_api_ready_memory old = c.in-Some.ensures.same.1 ∙ c.window.ensures in
     let clocks : ClocksOneCycle (c_api_drive c.args.drive) line before after =
     subst (λ (d : Option Bool). ClocksOneCycle d line before after) c.driven.ensures c.cycle-line.ensures.clocks in
-    let empty : (after.target.memory).log ≡ [] = ap (λ (m : PlainMemory). m.log) (sym c.memory.ensures)
+    let empty : (after.target.memory).log ≡ [] = ap (λ (b : Bus). b.log) c.memory.ensures
     ∙ (sym c.log.ensures ∙ nothing c.log.result.now (sym c.is_empty.ensures ∙ c.if-not-is_empty.false)) in
     let untouched : IsUntouched before.target after.target = record {
       late = had.late;
@@ -95,7 +96,7 @@ returns-then-not-is_empty-clause-pending c = λ yes none.
     let here : clocked_memory before ≡ c_api_ready_memory old = c.in-Some.ensures.same.1 ∙ c.window.ensures in
     let still = c.cycle-line.ensures.quiet had.late (c_api_none_wanted_pending old before had none) in
     let empty : c.log.result.now ≡ [] = c.log.ensures
-    ∙ ap (λ (m : PlainMemory). m.log) (c.memory.ensures ∙ (still ∙ here)) in
+    ∙ (ap (λ (b : Bus). b.log) (sym c.memory.ensures) ∙ ap (λ (m : PlainMemory). m.log) (still ∙ here)) in
     let is : c.is_empty.result ≡ true = c.is_empty.ensures ∙ ap (λ (xs : List Transfer). length xs == 0) empty in
     let not_is : c.is_empty.result ≡ false = c.if-not-is_empty.true in
     cc

@@ -1,4 +1,5 @@
 use Rattle.std.proofs.Common.{ap, refl, sym}
+use Rattle.swd_port.specs.Bus.{bus_of}
 use Rattle.swd_port.specs.Port.{Target as State}
 use Rattle.swd_target.specs.Simulations.{Simulation}
 use Rattle.swd_target.proofs.ElsewhereLemmas.{simulation_placed}
@@ -20,7 +21,7 @@ returns c =
         c_api_fields_over_memory m c.fields.result made has,
         refl,
         record {
-          state = ap (λ (s : State). record s { memory = m }) c.new.ensures.state;
+          state = ap (λ (s : State). record s { memory = bus_of m }) c.new.ensures.state;
           exact = ap (simulation_placed m) c.new.ensures.exact;
           frame = c.new.ensures.frame;
           held = c.new.ensures.held;

@@ -1,5 +1,5 @@
 use Rattle.std.proofs.Common.{ap, refl, sym, ◌∙◌}
-use Rattle.swd_port.specs.Completion.{memory_after_pending}
+use Rattle.swd_target.specs.Elsewhere.{plain_after_pending}
 use Rattle.swd_target.specs.declared.quirks.Quirks.{Quirks}
 use Rattle.swd_clocked.specs.Clocks.{clocked_over}
 use Rattle.swd_clocked.proofs.ElsewhereLemmas.{clocked_settles_elsewhere}
@@ -17,7 +17,7 @@ returns-clause-settles c = λ yes a m told.
     let found = c.in-Some.ensures in
     let same = c_api_memories_are_alike old before c.args.kind c.args.word a found.0 m c.in-Some.memory had here told
     found.1 in
-    let last = memory_after_pending before.target.pending before.target.tar.word m in
+    let last = plain_after_pending before.target.pending before.target.tar.word m in
     let has : CApiNumbers c.fields.result after = record {
       has = sym c.fields.ensures;
       late = ap (λ (q : Quirks). q.late) c.settle.ensures.quirks ∙ had.late;

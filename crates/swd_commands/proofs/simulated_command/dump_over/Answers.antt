@@ -1,5 +1,6 @@
 use Rattle.std.proofs.Common.{◌+◌, ◌≤◌, ◌∙◌, None, length, subst, sym}
 use Rattle.std.specs.Prelude.{◌^◌}
+use Rattle.swd_port.specs.Bus.{plain_of}
 use Rattle.swd_target.specs.Benches.{bench_plan, bench_port}
 use Rattle.swd_run.specs.Records.{run_file_held}
 use Rattle.swd_run.proofs.EngineLemmas.{run_file_is_some}
@@ -20,15 +21,15 @@ pub write_image_file-requires : goal.write_image_file-requires
 write_image_file-requires g c =
     let dumped = c.dump_simulated-answer in
     subst (λ l. c.args.image.now.addr + length l ≤ 2 ^ 32) (sym c.as_slice-in-Ok.ensures.value)
-    (simulated_command_fits (λ v. v.items) c.args.image.now.addr c.args.count (bench_port c.args.bench).target.memory
-    (bench_port dumped.new.bench).target.memory dumped.result c.in-Ok.bytes c.in-Ok.ensures dumped.ensures.memory)
+    (simulated_command_fits (λ v. v.items) c.args.image.now.addr c.args.count (plain_of (bench_port c.args.bench).target.memory)
+    (plain_of (bench_port dumped.new.bench).target.memory) dumped.result c.in-Ok.bytes c.in-Ok.ensures dumped.ensures.memory)
 
 pub returns-in-Ok : goal.returns-in-Ok
 returns-in-Ok g c =
     let image = c.args.image.now in
     let dumped = c.dump_simulated-answer in
-    let before = (bench_port c.args.bench).target.memory in
-    let after = (bench_port dumped.new.bench).target.memory in
+    let before = (plain_of (bench_port c.args.bench).target.memory) in
+    let after = (plain_of (bench_port dumped.new.bench).target.memory) in
     let bytes = stream_watched (command_report_contents g.F.Made.Write.contents (λ e. g.E.Write.contents e.now)) in
     record {
       answer = dump_command_as_list (λ v. v.items) dumped.result;
@@ -55,8 +56,8 @@ pub returns : goal.returns
 returns g c =
     let image = c.args.image.now in
     let dumped = c.dump_simulated-answer in
-    let before = (bench_port c.args.bench).target.memory in
-    let after = (bench_port dumped.new.bench).target.memory in
+    let before = (plain_of (bench_port c.args.bench).target.memory) in
+    let after = (plain_of (bench_port dumped.new.bench).target.memory) in
     let bytes = stream_watched (command_report_contents g.F.Made.Write.contents (λ e. g.E.Write.contents e.now)) in
     record {
       answer = dump_command_as_list (λ v. v.items) dumped.result;

@@ -1,4 +1,5 @@
-use Rattle.std.proofs.Common.{◌∙◌, None, refl, subst, sym}
+use Rattle.std.proofs.Common.{◌∙◌, None, ap, refl, subst, sym}
+use Rattle.swd_port.specs.Bus.{plain_of}
 use Rattle.swd_run.proofs.EngineLemmas.{run_file_is_some}
 use Rattle.swd_commands.specs.Images.{command_status_of_image, command_status_loaded}
 use Rattle.swd_commands.specs.Simulated.{IsSimulatedCommandStatus, CommandWritesBack}
@@ -21,7 +22,7 @@ returns-in-Ok g c =
       wrote = wrote;
       written = subst (λ m. CommandWritesBack m c.args.memory.now.base c.args.count wrote
           (g.F.Made.Write.contents c.args.file.now) (g.F.Made.Write.contents c.write_back.new.file))
-          c.memory.ensures c.write_back.ensures;
+          (sym (ap plain_of c.memory.ensures)) c.write_back.ensures;
       is = subst (λ w. IsSimulatedCommandStatus (command_status_of_image command_status_loaded None loaded.result) w
           c.loaded_status.result) (sym c.in-Ok.is) c.loaded_status.ensures;
     }
@@ -43,7 +44,7 @@ returns g c =
       wrote = wrote;
       written = subst (λ m. CommandWritesBack m c.args.memory.now.base c.args.count wrote
           (g.F.Made.Write.contents c.args.file.now) (g.F.Made.Write.contents c.write_back.new.file))
-          c.memory.ensures c.write_back.ensures;
+          (sym (ap plain_of c.memory.ensures)) c.write_back.ensures;
       is = subst (λ w. IsSimulatedCommandStatus (command_status_of_image command_status_loaded None loaded.result) w
           c.in-Err.status) (sym c.in-Err.is) refl;
     }

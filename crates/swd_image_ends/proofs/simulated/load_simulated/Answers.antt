@@ -1,3 +1,4 @@
+use Rattle.std.proofs.Common.{refl}
 use Rattle.swd_target.specs.Benches.{bench_plan, bench_port}
 use Rattle.swd_image_ends.specs.Pieces.{pieces_to_load}
 use Rattle.swd_image_ends.proofs.AddressLemmas.{loaded_there, image_end_on_ok}
@@ -10,4 +11,4 @@ pub returns-clause-memory : goal.returns-clause-memory
 returns-clause-memory g c =
     image_end_on_ok c.load_pieces.result _ _
     (loaded_there bench_port bench_plan c.args.tries c.args.resumes (pieces_to_load c.args.image.now) c.args.bench.now
-    c.load_pieces.new.wire c.requires) c.load_pieces.ensures.loads
+    c.load_pieces.new.wire c.requires refl) c.load_pieces.ensures.loads

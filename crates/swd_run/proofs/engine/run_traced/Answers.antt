@@ -3,7 +3,7 @@ use Rattle.std.proofs.Math.Logic.{∥∥₁_map}
 use Rattle.swd_trace.specs.declared.item.Item.{Item}
 use Rattle.swd_trace.specs.Texts.{trace_text}
 use Rattle.swd_port.specs.Leading.{port_line_awaits}
-use Rattle.swd_port.specs.PlainMemory.{PlainMemory}
+use Rattle.swd_port.specs.Bus.{Bus}
 use Rattle.swd_port.specs.Port.{port_made}
 use Rattle.swd_observer.specs.Runs.{Accounted}
 use Rattle.swd_observer.specs.Traces.{trace_observer_made, trace_observer_unknown, observed_in_trace}
@@ -82,7 +82,7 @@ returns-clause-answer g c =
           start end answer old new no_run_files no_run_files) w.in-Ok.is ran in
           let over = all.0 in
           let explained : recorder_lawful end → IsAtRest (recorder_port start) → c.is_cut-cut.result ≡ false
-          → (identification : ℕ) (m : PlainMemory) → recorder_port start ≡ port_made identification m
+          → (identification : ℕ) (m : Bus) → recorder_port start ≡ port_made identification m
           → ∥ Accounted m.log (observed_in_trace items trace_observer_made) (recorder_port end) ∥₁ =
           λ law rest whole identification m is_made.
           let uncut = sym c.is_cut-cut.ensures ∙ whole in

@@ -10,7 +10,7 @@ use Rattle.std.specs.Io.KnownBytes.{Appends}
 use Rattle.swd_run.specs.Engine.{BatchAnswersAt}
 use Rattle.swd_run.specs.Records.{run_files_of}
 use Rattle.swd_run.specs.Reports.{batch_report}
-use Rattle.swd_run.specs.Running.{ScriptRunAnswers, ScriptSession, full_room, script_memory, none, with_full_room}
+use Rattle.swd_run.specs.Running.{ScriptRunAnswers, ScriptSession, full_room, script_bus, none, with_full_room}
 use Rattle.swd_run.specs.Unfoldings.{no_batch}
 use Rattle.swd_run.proofs.ReportLemmas.{report_pairs_empty}
 use Rattle.swd_run.proofs.EngineLemmas.{no_call_run_files, script_run_answers}
@@ -29,15 +29,15 @@ pub returns-in_default : goal.returns-in_default
 returns-in_default g c =
     let writer = g.W.Write.contents c.args.writer.now in
     let script = read_script_meaning c.args.script.now in (
-      script_memory script,
+      script_bus script,
       (
         record {
           made = [];
-          memory = script_memory script;
+          memory = script_bus script;
           are = record {
             unfolds = no_batch;
-            session = subst (λ calls. ScriptSession c.args.tries c.args.resumes c.args.plan.items (script_memory script)
-                calls [] (script_memory script)) (sym (unfolded_calls_empty script.batches)) none;
+            session = subst (λ calls. ScriptSession c.args.tries c.args.resumes c.args.plan.items (script_bus script)
+                calls [] (script_bus script)) (sym (unfolded_calls_empty script.batches)) none;
           };
           all = refl;
           came = unfolded_until_empty script.batches;
@@ -57,7 +57,7 @@ returns g c =
     let after = run_files_of g.T.Write.contents ran.new.records in
     let memory = (bench_port ran.result.1).target.memory in
     let full : c.full_room.result ≡ full_room script.room memory = c.full_room.ensures
-    ∙ ap (full_room script.room) c.memory.ensures in
+    ∙ ap (full_room script.room) (sym c.memory.ensures) in
     subst (λ answer. ScriptRunAnswers c.args.tries c.args.resumes script c.args.plan.items answer old new before after)
     (sym (c.with_full.ensures ∙ ap (λ used. with_full_room used ran.result.0) full))
     (script_run_answers bench_port bench_plan (λ bench. Unit {0}) c.args.tries c.args.resumes script

@@ -1,3 +1,4 @@
+use Rattle.std.proofs.Common.{refl}
 use Rattle.swd_host.specs.declared.task.Bursts.TheVariants.{Reads}
 use Rattle.swd_steps.specs.Runs.{stepped_anew}
 use Rattle.swd_steps.proofs.Stepping.{stepped_new_ran}
@@ -5,4 +6,4 @@ use Rattle.swd_steps.proofs.run.Run.blocks.Goals as goal
 
 pub returns : goal.returns
 returns c = λ list. stepped_new_ran (stepped_anew Reads c.args.tries) list c.beginning.result c.blocks-2.result
-    c.blocks-2.ensures.new c.beginning.ensures.engine c.beginning.ensures.stage c.beginning.ensures.answered
+    refl c.blocks-2.ensures.new c.beginning.ensures.engine c.beginning.ensures.stage c.beginning.ensures.answered

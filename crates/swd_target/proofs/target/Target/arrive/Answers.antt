@@ -1,4 +1,5 @@
 use Rattle.std.proofs.Common.{◌≡◌, ℕ, Option, inl, sym, ap, subst, ◌∙◌}
+use Rattle.swd_port.specs.Bus.{bus_of, plain_of}
 use Rattle.swd_port.specs.Port.{Target as State}
 use Rattle.swd_port.specs.Moving.{Arrives, Damaged, port_arrival_of}
 use Rattle.swd_target.specs.Simulations.{Simulation, simulation_accepted}
@@ -24,7 +25,7 @@ returns-in-Some-clause-comes g c =
           c.write.ensures.exact in
           let last : t ≡ c.write.new.self = c.accept.ensures.late (kept ∙ late) in (
             ap (λ (x : Target _). target_state (target_over_memory m x)) last
-                ∙ ap (λ (x : State). record x { memory = m }) c.write.ensures.state,
+                ∙ ap (λ (x : State). record x { memory = bus_of m }) c.write.ensures.state,
             ap (λ (x : Target _). target_simulation (target_over_memory m x)) last
                 ∙ (ap (simulation_placed m) c.write.ensures.exact
                 ∙ sym (late_quirk_arrival (Arrives c.args.register word) (target_simulation (target_over_memory m s))
@@ -43,7 +44,7 @@ returns-in-None-clause-comes g c =
       undone = λ e. c.refuse_write.ensures.state;
       exact = c.refuse_write.ensures.exact;
       elsewhere = λ m late. (
-        ap (λ (x : State). record x { memory = m }) c.refuse_write.ensures.state,
+        ap (λ (x : State). record x { memory = bus_of m }) c.refuse_write.ensures.state,
         ap (simulation_placed m)
             c.refuse_write.ensures.exact,
       );
@@ -60,4 +61,7 @@ pub returns-in-Some-clause-quiet : goal.returns-in-Some-clause-quiet
 returns-in-Some-clause-quiet g c = λ late.
     let kept = ap (λ (x : Simulation). x.quirks.late) c.write.ensures.exact in
     ap (λ (x : Target _). x.memory) (c.accept.ensures.late (kept ∙ late))
-    ∙ ap (λ (x : State). x.memory) c.write.ensures.state
+    ∙ ap (λ (x : State). plain_of x.memory) c.write.ensures.state
+
+pub returns-in-None-clause-quiet : goal.returns-in-None-clause-quiet
+returns-in-None-clause-quiet g c = λ late. ap (λ (x : State). plain_of x.memory) c.refuse_write.ensures.state

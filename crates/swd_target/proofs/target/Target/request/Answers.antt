@@ -1,5 +1,6 @@
 use Rattle.std.proofs.Common.{◌≡◌, sym, ap, subst, ◌∙◌}
 use Rattle.swd_port.specs.declared.select.Select.{Select}
+use Rattle.swd_port.specs.Bus.{plain_of}
 use Rattle.swd_port.specs.Port.{port_register, Target as State}
 use Rattle.swd_target.specs.declared.target.Target.{Target}
 use Rattle.swd_target.specs.Elsewhere.{target_over_memory}
@@ -57,10 +58,10 @@ returns-clause-quiet g c = λ late none.
     let r = c.register_named-register.result in
     let q = c.args.request in
     let exact = c.reply-reply.ensures.exact in
-    let kept : a.memory ≡ s.memory = ap (λ (x : Simulation). x.state.memory)
+    let kept : a.memory ≡ s.memory = ap (λ (x : Simulation). plain_of x.state.memory)
     (exact ∙ sym (simulation_settled_at_rest c.args.waits r q.ap s none)) in
-    let next : after.memory ≡ a.memory = ap (λ (x : State). x.memory) c.apply.ensures.state
-    ∙ target_reply_keeps_memory c.args.waits c.reply-reply.result r q.ap (target_state a) in
+    let next : after.memory ≡ a.memory = ap (λ (x : State). plain_of x.memory) c.apply.ensures.state
+    ∙ ap plain_of (target_reply_keeps_memory c.args.waits c.reply-reply.result r q.ap (target_state a)) in
     let last = c.accept_after.ensures.late
     (late_quirk_kept c.args.waits c.reply-reply.result r q.ap s a after late exact c.apply.ensures.exact) in
     ap (λ (x : Target _). x.memory) last ∙ (next ∙ kept)
