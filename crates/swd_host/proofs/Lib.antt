@@ -22,7 +22,7 @@ mod Lists
 mod Repeats
 mod PlainShadows
 pub mod Shadows
-mod GoingOn
+pub mod GoingOn
 mod Resumed
 mod Starts
 mod Ends

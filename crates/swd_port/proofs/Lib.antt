@@ -16,5 +16,6 @@ pub mod CallLaws
 pub mod AccessLaws
 mod NeverStuckLaws
 mod SessionLaws
+pub mod Recording
 pub mod ReadLists
 pub mod WorkedLaws

@@ -11,6 +11,7 @@ pub mod Asking
 pub mod Moving
 pub mod Leading
 pub mod Stories
+pub mod Reached
 pub mod Transports
 pub mod Moves
 pub mod Outcomes

@@ -3,5 +3,6 @@ mod Standing
 mod Keeping
 mod Running
 mod Reporting
+mod Reaching
 mod Ending
 mod Stepping

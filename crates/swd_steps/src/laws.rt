@@ -1,15 +1,26 @@
 //! The theorem of a run whose caller makes the calls. A function here does nothing: its contract is the law.
 ghost use Rattle.swd_steps.specs.Laws.{SteppedAlwaysCloses, SteppedRunEnds, SteppedRunsAreShown, SteppedResumeFits};
 ghost use Rattle.swd_steps.specs.Laws.{SteppedOpenFits, SteppedRunFits};
+ghost use Rattle.swd_steps.specs.Reached.{SteppedOpenReaches, SteppedResumeReaches, SteppedRunReaches};
 
 /// States what the report of a run that ended says. Whatever came back, it matches the list and the calls that were
 /// made for it. Where what came back is consistent with the port model, the report is that of the theorem of
-/// `swd_host::run`. For a run over an open target it is that of the theorem of `swd_host::run_open`. For a run that resumes after an earlier report, it is that of the theorem of `swd_host::resume`.
+/// `swd_host::run`. For a run over an open target it is that of the theorem of `swd_host::run_open`. For a run that
+/// resumes after an earlier report, it is that of the theorem of `swd_host::resume`.
 pub fn runs()
     ensures closes { SteppedAlwaysCloses }
     ensures runs { SteppedRunFits }
     ensures opened { SteppedOpenFits }
     ensures resumes { SteppedResumeFits }
+{}
+
+/// States which accesses reached the bus in a run that ended, where what came back is consistent with the port model:
+/// those that were answered, bus errors among them, and at most as many more as the report has as begun. Each reached it
+/// once, in the order of the list. In a run that resumes, the transfer that was still pending comes first.
+pub fn accesses()
+    ensures runs { SteppedRunReaches }
+    ensures opened { SteppedOpenReaches }
+    ensures resumes { SteppedResumeReaches }
 {}
 
 /// States that a run makes a bounded number of calls, whatever comes back.
