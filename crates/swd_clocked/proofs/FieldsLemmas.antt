@@ -3,9 +3,9 @@ use Rattle.std.proofs.Math.Nat.{mod-eq_of_lt}
 use Rattle.std.proofs.Common.{◌≡◌, ◌<◌, ◌^◌, Some, None, refl}
 use Rattle.swd_port.specs.declared.register.Register.{Register}
 use Rattle.swd_port.specs.declared.register.Register.TheVariants.{DpidrRead, AbortWrite, CtrlStatRead, CtrlStatWrite}
-use Rattle.swd_port.specs.declared.register.Register.TheVariants.{SelectWrite, ResendRead, RdbuffRead, DpZeroRead}
+use Rattle.swd_port.specs.declared.register.Register.TheVariants.{SelectWrite, ResendRead, RdbuffRead, DpOtherRead}
 use Rattle.swd_port.specs.declared.register.Register.TheVariants.{DpIgnoredWrite, CswRead, CswWrite, TarRead, TarWrite}
-use Rattle.swd_port.specs.declared.register.Register.TheVariants.{DrwRead, DrwWrite, ApZeroRead, ApIgnoredWrite}
+use Rattle.swd_port.specs.declared.register.Register.TheVariants.{DrwRead, DrwWrite, ApOtherRead, ApOtherWrite}
 use Rattle.swd_port.specs.declared.state.AfterAck.{AfterAck}
 use Rattle.swd_port.specs.declared.state.AfterAck.TheVariants as lines
 use Rattle.swd_port.specs.declared.state.Reply.{Reply}
@@ -29,7 +29,7 @@ register_read CtrlStatWrite = refl
 register_read SelectWrite = refl
 register_read ResendRead = refl
 register_read RdbuffRead = refl
-register_read DpZeroRead = refl
+register_read DpOtherRead = refl
 register_read DpIgnoredWrite = refl
 register_read CswRead = refl
 register_read CswWrite = refl
@@ -37,8 +37,8 @@ register_read TarRead = refl
 register_read TarWrite = refl
 register_read DrwRead = refl
 register_read DrwWrite = refl
-register_read ApZeroRead = refl
-register_read ApIgnoredWrite = refl
+register_read ApOtherRead = refl
+register_read ApOtherWrite = refl
 
 reply_read : (r : Reply) → restored_clocked_reply (clocked_reply_number r) ≡ clocked_reply_number r
 reply_read Okay = refl

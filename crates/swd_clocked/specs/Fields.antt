@@ -4,9 +4,9 @@ use Rattle.std.specs.Prelude.{ℕ, ◌==◌, ◌%◌, ◌^◌, is_some, unwrap_o
 use Rattle.swd_bits.specs.Bits.{bit}
 use Rattle.swd_port.specs.declared.register.Register.{Register}
 use Rattle.swd_port.specs.declared.register.Register.TheVariants.{DpidrRead, AbortWrite, CtrlStatRead, CtrlStatWrite}
-use Rattle.swd_port.specs.declared.register.Register.TheVariants.{SelectWrite, ResendRead, RdbuffRead, DpZeroRead}
+use Rattle.swd_port.specs.declared.register.Register.TheVariants.{SelectWrite, ResendRead, RdbuffRead, DpOtherRead}
 use Rattle.swd_port.specs.declared.register.Register.TheVariants.{DpIgnoredWrite, CswRead, CswWrite, TarRead, TarWrite}
-use Rattle.swd_port.specs.declared.register.Register.TheVariants.{DrwRead, DrwWrite, ApZeroRead, ApIgnoredWrite}
+use Rattle.swd_port.specs.declared.register.Register.TheVariants.{DrwRead, DrwWrite, ApOtherRead, ApOtherWrite}
 use Rattle.swd_port.specs.declared.state.AfterAck.{AfterAck}
 use Rattle.swd_port.specs.declared.state.AfterAck.TheVariants as lines
 use Rattle.swd_port.specs.declared.state.Reply.{Reply}
@@ -29,7 +29,7 @@ clocked_register_number CtrlStatWrite = 4
 clocked_register_number SelectWrite = 5
 clocked_register_number ResendRead = 6
 clocked_register_number RdbuffRead = 7
-clocked_register_number DpZeroRead = 8
+clocked_register_number DpOtherRead = 8
 clocked_register_number DpIgnoredWrite = 9
 clocked_register_number CswRead = 10
 clocked_register_number CswWrite = 11
@@ -37,8 +37,8 @@ clocked_register_number TarRead = 12
 clocked_register_number TarWrite = 13
 clocked_register_number DrwRead = 14
 clocked_register_number DrwWrite = 15
-clocked_register_number ApZeroRead = 16
-clocked_register_number ApIgnoredWrite = 17
+clocked_register_number ApOtherRead = 16
+clocked_register_number ApOtherWrite = 17
 
 abbrev pub clocked_reply_number : Reply → ℕ
 clocked_reply_number Okay = 1

@@ -62,7 +62,7 @@ fn number_of_register(register: Register) -> u8
         Register::SelectWrite => 5,
         Register::ResendRead => 6,
         Register::RdbuffRead => 7,
-        Register::DpZeroRead => 8,
+        Register::DpOtherRead => 8,
         Register::DpIgnoredWrite => 9,
         Register::CswRead => 10,
         Register::CswWrite => 11,
@@ -70,8 +70,8 @@ fn number_of_register(register: Register) -> u8
         Register::TarWrite => 13,
         Register::DrwRead => 14,
         Register::DrwWrite => 15,
-        Register::ApZeroRead => 16,
-        Register::ApIgnoredWrite => 17,
+        Register::ApOtherRead => 16,
+        Register::ApOtherWrite => 17,
     }
 }
 
@@ -88,7 +88,7 @@ fn register_with(number: u8) -> Register
         5 => Register::SelectWrite,
         6 => Register::ResendRead,
         7 => Register::RdbuffRead,
-        8 => Register::DpZeroRead,
+        8 => Register::DpOtherRead,
         9 => Register::DpIgnoredWrite,
         10 => Register::CswRead,
         11 => Register::CswWrite,
@@ -96,8 +96,8 @@ fn register_with(number: u8) -> Register
         13 => Register::TarWrite,
         14 => Register::DrwRead,
         15 => Register::DrwWrite,
-        16 => Register::ApZeroRead,
-        _ => Register::ApIgnoredWrite,
+        16 => Register::ApOtherRead,
+        _ => Register::ApOtherWrite,
     }
 }
 

@@ -9,7 +9,7 @@ use Rattle.swd_bits.specs.Phases.{data_phase_word, data_phase_number}
 use Rattle.swd_port.specs.declared.access.Transfer.{Transfer}
 use Rattle.swd_port.specs.declared.select.Select.{Select}
 use Rattle.swd_port.specs.declared.mark.Mark.{Mark}
-use Rattle.swd_port.specs.declared.register.Register.TheVariants.{CtrlStatRead, DpZeroRead}
+use Rattle.swd_port.specs.declared.register.Register.TheVariants.{CtrlStatRead, DpOtherRead}
 use Rattle.swd_port.specs.declared.state.AfterAck.TheVariants.{Drives}
 use Rattle.swd_port.specs.Phases.{port_flipped}
 use Rattle.swd_port.specs.Registers.{register_bit}
@@ -234,7 +234,7 @@ holds_read E o busy x h = record {
 }
 
 knows_read : (E : List Transfer → Type 0) (o : Observer) (busy bank0 : Bool) (x : Target) → ObserverKnows E o x
-    → ObserverKnows E o (port_after_okay busy (if bank0 then CtrlStatRead else DpZeroRead) x)
+    → ObserverKnows E o (port_after_okay busy (if bank0 then CtrlStatRead else DpOtherRead) x)
 knows_read E o busy true x (here clean h) = here clean (holds_read E (observer_arrival o) busy x h)
 knows_read E o busy true x (spoiled error rest h) = spoiled error rest (holds_read E
     (record o { sent = None }) busy x h)
@@ -242,7 +242,7 @@ knows_read E o busy false x k = k
 
 -- which request it is
 status_dp : (read : Bool) (addr : Reg4) (b : Bool) → observed_class_dp read addr ≡ Status
-    → (port_dp_register read addr b ≡ (if b then CtrlStatRead else DpZeroRead)) × (read ≡ true)
+    → (port_dp_register read addr b ≡ (if b then CtrlStatRead else DpOtherRead)) × (read ≡ true)
 status_dp true R4 true e = (refl, refl)
 status_dp true R4 false e = (refl, refl)
 status_dp true R0 b e = absurd (cc)
@@ -256,12 +256,12 @@ status_dp false RC b e = absurd (cc)
 status_by : (ap : Bool) (s : Select) (read : Bool) (addr : Reg4)
     → (if ap then Confirms else observed_class_dp read addr) ≡ Status
     → ((if ap then port_ap_register s read addr else port_dp_register read addr (s.dpbanksel == 0))
-    ≡ (if s.dpbanksel == 0 then CtrlStatRead else DpZeroRead)) × (read ≡ true)
+    ≡ (if s.dpbanksel == 0 then CtrlStatRead else DpOtherRead)) × (read ≡ true)
 status_by true s read addr e = absurd (cc)
 status_by false s read addr e = status_dp read addr (s.dpbanksel == 0) e
 
 status_is : (s : Select) (q : Request) → observed_class q ≡ Status
-    → (port_register s q ≡ (if s.dpbanksel == 0 then CtrlStatRead else DpZeroRead)) × (q.read ≡ true)
+    → (port_register s q ≡ (if s.dpbanksel == 0 then CtrlStatRead else DpOtherRead)) × (q.read ≡ true)
 status_is s q e = status_by q.ap s q.read q.addr e
 
 -- DPBANKSEL is 0 where it is known to be
@@ -305,7 +305,7 @@ flags_in busy x = ctrl_stat_word_reads x.sticky_error x.read_ok x.write_error x.
     (is_port_power_there (power_up_after busy CtrlStatRead x.power_up))
 
 status_value : (busy bank0 : Bool) (filler : ℕ) (x : Target) → bank0 ≡ true
-    → port_value_in busy (if bank0 then CtrlStatRead else DpZeroRead) filler x ≡ ctrl_stat_word_in busy x
+    → port_value_in busy (if bank0 then CtrlStatRead else DpOtherRead) filler x ≡ ctrl_stat_word_in busy x
 status_value busy true filler x e = refl
 status_value busy false filler x e = absurd (cc)
 
@@ -322,7 +322,7 @@ StatusTold before told o word known x = ObserverKnows
 status_at : (before : List Transfer) (told : List ObservedAccess) (o : Observer) (word : ℕ) (ok : Bool) (busy : Bool)
     (filler : ℕ) (x : Target) (known : Bool) → (ok && is_status_observed o) ≡ known
     → IfSome (word_observed ok word) (λ w. port_value_in busy
-    (if x.select.dpbanksel == 0 then CtrlStatRead else DpZeroRead)
+    (if x.select.dpbanksel == 0 then CtrlStatRead else DpOtherRead)
     filler x ≡ w)
     → ObserverKnows (ObservedSince before told) o x → StatusTold before told o word known x
 status_at before told o word ok busy filler x false e is k =
@@ -331,7 +331,7 @@ status_at before told o word ok busy filler x true e is k =
     let value : ctrl_stat_word_in busy x ≡ word =
     sym (status_value busy (x.select.dpbanksel == 0) filler x
     (bank_known (ObservedSince before told) o x (both_right ok (is_status_observed o) e) k))
-    ∙ told_word ok word (port_value_in busy (if x.select.dpbanksel == 0 then CtrlStatRead else DpZeroRead) filler x)
+    ∙ told_word ok word (port_value_in busy (if x.select.dpbanksel == 0 then CtrlStatRead else DpOtherRead) filler x)
     (both_left ok (is_status_observed o) e) is in
     flags_tell before told (register_bit 5 word) (register_bit 7 word) o x
     (sym (flags_in busy x).sticky_bit ∙ ap (register_bit 5) value)

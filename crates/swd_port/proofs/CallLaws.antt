@@ -149,10 +149,10 @@ port_request_counted q seen s t (a, b, mark, c, first, now, last) =
       write_error = l.write_error ∙ y.write_error ∙ k.write_error;
       debug_power = l.debug_power ∙ y.debug_power ∙ k.debug_power;
       system_power = l.system_power ∙ y.system_power ∙ k.system_power;
-      seen = λ e. l.power_up ∙ y.seen (k.power_up ∙ e);
+      debug_seen = λ e. l.debug_up ∙ y.debug_seen (k.debug_up ∙ e);
+      system_seen = λ e. l.system_up ∙ y.system_seen (k.system_up ∙ e);
       select = l.select ∙ y.select ∙ k.select;
       increments = l.increments ∙ y.increments ∙ k.increments;
-      csw_upper = l.csw_upper ∙ y.csw_upper ∙ k.csw_upper;
       identification = l.identification ∙ y.identification ∙ k.identification;
     }
 
@@ -199,6 +199,7 @@ port_counted_apart n (Ask q) seen s t h = (
   record {
     legal = h.5.legal;
     choice = h.5.choice;
+    late = h.5.late;
     settled = h.5.settled;
     word = h.5.word;
     sees = h.5.sees;
@@ -210,6 +211,7 @@ port_counted_apart n Take seen s t h =
     moved_apart (λ a b. PortTakesNow a seen b) n s t
     (λ a b now. record { gets = now.gets; after = ap (port_with_asked n) now.after }) h
 port_counted_apart n (Give sent) seen s t h =
-    moved_apart (λ a b. PortGivesNow a sent b) n s t (λ a b now. record { after = ap (port_with_asked n) now.after }) h
+    moved_apart (λ a b. PortGivesNow a sent b) n s t
+    (λ a b now. record { refuses = now.refuses; after = ap (port_with_asked n) now.after }) h
 port_counted_apart n Pass seen s t h =
     moved_apart PortPassesNow n s t (λ a b now. record { after = ap (port_with_asked n) now.after }) h

@@ -42,10 +42,10 @@ kept_done c s = record {
   read_ok = refl;
   debug_power = refl;
   system_power = refl;
-  power_up = refl;
+  debug_up = refl;
+  system_up = refl;
   select = refl;
   increments = refl;
-  csw_upper = refl;
   last_returned = refl;
   identification = refl;
   sticky_error = λ set. stuck _ set _;
@@ -61,10 +61,10 @@ kept_same s = record {
   read_ok = refl;
   debug_power = refl;
   system_power = refl;
-  power_up = refl;
+  debug_up = refl;
+  system_up = refl;
   select = refl;
   increments = refl;
-  csw_upper = refl;
   last_returned = refl;
   identification = refl;
   sticky_error = λ set. set;
@@ -129,15 +129,13 @@ lost_buffer : (c : Choice) (access : Access) (m : Bus) (x : Target) → x.tar �
 lost_buffer c (Read at) m x tar pending memory fits = rw (pending, tar, memory, fits) refl
 lost_buffer c (Write at word) m x tar pending memory fits = rw (pending, tar, memory, fits) refl
 
--- both ways to go on agree inside a kilobyte
-next_inside : (wraps : Bool) (at : ℕ) → at % 4 ≡ 0 → at < 2 ^ 32 → (at + 4) % 1024 ≢ 0
-    → port_tar_next_address wraps at ≡ at + 4
-next_inside true at aligned fits inside = omega arith
-next_inside false at aligned fits inside = omega arith
+-- the next address inside a kilobyte
+next_inside : (at : ℕ) → at % 4 ≡ 0 → (at + 4) % 1024 ≢ 0 → port_tar_next_address at ≡ Some (at + 4)
+next_inside at aligned inside = let below : at % 1024 + 4 < 1024 = omega arith in grind arith
 
 next_tar : (c : Choice) (access : Access) (m : Bus) (x : Target) → x.tar ≡ Some (plain_address access)
     → x.pending ≡ Some (pending_drw_of access) → x.memory ≡ m → bus_succeeds access m ≡ true → x.increments ≡ true
-    → (port_completion c x).tar ≡ Some (port_tar_next_address c.wraps (plain_address access))
+    → (port_completion c x).tar ≡ port_tar_next_address (plain_address access)
 next_tar c (Read at) m x tar pending memory fits increments = rw (pending, tar, memory, fits, increments) refl
 next_tar c (Write at word) m x tar pending memory fits increments = rw (pending, tar, memory, fits, increments) refl
 
@@ -145,7 +143,7 @@ done_tar : (c : Choice) (access : Access) (m : Bus) (x : Target) → x.tar ≡ S
     → x.pending ≡ Some (pending_drw_of access) → x.memory ≡ m →
     bus_succeeds access m ≡ true → PortTarAdvanced (plain_address access) (port_completion c x)
 done_tar c access m x tar pending memory fits increments aligned range inside =
-    next_tar c access m x tar pending memory fits increments ∙ ap (λ n. Some n) (next_inside c.wraps (plain_address access) aligned range inside)
+    next_tar c access m x tar pending memory fits increments ∙ next_inside (plain_address access) aligned inside
 
 stays_buffered : (access : Access) (m : Bus) (x y : Target) → y.buffer ≡ x.buffer → PortBuffered access m x
     → PortBuffered access m y
@@ -327,12 +325,21 @@ pub port_may_become_carried : (m : Bus) (s t : Port) → t.target.pending ≡ s.
 port_may_become_carried m s t p a e (c, fits, is) = (c, fits, is ∙ memory_same c s.target t.target p a e)
 
 abbrev any_choice : Choice
-any_choice = record { address = 0; wraps = false; filler = 0 }
+any_choice =
+    record {
+      address = 0;
+      filler = 0;
+      others = 0;
+      elsewhere = 0;
+      refuses = false;
+      debug_late = false;
+      system_late = false;
+    }
 
 may_become_same : (s : Port) → s.target.pending ≡ None → MayBecome s s.target.memory
 may_become_same s none = (
   any_choice,
-  record { address = omega arith; filler = omega arith },
+  record { address = omega arith; filler = omega arith; others = omega arith; elsewhere = omega arith },
   sym
       (ap (λ p. p.target.memory) (no_pending_same_port any_choice s none)),
 )

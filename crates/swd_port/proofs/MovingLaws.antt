@@ -1,5 +1,5 @@
 -- Laws of data phases, turnarounds, ones and zeros.
-use Rattle.std.proofs.Common.{◌≡◌, ◌≢◌, ◌<◌, ◌^◌, ℕ, false, refl, sym, ap, subst, inl, inr, arith, ◌∙◌}
+use Rattle.std.proofs.Common.{◌≡◌, ◌≢◌, ◌<◌, ◌^◌, ℕ, Bool, false, refl, sym, ap, subst, inl, inr, arith, ◌∙◌}
 use Rattle.std.specs.Prelude.{Option, Some, None, ◌==◌}
 use Rattle.swd_bits.specs.Bits.{low_bits}
 use Rattle.swd_bits.specs.Phases.{data_phase_number, data_phase_word}
@@ -103,11 +103,17 @@ pub port_turnaround_at_rest : PortTurnaroundAtRest
 port_turnaround_at_rest s t none h = passed_at_rest s t none (port_turnaround_passed s t h)
 
 -- the data phase of a write
-gave : (r : Register) (word : ℕ) (s t : Port) → t ≡ port_after_arrival (Arrives r word) s → PortWritten r word s t
-gave r word s t e = record { link = ap (λ p. p.link) e; target = ap (λ p. p.target) e; tally = ap (λ p. p.tally) e }
+gave : (r : Register) (word : ℕ) (refuses : Bool) (s t : Port) → t ≡ port_after_arrival refuses (Arrives r word) s
+    → PortWritten r word s t
+gave r word refuses s t e = record {
+  link = ap (λ p. p.link) e;
+  refuses = refuses;
+  target = ap (λ p. p.target) e;
+  tally = ap (λ p. p.tally) e;
+}
 
-spoiled : (s t : Port) → t ≡ port_after_arrival Damaged s → PortWriteSpoiled s t
-spoiled s t e = record { link = ap (λ p. p.link) e; target = ap (λ p. p.target) e; tally = ap (λ p. p.tally) e }
+spoiled : (refuses : Bool) (s t : Port) → t ≡ port_after_arrival refuses Damaged s → PortWriteSpoiled s t
+spoiled refuses s t e = record { link = ap (λ p. p.link) e; target = ap (λ p. p.target) e; tally = ap (λ p. p.tally) e }
 
 arrives : (r : Register) (word sent : ℕ) → sent ≡ data_phase_number word → word < 2 ^ 32
     → port_arrival (Awaits r None) sent ≡ Arrives r word
@@ -117,16 +123,16 @@ spoils : (r : Register) (place word sent : ℕ) → sent ≡ data_phase_number w
     → port_arrival (Awaits r (Some place)) sent ≡ Damaged
 spoils r place word sent e range = rw (e, flipped_data_phase_no_word word place range) refl
 
-given : (r : Register) (flip : Option ℕ) (word sent : ℕ) (s t : Port) → s.link.line ≡ Awaits r flip → word < 2 ^ 32
-    → sent ≡ data_phase_number word → t ≡ port_after_arrival (port_arrival s.link.line sent) s
+given : (r : Register) (flip : Option ℕ) (word sent : ℕ) (refuses : Bool) (s t : Port) → s.link.line ≡ Awaits r flip
+    → word < 2 ^ 32 → sent ≡ data_phase_number word → t ≡ port_after_arrival refuses (port_arrival s.link.line sent) s
     → PortWriteGiven r flip word s t
-given r None word sent s t line range is e = whole refl
-    (gave r word s t (e ∙ ap (λ x. port_after_arrival (port_arrival x sent) s) line
-    ∙ ap (λ x. port_after_arrival x s) (arrives r word sent is range)))
-given r (Some place) word sent s t line range is e =
-    damaged place refl (spoiled s t
-    (e ∙ ap (λ x. port_after_arrival (port_arrival x sent) s) line
-    ∙ ap (λ x. port_after_arrival x s) (spoils r place word sent is range)))
+given r None word sent refuses s t line range is e = whole refl
+    (gave r word refuses s t (e ∙ ap (λ x. port_after_arrival refuses (port_arrival x sent) s) line
+    ∙ ap (λ x. port_after_arrival refuses x s) (arrives r word sent is range)))
+given r (Some place) word sent refuses s t line range is e =
+    damaged place refl (spoiled refuses s t
+    (e ∙ ap (λ x. port_after_arrival refuses (port_arrival x sent) s) line
+    ∙ ap (λ x. port_after_arrival refuses x s) (spoils r place word sent is range)))
 
 -- between two possible completions, the data phase of a write does the write, or, with a bit changed, sets WDATAERR
 -- alone
@@ -134,8 +140,13 @@ pub port_data_given : PortDataGiven
 port_data_given r flip word sent s t line range fits is (a, b, first, now, last) =
     let k : PortKept s a = port_kept s a first in
     let number : sent ≡ data_phase_number word =
-    data_phase_of_found_word sent word fits (data_phase_word_by_bits sent word fits range (sym is)) in
-    (a, b, first, given r flip word sent a b (ap (λ l. l.line) k.link ∙ line) range number now.after, last)
+    data_phase_of_found_word sent word fits (data_phase_word_by_bits sent word fits range (sym is)) in (
+      a,
+      b,
+      first,
+      given r flip word sent now.refuses a b (ap (λ l. l.line) k.link ∙ line) range number now.after,
+      last,
+    )
 
 -- the same without a pending transfer: a completion can only follow
 pub port_data_given_at_rest : PortDataGivenAtRest

@@ -1,11 +1,10 @@
 -- A step for each state: the pending transfer takes effect, and an unknown word is 0.
 use Rattle.std.proofs.Common.{ℕ, ◌<◌, ◌^◌, Bool, true, false, Option, Some, None, [], refl, inl, inr, arith}
 use Rattle.std.specs.Prelude.{IfSome, unwrap_or}
-use Rattle.swd_port.specs.Registers.{ctrl_stat_read}
 use Rattle.swd_port.specs.Bus.{Bus}
-use Rattle.swd_port.specs.Port.{Target, Register, DpidrRead, CtrlStatRead, ResendRead, DpZeroRead, Drw, Reads, Writes}
+use Rattle.swd_port.specs.Port.{Target, Register, DpidrRead, CtrlStatRead, ResendRead, DpOtherRead, Drw, Reads, Writes}
 use Rattle.swd_port.specs.Port.{port_register, Port}
-use Rattle.swd_port.specs.Choices.{is_port_wait, Choice, IsPortChoice, Mark, IsPortMark}
+use Rattle.swd_port.specs.Choices.{Choice, IsPortChoice, Mark, IsPortMark}
 use Rattle.swd_port.specs.Answers.{Reply, Okay, Waits, Faults, Silent, port_seen_at}
 use Rattle.swd_port.specs.Completion.{port_completed, pending_fails, buffer_after_pending}
 use Rattle.swd_port.specs.Asking.{port_value_in, port_reply, port_after_reply, IsPendingSettled, IsPortWordRead}
@@ -16,21 +15,33 @@ use Rattle.swd_port.specs.declared.cue.Cue.TheVariants.{Lead, Ask, Take, Give, P
 use Rattle.swd_bits.specs.declared.request.Request.{Request}
 use Rattle.swd_port.specs.Laws.NeverStuck.{PortRequestNeverStuck, PortCallNeverStuck, PortReadsWords, BusReadsWords}
 use Rattle.swd_port.proofs.AnswerLaws.{port_sees_seen_at, port_deaf_silent}
+use Rattle.swd_port.proofs.StatusLaws.{ctrl_stat_word_range}
 
--- a target's choice: 0 for an unknown address and an unknown word, and TAR carries at the end of a kilobyte
+-- a target's choice: 0 for an unknown address, an unknown word, the bits that the model leaves open, and a register
+-- elsewhere, which is no bus error; and no power is late
 abbrev pub port_zeros : Choice
-port_zeros = record { address = 0; wraps = false; filler = 0 }
+port_zeros = record {
+  address = 0;
+  filler = 0;
+  others = 0;
+  elsewhere = 0;
+  refuses = false;
+  debug_late = false;
+  system_late = false;
+}
 
--- its address and its word are below 2^32
+-- its address and its words are below 2^32
 pub port_zeros_fit : IsPortChoice port_zeros
-port_zeros_fit = record { address = omega arith; filler = omega arith }
+port_zeros_fit = record {
+  address = omega arith;
+  filler = omega arith;
+  others = omega arith;
+  elsewhere = omega arith;
+}
 
 known : (o : Option ℕ) → IfSome o (λ word. word < 2 ^ 32) → unwrap_or o 0 < 2 ^ 32
 known None h = omega arith
 known (Some word) h = h
-
-status_word : (a b d e f g : Bool) → ctrl_stat_read a b d e f g < 2 ^ 32
-status_word a b d e f g = grind arith
 
 -- the read buffer, once the pending transfer took effect
 pub buffer_word_after_pending : (pending : Option Drw) (failed : Bool) (at : ℕ) (m : Bus) (buffer : Option ℕ) →
@@ -44,15 +55,15 @@ buffer_word_after_pending (Some (Writes word)) false at m buffer words h = h
 
 -- a read returns 32 bits, with 0 for an unknown word, where the identification, the read buffer and the last returned
 -- value have 32 bits, or are unknown
-pub port_value_range : (busy : Bool) (r : Register) (x : Target) → x.identification < 2 ^ 32
+pub port_value_range : (r : Register) (x : Target) → x.identification < 2 ^ 32
     → IfSome x.buffer (λ word. word < 2 ^ 32) →
-    IfSome x.last_returned (λ word. word < 2 ^ 32) → port_value_in busy r 0 x < 2 ^ 32
-port_value_range busy DpidrRead x i b l = i
-port_value_range busy CtrlStatRead x i b l =
-    status_word x.sticky_error x.read_ok x.write_error x.debug_power x.system_power _
-port_value_range busy ResendRead x i b l = known x.last_returned l
-port_value_range busy DpZeroRead x i b l = omega arith
-port_value_range busy r x i b l = known x.buffer b
+    IfSome x.last_returned (λ word. word < 2 ^ 32) → port_value_in port_zeros r x < 2 ^ 32
+port_value_range DpidrRead x i b l = i
+port_value_range CtrlStatRead x i b l =
+    ctrl_stat_word_range 0 x.sticky_error x.read_ok x.write_error x.debug_power _ x.system_power _
+port_value_range ResendRead x i b l = known x.last_returned l
+port_value_range DpOtherRead x i b l = omega arith
+port_value_range r x i b l = known x.buffer b
 
 settled : (reply : Reply) (r : Register) → IsPendingSettled reply r None
 settled Okay r = λ e. refl
@@ -85,8 +96,9 @@ port_asks_with_zeros mark s q legal words =
       legal = legal;
       choice = port_zeros_fit;
       settled = settled reply r;
-      word = word_read reply q.read (port_value_in (is_port_wait mark) r 0 a.target)
-          (port_value_range (is_port_wait mark) r a.target words.identification buffer words.last_returned);
+      late = λ e. (refl, refl);
+      word = word_read reply q.read (port_value_in port_zeros r a.target)
+          (port_value_range r a.target words.identification buffer words.last_returned);
       sees = port_sees_seen_at mark (port_reply mark (port_completed port_zeros s).target q) legal
           (port_deaf_silent mark _ _);
       after = refl;
@@ -116,8 +128,8 @@ port_call_never_stuck Take s other = (
   (s, port_after_take s, inl refl, record { gets = refl; after = refl }, inl refl),
 )
 port_call_never_stuck (Give sent) s other =
-    let t = port_after_arrival (port_arrival s.link.line sent) s in
-    (0, t, (s, t, inl refl, record { after = refl }, inl refl))
+    let t = port_after_arrival false (port_arrival s.link.line sent) s in
+    (0, t, (s, t, inl refl, record { refuses = false; after = refl }, inl refl))
 port_call_never_stuck Pass s other = (
   0,
   port_after_pass s,

@@ -2,7 +2,7 @@
 use Rattle.std.proofs.Common.{◌≡◌, ℕ, zero, suc, ◌+◌, ◌*◌, ◌/◌, ◌%◌, ◌^◌, ◌<◌, refl, sym, ap, ◌∙◌, arith}
 use Rattle.std.specs.Prelude.{◌==◌}
 use Rattle.std.specs.Int.RustNames.{bit_and, bit_or}
-use Rattle.std.proofs.lemmas.Nat.{and_mask, and_block, or_shifted, shr_split}
+use Rattle.std.proofs.lemmas.Nat.{and_mask, and_block, or_shifted, shr_split, pow_pos, mod_below}
 use Rattle.swd_bits.specs.Bits.{bit}
 use Rattle.swd_port.specs.declared.select.Select.{Select}
 use Rattle.swd_port.specs.Registers.{select_of, select_word, select_mask, IsSelect, csw_of, csw_word, csw_mask}
@@ -18,6 +18,17 @@ two_blocks : (w k high low : ℕ) → low < 2 ^ k → w % 2 ^ k < 2 ^ k
     → bit_and w (high * 2 ^ k + low) ≡ bit_and (w / 2 ^ k) high * 2 ^ k + bit_and (w % 2 ^ k) low
 two_blocks w k high low h j = ap (λ x. bit_and x (high * 2 ^ k + low)) (sym (shr_split w k))
     ∙ and_block k (w / 2 ^ k) high (w % 2 ^ k) low j h
+
+-- one bit of a word
+pub register_bit_masked : (w k : ℕ) → bit_and w (2 ^ k) ≡ w / 2 ^ k % 2 * 2 ^ k
+register_bit_masked w k =
+    let some = pow_pos k in
+    let parts : bit_and w (1 * 2 ^ k + 0) ≡ bit_and (w / 2 ^ k) 1 * 2 ^ k + bit_and (w % 2 ^ k) 0 = two_blocks w k 1 0
+    (omega arith) (mod_below w (2 ^ k) some) in
+    let high : bit_and (w / 2 ^ k) 1 ≡ w / 2 ^ k % 2 = and_mask (w / 2 ^ k) 1 in
+    let low : bit_and (w % 2 ^ k) 0 ≡ w % 2 ^ k % 1 = and_mask (w % 2 ^ k) 0 in
+    let one : 1 * 2 ^ k + 0 ≡ 2 ^ k = omega arith in
+    ap (bit_and w) (sym one) ∙ parts ∙ (rw (high, low) (omega arith))
 
 -- the bits that SELECT names
 pub select_mask_bits : (w : ℕ) → bit_and w select_mask ≡ w / 2 ^ 24 % 2 ^ 8 * 2 ^ 24 + w % 2 ^ 8

@@ -6,14 +6,17 @@ use Rattle.swd_bits.specs.declared.request.Request.{Request}
 use Rattle.swd_port.specs.declared.wire.Due.TheVariants.{Lost}
 use Rattle.swd_port.specs.Bus.{Bus}
 use Rattle.swd_port.specs.declared.access.Access.{Access}
-use Rattle.swd_port.specs.Port.{Port, Target, PowerUp, Seen, Register, DpidrRead, DrwRead, Drw, Reset, Unreset, Live}
+use Rattle.swd_port.specs.Port.{Port, Target, PowerUp, Seen, Register, DpidrRead, DrwRead, ApOtherRead, Drw}
+use Rattle.swd_port.specs.Port.{Reset, Unreset, Live}
 use Rattle.swd_port.specs.Port.{port_register}
-use Rattle.swd_port.specs.Choices.{Mark, Clean, Wait, Flip, Deaf, Mute, IsPortMark, Choice, IsPortChoice, is_port_wait}
+use Rattle.swd_port.specs.Choices.{Mark, Clean, Wait, Flip, Deaf, Mute, IsPortMark, Choice, IsPortChoice, PortMayBeLate}
+use Rattle.swd_port.specs.Choices.{is_port_wait}
 use Rattle.swd_port.specs.Choices.{is_port_deaf, port_flip_of, port_disturbs}
 use Rattle.swd_port.specs.Answers.{Reply, Okay, Waits, Faults, Silent, is_exempt_register, is_port_power_there}
 use Rattle.swd_port.specs.Answers.{is_port_unpowered, port_seen_at, PortSees, IsPortNoAck, port_due_after}
 use Rattle.swd_port.specs.Asking.{PortAsksNow, port_after_reply, port_reply, IsPendingSettled, IsPortWordRead}
-use Rattle.swd_port.specs.Asking.{port_value_in, port_has_power, power_up_after, pending_drw_once_read, port_after_okay}
+use Rattle.swd_port.specs.Asking.{port_value_in, port_has_power, power_up_after, debug_up_after, stickyerr_once_read}
+use Rattle.swd_port.specs.Asking.{pending_drw_once_read, port_after_okay}
 use Rattle.swd_port.specs.Asking.{port_target_after}
 use Rattle.swd_port.specs.Outcomes.{PortSteady, PortUnmoved, PortIgnores, PortDefers, PortRefuses, PortAccepts}
 use Rattle.swd_port.specs.Outcomes.{PortHeard, PortOkaySeen, PortFaultSeen, PortNoneSeen, PortOkayOrLost}
@@ -37,7 +40,8 @@ pub record PortReplied (mark : Mark) (c : Choice) (reply : Reply) (r : Register)
   pub legal : IsPortMark mark
   pub choice : IsPortChoice c
   pub settled : IsPendingSettled reply r s.target.pending
-  pub word : IsPortWordRead reply q.read (port_value_in (is_port_wait mark) r c.filler s.target)
+  pub late : PortMayBeLate mark c
+  pub word : IsPortWordRead reply q.read (port_value_in c r s.target)
   pub sees : PortSees mark reply seen
   pub after : t ≡ port_after_reply mark reply r q c s
 
@@ -50,79 +54,78 @@ port_replied mark c reply r s q seen t is named h =
     (subst (λ y. PortReplied mark c (port_reply mark s.target q) y s q seen t) named (record {
       legal = h.legal;
       choice = h.choice;
+      late = h.late;
       settled = h.settled;
       word = h.word;
       sees = h.sees;
       after = h.after;
     }))
 
-seen_stays : (busy : Bool) (r : Register) (u : PowerUp) → u ≡ Seen → power_up_after busy r u ≡ Seen
-seen_stays busy r u e = grind arith
+seen_stays : (late : Bool) (r : Register) (u : PowerUp) → u ≡ Seen → power_up_after late r u ≡ Seen
+seen_stays late r u e = grind arith
 
-pub port_steady_after : (busy : Bool) (reply : Reply) (r : Register) (ap : Bool) (x : Target)
-    → PortSteady x (port_target_after busy reply r ap x)
-port_steady_after busy Okay r ap x =
-    record {
-      write_error = refl;
-      debug_power = refl;
-      system_power = refl;
-      seen = seen_stays busy r x.power_up;
-      select =
-          refl;
-      increments = refl;
-      csw_upper = refl;
-      tar = refl;
-      identification = refl;
-      memory = refl;
-    }
-port_steady_after busy Waits r ap x =
-    record {
-      write_error = refl;
-      debug_power = refl;
-      system_power = refl;
-      seen = λ e. e;
-      select = refl;
-      increments =
-          refl;
-      csw_upper = refl;
-      tar = refl;
-      identification = refl;
-      memory = refl;
-    }
-port_steady_after busy Faults r ap x =
-    record {
-      write_error = refl;
-      debug_power = refl;
-      system_power = refl;
-      seen = λ e. e;
-      select = refl;
-      increments =
-          refl;
-      csw_upper = refl;
-      tar = refl;
-      identification = refl;
-      memory = refl;
-    }
-port_steady_after busy Silent r ap x =
-    record {
-      write_error = refl;
-      debug_power = refl;
-      system_power = refl;
-      seen = λ e. e;
-      select = refl;
-      increments =
-          refl;
-      csw_upper = refl;
-      tar = refl;
-      identification = refl;
-      memory = refl;
-    }
+debug_seen_stays : (late : Bool) (r : Register) (u : PowerUp) → u ≡ Seen → debug_up_after late r u ≡ Seen
+debug_seen_stays late r u e = grind arith
+
+same_steady : (x : Target) → PortSteady x x
+same_steady x = record {
+  write_error = refl;
+  debug_power = refl;
+  system_power = refl;
+  debug_seen = λ e. e;
+  system_seen = λ e. e;
+  select = refl;
+  increments = refl;
+  tar = refl;
+  identification = refl;
+  memory = refl;
+}
+
+pub port_steady_after : (c : Choice) (reply : Reply) (r : Register) (ap : Bool) (x : Target)
+    → PortSteady x (port_target_after c reply r ap x)
+port_steady_after c Okay r ap x = record {
+  write_error = refl;
+  debug_power = refl;
+  system_power = refl;
+  debug_seen = debug_seen_stays c.debug_late r x.debug_up;
+  system_seen = seen_stays c.system_late r x.system_up;
+  select = refl;
+  increments = refl;
+  tar = refl;
+  identification = refl;
+  memory = refl;
+}
+port_steady_after c Waits r ap x = record {
+  write_error = refl;
+  debug_power = refl;
+  system_power = refl;
+  debug_seen = λ e. e;
+  system_seen = λ e. e;
+  select = refl;
+  increments = refl;
+  tar = refl;
+  identification = refl;
+  memory = refl;
+}
+port_steady_after c Faults r ap x = record {
+  write_error = refl;
+  debug_power = refl;
+  system_power = refl;
+  debug_seen = λ e. e;
+  system_seen = λ e. e;
+  select = refl;
+  increments = refl;
+  tar = refl;
+  identification = refl;
+  memory = refl;
+}
+port_steady_after c Silent r ap x = same_steady x
 
 -- no reply changes the registers that are written, the identification or the memory, and power seen as acknowledged
 -- stays so
-pub port_steady : (busy : Bool) (reply : Reply) (r : Register) (ap : Bool) (x y : Target)
-    → y ≡ port_target_after busy reply r ap x → PortSteady x y
-port_steady busy reply r ap x y e = subst (PortSteady x) (sym e) (port_steady_after busy reply r ap x)
+pub port_steady : (c : Choice) (reply : Reply) (r : Register) (ap : Bool) (x y : Target)
+    → y ≡ port_target_after c reply r ap x → PortSteady x y
+port_steady c reply r ap x y e = subst (PortSteady x) (sym e) (port_steady_after c reply r ap x)
 
 pub stickyerr_or_false : (b : Bool) → (b || false) ≡ b
 stickyerr_or_false true = refl
@@ -146,25 +149,29 @@ word_read : (read : Bool) (value : ℕ) → IsPortWordRead Okay read value → r
 word_read true value h e = h
 word_read false value h e = absurd (cc)
 
-busy_disturbed : (mark : Mark) (r : Register) (q : Request) (c : Choice) (s t : Port) → is_port_wait mark ≡ true
-    → t ≡ port_after_reply mark Okay r q c s → (port_flip_of mark ≡ None) × (t.tally.disturbed ≡ s.tally.disturbed + 1)
-busy_disturbed Wait r q c s t e after = (refl, ap (λ p. p.tally.disturbed) after)
-busy_disturbed Clean r q c s t e after = absurd (cc)
-busy_disturbed (Flip place) r q c s t e after = absurd (cc)
-busy_disturbed Deaf r q c s t e after = absurd (cc)
-busy_disturbed (Mute place) r q c s t e after = absurd (cc)
+on_time : (a b : Bool) → (a ≡ false) × (b ≡ false) → (a || b) ≡ true → ⊥
+on_time a b h e = let f : a ≡ false = h.0 in let g : b ≡ false = h.1 in grind arith
+
+-- a target that finds a power late is asked under a Wait mark
+late_disturbed : (mark : Mark) (r : Register) (q : Request) (c : Choice) (s t : Port) → PortMayBeLate mark c
+    → (c.debug_late || c.system_late) ≡ true → t ≡ port_after_reply mark Okay r q c s
+    → (port_flip_of mark ≡ None) × (t.tally.disturbed ≡ s.tally.disturbed + 1)
+late_disturbed Wait r q c s t may e after = (refl, ap (λ p. p.tally.disturbed) after)
+late_disturbed Clean r q c s t may e after = absurd (on_time c.debug_late c.system_late (may refl) e)
+late_disturbed (Flip place) r q c s t may e after = absurd (on_time c.debug_late c.system_late (may refl) e)
+late_disturbed Deaf r q c s t may e after = absurd (on_time c.debug_late c.system_late (may refl) e)
+late_disturbed (Mute place) r q c s t may e after = absurd (on_time c.debug_late c.system_late (may refl) e)
 
 accepts : (mark : Mark) (c : Choice) (r : Register) (s : Port) (q : Request) (seen : ℕ) (t : Port)
-    → (port_after_okay (is_port_wait mark) r s.target).reset ≡ Live →
+    → (port_after_okay c r s.target).reset ≡ Live →
     PortReplied mark c Okay r s q seen t → PortAccepts r q.read (port_flip_of mark) s t
 accepts mark c r s q seen t live h = record {
   target = ap (λ p. p.target) h.after;
   live = ap (λ p. p.target.reset) h.after ∙ live;
-  busy = is_port_wait mark;
-  disturbed = λ e. busy_disturbed mark r q c s t e h.after;
+  choice = c;
+  legal = h.choice;
+  disturbed = λ e. late_disturbed mark r q c s t h.late e h.after;
   settled = h.settled;
-  filler = c.filler;
-  filler_range = h.choice.filler;
   value_range = word_read q.read _ h.word;
   line = ap (λ p. p.link.line) h.after;
 }
@@ -212,7 +219,7 @@ mute_none place c reply r s q seen t h = sees_none (Mute place) c reply r s q se
 
 -- an OK that is seen
 clean_okay : (c : Choice) (r : Register) (s : Port) (q : Request) (seen : ℕ) (t : Port)
-    → (port_after_okay false r s.target).reset ≡ Live → PortReplied Clean c Okay r s q seen t
+    → (port_after_okay c r s.target).reset ≡ Live → PortReplied Clean c Okay r s q seen t
     → PortOkaySeen r q.read seen s t
 clean_okay c r s q seen t live h = record {
   is = h.sees;
@@ -224,7 +231,7 @@ clean_okay c r s q seen t live h = record {
 }
 
 wait_okay : (c : Choice) (r : Register) (s : Port) (q : Request) (seen : ℕ) (t : Port)
-    → (port_after_okay true r s.target).reset ≡ Live → PortReplied Wait c Okay r s q seen t
+    → (port_after_okay c r s.target).reset ≡ Live → PortReplied Wait c Okay r s q seen t
     → PortOkaySeen r q.read seen s t
 wait_okay c r s q seen t live h = record {
   is = h.sees;
@@ -236,7 +243,7 @@ wait_okay c r s q seen t live h = record {
 }
 
 flip_okay : (place : ℕ) (c : Choice) (r : Register) (s : Port) (q : Request) (seen : ℕ) (t : Port)
-    → (port_after_okay false r s.target).reset ≡ Live → PortReplied (Flip place) c Okay r s q seen t
+    → (port_after_okay c r s.target).reset ≡ Live → PortReplied (Flip place) c Okay r s q seen t
     → PortOkaySeen r q.read seen s t
 flip_okay place c r s q seen t live h = record {
   is = h.sees;
@@ -249,7 +256,7 @@ flip_okay place c r s q seen t live h = record {
 
 -- OK, unless it is lost
 okay_told : (mark : Mark) (c : Choice) (r : Register) (s : Port) (q : Request) (seen : ℕ) (t : Port)
-    → (port_after_okay (is_port_wait mark) r s.target).reset ≡ Live →
+    → (port_after_okay c r s.target).reset ≡ Live →
     PortReplied mark c (if is_port_deaf mark then Silent else Okay) r s q seen t → PortOkayOrLost r q.read seen s t
 okay_told Clean c r s q seen t live h = okay (clean_okay c r s q seen t live h)
 okay_told Wait c r s q seen t live h = okay (wait_okay c r s q seen t live h)
@@ -260,7 +267,7 @@ okay_told (Mute place) c r s q seen t live h = lost (mute_none place c Okay r s 
 
 -- OK, or WAIT at a Wait mark, unless it is lost
 free_told : (mark : Mark) (c : Choice) (r : Register) (s : Port) (q : Request) (seen : ℕ) (t : Port)
-    → (port_after_okay (is_port_wait mark) r s.target).reset ≡ Live →
+    → (port_after_okay c r s.target).reset ≡ Live →
     PortReplied mark c (if is_port_deaf mark then Silent else if is_port_wait mark then Waits else Okay) r s q seen t
     → PortOkayWaitOrLost r q.read seen s t
 free_told Clean c r s q seen t live h = okay (clean_okay c r s q seen t live h)
@@ -328,15 +335,15 @@ reply_identification : (mark : Mark) (q : Request) (x : Target) → port_registe
     → x.reset ≢ Unreset → port_reply mark x q ≡ (if is_port_deaf mark then Silent else Okay)
 reply_identification mark q x named reset = grind arith
 
-live_stays : (busy : Bool) (r : Register) (x : Target) → x.reset ≡ Live → (port_after_okay busy r x).reset ≡ Live
-live_stays busy r x e = grind arith
+live_stays : (c : Choice) (r : Register) (x : Target) → x.reset ≡ Live → (port_after_okay c r x).reset ≡ Live
+live_stays c r x e = grind arith
 
 -- one request, with no completion
 pub port_exempt_now : (mark : Mark) (c : Choice) (r : Register) (q : Request) (seen : ℕ) (s t : Port)
     → port_register s.target.select q ≡ r → is_exempt_register r ≡ true → s.target.reset ≡ Live →
     PortAsksNow mark c s q seen t → PortOkayOrLost r q.read seen s t
 port_exempt_now mark c r q seen s t named exempt live h =
-    okay_told mark c r s q seen t (live_stays (is_port_wait mark) r s.target live)
+    okay_told mark c r s q seen t (live_stays c r s.target live)
     (port_replied mark c _ r s q seen t (reply_exempt mark q s.target (ap is_exempt_register named ∙ exempt) live) named
     h)
 
@@ -369,15 +376,15 @@ pub port_free_now : (mark : Mark) (c : Choice) (r : Register) (q : Request) (see
     (q.ap ≡ true → port_has_power s.target ≡ true) → PortAsksNow mark c s q seen t
     → PortOkayWaitOrLost r q.read seen s t
 port_free_now mark c r q seen s t named plain live write sticky power h =
-    free_told mark c r s q seen t (live_stays (is_port_wait mark) r s.target live)
+    free_told mark c r s q seen t (live_stays c r s.target live)
     (port_replied mark c _ r s q seen t (reply_free mark q s.target (ap is_exempt_register named ∙ plain) live write
     sticky power) named h)
 
 -- a completion leaves the power as it is
 power_kept : (s a : Port) → PortKept s a → port_has_power a.target ≡ port_has_power s.target
 power_kept s a k =
-    ap (λ b. b && is_port_power_there a.target.power_up) k.debug_power ∙ ap
-    (λ u. s.target.debug_power && is_port_power_there u) k.power_up
+    ap (λ b. b && is_port_power_there a.target.debug_up) k.debug_power ∙ ap
+    (λ u. s.target.debug_power && is_port_power_there u) k.debug_up
 
 -- the whole call, with its completions
 pub port_exempt_request : PortExemptRequest
@@ -553,13 +560,21 @@ starts_drw : (r : Register) (pending : Option Drw) → (pending_drw_once_read r 
 starts_drw DrwRead pending = inr refl
 starts_drw r pending = inl refl
 
--- a lost request changes no register that is written, no flag, no memory, and the pending transfer only if it reads
--- DRW
+sets_elsewhere : (refuses : Bool) (r : Register) (flag : Bool)
+    → (stickyerr_once_read refuses r flag ≡ flag) ⊎ (r ≡ ApOtherRead)
+sets_elsewhere refuses ApOtherRead flag = inr refl
+sets_elsewhere refuses r flag = inl refl
+
+-- a lost request changes no register that is written, no memory, STICKYERR only if it reads an AP register elsewhere,
+-- and the pending transfer only if it reads DRW
 pub port_lost_request : PortLostRequest
 port_lost_request r read s t (inl h) = subst (PortLeftByLost r s.target) (sym h.target)
-    (port_steady_after false Silent r false s.target, refl, inl refl)
-port_lost_request r read s t (inr h) = subst (PortLeftByLost r s.target) (sym h.target)
-    (port_steady_after h.busy Okay r false s.target, refl, starts_drw r s.target.pending)
+    (same_steady s.target, inl refl, inl refl)
+port_lost_request r read s t (inr h) = subst (PortLeftByLost r s.target) (sym h.target) (
+  port_steady_after h.choice Okay r false s.target,
+  sets_elsewhere h.choice.refuses r s.target.sticky_error,
+  starts_drw r s.target.pending,
+)
 
 -- what it leaves in all cases
 unreset_other : (a b : Reset) → b ≡ Live → a ≢ Unreset → b ≢ Unreset
@@ -568,7 +583,7 @@ unreset_other a b e other f = absurd (let g : Live ≡ Unreset = sym e ∙ f in 
 stays_unmoved : (s t : Port) → PortIgnores s t → PortUnmoved s.target t.target
 stays_unmoved s t h = subst (PortUnmoved s.target) (sym h.target)
     (record {
-      steady = port_steady_after false Silent DpidrRead false s.target;
+      steady = same_steady s.target;
       sticky_error = refl;
       pending = refl;
       live =
@@ -579,7 +594,18 @@ stays_unmoved s t h = subst (PortUnmoved s.target) (sym h.target)
 defers_unmoved : (r : Register) (s t : Port) → PortDefers r s t → PortUnmoved s.target t.target
 defers_unmoved r s t h = subst (PortUnmoved s.target) (sym h.target)
     (record {
-      steady = port_steady_after false Waits r false s.target;
+      steady = record {
+        write_error = refl;
+        debug_power = refl;
+        system_power = refl;
+        debug_seen = λ e. e;
+        system_seen = λ e. e;
+        select = refl;
+        increments = refl;
+        tar = refl;
+        identification = refl;
+        memory = refl;
+      };
       sticky_error = refl;
       pending = refl;
       live = λ e. e;
@@ -589,18 +615,35 @@ defers_unmoved r s t h = subst (PortUnmoved s.target) (sym h.target)
 refuses_unmoved : (r : Register) (access : Bool) (s t : Port) → (access ≡ true → port_has_power s.target ≡ true)
     → PortRefuses r access s t → PortUnmoved s.target t.target
 refuses_unmoved r access s t power h = record {
-  steady = port_steady false Faults r access s.target t.target h.target;
+  steady = subst (PortSteady s.target) (sym h.target) (record {
+    write_error = refl;
+    debug_power = refl;
+    system_power = refl;
+    debug_seen = λ e. e;
+    system_seen = λ e. e;
+    select = refl;
+    increments = refl;
+    tar = refl;
+    identification = refl;
+    memory = refl;
+  });
   sticky_error = port_refused_with_power r access s t h power;
   pending = ap (λ x. x.pending) h.target;
   live = λ e. ap (λ x. x.reset) h.target ∙ e;
   reset = λ other e. other (sym (ap (λ x. x.reset) h.target) ∙ e);
 }
 
-accepts_unmoved : (r : Register) (read : Bool) (flip : Option ℕ) (s t : Port) → r ≢ DrwRead
+only_elsewhere_sets : (refuses : Bool) (r : Register) (flag : Bool) → r ≢ ApOtherRead
+    → stickyerr_once_read refuses r flag ≡ flag
+only_elsewhere_sets refuses ApOtherRead flag other = absurd (other refl)
+only_elsewhere_sets refuses r flag other = refl
+
+accepts_unmoved : (r : Register) (read : Bool) (flip : Option ℕ) (s t : Port) → r ≢ DrwRead → r ≢ ApOtherRead
     → PortAccepts r read flip s t → PortUnmoved s.target t.target
-accepts_unmoved r read flip s t other h = record {
-  steady = port_steady h.busy Okay r false s.target t.target h.target;
-  sticky_error = ap (λ x. x.sticky_error) h.target;
+accepts_unmoved r read flip s t other near h = record {
+  steady = port_steady h.choice Okay r false s.target t.target h.target;
+  sticky_error = ap (λ x. x.sticky_error) h.target
+      ∙ only_elsewhere_sets h.choice.refuses r s.target.sticky_error near;
   pending = ap (λ x. x.pending) h.target ∙ only_drw_starts r s.target.pending other;
   live = λ e. h.live;
   reset = unreset_other s.target.reset t.target.reset h.live;
@@ -609,19 +652,24 @@ accepts_unmoved r read flip s t other h = record {
 exempt_other : (r : Register) → is_exempt_register r ≡ true → r ≢ DrwRead
 exempt_other r e f = absurd (let g : is_exempt_register DrwRead ≡ true = ap is_exempt_register (sym f) ∙ e in cc)
 
+exempt_near : (r : Register) → is_exempt_register r ≡ true → r ≢ ApOtherRead
+exempt_near r e f = absurd (let g : is_exempt_register ApOtherRead ≡ true = ap is_exempt_register (sym f) ∙ e in cc)
+
 -- whatever its result, an exempt request changes no register that is written, no flag, no memory and no pending
 -- transfer
 pub port_unmoved_by_exempt : PortUnmovedByExempt
-port_unmoved_by_exempt r read seen s t e (okay h) = accepts_unmoved r read h.flip s t (exempt_other r e) h.accepts
+port_unmoved_by_exempt r read seen s t e (okay h) = accepts_unmoved r read h.flip s t (exempt_other r e)
+    (exempt_near r e) h.accepts
 port_unmoved_by_exempt r read seen s t e (lost n (inl h)) = stays_unmoved s t h
-port_unmoved_by_exempt r read seen s t e (lost n (inr h)) = accepts_unmoved r read None s t (exempt_other r e) h
+port_unmoved_by_exempt r read seen s t e (lost n (inr h)) = accepts_unmoved r read None s t (exempt_other r e)
+    (exempt_near r e) h
 
--- the same for a request that gets OK or WAIT, or is lost, unless it reads DRW
+-- the same for a request that gets OK or WAIT, or is lost, unless it reads DRW or an AP register elsewhere
 pub port_unmoved_by_free : PortUnmovedByFree
-port_unmoved_by_free r read seen s t other (okay h) = accepts_unmoved r read h.flip s t other h.accepts
-port_unmoved_by_free r read seen s t other (wait h) = defers_unmoved r s t h.defers
-port_unmoved_by_free r read seen s t other (lost n (inl h)) = stays_unmoved s t h
-port_unmoved_by_free r read seen s t other (lost n (inr h)) = accepts_unmoved r read None s t other h
+port_unmoved_by_free r read seen s t other near (okay h) = accepts_unmoved r read h.flip s t other near h.accepts
+port_unmoved_by_free r read seen s t other near (wait h) = defers_unmoved r s t h.defers
+port_unmoved_by_free r read seen s t other near (lost n (inl h)) = stays_unmoved s t h
+port_unmoved_by_free r read seen s t other near (lost n (inr h)) = accepts_unmoved r read None s t other near h
 
 -- the same for one that gets FAULT, or is lost, unless it is an AP access without debug power
 pub port_unmoved_by_refused : PortUnmovedByRefused

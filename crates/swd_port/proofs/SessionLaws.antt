@@ -2,7 +2,7 @@
 -- is 0.
 use Rattle.std.proofs.Common.{◌≡◌, ◌<◌, ◌^◌, ◌%◌, ℕ, zero, suc, Bool, true, false, List, [], ◌∷◌, length, Option, Some}
 use Rattle.std.proofs.Common.{None, refl, sym, ap, subst, inl, inr, arith}
-use Rattle.std.specs.Prelude.{IfSome, unwrap_or, if◌then◌else◌, ◌==◌, not}
+use Rattle.std.specs.Prelude.{IfSome, unwrap_or, if◌then◌else◌, ◌==◌, not, nat_lt, ◌+◌}
 use Rattle.std.specs.Int.RustNames.{count_ones}
 use Rattle.std.proofs.lemmas.Nat.{xor_lt}
 use Rattle.std.proofs.Math.Pow.{pow-lt}
@@ -15,13 +15,13 @@ use Rattle.swd_port.specs.declared.wire.Due.{Due}
 use Rattle.swd_port.specs.declared.wire.Due.TheVariants.{Nothing}
 use Rattle.swd_port.specs.declared.access.Access.TheVariants.{Read, Write}
 use Rattle.swd_port.specs.Bus.{Bus}
-use Rattle.swd_port.specs.Registers.{csw_read}
 use Rattle.swd_port.specs.Phases.{port_flipped}
 use Rattle.swd_port.specs.Port.{Port, Target, Register, Drw, Reads, Writes, AfterAck, Drives, Awaits, Idle}
-use Rattle.swd_port.specs.Port.{port_register, TarWrite, DrwWrite, RdbuffRead, CswRead, TarRead, ApZeroRead, DrwRead}
-use Rattle.swd_port.specs.Choices.{Mark, Clean, Wait, Flip, Deaf, Mute, IsPortMark, port_flip_of, is_port_wait}
+use Rattle.swd_port.specs.Port.{port_register, TarWrite, DrwWrite, RdbuffRead, CswRead, TarRead, ApOtherRead, DrwRead}
+use Rattle.swd_port.specs.Choices.{Mark, Clean, Wait, Flip, Deaf, Mute, IsPortMark, port_flip_of, Choice}
 use Rattle.swd_port.specs.Answers.{Reply, Okay, Waits, Faults, Silent, port_seen_at}
 use Rattle.swd_port.specs.Completion.{port_completed, pending_fails, memory_after_pending, tar_after_pending}
+use Rattle.swd_port.specs.Completion.{port_tar_next_address}
 use Rattle.swd_port.specs.Asking.{port_reply, port_after_reply, port_target_after, port_buffer_once_read}
 use Rattle.swd_port.specs.Asking.{is_port_posted, port_line_after, port_phase_after, pending_drw_once_read}
 use Rattle.swd_port.specs.Moving.{port_bits_driven, port_after_take, PortArrival, Arrives, Damaged, Unawaited}
@@ -45,12 +45,20 @@ stored_after (Some Reads) at m word h = λ made are. h (Read at ∷ made) are
 stored_after (Some (Writes v)) at m word h = λ made are. h (Write at v ∷ made) (word, are)
 
 -- TAR after the pending transfer
+next_word : (at : ℕ) → at < 2 ^ 32 → IfSome (port_tar_next_address at) (λ word. word < 2 ^ 32)
+next_word at h =
+    elim (nat_lt (at % 1024 + 4) 1024) as
+    (λ b. nat_lt (at % 1024 + 4) 1024 ≡ b → IfSome (if b then Some (at + 4) else None) (λ word. word < 2 ^ 32)) [
+      | true ↦ λ e. let below : at % 1024 + 4 < 1024 = grind arith in omega arith
+      | false ↦ λ e. tt
+    ] refl
+
 advanced : (pending : Option Drw) (failed increments : Bool) (tar : Option ℕ) → IfSome tar (λ word. word < 2 ^ 32)
-    → IfSome (tar_after_pending pending failed increments false tar) (λ word. word < 2 ^ 32)
+    → IfSome (tar_after_pending pending failed increments tar) (λ word. word < 2 ^ 32)
 advanced None failed increments tar h = h
 advanced (Some drw) true increments tar h = tt
 advanced (Some drw) false true None h = tt
-advanced (Some drw) false true (Some at) h = omega arith
+advanced (Some drw) false true (Some at) h = next_word at h
 advanced (Some drw) false false tar h = h
 
 completed_words : (s : Port) → PortHasWords s → PortHasWords (port_completed port_zeros s)
@@ -70,18 +78,16 @@ completed_words s w =
       driven = w.driven;
     }
 
-csw_word_read : (increments : Bool) (upper : ℕ) → csw_read increments upper < 2 ^ 32
-csw_word_read true upper = omega arith
-csw_word_read false upper = omega arith
-
 -- what an OK leaves in the read buffer, in the last returned value, and pending
-buffered : (r : Register) (csw : ℕ) (tar buffer : Option ℕ) → csw < 2 ^ 32 → IfSome tar (λ word. word < 2 ^ 32)
-    → IfSome buffer (λ word. word < 2 ^ 32) → IfSome (port_buffer_once_read r csw tar buffer) (λ word. word < 2 ^ 32)
-buffered RdbuffRead csw tar buffer c t b = tt
-buffered CswRead csw tar buffer c t b = c
-buffered TarRead csw tar buffer c t b = t
-buffered ApZeroRead csw tar buffer c t b = omega arith
-buffered r csw tar buffer c t b = b
+buffered : (r : Register) (increments : Bool) (tar buffer : Option ℕ) → IfSome tar (λ word. word < 2 ^ 32)
+    → IfSome buffer (λ word. word < 2 ^ 32)
+    → IfSome (port_buffer_once_read r port_zeros increments tar buffer) (λ word. word < 2 ^ 32)
+buffered RdbuffRead increments tar buffer t b = tt
+buffered CswRead true tar buffer t b = omega arith
+buffered CswRead false tar buffer t b = omega arith
+buffered TarRead increments tar buffer t b = t
+buffered ApOtherRead increments tar buffer t b = omega arith
+buffered r increments tar buffer t b = b
 
 chosen : (b : Bool) (x y : Option ℕ) → IfSome x (λ word. word < 2 ^ 32) → IfSome y (λ word. word < 2 ^ 32)
     → IfSome (if b then x else y) (λ word. word < 2 ^ 32)
@@ -110,42 +116,42 @@ driven_after mark Waits read r value line legal word h = h
 driven_after mark Faults read r value line legal word h = h
 driven_after mark Silent read r value line legal word h = h
 
-replied_words : (busy : Bool) (reply : Reply) (r : Register) (ap : Bool) (x : Target) → PortReadsWords x
-    → IfSome x.tar (λ word. word < 2 ^ 32) → PortReadsWords (port_target_after busy reply r ap x)
-replied_words busy Okay r ap x w tar = record {
+replied_words : (reply : Reply) (r : Register) (ap : Bool) (x : Target) → PortReadsWords x
+    → IfSome x.tar (λ word. word < 2 ^ 32) → PortReadsWords (port_target_after port_zeros reply r ap x)
+replied_words Okay r ap x w tar = record {
   identification = w.identification;
-  buffer = buffered r _ x.tar x.buffer (csw_word_read x.increments x.csw_upper) tar w.buffer;
+  buffer = buffered r x.increments x.tar x.buffer tar w.buffer;
   last_returned = chosen (is_port_posted r) x.buffer x.last_returned w.buffer w.last_returned;
   memory = w.memory;
 }
-replied_words busy Waits r ap x w tar = record {
+replied_words Waits r ap x w tar = record {
   identification = w.identification;
   buffer = w.buffer;
   last_returned = w.last_returned;
   memory = w.memory;
 }
-replied_words busy Faults r ap x w tar = record {
+replied_words Faults r ap x w tar = record {
   identification = w.identification;
   buffer = w.buffer;
   last_returned = w.last_returned;
   memory = w.memory;
 }
-replied_words busy Silent r ap x w tar = w
+replied_words Silent r ap x w tar = w
 
 -- what a reply leaves as it was
-replied_tar : (busy : Bool) (reply : Reply) (r : Register) (ap : Bool) (x : Target)
-    → (port_target_after busy reply r ap x).tar ≡ x.tar
-replied_tar busy Okay r ap x = refl
-replied_tar busy Waits r ap x = refl
-replied_tar busy Faults r ap x = refl
-replied_tar busy Silent r ap x = refl
+replied_tar : (c : Choice) (reply : Reply) (r : Register) (ap : Bool) (x : Target)
+    → (port_target_after c reply r ap x).tar ≡ x.tar
+replied_tar c Okay r ap x = refl
+replied_tar c Waits r ap x = refl
+replied_tar c Faults r ap x = refl
+replied_tar c Silent r ap x = refl
 
-replied_pending : (busy : Bool) (reply : Reply) (r : Register) (ap : Bool) (x : Target)
-    → pending_write_word x.pending < 2 ^ 32 → pending_write_word (port_target_after busy reply r ap x).pending < 2 ^ 32
-replied_pending busy Okay r ap x h = pending_read r x.pending h
-replied_pending busy Waits r ap x h = h
-replied_pending busy Faults r ap x h = h
-replied_pending busy Silent r ap x h = h
+replied_pending : (c : Choice) (reply : Reply) (r : Register) (ap : Bool) (x : Target)
+    → pending_write_word x.pending < 2 ^ 32 → pending_write_word (port_target_after c reply r ap x).pending < 2 ^ 32
+replied_pending c Okay r ap x h = pending_read r x.pending h
+replied_pending c Waits r ap x h = h
+replied_pending c Faults r ap x h = h
+replied_pending c Silent r ap x h = h
 
 asked_words : (mark : Mark) (q : Request) (a : Port) → IsPortMark mark → PortHasWords a →
     let r = port_register a.target.select q in
@@ -154,13 +160,12 @@ asked_words mark q a legal w =
     let x = a.target in
     let r = port_register x.select q in
     let reply = port_reply mark x q in
-    let busy = is_port_wait mark in
     record {
-      reads = replied_words busy reply r q.ap x w.reads w.tar;
-      tar = subst (λ o. IfSome o (λ word. word < 2 ^ 32)) (sym (replied_tar busy reply r q.ap x)) w.tar;
-      pending = replied_pending busy reply r q.ap x w.pending;
+      reads = replied_words reply r q.ap x w.reads w.tar;
+      tar = subst (λ o. IfSome o (λ word. word < 2 ^ 32)) (sym (replied_tar port_zeros reply r q.ap x)) w.tar;
+      pending = replied_pending port_zeros reply r q.ap x w.pending;
       driven = driven_after mark reply q.read r _ a.link.line legal
-          (port_value_range busy r x w.reads.identification w.reads.buffer w.reads.last_returned) w.driven;
+          (port_value_range r x w.reads.identification w.reads.buffer w.reads.last_returned) w.driven;
     }
 
 -- what the 33 bits of a write leave
@@ -201,7 +206,7 @@ arrives (Awaits r flip) sent = arrived r (port_flipped flip sent)
 arrives (Drives bits) sent = tt
 arrives Idle sent = tt
 
-given_words : (a : PortArrival) (s : Port) → IsArrived a → PortHasWords s → PortHasWords (port_after_arrival a s)
+given_words : (a : PortArrival) (s : Port) → IsArrived a → PortHasWords s → PortHasWords (port_after_arrival false a s)
 given_words a s came w =
     let x = s.target in
     record {
@@ -278,11 +283,11 @@ port_step_for_each_cue mark Take s legal w =
       same_words s t w refl refl refl refl refl refl (omega arith),
     )
 port_step_for_each_cue mark (Give sent) s legal w =
-    let t = port_after_arrival (port_arrival s.link.line sent) s in (
+    let t = port_after_arrival false (port_arrival s.link.line sent) s in (
       0,
       t,
       refl,
-      (s, t, inl refl, record { after = refl }, inl refl),
+      (s, t, inl refl, record { refuses = false; after = refl }, inl refl),
       given_words (port_arrival s.link.line sent) s (arrives s.link.line sent) w,
     )
 port_step_for_each_cue mark Pass s legal w =

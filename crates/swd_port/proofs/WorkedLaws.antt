@@ -21,13 +21,27 @@ use Rattle.swd_port.specs.Laws.Accesses.{PortReady}
 use Rattle.swd_bits.proofs.PhaseLemmas.{data_phase_gives_word, flipped_data_phase_no_word}
 use Rattle.swd_port.proofs.AnswerLaws.{port_sees_seen_at, port_deaf_silent}
 
--- a target's choice: 0 for an unknown address and an unknown word, and TAR wraps at the end of a kilobyte
+-- a target's choice: 0 for an unknown address, an unknown word, the bits that the model leaves open, and a register
+-- elsewhere, which is no bus error; and no power is late
 abbrev pub port_case_choice : Choice
-port_case_choice = record { address = 0; wraps = true; filler = 0 }
+port_case_choice = record {
+  address = 0;
+  filler = 0;
+  others = 0;
+  elsewhere = 0;
+  refuses = false;
+  debug_late = false;
+  system_late = false;
+}
 
--- its address and its word are below 2^32
+-- its address and its words are below 2^32
 pub port_case_choice_fits : IsPortChoice port_case_choice
-port_case_choice_fits = record { address = omega arith; filler = omega arith }
+port_case_choice_fits = record {
+  address = omega arith;
+  filler = omega arith;
+  others = omega arith;
+  elsewhere = omega arith;
+}
 
 abbrev dp_read : Reg4 → Request
 dp_read addr = record { ap = false; read = true; addr = addr }
@@ -44,7 +58,7 @@ after mark q s = port_after_reply mark (port_reply mark s.target q) (port_regist
 asks : (mark : Mark) (q : Request) (s : Port) → IsPortMark mark
     → IsPendingSettled (port_reply mark s.target q) (port_register s.target.select q) s.target.pending →
     IsPortWordRead (port_reply mark s.target q) q.read
-    (port_value_in (is_port_wait mark) (port_register s.target.select q) port_case_choice.filler s.target)
+    (port_value_in port_case_choice (port_register s.target.select q) s.target)
     → PortAsks s q (port_seen_at mark (port_reply mark s.target q)) (after mark q s)
 asks mark q s legal settled word = (
   s,
@@ -55,6 +69,7 @@ asks mark q s legal settled word = (
   record {
     legal = legal;
     choice = port_case_choice_fits;
+    late = λ e. (refl, refl);
     settled = settled;
     word = word;
     sees = port_sees_seen_at mark
@@ -79,7 +94,6 @@ start = record (port_made 0x2ba0_1477 memory) {
     debug_power = true;
     system_power = true;
     increments = true;
-    csw_upper = 0x23;
     tar = Some
         0x2000_0000;
   };
@@ -140,14 +154,14 @@ write_asked : PortAsks start (ap_write RC) 1 writing
 write_asked = asks Clean (ap_write RC) start tt (λ e. refl) tt
 
 abbrev given : Port
-given = port_after_arrival (Arrives DrwWrite 0xdead_beef) writing
+given = port_after_arrival false (Arrives DrwWrite 0xdead_beef) writing
 
 write_given : PortGives writing (data_phase_number 0xdead_beef) given
 write_given = (
   writing,
   given,
   inl refl,
-  record { after = rw (data_phase_gives_word 0xdead_beef (omega arith)) refl },
+  record { refuses = false; after = rw (data_phase_gives_word 0xdead_beef (omega arith)) refl },
   inl refl,
 )
 
@@ -170,6 +184,7 @@ confirmed = (
   record {
     legal = tt;
     choice = port_case_choice_fits;
+    late = λ e. (refl, refl);
     settled = rw one_word (λ e. refl);
     word = rw one_word (omega arith);
     sees =
@@ -186,16 +201,16 @@ damaged = after (Flip 0) (ap_write RC) start
 write_damaged : PortAsks start (ap_write RC) 1 damaged
 write_damaged = asks (Flip 0) (ap_write RC) start (omega arith) (λ e. refl) tt
 
-damaged_given : PortGives damaged (data_phase_number 1) (port_after_arrival Damaged damaged)
+damaged_given : PortGives damaged (data_phase_number 1) (port_after_arrival false Damaged damaged)
 damaged_given = (
   damaged,
-  port_after_arrival Damaged damaged,
+  port_after_arrival false Damaged damaged,
   inl refl,
-  record { after = rw (flipped_data_phase_no_word 1 0 (omega arith)) refl },
+  record { refuses = false; after = rw (flipped_data_phase_no_word 1 0 (omega arith)) refl },
   inl refl,
 )
 
-damaged_is_flagged : (port_after_arrival Damaged damaged).target.write_error ≡ true
+damaged_is_flagged : (port_after_arrival false Damaged damaged).target.write_error ≡ true
 damaged_is_flagged = refl
 
 abbrev unseen : Port

@@ -1,8 +1,8 @@
 -- What the model leaves open in a call of the wire: the fault injected into a request, and the choices that the
--- standard leaves to a target. All of it is this project's choice, except for the end of a kilobyte.
+-- standard leaves to a target. All of it is this project's choice.
 pub use Rattle.swd_port.specs.declared.mark.Mark.{Mark}
 pub use Rattle.swd_port.specs.declared.mark.Mark.TheVariants.{Clean, Wait, Flip, Deaf, Mute}
-use Rattle.std.specs.Prelude.{ℕ, ◌<◌, ◌^◌, Bool, true, false, Option, Some, None, List}
+use Rattle.std.specs.Prelude.{ℕ, ◌≡◌, ◌<◌, ◌^◌, Bool, true, false, Option, Some, None, List}
 use Rattle.std.specs.List.{sum_by}
 
 -- the bit is one of the 33 of a data phase, or of the three of an acknowledgement
@@ -49,12 +49,25 @@ port_lost_among marks = sum_by port_loses marks
 pub record Choice : Type 0 where
   -- the address that replaces an unknown TAR
   pub address : ℕ
-  -- whether TAR wraps at the end of a kilobyte, or carries (implementation defined)
-  pub wraps : Bool
   -- the word that replaces an unknown value
   pub filler : ℕ
+  -- the bits that CTRL/STAT and CSW read where the model leaves them open
+  pub others : ℕ
+  -- the word of a register elsewhere: in another bank of the debug port, another AP or AP bank, or at AP address 8
+  pub elsewhere : ℕ
+  -- whether an access of an AP register elsewhere is a bus error
+  pub refuses : Bool
+  -- whether debug power and system power are found not acknowledged yet
+  pub debug_late : Bool
+  pub system_late : Bool
 
--- address and value are below 2^32
+-- the address and the words are below 2^32
 pub record IsPortChoice (c : Choice) : Type 0 where
   pub address : c.address < 2 ^ 32
   pub filler : c.filler < 2 ^ 32
+  pub others : c.others < 2 ^ 32
+  pub elsewhere : c.elsewhere < 2 ^ 32
+
+-- power is found late at a Wait mark alone, each for itself (this project's choice)
+abbrev pub PortMayBeLate : Mark → Choice → Type 0
+PortMayBeLate mark c = is_port_wait mark ≡ false → (c.debug_late ≡ false) × (c.system_late ≡ false)

@@ -1,9 +1,9 @@
 -- The pending DRW transfer takes effect.
 -- Source: IHI 0031, MEM-AP, "DRW, Data Read/Write register", "CSW, Control/Status Word register",
 -- "Auto-incrementing the Transfer Address Register (TAR)"; and B1, "Sticky flags and DP error responses".
-use Rattle.std.specs.Prelude.{ℕ, ◌≡◌, ◌+◌, ◌*◌, ◌/◌, ◌%◌, ◌^◌, ◌⊎◌, ◌||◌, not, Bool, false, if◌then◌else◌, Option}
-use Rattle.std.specs.Prelude.{Some, None, unwrap_or}
-use Rattle.std.specs.Option.{option_map}
+use Rattle.std.specs.Prelude.{ℕ, ◌≡◌, ◌+◌, ◌%◌, ◌⊎◌, ◌||◌, not, Bool, false, if◌then◌else◌, Option}
+use Rattle.std.specs.Prelude.{Some, None, unwrap_or, nat_lt}
+use Rattle.std.specs.Option.{option_and_then}
 use Rattle.swd_port.specs.declared.access.Access.{Access}
 use Rattle.swd_port.specs.declared.access.Access.TheVariants.{Read, Write}
 use Rattle.swd_port.specs.Bus.{Bus, bus_succeeds, bus_word_at, bus_after}
@@ -25,16 +25,16 @@ abbrev pub memory_after_pending : Option Drw → ℕ → Bus → Bus
 memory_after_pending None at m = m
 memory_after_pending (Some drw) at m = bus_after (pending_access_at at drw) m
 
--- the address plus 4; at the end of a kilobyte the low ten bits wrap to 0, or it carries, modulo 2^32
-abbrev pub port_tar_next_address : Bool → ℕ → ℕ
-port_tar_next_address wraps at = if wraps then at / 1024 * 1024 + (at + 4) % 1024 else (at + 4) % 2 ^ 32
+-- the address plus 4, except past the end of a kilobyte: there it is unknown (implementation defined)
+abbrev pub port_tar_next_address : ℕ → Option ℕ
+port_tar_next_address at = if nat_lt (at % 1024 + 4) 1024 then Some (at + 4) else None
 
 -- TAR after the transfer. After a bus error it is unknown, and an unknown TAR stays unknown (this project's choice).
--- Otherwise it is 4 more where AddrInc is single, and unchanged where it is off.
-abbrev pub tar_after_pending : Option Drw → Bool → Bool → Bool → Option ℕ → Option ℕ
-tar_after_pending None failed increments wraps tar = tar
-tar_after_pending (Some drw) failed increments wraps tar =
-    if failed then None else if increments then option_map (port_tar_next_address wraps) tar else tar
+-- Otherwise it is the next address where AddrInc is single, and unchanged where it is off.
+abbrev pub tar_after_pending : Option Drw → Bool → Bool → Option ℕ → Option ℕ
+tar_after_pending None failed increments tar = tar
+tar_after_pending (Some drw) failed increments tar =
+    if failed then None else if increments then option_and_then port_tar_next_address tar else tar
 
 -- the read buffer after the transfer: the word of a read; unknown after a bus error (this project's choice)
 abbrev pub buffer_after_pending : Option Drw → Bool → ℕ → Bus → Option ℕ → Option ℕ
@@ -50,7 +50,7 @@ port_completion c x =
     let failed = pending_fails x.pending at x.memory in
     record x {
       sticky_error = x.sticky_error || failed;
-      tar = tar_after_pending x.pending failed x.increments c.wraps x.tar;
+      tar = tar_after_pending x.pending failed x.increments x.tar;
       buffer = buffer_after_pending x.pending failed at x.memory x.buffer;
       pending = None;
       memory = memory_after_pending x.pending at x.memory;

@@ -1,6 +1,6 @@
 -- What a data phase, a turnaround, ones and zeros, and a completion change: the vocabulary of the laws. All of it
 -- follows from the definitions of the steps, which name the source of each rule.
-use Rattle.std.specs.Prelude.{ℕ, ◌≡◌, ◌⊎◌, ◌||◌, true, Option, Some, None}
+use Rattle.std.specs.Prelude.{ℕ, ◌≡◌, ◌⊎◌, ◌||◌, Bool, true, Option, Some, None}
 use Rattle.swd_port.specs.declared.wire.Due.TheVariants.{Nothing}
 use Rattle.swd_bits.specs.Phases.{data_phase_word, IsDataPhaseOf, IsNoDataPhase}
 use Rattle.swd_port.specs.Port.{Port, Target, port_idle_link, Register, Fresh}
@@ -21,10 +21,10 @@ pub record PortKept (s t : Port) : Type 0 where
   pub read_ok : t.target.read_ok ≡ s.target.read_ok
   pub debug_power : t.target.debug_power ≡ s.target.debug_power
   pub system_power : t.target.system_power ≡ s.target.system_power
-  pub power_up : t.target.power_up ≡ s.target.power_up
+  pub debug_up : t.target.debug_up ≡ s.target.debug_up
+  pub system_up : t.target.system_up ≡ s.target.system_up
   pub select : t.target.select ≡ s.target.select
   pub increments : t.target.increments ≡ s.target.increments
-  pub csw_upper : t.target.csw_upper ≡ s.target.csw_upper
   pub last_returned : t.target.last_returned ≡ s.target.last_returned
   pub identification : t.target.identification ≡ s.target.identification
   -- a set STICKYERR stays set, and the pending transfer is still pending or done
@@ -43,10 +43,11 @@ pub data PortPhaseGot (flip : Option ℕ) (value bits : ℕ) : Type 0 where
   damaged : (place : ℕ) → flip ≡ Some place → IsNoDataPhase bits → data_phase_word bits ≡ None
       → PortPhaseGot flip value bits
 
--- a write was done with its word
+-- a write was done with its word, or is a bus error where it is one of an AP register elsewhere
 pub record PortWritten (r : Register) (word : ℕ) (s t : Port) : Type 0 where
   pub link : t.link ≡ port_idle_link
-  pub target : t.target ≡ port_after_bits (Arrives r word) s.target
+  pub refuses : Bool
+  pub target : t.target ≡ port_after_bits refuses (Arrives r word) s.target
   pub tally : t.tally ≡ s.tally
 
 -- a write whose data was corrupted: it isn't done, and WDATAERR is set

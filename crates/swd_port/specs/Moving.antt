@@ -9,7 +9,7 @@ use Rattle.swd_port.specs.Registers.{register_bit, select_of, csw_of}
 use Rattle.swd_bits.specs.Phases.{data_phase_word}
 use Rattle.swd_port.specs.Phases.{port_flipped, port_undriven}
 use Rattle.swd_port.specs.Port.{Port, Target, port_idle_link, Register, AbortWrite, CtrlStatWrite, SelectWrite}
-use Rattle.swd_port.specs.Port.{CswWrite, TarWrite, DrwWrite, ApIgnoredWrite, PowerUp, Unseen, AfterAck, Drives, Awaits}
+use Rattle.swd_port.specs.Port.{CswWrite, TarWrite, DrwWrite, ApOtherWrite, PowerUp, Unseen, AfterAck, Drives, Awaits}
 use Rattle.swd_port.specs.Port.{Drw, Writes}
 use Rattle.swd_port.specs.Completion.{PortCompletes}
 
@@ -60,7 +60,7 @@ abbrev pub is_ap_write_register : Register → Bool
 is_ap_write_register CswWrite = true
 is_ap_write_register TarWrite = true
 is_ap_write_register DrwWrite = true
-is_ap_write_register ApIgnoredWrite = true
+is_ap_write_register ApOtherWrite = true
 is_ap_write_register r = false
 
 -- a value that an AP write makes unknown, once its data arrived with right parity (this project's choice)
@@ -68,10 +68,12 @@ abbrev pub port_value_forgotten : PortArrival → Option ℕ → Option ℕ
 port_value_forgotten (Arrives r word) value = if is_ap_write_register r then None else value
 port_value_forgotten a value = value
 
--- ABORT's STKERRCLR, bit 2, clears STICKYERR
-abbrev pub stickyerr_after_write : PortArrival → Bool → Bool
-stickyerr_after_write (Arrives AbortWrite word) flag = flag && not (register_bit 2 word)
-stickyerr_after_write a flag = flag
+-- ABORT's STKERRCLR, bit 2, clears STICKYERR. A write of an AP register elsewhere may be a bus error, which sets it
+-- (which are: this project's choice).
+abbrev pub stickyerr_after_write : Bool → PortArrival → Bool → Bool
+stickyerr_after_write refuses (Arrives AbortWrite word) flag = flag && not (register_bit 2 word)
+stickyerr_after_write refuses (Arrives ApOtherWrite word) flag = flag || refuses
+stickyerr_after_write refuses a flag = flag
 
 -- ABORT's WDERRCLR, bit 3, clears WDATAERR; corrupted data sets it, also that of ABORT (for ABORT: this project's
 -- choice)
@@ -94,15 +96,10 @@ abbrev pub port_select_after_write : PortArrival → Select → Select
 port_select_after_write (Arrives SelectWrite word) select = select_of word
 port_select_after_write a select = select
 
--- CSW stores whether AddrInc is 01, and its bits [30:24] (only these: this project's choice)
+-- CSW stores whether AddrInc is 01 (only this: this project's choice)
 abbrev pub port_csw_increments_after : PortArrival → Bool → Bool
 port_csw_increments_after (Arrives CswWrite word) increments = (csw_of word).addr_inc == 1
 port_csw_increments_after a increments = increments
-
--- bits [30:24] of CSW, as last written (this project's choice)
-abbrev pub csw_upper_after : PortArrival → ℕ → ℕ
-csw_upper_after (Arrives CswWrite word) upper = (csw_of word).upper
-csw_upper_after a upper = upper
 
 -- TAR is stored as it is written
 abbrev pub tar_after_write : PortArrival → Option ℕ → Option ℕ
@@ -114,29 +111,31 @@ abbrev pub pending_after_write : PortArrival → Option Drw → Option Drw
 pending_after_write (Arrives DrwWrite word) pending = Some (Writes word)
 pending_after_write a pending = pending
 
--- the target after the 33 bits of a write: the write is done if their parity is right, else WDATAERR is set
-abbrev pub port_after_bits : PortArrival → Target → Target
-port_after_bits a x = record x {
-  sticky_error = stickyerr_after_write a x.sticky_error;
+-- The target after the 33 bits of a write: the write is done if their parity is right, else WDATAERR is set. A write of
+-- an AP register elsewhere has no effect, or is a bus error if the target refuses it (this project's choice).
+abbrev pub port_after_bits : Bool → PortArrival → Target → Target
+port_after_bits refuses a x = record x {
+  sticky_error = stickyerr_after_write refuses a x.sticky_error;
   write_error = wdataerr_after_write a x.write_error;
   debug_power = port_power_after_write 28 a x.debug_power;
   system_power = port_power_after_write 30 a x.system_power;
-  power_up = port_power_up_after_write a x.power_up;
+  debug_up = port_power_up_after_write a x.debug_up;
+  system_up = port_power_up_after_write a x.system_up;
   select = port_select_after_write a x.select;
   increments = port_csw_increments_after a x.increments;
-  csw_upper = csw_upper_after a x.csw_upper;
   tar = tar_after_write a x.tar;
   buffer = port_value_forgotten a x.buffer;
   last_returned = port_value_forgotten a x.last_returned;
   pending = pending_after_write a x.pending;
 }
 
-abbrev pub port_after_arrival : PortArrival → Port → Port
-port_after_arrival a s = record s { link = port_idle_link; target = port_after_bits a s.target }
+abbrev pub port_after_arrival : Bool → PortArrival → Port → Port
+port_after_arrival refuses a s = record s { link = port_idle_link; target = port_after_bits refuses a s.target }
 
 -- one call of `give`, without completion; `PortGives` has completion before and after
 pub record PortGivesNow (s : Port) (sent : ℕ) (t : Port) : Type 0 where
-  pub after : t ≡ port_after_arrival (port_arrival s.link.line sent) s
+  pub refuses : Bool
+  pub after : t ≡ port_after_arrival refuses (port_arrival s.link.line sent) s
 
 abbrev pub PortGives : Port → ℕ → Port → Type 0
 PortGives s sent t = (a : Port) × (b : Port) × PortCompletes s a × PortGivesNow a sent b × PortCompletes b t

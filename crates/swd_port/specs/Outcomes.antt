@@ -1,10 +1,11 @@
 -- What a request changes, by what the host sees: the vocabulary of the laws. All of it follows from the definition of a
 -- request, which names the source of each rule.
 pub use Rattle.swd_port.specs.Answers.{IsPortNoAck}
-use Rattle.std.specs.Prelude.{ℕ, ◌≡◌, ◌≢◌, ◌<◌, ◌≤◌, ◌+◌, ◌^◌, ◌⊎◌, Bool, true, false, if◌then◌else◌, Option}
+use Rattle.std.specs.Prelude.{ℕ, ◌≡◌, ◌≢◌, ◌<◌, ◌≤◌, ◌+◌, ◌^◌, ◌⊎◌, ◌||◌, Bool, true, false, if◌then◌else◌, Option}
 use Rattle.std.specs.Prelude.{Some, None}
 use Rattle.swd_port.specs.declared.wire.Due.TheVariants.{Take, Give, Pass, Lost}
 use Rattle.swd_port.specs.Port.{Port, Target, Register, Unreset, Live, Seen}
+use Rattle.swd_port.specs.Choices.{Choice, IsPortChoice}
 use Rattle.swd_port.specs.Answers.{is_exempt_register}
 use Rattle.swd_port.specs.Asking.{port_value_in, port_phase_after, port_after_okay, port_after_wait, port_after_fault}
 
@@ -13,10 +14,10 @@ pub record PortSteady (x y : Target) : Type 0 where
   pub write_error : y.write_error ≡ x.write_error
   pub debug_power : y.debug_power ≡ x.debug_power
   pub system_power : y.system_power ≡ x.system_power
-  pub seen : x.power_up ≡ Seen → y.power_up ≡ Seen
+  pub debug_seen : x.debug_up ≡ Seen → y.debug_up ≡ Seen
+  pub system_seen : x.system_up ≡ Seen → y.system_up ≡ Seen
   pub select : y.select ≡ x.select
   pub increments : y.increments ≡ x.increments
-  pub csw_upper : y.csw_upper ≡ x.csw_upper
   pub tar : y.tar ≡ x.tar
   pub identification : y.identification ≡ x.identification
   pub memory : y.memory ≡ x.memory
@@ -39,18 +40,18 @@ pub record PortRefuses (r : Register) (ap : Bool) (s t : Port) : Type 0 where
   pub settled : s.target.pending ≡ None
 
 -- The target answered OK, and is live. A read's value is fixed here, and its phase is on the line, with this bit
--- changed, if any. A write's phase is awaited. Any word may replace an unknown value. Where the target is busy, and may
--- find power-up not acknowledged, the request is disturbed, and its phase isn't changed.
+-- changed, if any. A write's phase is awaited. The choice has what the model leaves open. Where a power is late, the
+-- request is disturbed, and its phase isn't changed.
 pub record PortAccepts (r : Register) (read : Bool) (flip : Option ℕ) (s t : Port) : Type 0 where
-  pub busy : Bool
-  pub disturbed : busy ≡ true → (flip ≡ None) × (t.tally.disturbed ≡ s.tally.disturbed + 1)
-  pub target : t.target ≡ port_after_okay busy r s.target
+  pub choice : Choice
+  pub legal : IsPortChoice choice
+  pub disturbed : (choice.debug_late || choice.system_late) ≡ true
+      → (flip ≡ None) × (t.tally.disturbed ≡ s.tally.disturbed + 1)
+  pub target : t.target ≡ port_after_okay choice r s.target
   pub live : t.target.reset ≡ Live
   pub settled : is_exempt_register r ≡ false → s.target.pending ≡ None
-  pub filler : ℕ
-  pub filler_range : filler < 2 ^ 32
-  pub value_range : read ≡ true → port_value_in busy r filler s.target < 2 ^ 32
-  pub line : t.link.line ≡ port_phase_after read r flip (port_value_in busy r filler s.target)
+  pub value_range : read ≡ true → port_value_in choice r s.target < 2 ^ 32
+  pub line : t.link.line ≡ port_phase_after read r flip (port_value_in choice r s.target)
 
 -- the host saw OK, WAIT or FAULT: the counts rise by one request, no lost one, and at most one disturbed one
 pub record PortHeard (s t : Port) : Type 0 where
@@ -113,8 +114,8 @@ pub data PortFaultOrLost (r : Register) (ap : Bool) (seen : ℕ) (s t : Port) : 
   fault : PortFaultSeen r ap seen s t → PortFaultOrLost r ap seen s t
   lost : PortNoneSeen seen s t → PortIgnores s t ⊎ PortRefuses r ap s t → PortFaultOrLost r ap seen s t
 
--- what a request that starts no transfer keeps, whatever its result: the written registers, STICKYERR, the memory and
--- the pending transfer; and a target that is reset, or live, stays so
+-- what a request that accesses neither DRW nor an AP register elsewhere keeps, whatever its result: the written
+-- registers, STICKYERR, the memory and the pending transfer; and a target that is reset, or live, stays so
 pub record PortUnmoved (x y : Target) : Type 0 where
   pub steady : PortSteady x y
   pub sticky_error : y.sticky_error ≡ x.sticky_error

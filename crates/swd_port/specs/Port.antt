@@ -3,9 +3,9 @@
 pub use Rattle.swd_port.specs.declared.register.Register.{Register}
 pub use Rattle.swd_port.specs.declared.register.Register.TheVariants.{DpidrRead, AbortWrite, CtrlStatRead}
 pub use Rattle.swd_port.specs.declared.register.Register.TheVariants.{CtrlStatWrite, SelectWrite, ResendRead}
-pub use Rattle.swd_port.specs.declared.register.Register.TheVariants.{RdbuffRead, DpZeroRead, DpIgnoredWrite, CswRead}
+pub use Rattle.swd_port.specs.declared.register.Register.TheVariants.{RdbuffRead, DpOtherRead, DpIgnoredWrite, CswRead}
 pub use Rattle.swd_port.specs.declared.register.Register.TheVariants.{CswWrite, TarRead, TarWrite, DrwRead, DrwWrite}
-pub use Rattle.swd_port.specs.declared.register.Register.TheVariants.{ApZeroRead, ApIgnoredWrite}
+pub use Rattle.swd_port.specs.declared.register.Register.TheVariants.{ApOtherRead, ApOtherWrite}
 pub use Rattle.swd_port.specs.declared.state.Reset.{Reset}
 pub use Rattle.swd_port.specs.declared.state.Reset.TheVariants.{Unreset, Fresh, Live}
 pub use Rattle.swd_port.specs.declared.state.PowerUp.{PowerUp}
@@ -28,7 +28,7 @@ use Rattle.swd_port.specs.Registers.{port_select_zero}
 abbrev pub port_dp_register : Bool → Reg4 → Bool → Register
 port_dp_register true R0 bank0 = DpidrRead
 port_dp_register false R0 bank0 = AbortWrite
-port_dp_register true R4 bank0 = if bank0 then CtrlStatRead else DpZeroRead
+port_dp_register true R4 bank0 = if bank0 then CtrlStatRead else DpOtherRead
 port_dp_register false R4 bank0 = if bank0 then CtrlStatWrite else DpIgnoredWrite
 port_dp_register true R8 bank0 = ResendRead
 port_dp_register false R8 bank0 = SelectWrite
@@ -41,15 +41,15 @@ mem_ap_register true R0 = CswRead
 mem_ap_register false R0 = CswWrite
 mem_ap_register true R4 = TarRead
 mem_ap_register false R4 = TarWrite
-mem_ap_register true R8 = ApZeroRead
-mem_ap_register false R8 = ApIgnoredWrite
+mem_ap_register true R8 = ApOtherRead
+mem_ap_register false R8 = ApOtherWrite
 mem_ap_register true RC = DrwRead
 mem_ap_register false RC = DrwWrite
 
 -- the registers of any other AP or AP bank, by direction
-abbrev pub port_no_ap_register : Bool → Register
-port_no_ap_register true = ApZeroRead
-port_no_ap_register false = ApIgnoredWrite
+abbrev pub port_other_ap_register : Bool → Register
+port_other_ap_register true = ApOtherRead
+port_other_ap_register false = ApOtherWrite
 
 -- SELECT names AP 0 and AP bank 0
 abbrev pub port_selects_mem_ap : Select → Bool
@@ -57,7 +57,7 @@ port_selects_mem_ap s = (s.apsel == 0) && (s.apbanksel == 0)
 
 -- the access port's registers under a SELECT
 abbrev pub port_ap_register : Select → Bool → Reg4 → Register
-port_ap_register s read addr = if port_selects_mem_ap s then mem_ap_register read addr else port_no_ap_register read
+port_ap_register s read addr = if port_selects_mem_ap s then mem_ap_register read addr else port_other_ap_register read
 
 -- the register that a request names
 abbrev pub port_register : Select → Request → Register
@@ -72,23 +72,23 @@ port_request_for CtrlStatWrite = record { ap = false; read = false; addr = R4 }
 port_request_for ResendRead = record { ap = false; read = true; addr = R8 }
 port_request_for SelectWrite = record { ap = false; read = false; addr = R8 }
 port_request_for RdbuffRead = record { ap = false; read = true; addr = RC }
-port_request_for DpZeroRead = record { ap = false; read = true; addr = R4 }
+port_request_for DpOtherRead = record { ap = false; read = true; addr = R4 }
 port_request_for DpIgnoredWrite = record { ap = false; read = false; addr = RC }
 port_request_for CswRead = record { ap = true; read = true; addr = R0 }
 port_request_for CswWrite = record { ap = true; read = false; addr = R0 }
 port_request_for TarRead = record { ap = true; read = true; addr = R4 }
 port_request_for TarWrite = record { ap = true; read = false; addr = R4 }
-port_request_for ApZeroRead = record { ap = true; read = true; addr = R8 }
-port_request_for ApIgnoredWrite = record { ap = true; read = false; addr = R8 }
+port_request_for ApOtherRead = record { ap = true; read = true; addr = R8 }
+port_request_for ApOtherWrite = record { ap = true; read = false; addr = R8 }
 port_request_for DrwRead = record { ap = true; read = true; addr = RC }
 port_request_for DrwWrite = record { ap = true; read = false; addr = RC }
 
--- a SELECT that reaches this register: bank 0 for CTRL/STAT, another bank for the debug port's zero register, and bank
--- 0 of AP 0 for its registers
+-- a SELECT that reaches this register: bank 0 for CTRL/STAT, another bank for the debug port's other register at its
+-- address, and bank 0 of AP 0 for its registers
 abbrev pub is_port_register_reached : Select → Register → Bool
 is_port_register_reached s CtrlStatRead = s.dpbanksel == 0
 is_port_register_reached s CtrlStatWrite = s.dpbanksel == 0
-is_port_register_reached s DpZeroRead = not (s.dpbanksel == 0)
+is_port_register_reached s DpOtherRead = not (s.dpbanksel == 0)
 is_port_register_reached s CswRead = port_selects_mem_ap s
 is_port_register_reached s CswWrite = port_selects_mem_ap s
 is_port_register_reached s TarRead = port_selects_mem_ap s
@@ -119,13 +119,13 @@ pub record Target : Type 0 where
   pub read_ok : Bool
   pub debug_power : Bool
   pub system_power : Bool
-  -- whether that power is acknowledged
-  pub power_up : PowerUp
+  -- whether each of these powers is acknowledged
+  pub debug_up : PowerUp
+  pub system_up : PowerUp
   -- SELECT
   pub select : Select
-  -- CSW: whether AddrInc is 01, single, and bits [30:24]
+  -- CSW: whether AddrInc is 01, single
   pub increments : Bool
-  pub csw_upper : ℕ
   -- TAR
   pub tar : Option ℕ
   -- the read buffer: the result of the last AP read
@@ -160,10 +160,10 @@ port_made_target identification memory = record {
   read_ok = false;
   debug_power = false;
   system_power = false;
-  power_up = Unseen;
+  debug_up = Unseen;
+  system_up = Unseen;
   select = port_select_zero;
   increments = false;
-  csw_upper = 0;
   tar = Some 0;
   buffer = None;
   last_returned = None;

@@ -2,6 +2,7 @@
 -- Source: IHI 0031, B2, "ABORT, AP Abort register", "CTRL/STAT, Control/Status register", "SELECT, AP Select
 -- register"; and MEM-AP, "CSW, Control/Status Word register".
 use Rattle.std.specs.Prelude.{ℕ, ◌<◌, ◌+◌, ◌*◌, ◌/◌, ◌%◌, ◌^◌, ◌==◌, ◌&&◌, Bool, true, false}
+use Rattle.std.specs.Int.RustNames.{bit_and}
 use Rattle.swd_bits.specs.Bits.{bit}
 use Rattle.swd_port.specs.declared.abort.Abort.{Abort}
 use Rattle.swd_port.specs.declared.ctrl_stat.CtrlStat.{CtrlStat}
@@ -74,22 +75,27 @@ pub record IsCsw (c : Csw) : Type 0 where
   pub addr_inc : c.addr_inc < 4
   pub upper : c.upper < 128
 
--- CTRL/STAT as it is read: STICKYERR 5, READOK 6, WDATAERR 7, the requests for debug and system power, 28 and 30, and
--- their acknowledgements, 29 and 31, once power-up is acknowledged. All others read 0 (the zeros, and that both powers
--- are acknowledged at once: this project's choice).
-abbrev pub ctrl_stat_read : Bool → Bool → Bool → Bool → Bool → Bool → ℕ
-ctrl_stat_read sticky_error read_ok write_error debug_power system_power there =
-    bit sticky_error * 0x20 + bit read_ok * 0x40 + bit write_error * 0x80 +
-    bit debug_power * 0x1000_0000 + bit (debug_power && there) * 0x2000_0000 +
-    bit system_power * 0x4000_0000 + bit (system_power && there) * 0x8000_0000
+-- a word of CTRL/STAT has all of these bits set
+abbrev pub ctrl_stat_holds : ℕ → ℕ → Bool
+ctrl_stat_holds mask word = bit_and (bit_and word ctrl_stat_mask) mask == mask
+
+-- CTRL/STAT as it is read: STICKYERR 5, READOK 6, WDATAERR 7, the requests for debug and for system power, 28 and 30,
+-- and their acknowledgements, 29 and 31, each of a power that is requested and acknowledged. Its other bits, [4:0] and
+-- [27:8], are those of any word (this project's choice).
+abbrev pub ctrl_stat_read : ℕ → Bool → Bool → Bool → Bool → Bool → Bool → Bool → ℕ
+ctrl_stat_read others sticky_error read_ok write_error debug_power debug_there system_power system_there =
+    others % 2 ^ 5 + bit sticky_error * 0x20 + bit read_ok * 0x40 + bit write_error * 0x80 +
+    others / 2 ^ 8 % 2 ^ 20 * 2 ^ 8 +
+    bit debug_power * 0x1000_0000 + bit (debug_power && debug_there) * 0x2000_0000 +
+    bit system_power * 0x4000_0000 + bit (system_power && system_there) * 0x8000_0000
 
 -- AddrInc of a CSW that increments, 01, and of one that doesn't, 00
 abbrev pub csw_addr_inc_of : Bool → ℕ
 csw_addr_inc_of true = 1
 csw_addr_inc_of false = 0
 
--- CSW as it is read: word size alone, DeviceEn, no transfer in progress (which fields are fixed: this project's choice)
+-- CSW as it is read: Size is 2, a word; AddrInc; DeviceEn is 1. Its other bits, 3, 7 and [31:8], are those of any word
+-- (which bits are fixed: this project's choice).
 abbrev pub csw_read : Bool → ℕ → ℕ
-csw_read increments upper =
-    let addr_inc = csw_addr_inc_of increments in
-    csw_word (record { size = 2; addr_inc = addr_inc; device_en = true; tr_in_prog = false; upper = upper })
+csw_read increments others =
+    2 + others / 2 ^ 3 % 2 * 2 ^ 3 + csw_addr_inc_of increments * 2 ^ 4 + 2 ^ 6 + others / 2 ^ 7 % 2 ^ 25 * 2 ^ 7

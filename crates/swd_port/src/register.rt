@@ -23,8 +23,8 @@ pub enum Register {
     ResendRead,
     /// RDBUFF, at c of any bank: the result of the last AP read.
     RdbuffRead,
-    /// The debug port's address 4 in any bank but 0: it reads 0.
-    DpZeroRead,
+    /// The debug port's address 4 in any bank but 0: it reads any word.
+    DpOtherRead,
     /// The debug port's address c, and 4 in any bank but 0: a write has no effect.
     DpIgnoredWrite,
     /// CSW, at 0 of bank 0 of access port 0.
@@ -39,15 +39,17 @@ pub enum Register {
     DrwRead,
     /// DRW, at c of bank 0 of access port 0: a write of the word at TAR.
     DrwWrite,
-    /// Address 8 of bank 0 of access port 0, and any address of another bank or access port: it reads 0.
-    ApZeroRead,
-    /// Address 8 of bank 0 of access port 0, and any address of another bank or access port: a write has no effect.
-    ApIgnoredWrite,
+    /// Address 8 of bank 0 of access port 0, and any address of another bank or access port: it reads any word, or is a
+    /// bus error.
+    ApOtherRead,
+    /// Address 8 of bank 0 of access port 0, and any address of another bank or access port: a write has no effect, or is
+    /// a bus error.
+    ApOtherWrite,
 }
 
 impl Register {
     /// Returns the request that names this register, under a SELECT that reaches it. SELECT 0 reaches all but
-    /// `DpZeroRead`, which has no address in bank 0 of the debug port.
+    /// `DpOtherRead`, which has no address in bank 0 of the debug port.
     pub fn request(self) -> Request
         ensures exact { result ≡ port_request_for self }
         ensures named { (select : Select) → is_port_register_reached select self ≡ true
@@ -56,7 +58,7 @@ impl Register {
         let (ap, read, addr) = match self {
             Register::DpidrRead => (false, true, Reg4::R0),
             Register::AbortWrite => (false, false, Reg4::R0),
-            Register::CtrlStatRead | Register::DpZeroRead => (false, true, Reg4::R4),
+            Register::CtrlStatRead | Register::DpOtherRead => (false, true, Reg4::R4),
             Register::CtrlStatWrite => (false, false, Reg4::R4),
             Register::ResendRead => (false, true, Reg4::R8),
             Register::SelectWrite => (false, false, Reg4::R8),
@@ -66,8 +68,8 @@ impl Register {
             Register::CswWrite => (true, false, Reg4::R0),
             Register::TarRead => (true, true, Reg4::R4),
             Register::TarWrite => (true, false, Reg4::R4),
-            Register::ApZeroRead => (true, true, Reg4::R8),
-            Register::ApIgnoredWrite => (true, false, Reg4::R8),
+            Register::ApOtherRead => (true, true, Reg4::R8),
+            Register::ApOtherWrite => (true, false, Reg4::R8),
             Register::DrwRead => (true, true, Reg4::RC),
             Register::DrwWrite => (true, false, Reg4::RC),
         };

@@ -13,7 +13,7 @@ pub enum Reset {
     Live,
 }
 
-/// Whether the power that was requested in CTRL/STAT is acknowledged.
+/// Whether the debug power, or the system power, that was requested in CTRL/STAT is acknowledged.
 #[derive(Clone, Copy, Debug, PartialEq, Eq)]
 pub enum PowerUp {
     /// It wasn't seen since the request. It counts as acknowledged, unless the next read of CTRL/STAT finds it not

@@ -151,10 +151,10 @@ fn a_register_is_named_by_its_byte(rt: HostRuntime) {
         (Register::TarWrite, 0x8b),
         (Register::DrwRead, 0x9f),
         (Register::DrwWrite, 0xbb),
-        (Register::DpZeroRead, 0x8d),
+        (Register::DpOtherRead, 0x8d),
         (Register::DpIgnoredWrite, 0x99),
-        (Register::ApZeroRead, 0xb7),
-        (Register::ApIgnoredWrite, 0x93),
+        (Register::ApOtherRead, 0xb7),
+        (Register::ApOtherWrite, 0x93),
     ] {
         expect_eq(&rt, &register.request().bits(), &byte);
     }

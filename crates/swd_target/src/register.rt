@@ -32,7 +32,7 @@ fn debug_port_register(select: Select, request: Request) -> Register
             if bank0 {
                 Register::CtrlStatRead
             } else {
-                Register::DpZeroRead
+                Register::DpOtherRead
             }
         }
         (false, Reg4::R4) => {
@@ -56,9 +56,9 @@ fn access_port_register(select: Select, request: Request) -> Register
 {
     if select.apsel != 0 || select.apbanksel != 0 {
         return if request.read {
-            Register::ApZeroRead
+            Register::ApOtherRead
         } else {
-            Register::ApIgnoredWrite
+            Register::ApOtherWrite
         };
     }
     match (request.read, request.addr) {
@@ -66,8 +66,8 @@ fn access_port_register(select: Select, request: Request) -> Register
         (false, Reg4::R0) => Register::CswWrite,
         (true, Reg4::R4) => Register::TarRead,
         (false, Reg4::R4) => Register::TarWrite,
-        (true, Reg4::R8) => Register::ApZeroRead,
-        (false, Reg4::R8) => Register::ApIgnoredWrite,
+        (true, Reg4::R8) => Register::ApOtherRead,
+        (false, Reg4::R8) => Register::ApOtherWrite,
         (true, Reg4::RC) => Register::DrwRead,
         (false, Reg4::RC) => Register::DrwWrite,
     }
@@ -93,7 +93,7 @@ pub(crate) fn is_posted(register: Register) -> bool
             | Register::CswRead
             | Register::TarRead
             | Register::DrwRead
-            | Register::ApZeroRead
+            | Register::ApOtherRead
     )
 }
 
@@ -109,8 +109,8 @@ pub(crate) fn is_access_port(register: Register) -> bool
             | Register::TarWrite
             | Register::DrwRead
             | Register::DrwWrite
-            | Register::ApZeroRead
-            | Register::ApIgnoredWrite
+            | Register::ApOtherRead
+            | Register::ApOtherWrite
     )
 }
 
@@ -120,6 +120,6 @@ pub(crate) fn is_access_port_write(register: Register) -> bool
 {
     matches!(
         &register,
-        Register::CswWrite | Register::TarWrite | Register::DrwWrite | Register::ApIgnoredWrite
+        Register::CswWrite | Register::TarWrite | Register::DrwWrite | Register::ApOtherWrite
     )
 }

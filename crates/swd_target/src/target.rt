@@ -264,7 +264,7 @@ impl<A: Allocator> Target<A> {
             Register::RdbuffRead => self.buffer = self.unknown(),
             Register::CswRead => self.buffer = Content::known(self.csw()),
             Register::TarRead => self.buffer = self.tar,
-            Register::ApZeroRead => self.buffer = Content::known(0),
+            Register::ApOtherRead => self.buffer = Content::known(0),
             Register::DrwRead => self.pending = Some(Drw::Reads),
             _ => {}
         }
@@ -294,7 +294,7 @@ impl<A: Allocator> Target<A> {
             Register::DpidrRead => IDENTIFICATION,
             Register::CtrlStatRead => self.status(waits),
             Register::ResendRead => self.last_returned.word,
-            Register::DpZeroRead => 0,
+            Register::DpOtherRead => 0,
             _ => self.buffer.word,
         }
     }

@@ -36,10 +36,10 @@ pub record PortAsked (s t : Port) : Type 0 where
   pub write_error : t.target.write_error ≡ s.target.write_error
   pub debug_power : t.target.debug_power ≡ s.target.debug_power
   pub system_power : t.target.system_power ≡ s.target.system_power
-  pub seen : s.target.power_up ≡ Seen → t.target.power_up ≡ Seen
+  pub debug_seen : s.target.debug_up ≡ Seen → t.target.debug_up ≡ Seen
+  pub system_seen : s.target.system_up ≡ Seen → t.target.system_up ≡ Seen
   pub select : t.target.select ≡ s.target.select
   pub increments : t.target.increments ≡ s.target.increments
-  pub csw_upper : t.target.csw_upper ≡ s.target.csw_upper
   pub identification : t.target.identification ≡ s.target.identification
 
 abbrev pub PortRequestCounted : Type 0

@@ -3,7 +3,8 @@ use Rattle.std.specs.Prelude.{ℕ, ◌≡◌, ◌≢◌, ◌⊎◌, Bool, true, 
 use Rattle.swd_bits.specs.declared.request.Request.{Request}
 use Rattle.swd_port.specs.declared.access.Access.{Access}
 use Rattle.swd_port.specs.Bus.{Bus}
-use Rattle.swd_port.specs.Port.{Port, Target, Register, DpidrRead, DrwRead, Unreset, Live, port_register}
+use Rattle.swd_port.specs.Port.{Port, Target, Register, DpidrRead, DrwRead, ApOtherRead, Unreset, Live}
+use Rattle.swd_port.specs.Port.{port_register}
 use Rattle.swd_port.specs.Answers.{is_exempt_register}
 use Rattle.swd_port.specs.Completion.{PortCompletes}
 use Rattle.swd_port.specs.Asking.{PortAsks, port_has_power}
@@ -86,14 +87,14 @@ PortFreeExact = (r : Register) (q : Request) (seen : ℕ) (s t : Port) → port_
     s.target.write_error ≡ false → s.target.sticky_error ≡ false → PortIsPowered q.ap s.target → PortAsks s q seen t →
     PortOkayWaitOrLost r q.read seen s t
 
--- what is unchanged in all cases: at an exempt request, at a free one except a DRW read, and at a refused one with
--- power
+-- what is unchanged in all cases: at an exempt request, at a free one except a read of DRW or of an AP register
+-- elsewhere, and at a refused one with power
 abbrev pub PortUnmovedByExempt : Type 0
 PortUnmovedByExempt = (r : Register) (read : Bool) (seen : ℕ) (s t : Port) → is_exempt_register r ≡ true →
     PortOkayOrLost r read seen s t → PortUnmoved s.target t.target
 
 abbrev pub PortUnmovedByFree : Type 0
-PortUnmovedByFree = (r : Register) (read : Bool) (seen : ℕ) (s t : Port) → r ≢ DrwRead →
+PortUnmovedByFree = (r : Register) (read : Bool) (seen : ℕ) (s t : Port) → r ≢ DrwRead → r ≢ ApOtherRead →
     PortOkayWaitOrLost r read seen s t → PortUnmoved s.target t.target
 
 abbrev pub PortUnmovedByRefused : Type 0
@@ -107,7 +108,8 @@ PortRefusedWithPower = (r : Register) (access : Bool) (s t : Port) → PortRefus
 
 -- what a lost request keeps, whether it had its effect or not
 abbrev pub PortLeftByLost : Register → Target → Target → Type 0
-PortLeftByLost r x y = PortSteady x y × (y.sticky_error ≡ x.sticky_error) × ((y.pending ≡ x.pending) ⊎ (r ≡ DrwRead))
+PortLeftByLost r x y = PortSteady x y × ((y.sticky_error ≡ x.sticky_error) ⊎ (r ≡ ApOtherRead))
+    × ((y.pending ≡ x.pending) ⊎ (r ≡ DrwRead))
 
 abbrev pub PortLostRequest : Type 0
 PortLostRequest = (r : Register) (read : Bool) (s t : Port) →

@@ -1,39 +1,36 @@
 -- Laws of the words that are read, and of returned values.
 use Rattle.std.specs.Prelude.{ℕ, ◌≡◌, ◌<◌, ◌^◌, ◌==◌, ◌&&◌, ◌⊎◌, Bool, true, false, Option, Some}
-use Rattle.std.specs.Int.RustNames.{bit_and}
-use Rattle.swd_port.specs.Registers.{register_bit, ctrl_stat_read, ctrl_stat_mask}
+use Rattle.swd_port.specs.Registers.{register_bit, ctrl_stat_read, ctrl_stat_holds}
 use Rattle.swd_bits.specs.Phases.{data_phase_number}
 use Rattle.swd_port.specs.Phases.{port_flipped}
 use Rattle.swd_port.specs.Port.{Port, Target, Register, DpidrRead, AbortWrite, CtrlStatRead, ResendRead, Drives}
+use Rattle.swd_port.specs.Choices.{Choice}
 use Rattle.swd_port.specs.Answers.{is_exempt_register, is_port_power_there}
 use Rattle.swd_port.specs.Asking.{is_port_posted, ctrl_stat_word_in, power_up_after}
 use Rattle.swd_port.specs.Moves.{PortPassed, PortWritten, PortWasReset}
 use Rattle.swd_port.specs.Outcomes.{PortIgnores, PortDefers, PortAccepts, PortRefuses}
 use Rattle.swd_port.specs.Transfers.{PortCarries}
 
--- a word of CTRL/STAT has all of these bits set
-abbrev pub ctrl_stat_holds : ℕ → ℕ → Bool
-ctrl_stat_holds mask word = bit_and (bit_and word ctrl_stat_mask) mask == mask
-
 -- STICKYERR, READOK, WDATAERR and the two power acknowledgements are read back, whatever the others are
-pub record CtrlStatReads (sticky_error read_ok write_error debug_power system_power there : Bool) (word : ℕ) : Type 0
-  where
-    pub sticky_held : ctrl_stat_holds 0x20 word ≡ sticky_error
-    pub ok_held : ctrl_stat_holds 0x40 word ≡ read_ok
-    pub write_held : ctrl_stat_holds 0x80 word ≡ write_error
-    pub debug_held : ctrl_stat_holds 0x2000_0000 word ≡ (debug_power && there)
-    pub system_held : ctrl_stat_holds 0x8000_0000 word ≡ (system_power && there)
-    pub sticky_bit : register_bit 5 word ≡ sticky_error
-    pub ok_bit : register_bit 6 word ≡ read_ok
-    pub write_bit : register_bit 7 word ≡ write_error
-    pub debug_bit : register_bit 29 word ≡ (debug_power && there)
-    pub system_bit : register_bit 31 word ≡ (system_power && there)
-    pub range : word < 2 ^ 32
+pub record CtrlStatReads (sticky_error read_ok write_error debug_power debug_there system_power system_there : Bool)
+    (word : ℕ) : Type 0 where
+  pub sticky_held : ctrl_stat_holds 0x20 word ≡ sticky_error
+  pub ok_held : ctrl_stat_holds 0x40 word ≡ read_ok
+  pub write_held : ctrl_stat_holds 0x80 word ≡ write_error
+  pub debug_held : ctrl_stat_holds 0x2000_0000 word ≡ (debug_power && debug_there)
+  pub system_held : ctrl_stat_holds 0x8000_0000 word ≡ (system_power && system_there)
+  pub sticky_bit : register_bit 5 word ≡ sticky_error
+  pub ok_bit : register_bit 6 word ≡ read_ok
+  pub write_bit : register_bit 7 word ≡ write_error
+  pub debug_bit : register_bit 29 word ≡ (debug_power && debug_there)
+  pub system_bit : register_bit 31 word ≡ (system_power && system_there)
+  pub range : word < 2 ^ 32
 
 abbrev pub CtrlStatWordReads : Type 0
-CtrlStatWordReads = (sticky_error read_ok write_error debug_power system_power there : Bool) →
-    CtrlStatReads sticky_error read_ok write_error debug_power system_power there
-    (ctrl_stat_read sticky_error read_ok write_error debug_power system_power there)
+CtrlStatWordReads = (others : ℕ) (sticky_error read_ok write_error debug_power debug_there : Bool)
+    (system_power system_there : Bool) →
+    CtrlStatReads sticky_error read_ok write_error debug_power debug_there system_power system_there
+    (ctrl_stat_read others sticky_error read_ok write_error debug_power debug_there system_power system_there)
 
 -- the phase of a value is on the line, and the value has 32 bits
 pub record PortOnLine (value : ℕ) (flip : Option ℕ) (t : Port) : Type 0 where
@@ -45,15 +42,16 @@ abbrev pub PortIdentificationReturned : Type 0
 PortIdentificationReturned = (flip : Option ℕ) (s t : Port) → PortAccepts DpidrRead true flip s t →
     PortOnLine s.target.identification flip t
 
--- the word of CTRL/STAT in a state has its flags, and the powers where power-up is acknowledged
-abbrev pub CtrlStatShows : Bool → Target → Type 0
-CtrlStatShows busy x = CtrlStatReads x.sticky_error x.read_ok x.write_error x.debug_power x.system_power
-    (is_port_power_there (power_up_after busy CtrlStatRead x.power_up)) (ctrl_stat_word_in busy x)
+-- the word of CTRL/STAT in a state has its flags, and each power that is requested and acknowledged
+abbrev pub CtrlStatShows : Choice → Target → Type 0
+CtrlStatShows c x = CtrlStatReads x.sticky_error x.read_ok x.write_error
+    x.debug_power (is_port_power_there (power_up_after c.debug_late CtrlStatRead x.debug_up))
+    x.system_power (is_port_power_there (power_up_after c.system_late CtrlStatRead x.system_up)) (ctrl_stat_word_in c x)
 
 -- CTRL/STAT returns the flags and the power acknowledgements as they were when it was answered
 abbrev pub CtrlStatReturned : Type 0
 CtrlStatReturned = (flip : Option ℕ) (s t : Port) → (h : PortAccepts CtrlStatRead true flip s t) →
-    PortOnLine (ctrl_stat_word_in h.busy s.target) flip t × CtrlStatShows h.busy s.target
+    PortOnLine (ctrl_stat_word_in h.choice s.target) flip t × CtrlStatShows h.choice s.target
 
 -- RDBUFF, and every AP read, returns the read buffer, whose value becomes the last returned one
 abbrev pub PortBufferReturned : Type 0
