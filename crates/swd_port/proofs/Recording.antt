@@ -146,6 +146,7 @@ asked : (p : List Access) (mark : Mark) (c : Choice) (s : Port) (q : Request) (s
 asked p mark c s q seen t now = record {
   legal = now.legal;
   choice = now.choice;
+  late = now.late;
   settled = now.settled;
   word = now.word;
   sees = now.sees;
@@ -159,7 +160,7 @@ taken p s bits t now = record { gets = now.gets; after = ap (port_recording p) n
 
 given : (p : List Access) (s : Port) (bits : ℕ) (t : Port) → PortGivesNow s bits t
     → PortGivesNow (port_recording p s) bits (port_recording p t)
-given p s bits t now = record { after = ap (port_recording p) now.after }
+given p s bits t now = record { refuses = now.refuses; after = ap (port_recording p) now.after }
 
 passed : (p : List Access) (s t : Port) → PortPassesNow s t → PortPassesNow (port_recording p s) (port_recording p t)
 passed p s t now = record { after = ap (port_recording p) now.after }
