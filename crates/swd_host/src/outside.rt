@@ -1,5 +1,6 @@
 //! A run over a transport of which nothing is proved.
 ghost use Rattle.std.specs.Prelude.{◌≡◌, ◌≤◌, [], IfErr, IfOk, length};
+ghost use Rattle.swd_port.specs.Outside.{wire_calls};
 ghost use Rattle.swd_port.specs.Stories.{port_due_by, port_at, FitsStory};
 ghost use Rattle.swd_host.specs.Plain.{AreHostAccesses};
 ghost use Rattle.swd_host.specs.Reports.{Closes, HostRefusesList, RunsOver, host_report_of};
@@ -26,12 +27,12 @@ pub fn run_over_transport<T: Transport, S: Story, A: Allocator>(
     accesses: &[Access],
     tries: u32,
 ) -> Result<Report<A>, Refused>
-    requires { wire.old.noted.calls ≡ [] }
+    requires { wire_calls wire.old ≡ [] }
     ensures closes { IfOk result (λ report.
-        Closes 0 1 accesses.now tries (host_report_of report) (port_due_by wire.new.noted.calls)) }
-    ensures fits { IfOk result (λ report. FitsStory S.at wire.new.noted.calls
-        → RunsOver accesses.now tries (host_report_of report) (port_at S.at []) (port_at S.at wire.new.noted.calls)) }
-    ensures told { IfOk result (λ report. HostReportsCalls accesses.now (host_report_of report) wire.new.noted.calls) }
+        Closes 0 1 accesses.now tries (host_report_of report) (port_due_by (wire_calls wire.new))) }
+    ensures fits { IfOk result (λ report. FitsStory S.at (wire_calls wire.new)
+        → RunsOver accesses.now tries (host_report_of report) (port_at S.at []) (port_at S.at (wire_calls wire.new))) }
+    ensures told { IfOk result (λ report. HostReportsCalls accesses.now (host_report_of report) (wire_calls wire.new)) }
     ensures accepted { IfOk result (λ report. (length accesses.now ≤ 65536) × AreHostAccesses accesses.now) }
     ensures refused { IfErr result (HostRefusesList accesses.now) }
     ensures untouched { IfErr result (λ refused. wire.new ≡ wire.old) }

@@ -31,6 +31,7 @@ use Rattle.swd_port.specs.Leading.{port_after_lead}
 use Rattle.swd_port.specs.Stories.{IsPortStep, port_due_by, port_at, FitsStory}
 use Rattle.swd_port.specs.Laws.NeverStuck.{PortReadsWords, BusReadsWords}
 use Rattle.swd_port.specs.Laws.Sessions.{PortHasWords, PortCallsChosen, PortSession, pending_write_word}
+use Rattle.swd_port.specs.Laws.Sessions.{FitsStoryUnder, IsPortStepUnder}
 use Rattle.swd_port.specs.Laws.Sessions.{MadePortHasWords, PortStepForEachCue, PortSessionFits}
 use Rattle.swd_port.proofs.AnswerLaws.{answer_laws}
 use Rattle.swd_port.proofs.CallLaws.{port_due_after_step}
@@ -266,7 +267,6 @@ port_step_for_each_cue mark (Ask q) s legal w =
       (
         a,
         t,
-        mark,
         port_zeros,
         inr (port_zeros, port_zeros_fit, refl),
         port_asks_with_zeros mark s q legal w.reads,
@@ -314,6 +314,15 @@ shown_as s t due same e =
     subst (λ x. record x { link = record x.link { due = due } } ≡ t) (sym same)
     (subst (λ d. record t { link = record t.link { due = d } } ≡ t) e refl)
 
+-- a step under a mark is a step
+step_of : (mark : Mark) (cue : Cue) (seen : ℕ) (s t : Port) → IsPortStepUnder mark cue seen s t
+    → IsPortStep cue seen s t
+step_of mark (Lead ones undriven switch zeros) seen s t h = h
+step_of mark (Ask request) seen s t (a, b, c, first, now, last) = (a, b, mark, c, first, now, last)
+step_of mark Take seen s t h = h
+step_of mark (Give bits) seen s t h = h
+step_of mark Pass seen s t h = h
+
 -- so many calls that were made, the last one first, and the state after them
 record Reached : Type 0 where
   calls : List Call
@@ -342,7 +351,8 @@ module _ (next : List Call → Cue) (marks : ℕ → Mark) (s : Port) (legal : (
   due (suc k) =
       let r = reach k in
       let went = port_step_for_each_cue (marks k) (next r.calls) r.port (legal k) r.words in
-      port_due_after_step (next r.calls) went.0 r.port went.1 went.3
+      port_due_after_step (next r.calls) went.0 r.port went.1
+      (step_of (marks k) (next r.calls) went.0 r.port went.1 went.3)
 
   chose : (k : ℕ) → PortCallsChosen next (reach k).calls
   chose zero = tt
@@ -363,10 +373,24 @@ module _ (next : List Call → Cue) (marks : ℕ → Mark) (s : Port) (legal : (
       let went = port_step_for_each_cue (marks k) (next r.calls) r.port (legal k) r.words in (
         fits k,
         subst (λ p. IsPortStep (next r.calls) went.0 p (port_at story (reach (suc k)).calls)) (sym (shown k))
-            (subst (λ p. IsPortStep (next r.calls) went.0 r.port p) (sym (shown (suc k))) went.3),
+            (subst (λ p. IsPortStep (next r.calls) went.0 r.port p) (sym (shown (suc k)))
+            (step_of (marks k) (next r.calls) went.0 r.port went.1 went.3)),
       )
 
-  session : (n : ℕ) → PortSession next s n
+  marked : (k : ℕ) → FitsStoryUnder marks story (reach k).calls
+  marked zero = tt
+  marked (suc k) =
+      let r = reach k in
+      let went = port_step_for_each_cue (marks k) (next r.calls) r.port (legal k) r.words in (
+        marked k,
+        subst (λ n. IsPortStepUnder (marks n) (next r.calls) went.0 (port_at story r.calls)
+            (port_at story (reach (suc k)).calls)) (sym (long k))
+            (subst (λ p. IsPortStepUnder (marks k) (next r.calls) went.0 p (port_at story (reach (suc k)).calls))
+            (sym (shown k))
+            (subst (λ p. IsPortStepUnder (marks k) (next r.calls) went.0 r.port p) (sym (shown (suc k))) went.3)),
+      )
+
+  session : (n : ℕ) → PortSession next marks s n
   session n = record {
     story = story;
     calls = (reach n).calls;
@@ -374,6 +398,7 @@ module _ (next : List Call → Cue) (marks : ℕ → Mark) (s : Port) (legal : (
     long = long n;
     chosen = chose n;
     fits = fits n;
+    marked = marked n;
   }
 
 -- each host has a session of any length that is consistent with states of the model, whatever it chooses and whatever

@@ -13,6 +13,7 @@ pub mod Leading
 pub mod Stories
 pub mod Reached
 pub mod Transports
+pub mod Outside
 pub mod Moves
 pub mod Outcomes
 pub mod Transfers

@@ -1,5 +1,5 @@
 -- The calls of a transport, and those that the calls of a wire make of it.
-use Rattle.std.specs.Prelude.{ℕ, ◌≡◌, Bool, true, false, List, [], ◌∷◌, ◌++◌, Result, Ok, is_err}
+use Rattle.std.specs.Prelude.{ℕ, ◌≡◌, ◌≤◌, ◌^◌, Bool, true, false, List, [], ◌∷◌, ◌++◌, Result, Ok, Err, is_err}
 use Rattle.swd_bits.specs.declared.request.Request.{Request}
 use Rattle.swd_port.specs.declared.cue.Cue.{Cue}
 use Rattle.swd_port.specs.declared.cue.Cue.TheVariants.{Ask, Take}
@@ -15,17 +15,22 @@ pub record PortAttempt : Type 0 where
 abbrev pub port_attempt : Cue → Result ℕ Disconnected → PortAttempt
 port_attempt cue told = record { cue = cue; told = told }
 
+-- the transport failed, or returned a number with more than these bits
+abbrev pub PortTransportFails : ℕ → Result ℕ Disconnected → Type 0
+PortTransportFails bits (Ok seen) = 2 ^ bits ≤ seen
+PortTransportFails bits (Err e) = Unit {0}
+
 -- The calls that a request makes, where `had` is the last data phase fetched. The data phase of a read that is answered
--- OK is fetched at once. Where a call fails, no acknowledgement is seen.
+-- OK is fetched at once. Only where a call fails, or returns a number with too many bits, no acknowledgement is seen.
 pub data PortTransportAsks (request : Request) (made : List PortAttempt) (had : ℕ) (met : Met) : Type 0 where
   answers : (request.read ≡ true → met.seen ≡ 1 → ⊥) → made ≡ port_attempt (Ask request) (Ok met.seen) ∷ []
       → met.gone ≡ false → met.fetched ≡ had → PortTransportAsks request made had met
   fetches : request.read ≡ true → met.seen ≡ 1
       → made ≡ port_attempt (Ask request) (Ok 1) ∷ port_attempt Take (Ok met.fetched) ∷ [] → met.gone ≡ false
       → PortTransportAsks request made had met
-  loses : (told : Result ℕ Disconnected) → made ≡ port_attempt (Ask request) told ∷ [] → met.seen ≡ 7 → met.gone ≡ true
-      → met.fetched ≡ had → PortTransportAsks request made had met
-  breaks : (told : Result ℕ Disconnected) → request.read ≡ true
+  loses : (told : Result ℕ Disconnected) → PortTransportFails 3 told → made ≡ port_attempt (Ask request) told ∷ []
+      → met.seen ≡ 7 → met.gone ≡ true → met.fetched ≡ had → PortTransportAsks request made had met
+  breaks : (told : Result ℕ Disconnected) → PortTransportFails 33 told → request.read ≡ true
       → made ≡ port_attempt (Ask request) (Ok 1) ∷ port_attempt Take told ∷ [] → met.seen ≡ 7 → met.gone ≡ true
       → met.fetched ≡ had → PortTransportAsks request made had met
 

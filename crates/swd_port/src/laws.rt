@@ -7,6 +7,6 @@ mod wire;
 mod words;
 
 pub use memory::{accesses, completion, plain_memories, transfers};
-pub use steps::never_stuck;
+pub use steps::{never_stuck, sessions_fit};
 pub use wire::{answers, calls, data_phases, line_resets, requests};
 pub use words::{phases, registers, words_read};

@@ -73,8 +73,8 @@ pub struct TransportWire<T: Transport, S: Story, K: Tie = Loose> {
     due: Due,
     // The last data phase of a read that was fetched.
     fetched: u64,
-    pub gone: bool,
-    pub noted: NotedCalls,
+    gone: bool,
+    noted: NotedCalls,
     story: PhantomData<S>,
     tie: PhantomData<K>,
     ghost tracked: { due ≡ port_due_by noted.calls },
@@ -215,9 +215,11 @@ fn fetch<T: Transport>(transport: &mut T, request: Request, fetched: u64) -> Met
 }
 
 impl<T: Transport, S: Story> TransportWire<T, S> {
+    ghost use Rattle.swd_port.specs.Outside.{wire_calls};
+
     /// Creates a wire without calls.
     pub fn new(transport: T) -> TransportWire<T, S>
-        ensures { result.noted.calls ≡ [] }
+        ensures { wire_calls result ≡ [] }
     {
         TransportWire {
             transport,
@@ -232,11 +234,13 @@ impl<T: Transport, S: Story> TransportWire<T, S> {
 }
 
 impl<T: Transport, S: Story> TransportWire<T, S, Tied> {
+    ghost use Rattle.swd_port.specs.Outside.{wire_calls};
+
     /// Creates a wire without calls, over a transport of which no call was made either. What the transport states of
     /// its calls then holds for those that the wire makes of it.
     pub fn begun(transport: T) -> TransportWire<T, S, Tied>
         requires { T.tells [] transport }
-        ensures { result.noted.calls ≡ [] }
+        ensures { wire_calls result ≡ [] }
     {
         let noted = NotedCalls::new();
         TransportWire {
@@ -252,9 +256,11 @@ impl<T: Transport, S: Story> TransportWire<T, S, Tied> {
 }
 
 impl<T: Transport, S: Story, K: Tie> TransportWire<T, S, K> {
+    ghost use Rattle.swd_port.specs.Outside.{is_wire_gone, wire_calls};
+
     /// Consumes the wire, and returns the transport.
     pub fn into_transport(self) -> T
-        ensures { K.ties ≡ true → ∥ PortTransportHasOver T.tells self.noted.calls self.gone result ∥₁ }
+        ensures { K.ties ≡ true → ∥ PortTransportHasOver T.tells (wire_calls self) (is_wire_gone self) result ∥₁ }
     {
         let TransportWire { transport, .. } = self;
         transport
@@ -262,7 +268,7 @@ impl<T: Transport, S: Story, K: Tie> TransportWire<T, S, K> {
 
     /// Returns whether the transport failed, or returned a number with too many bits.
     pub fn is_gone(&self) -> bool
-        ensures { result ≡ self.now.gone }
+        ensures { result ≡ is_wire_gone self.now }
     {
         self.gone
     }

@@ -1,6 +1,6 @@
-use Rattle.std.proofs.Common.{true, false, [], ◌∷◌, Ok, refl, arith}
+use Rattle.std.proofs.Common.{true, false, [], ◌∷◌, Ok, refl, sym, subst, arith}
 use Rattle.swd_port.specs.declared.cue.Cue.TheVariants.{Ask}
-use Rattle.swd_port.specs.Transports.{port_attempt, answers, loses, port_met_with}
+use Rattle.swd_port.specs.Transports.{PortTransportFails, port_attempt, answers, loses, port_met_with}
 use Rattle.swd_port.proofs.Wents.{port_transport_steps, port_transport_fetches}
 use Rattle.swd_port.proofs.outside.ask.Goals as goal
 use Rattle.swd_port.proofs.outside.ask.Goals.{else-request-via-then-request+else-seen-eq1}
@@ -10,13 +10,14 @@ pub returns-in_default-clause-goes : goal.returns-in_default-clause-goes
 returns-in_default-clause-goes g c =
     port_transport_steps _ _ _ _ (port_met_with 7 true c.args.fetched)
     (port_attempt (Ask c.args.request) c.step.result ∷ []) _ _ c.if-gone.false c.step.ensures.told
-    (loses c.step.result refl refl refl refl)
+    (loses c.step.result (subst (PortTransportFails 3) (sym c.in_default.is) tt) refl refl refl refl)
 
 pub returns-then-seen-gt7-clause-goes : goal.returns-then-seen-gt7-clause-goes
 returns-then-seen-gt7-clause-goes g c =
     port_transport_steps _ _ _ _ (port_met_with 7 true c.args.fetched)
     (port_attempt (Ask c.args.request) c.step.result ∷ []) _ _ c.if-gone.false c.step.ensures.told
-    (loses c.step.result refl refl refl refl)
+    (loses c.step.result (subst (PortTransportFails 3) (sym c.in-Ok.is) (omega (arith, c.if-seen-gt7.true))) refl refl
+    refl refl)
 
 pub returns-then-seen-eq1-clause-goes : goal.returns-then-seen-eq1-clause-goes
 returns-then-seen-eq1-clause-goes g c =
