@@ -51,7 +51,7 @@ enum {
 	SWD_OPENED = 1, /* the target is ready for accesses */
 	SWD_VALUE = 2, /* the access read `word` */
 	SWD_WRITTEN = 3, /* the access wrote its word */
-	SWD_BUS_FAULT = 4, /* the access met a bus error: nothing was read or written */
+	SWD_BUS_FAULT = 4, /* the access was made once and was a bus error: the bus refused it */
 	/* From here on the engine has stopped, and starts no other access. */
 	SWD_ALL = 5, /* every access of the list is answered; of a run alone */
 	SWD_LOST = 6, /* no acknowledgement was seen: send nothing more, except by swd_engine_again or swd_run_again */

@@ -12,7 +12,9 @@ use std::alloc::Global;
 use std::process::Abort;
 use std::test::Fail;
 use swd_host::{End, Refused, run_over_transport};
-use swd_port::{Access, Answer, Cue, Disconnected, Due, Story, Transport, TransportWire, Wire};
+use swd_port::{
+    Access, Answer, Cue, Disconnected, Due, Register, Story, Transport, TransportWire, Wire,
+};
 use swd_target::Bench;
 
 // The target, and how many calls reach it.
@@ -237,5 +239,49 @@ fn a_list_is_refused_before_the_transport_is_called(rt: HostRuntime) -> Result<(
         expect_eq(&rt, &fault, &refused);
         expect_eq(&rt, &wire.into_transport().calls, &0);
     }
+    Ok(())
+}
+
+// A target that acknowledges each DRW write and drops it.
+#[derive(Drop)]
+struct Forgetful {
+    bench: Bench,
+    dropping: bool,
+}
+
+impl Transport for Forgetful {
+    fn step(&mut self, cue: Cue) -> Result<u64, Disconnected> {
+        if cue == Cue::Ask(Register::DrwWrite.request()) {
+            self.dropping = true;
+            return Ok(1);
+        }
+        if self.dropping {
+            self.dropping = false;
+            return Ok(0);
+        }
+        passed_on(&mut self.bench, cue)
+    }
+}
+
+// Each reply is one that a target that conforms to the model may give. So replies never show that a target conforms.
+#[test]
+fn a_target_that_drops_its_writes_is_not_seen(rt: HostRuntime) -> Result<(), Fail> {
+    let Some(bench) = target_of::<Bench>(rt.alloc(), &run_of(&[], &[]), QUIRKS)? else {
+        panic!(rt; "a mark isn't legal");
+    };
+    let forgetful = Forgetful {
+        bench,
+        dropping: false,
+    };
+    let mut wire: TransportWire<Forgetful, Untold> = TransportWire::new(forgetful);
+    let report = run_over_transport(rt.alloc(), &mut wire, &[WRITE], 8)?;
+    expect_eq(&rt, &report.answers, &[Answer::Written]);
+    expect_eq(&rt, &report.ended, &End::All);
+    let Forgetful {
+        mut bench,
+        ..
+    } = wire.into_transport();
+    bench.settle();
+    expect_eq(&rt, &bench.memory().log(), &[]);
     Ok(())
 }
