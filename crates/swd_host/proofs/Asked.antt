@@ -9,6 +9,7 @@ use Rattle.swd_host.proofs.Words.{port_select_zero, OpeningAskedPower, OpeningRe
 use Rattle.swd_host.proofs.Words.{EngineReadsStatus, EngineReadsFlags, EngineReads, EngineWrites, whole, changed}
 use Rattle.swd_bits.specs.declared.request.Reg4.TheVariants.{R0, R4}
 use Rattle.swd_port.specs.Phases.{port_flipped}
+use Rattle.swd_port.specs.Choices.{Choice}
 use Rattle.swd_port.specs.declared.state.AfterAck.TheVariants.{Drives, Awaits}
 use Rattle.swd_port.specs.Laws.WordsRead.{CtrlStatShows}
 use Rattle.swd_port.proofs.RequestLaws.{port_exempt_at_rest, port_flagged_at_rest, port_free_exact}
@@ -117,9 +118,9 @@ host_ask_write_error job r n base b c k v s t q reg ex live rest write power l g
     ]
 
 -- CTRL/STAT READS
-tells : (busy : Bool) (s t : Port) → HostSameFlags s t → CtrlStatShows busy s.target
-    → EngineReadsFlags (ctrl_stat_word_in busy s.target) t.target
-tells busy s t e h = record { error = h.sticky_held ∙ sym e.sticky; damaged = h.write_held ∙ sym e.write }
+tells : (c : Choice) (s t : Port) → HostSameFlags s t → CtrlStatShows c s.target
+    → EngineReadsFlags (ctrl_stat_word_in c s.target) t.target
+tells c s t e h = record { error = h.sticky_held ∙ sym e.sticky; damaged = h.write_held ∙ sym e.write }
 
 -- the read of CTRL/STAT, for SELECT 0
 abbrev pub host_status_request : Request
@@ -138,11 +139,11 @@ pub host_status_says : (job : Job) (n b : ℕ) (k : EngineHand) (s t : Port) (fl
     → s.tally.disturbed ≤ t.tally.disturbed → EngineReadsStatus job n b k t
 host_status_says job n b k s t flip live h sp a more =
     let f = host_frame_okay CtrlStatRead true flip s t refl live a in
-    let e = host_flags_okay CtrlStatRead true flip s t a in
+    let e = host_flags_okay CtrlStatRead true flip s t refl a in
     let r = ctrl_stat_returned flip s t a in (
-      ctrl_stat_word_in a.busy s.target,
-      tells a.busy s t e r.1,
-      host_data_read_due (ctrl_stat_word_in a.busy s.target) n
+      ctrl_stat_word_in a.choice s.target,
+      tells a.choice s t e r.1,
+      host_data_read_due (ctrl_stat_word_in a.choice s.target) n
           (λ c. EngineBefore job c b k t) flip s t r.0 sp (before_framed n n b k s t f e (omega arith) job h)
           (λ d. before_framed n (n + 1) b k s t f e (omega arith) job h),
     )
@@ -152,7 +153,7 @@ module _ (n b : ℕ) (k : EngineHand) (s t : Port) (flip : Option ℕ) (h : Engi
     (a : PortAccepts CtrlStatRead true flip s t) where
   asked_power : (m : ℕ) → n ≤ m → m ≤ n ⊎ (flip ≡ None → ⊥) → HostFrame s t → HostSameFlags s t
       → EngineBefore (At Powered) m b k t
-      → CtrlStatShows a.busy s.target → OpeningAskedPower (host_reads_power (ctrl_stat_word_in a.busy s.target)) m b k t
+      → CtrlStatShows a.choice s.target → OpeningAskedPower (host_reads_power (ctrl_stat_word_in a.choice s.target)) m b k t
   asked_power m more few f e before r = grind arith
 
 pub host_power_says : (n b : ℕ) (k : EngineHand) (s t : Port) (flip : Option ℕ) → s.target.reset ≡ Live
@@ -160,22 +161,22 @@ pub host_power_says : (n b : ℕ) (k : EngineHand) (s t : Port) (flip : Option �
     → s.tally.disturbed ≤ t.tally.disturbed → OpeningReadsPower n b k t
 host_power_says n b k s t flip live h (inl none) a more =
     let f = host_frame_okay CtrlStatRead true flip s t refl live a in
-    let e = host_flags_okay CtrlStatRead true flip s t a in
+    let e = host_flags_okay CtrlStatRead true flip s t refl a in
     let r = ctrl_stat_returned flip s t a in (
-      ctrl_stat_word_in a.busy s.target,
-      tells a.busy s t e r.1,
-      whole (r.0.line ∙ ap (λ x. Drives (port_flipped x (data_phase_number (ctrl_stat_word_in a.busy s.target)))) none)
+      ctrl_stat_word_in a.choice s.target,
+      tells a.choice s t e r.1,
+      whole (r.0.line ∙ ap (λ x. Drives (port_flipped x (data_phase_number (ctrl_stat_word_in a.choice s.target)))) none)
           r.0.range (asked_power n b k s t flip h a n (omega arith) (inl (omega arith)) f e
           (before_framed n n b k s t f e (omega arith) (At Powered) h) r.1),
     )
 host_power_says n b k s t flip live h (inr (place, fits, some, one)) a more =
     let f = host_frame_okay CtrlStatRead true flip s t refl live a in
-    let e = host_flags_okay CtrlStatRead true flip s t a in
+    let e = host_flags_okay CtrlStatRead true flip s t refl a in
     let r = ctrl_stat_returned flip s t a in (
-      ctrl_stat_word_in a.busy s.target,
-      tells a.busy s t e r.1,
+      ctrl_stat_word_in a.choice s.target,
+      tells a.choice s t e r.1,
       changed place (r.0.line ∙ ap (λ x. Drives
-          (port_flipped x (data_phase_number (ctrl_stat_word_in a.busy s.target)))) some) r.0.range
+          (port_flipped x (data_phase_number (ctrl_stat_word_in a.choice s.target)))) some) r.0.range
           (asked_power n b k s t flip h a (n + 1) (omega arith) (inr (λ none. absurd (let x = sym some ∙ none in cc))) f
           e
           (before_framed n (n + 1) b k s t f e (omega (arith, one)) (At Powered) h) r.1),
@@ -217,6 +218,6 @@ host_ask_abort job n base b k v s t P select live rest l h asks keep go =
     (λ e. absurd (cc)) live rest l h asks
     (λ flip sp a more.
     (let f : HostFrame s t = host_frame_okay AbortWrite false flip s t refl live a in
-    let e : HostSameFlags s t = host_flags_okay AbortWrite false flip s t a in
+    let e : HostSameFlags s t = host_flags_okay AbortWrite false flip s t refl a in
     go (host_data_write_due AbortWrite n P flip s t a.line sp (keep n f e (omega arith))
     (λ d. keep (n + 1) f e (omega arith)))))

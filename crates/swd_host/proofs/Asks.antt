@@ -12,7 +12,11 @@ use Rattle.swd_port.specs.declared.register.Register.TheVariants.{CswRead}
 use Rattle.swd_port.proofs.RequestLaws.{port_identification_at_rest}
 use Rattle.swd_port.proofs.StatusLaws.{port_identification_returned, port_buffer_returned, port_value_resent}
 use Rattle.swd_host.specs.Requests.{engine_register_at, engine_place_is_exempt}
-use Rattle.swd_host.specs.Tracks.{csw_word_in_opening, OpeningIsReachable, engine_place_is_abort, EngineBeforeDamage}
+use Rattle.swd_host.specs.Tracks.{OpeningIsReachable, engine_place_is_abort, EngineBeforeDamage}
+use Rattle.swd_host.specs.Flags.{host_csw_is_configured}
+use Rattle.swd_port.specs.Registers.{csw_read}
+use Rattle.swd_port.specs.Laws.Registers.{PortCswFields}
+use Rattle.swd_port.proofs.RegisterLemmas.{port_csw_reads}
 use Rattle.swd_host.proofs.Frames.{HostFrame, HostSameFlags, host_frame_okay, host_flags_okay, host_place_framed}
 use Rattle.swd_host.proofs.Frames.{sure_framed, resent_framed, host_job_in_flight, host_place_in_flight}
 use Rattle.swd_host.proofs.Frames.{host_in_flight_idle, host_lost_in_flight, host_debug_power}
@@ -115,7 +119,7 @@ module _ (p : HostStep) (n : ℕ) (base : EngineBase) (b c : ℕ) (k : EngineHan
       (λ flip sp a more.
       (let w : PortAccepts r false flip s t = subst (λ x. PortAccepts r x flip s t) writes a in
       let f : HostFrame s t = host_frame_okay r false flip s t posted calm.live w in
-      let e : HostSameFlags s t = host_flags_okay r false flip s t w in
+      let e : HostSameFlags s t = host_flags_okay r false flip s t posted w in
       go (host_data_write_due r n (λ x. EnginePlaceIsSure p x c k t) flip s t w.line sp (sure n f e (omega arith))
       (λ d. sure (n + 1) f e (omega arith)))))
       plain (λ f e d. inl (sure (n + 1) f e (omega arith)))
@@ -167,10 +171,41 @@ opening_ask_dpidr n base b k v s t l h asks =
           (omega (arith, a.disturbed, h.paid))
     ]
 
+-- the fields that the host checks
+opening_csw_configured : (word : ℕ) → PortCswFields true word → host_csw_is_configured word ≡ true
+opening_csw_configured word h = rw (h.size, h.addr_inc, h.device_en) refl
+
 -- CSW is read: its word goes to the read buffer
 csw_was_read : (n b : ℕ) (k : EngineHand) (s t : Port) (flip : Option ℕ) → EnginePlaceIsSure ReadCsw n b k s
     → PortAccepts CswRead true flip s t → s.tally.disturbed ≤ t.tally.disturbed → EnginePlaceIsSure Configured n b k t
-csw_was_read n b k s t flip h a more = grind arith
+csw_was_read n b k s t flip h a more =
+    let c : PortCswFields true (csw_read true a.choice.others) = port_csw_reads true a.choice.others in
+    let read : t.target.buffer ≡ Some (csw_read true a.choice.others) = ap (λ x. x.buffer) a.target
+    ∙ ap (λ i. Some (csw_read i a.choice.others)) h.has.increments in
+    let calm = h.has.calm in
+    record {
+      has = record {
+        up = record {
+          calm = record {
+            live = a.live;
+            select = ap (λ x. x.select) a.target ∙ calm.select;
+            pending = ap (λ x. x.pending) a.target ∙ calm.pending;
+            memory = ap (λ x. x.memory) a.target ∙ calm.memory;
+            sticky = ap (λ x. x.sticky_error) a.target ∙ calm.sticky;
+          };
+          debug = ap (λ x. x.debug_power) a.target ∙ h.has.debug;
+          system = ap (λ x. x.system_power) a.target ∙ h.has.system;
+          debug_seen = ap (λ x. x.debug_up) a.target;
+          system_seen = ap (λ x. x.system_up) a.target ∙ h.has.system_seen;
+          increments = ap (λ x. x.increments) a.target ∙ h.has.increments;
+        };
+        word = csw_read true a.choice.others;
+        buffer = read;
+        configured = opening_csw_configured (csw_read true a.choice.others) c;
+      };
+      flag = λ e. ap (λ x. x.write_error) a.target ∙ h.flag refl;
+      paid = omega (arith, h.paid);
+    }
 
 -- what came of the posted read of CSW, where the write of CSW before it wasn't corrupted
 pub opening_ask_csw : (n : ℕ) (base : EngineBase) (b : ℕ) (k : EngineHand) (v : ℕ) (s t : Port)
@@ -178,17 +213,17 @@ pub opening_ask_csw : (n : ℕ) (base : EngineBase) (b : ℕ) (k : EngineHand) (
     → EnginePlaceIsSure ReadCsw n b k s → PortAsks s (engine_request_for (At ReadCsw) k.task) v t
     → HostAskOutcome (At ReadCsw) n base b k v t
 opening_ask_csw n base b k v s t l h asks =
-    let calm : EngineTargetCalm k.memory s.target = h.has.up.calm in
+    let calm : EngineTargetCalm k.memory s.target = h.has.calm in
     host_ask_unflagged (At ReadCsw) CswRead n base b b k v s t (engine_request_for (At ReadCsw) k.task)
     (engine_place_register ReadCsw k.task s calm.select) refl (λ e. absurd (cc)) calm.live calm.pending
-    (h.flag refl) calm.sticky (λ e. host_debug_power s.target h.has.up.debug h.has.up.seen) l (omega arith)
+    (h.flag refl) calm.sticky (λ e. host_debug_power s.target h.has.debug h.has.debug_seen) l (omega arith)
     (host_place_in_flight ReadCsw b k s h.has) h.paid asks (λ flip sp a more. csw_was_read n b k s t flip h a more)
     refl (λ f e d. inl (sure_framed n (n + 1) b k s t f e (omega arith) ReadCsw h))
 
 -- CSW is read back
 configured_word : (n n' : ℕ) (b : ℕ) (k : EngineHand) (s t : Port) (flip : Option ℕ)
-    → n' + s.tally.disturbed ≤ n + t.tally.disturbed → EnginePlaceIsSure Configured n b k s
-    → PortAccepts RdbuffRead true flip s t → EngineResendWord Configured csw_word_in_opening n' b k t
+    → n' + s.tally.disturbed ≤ n + t.tally.disturbed → (h : EnginePlaceIsSure Configured n b k s)
+    → PortAccepts RdbuffRead true flip s t → EngineResendWord Configured h.has.word n' b k t
 configured_word n n' b k s t flip more h a = grind arith
 
 -- what came of the read of RDBUFF that returns the word of CSW
@@ -202,10 +237,10 @@ opening_ask_csw_word n base b k v s t l h asks =
     (engine_place_register Configured k.task s calm.select) refl (λ e. absurd (cc)) calm.live calm.pending
     (h.flag refl) calm.sticky (λ e. absurd (cc)) l (omega arith) (host_place_in_flight Configured b k s h.has) h.paid
     asks (λ flip sp a more. (
-      csw_word_in_opening,
-      host_data_read_due csw_word_in_opening n
-          (λ c. EngineResendWord Configured csw_word_in_opening c b k t) flip s t
-          (port_buffer_returned RdbuffRead flip csw_word_in_opening s t refl h.has.buffer a).0 sp
+      h.has.word,
+      host_data_read_due h.has.word n
+          (λ c. EngineResendWord Configured h.has.word c b k t) flip s t
+          (port_buffer_returned RdbuffRead flip h.has.word s t refl h.has.buffer a).0 sp
           (configured_word n n b k s t flip (omega arith) h a) (λ d. configured_word n (n + 1) b k s t flip
           (omega arith) h a),
     ))
@@ -224,7 +259,7 @@ host_resend_at_rest p word n base b k v m s t l calm r asks =
     (host_job_in_flight (Resend p) n b k s (word, r)) r.paid asks
     (λ flip sp a more.
     (let f : HostFrame s t = host_frame_okay ResendRead true flip s t refl calm.live a in
-    let e : HostSameFlags s t = host_flags_okay ResendRead true flip s t a in (
+    let e : HostSameFlags s t = host_flags_okay ResendRead true flip s t refl a in (
       word,
       host_data_read_due word n (λ c. EngineResendWord p word c b k t) flip s t
           (port_value_resent flip word s t r.last a).0 sp (resent_framed n n b k s t f e (omega arith) p word r)

@@ -116,7 +116,7 @@ passing_asked word n base b k v s t l h r asks =
     (omega (arith, ap (λ i. i.lost) kp.tally)) ux rx.flag rx.paid last
     (λ d a. (let ac : PortAccepts ResendRead true a.flip x y = a.accepts in
     let f : HostFrame x y = host_frame_okay ResendRead true a.flip x y refl ux.serves.live ac in
-    let e : HostSameFlags x y = host_flags_okay ResendRead true a.flip x y ac in
+    let e : HostSameFlags x y = host_flags_okay ResendRead true a.flip x y refl ac in
     let more : x.tally.disturbed ≤ y.tally.disturbed = a.heard.disturbed_least in (
       word,
       reads_stay Confirm word n b k y t last

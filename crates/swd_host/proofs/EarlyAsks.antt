@@ -95,10 +95,10 @@ module _ (job : Job) (n : ℕ) (stray : Bool) (start s y z t : Port) (flip : Opt
 
   -- a CTRL/STAT read that was answered: its word is on the line
   status_reads : (a : PortAccepts CtrlStatRead true flip y z)
-      → EngineReads (ctrl_stat_word_in a.busy y.target) n (λ c. ResumedBefore job c stray start t) t
+      → EngineReads (ctrl_stat_word_in a.choice y.target) n (λ c. ResumedBefore job c stray start t) t
   status_reads a =
       let r = ctrl_stat_returned flip y z a in
-      host_data_read_due (ctrl_stat_word_in a.busy y.target) n (λ c. ResumedBefore job c stray start t) flip y t
+      host_data_read_due (ctrl_stat_word_in a.choice y.target) n (λ c. ResumedBefore job c stray start t) flip y t
       (record { line = ap (λ i. i.line) (kept_by z t last).link ∙ r.0.line; range = r.0.range })
       (spares_later flip y z t same_count sp)
       (across job n n stray start s y z t CtrlStatRead true flip refl live_then first a last (omega arith) h)
@@ -107,11 +107,11 @@ module _ (job : Job) (n : ℕ) (stray : Bool) (start s y z t : Port) (flip : Opt
 
   -- what it tells while nothing is pending
   status_shows : s.target.pending ≡ None → (a : PortAccepts CtrlStatRead true flip y z)
-      → ResumeReadFlags (host_flags_in (ctrl_stat_word_in a.busy y.target)) t.target
+      → ResumeReadFlags (host_flags_in (ctrl_stat_word_in a.choice y.target)) t.target
   status_shows none a =
       let r = (ctrl_stat_returned flip y z a).1 in
       let f : HostFrame y z = host_frame_okay CtrlStatRead true flip y z refl live_then a in
-      let e : HostSameFlags y z = host_flags_okay CtrlStatRead true flip y z a in
+      let e : HostSameFlags y z = host_flags_okay CtrlStatRead true flip y z refl a in
       let same : t ≡ z = no_pending_same z t (f.pending ∙ opening_none_pending s y first none) last in
       record {
         error = r.sticky_held ∙ (sym e.sticky ∙ sym (ap (λ p. p.target.sticky_error) same));
@@ -120,11 +120,11 @@ module _ (job : Job) (n : ℕ) (stray : Bool) (start s y z t : Port) (flip : Opt
 
   -- what it tells while the transfer may be pending
   status_glimpsed : ResumedAbortWritten n stray start s → (a : PortAccepts CtrlStatRead true flip y z)
-      → ResumeGlimpsedFlags (host_flags_in (ctrl_stat_word_in a.busy y.target)) stray t.target
+      → ResumeGlimpsedFlags (host_flags_in (ctrl_stat_word_in a.choice y.target)) stray t.target
   status_glimpsed aborted a =
       let r = (ctrl_stat_returned flip y z a).1 in
       let f : HostFrame y z = host_frame_okay CtrlStatRead true flip y z refl live_then a in
-      let e : HostSameFlags y z = host_flags_okay CtrlStatRead true flip y z a in
+      let e : HostSameFlags y z = host_flags_okay CtrlStatRead true flip y z refl a in
       let w : t.target.write_error ≡ y.target.write_error = (kept_by z t last).write_error ∙ e.write in
       let there : ResumedAbortWritten n stray start y =
       opening_job_completed (At CheckCtrlStat) n stray start s y first aborted in
@@ -173,7 +173,7 @@ module _ (n : ℕ) (base : EngineBase) (stray : Bool) (start : Port) (v : ℕ) (
       exempt_early (Status Select) n base stray start v s t (engine_request_for (Status Select) k) CtrlStatRead
       (reached (Status Select) h.woken.any.select) refl (no_drw CtrlStatRead refl) h.woken l asks
       (λ y z flip first sp a more last. (
-        ctrl_stat_word_in a.busy y.target,
+        ctrl_stat_word_in a.choice y.target,
         status_shows (Status Select) n stray start s y z t flip h.woken.live first sp more last h h.pending a,
         status_reads (Status Select) n stray start s y z t flip h.woken.live first sp more last h a,
       ))
@@ -185,7 +185,7 @@ module _ (n : ℕ) (base : EngineBase) (stray : Bool) (start : Port) (v : ℕ) (
       exempt_early (At CheckCtrlStat) n base stray start v s t (engine_request_for (At CheckCtrlStat) k) CtrlStatRead
       (reached (At CheckCtrlStat) w.any.select) refl (no_drw CtrlStatRead refl) w l asks
       (λ y z flip first sp a more last. (
-        ctrl_stat_word_in a.busy y.target,
+        ctrl_stat_word_in a.choice y.target,
         status_glimpsed (At CheckCtrlStat) n stray start s y z t flip w.live first sp more last h h a,
         status_reads (At CheckCtrlStat) n stray start s y z t flip w.live first sp more last h a,
       ))
@@ -199,7 +199,7 @@ module _ (n : ℕ) (base : EngineBase) (stray : Bool) (start : Port) (v : ℕ) (
       exempt_early job n base stray start v s t (engine_request_for job k) CtrlStatRead (reached job w.any.select) refl
       (no_drw CtrlStatRead refl) w l asks
       (λ y z flip first sp a more last. (
-        ctrl_stat_word_in a.busy y.target,
+        ctrl_stat_word_in a.choice y.target,
         status_shows job n stray start s y z t flip w.live first sp more last h
             (opening_cleared_rests owed n stray start s h) a,
         status_reads job n stray start s y z t flip w.live first sp more last h a,
@@ -261,7 +261,7 @@ module _ (n : ℕ) (base : EngineBase) (stray : Bool) (start : Port) (v : ℕ) (
       let there : ResumedCtrlStatChecked n stray start y =
       opening_job_completed (At Select) n stray start s y first h in
       let f : HostFrame y z = host_frame_okay SelectWrite false flip y z refl there.woken.live a in
-      let e : HostSameFlags y z = host_flags_okay SelectWrite false flip y z a in
+      let e : HostSameFlags y z = host_flags_okay SelectWrite false flip y z refl a in
       let same : t ≡ z = no_pending_same z t (f.pending ∙ none) last in
       let count : t.tally.disturbed ≡ z.tally.disturbed = ap (λ p. p.tally.disturbed) same in
       let settled : (c : ℕ) → c ≤ t.tally.disturbed → ResumedSelectSettled c y.target.memory t = (λ c paid. record {

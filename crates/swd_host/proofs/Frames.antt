@@ -28,9 +28,9 @@ pub record HostFrame (s t : Port) : Type 0 where
   pub tar : t.target.tar ≡ s.target.tar
   pub debug : t.target.debug_power ≡ s.target.debug_power
   pub system : t.target.system_power ≡ s.target.system_power
-  pub seen : s.target.power_up ≡ Seen → t.target.power_up ≡ Seen
+  pub debug_seen : s.target.debug_up ≡ Seen → t.target.debug_up ≡ Seen
+  pub system_seen : s.target.system_up ≡ Seen → t.target.system_up ≡ Seen
   pub increments : t.target.increments ≡ s.target.increments
-  pub upper : t.target.csw_upper ≡ s.target.csw_upper
   pub buffer : t.target.buffer ≡ s.target.buffer
   pub last_returned : t.target.last_returned ≡ s.target.last_returned
   pub identification : t.target.identification ≡ s.target.identification
@@ -54,9 +54,9 @@ framed s t ok error write h = record {
   tar = ap (λ i. i.tar) h;
   debug = ap (λ i. i.debug_power) h;
   system = ap (λ i. i.system_power) h;
-  seen = λ e. ap (λ i. i.power_up) h ∙ e;
+  debug_seen = λ e. ap (λ i. i.debug_up) h ∙ e;
+  system_seen = λ e. ap (λ i. i.system_up) h ∙ e;
   increments = ap (λ i. i.increments) h;
-  upper = ap (λ i. i.csw_upper) h;
   buffer = ap (λ i. i.buffer) h;
   last_returned = ap (λ i. i.last_returned) h;
   identification = ap (λ i. i.identification) h;
@@ -108,7 +108,7 @@ pub host_frame_abort : (word : ℕ) (s t : Port) → PortWritten AbortWrite word
 host_frame_abort word s t h = grind arith
 
 -- there is debug power, then
-pub host_debug_power : (x : Target) → x.debug_power ≡ true → x.power_up ≡ Seen → port_has_power x ≡ true
+pub host_debug_power : (x : Target) → x.debug_power ≡ true → x.debug_up ≡ Seen → port_has_power x ≡ true
 host_debug_power x debug seen = rw (debug, seen) refl
 
 -- an accepted request that isn't a posted read
@@ -116,10 +116,10 @@ pub host_frame_okay : (r : Register) (read : Bool) (flip : Option ℕ) (s t : Po
     → s.target.reset ≡ Live → PortAccepts r read flip s t → HostFrame s t
 host_frame_okay r read flip s t plain live h = grind arith
 
--- a request that is answered OK leaves the flags unchanged
-pub host_flags_okay : (r : Register) (read : Bool) (flip : Option ℕ) (s t : Port) → PortAccepts r read flip s t
-    → HostSameFlags s t
-host_flags_okay r read flip s t h = grind arith
+-- so is every flag
+pub host_flags_okay : (r : Register) (read : Bool) (flip : Option ℕ) (s t : Port) → is_port_posted r ≡ false
+    → PortAccepts r read flip s t → HostSameFlags s t
+host_flags_okay r read flip s t plain h = grind arith
 
 -- a live target at rest with STICKYERR clear stays so, where these fields and STICKYERR are unchanged
 pub host_calm_framed : (m : Bus) (s t : Port) → HostFrame s t → t.target.sticky_error ≡ s.target.sticky_error
@@ -247,7 +247,7 @@ pub host_place_in_flight : (p : HostStep) (b : ℕ) (k : EngineHand) (s : Port) 
     → EngineMemoryWithin b k s.target
 host_place_in_flight Powered b k s h = host_in_flight_idle b k s h.calm.pending h.calm.memory
 host_place_in_flight Configure b k s h = host_in_flight_idle b k s h.calm.pending h.calm.memory
-host_place_in_flight ReadCsw b k s h = host_in_flight_idle b k s h.up.calm.pending h.up.calm.memory
+host_place_in_flight ReadCsw b k s h = host_in_flight_idle b k s h.calm.pending h.calm.memory
 host_place_in_flight Configured b k s h = host_in_flight_idle b k s h.up.calm.pending h.up.calm.memory
 host_place_in_flight WriteTar b k s h = host_in_flight_idle b k s h.up.calm.pending h.up.calm.memory
 host_place_in_flight Transfer b k s h = host_in_flight_idle b k s h.up.calm.pending h.up.calm.memory

@@ -141,20 +141,18 @@ module _ (n b : ℕ) (k : EngineHand) (s t : Port) (sent : ℕ) (range : sent < 
       (omega arith) is (λ x. absurd (cc)) (λ c h. h.has.calm.pending) w
       (λ h g. (let c = h.has.calm in inl (record {
         has = record {
-          up = record {
-            calm = record {
-              live = ap (λ i. i.reset) g.target ∙ c.live;
-              select = ap (λ i. i.select) g.target ∙ c.select;
-              pending = ap (λ i. i.pending) g.target ∙ c.pending;
-              memory = ap (λ i. i.memory) g.target ∙ c.memory;
-              sticky = ap (λ i. i.sticky_error) g.target ∙ c.sticky;
-            };
-            debug = ap (λ i. i.debug_power) g.target ∙ h.has.debug;
-            system = ap (λ i. i.system_power) g.target ∙ h.has.system;
-            seen = ap (λ i. i.power_up) g.target ∙ h.has.seen;
-            increments = ap (λ i. i.increments) g.target;
+          calm = record {
+            live = ap (λ i. i.reset) g.target ∙ c.live;
+            select = ap (λ i. i.select) g.target ∙ c.select;
+            pending = ap (λ i. i.pending) g.target ∙ c.pending;
+            memory = ap (λ i. i.memory) g.target ∙ c.memory;
+            sticky = ap (λ i. i.sticky_error) g.target ∙ c.sticky;
           };
-          upper = ap (λ i. i.csw_upper) g.target;
+          debug = ap (λ i. i.debug_power) g.target ∙ h.has.debug;
+          system = ap (λ i. i.system_power) g.target ∙ h.has.system;
+          debug_seen = ap (λ i. i.debug_up) g.target ∙ h.has.debug_seen;
+          system_seen = ap (λ i. i.system_up) g.target ∙ h.has.system_seen;
+          increments = ap (λ i. i.increments) g.target;
         };
         flag = λ x. ap (λ i. i.write_error) g.target ∙ h.flag refl;
         paid = paid_on CswWrite 0x2300_0012 g h.paid;
@@ -183,7 +181,8 @@ module _ (n b : ℕ) (k : EngineHand) (s t : Port) (sent : ℕ) (range : sent < 
             };
             debug = ap (λ i. i.debug_power) g.target ∙ h.has.up.debug;
             system = ap (λ i. i.system_power) g.target ∙ h.has.up.system;
-            seen = ap (λ i. i.power_up) g.target ∙ h.has.up.seen;
+            debug_seen = ap (λ i. i.debug_up) g.target ∙ h.has.up.debug_seen;
+            system_seen = ap (λ i. i.system_up) g.target ∙ h.has.up.system_seen;
             increments = ap (λ i. i.increments) g.target ∙ h.has.up.increments;
           };
           tar = ap (λ i. i.tar) g.target;

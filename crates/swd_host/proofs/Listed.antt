@@ -102,7 +102,8 @@ module _ (kind : Bursts) (tries : ℕ) (list : List Access) (o f : Engine) (befo
       };
       debug = ready.1.debug;
       system = ready.1.system;
-      seen = ready.1.seen;
+      debug_seen = ready.1.debug_seen;
+      system_seen = ready.1.system_seen;
       increments = ready.1.increments;
     };
     odd = ready.0.known.odd;

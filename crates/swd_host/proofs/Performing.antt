@@ -336,7 +336,8 @@ module _ (i : ℕ) (list : List Access) (o e : Engine) (answers : List Answer) (
             write_error = ap (λ x. x.write_error) passed.target ∙ ready.flag;
             debug = ap (λ x. x.debug_power) passed.target ∙ up.debug;
             system = ap (λ x. x.system_power) passed.target ∙ up.system;
-            seen = ap (λ i. i.power_up) passed.target ∙ up.seen;
+            debug_seen = ap (λ i. i.debug_up) passed.target ∙ up.debug_seen;
+            system_seen = ap (λ i. i.system_up) passed.target ∙ up.system_seen;
             live = ap (λ x. x.reset) passed.target ∙ up.calm.live;
             increments = ap (λ x. x.increments) passed.target ∙ up.increments;
           },

@@ -17,7 +17,7 @@ use Rattle.swd_port.specs.declared.cue.Cue.TheVariants.{Ask as CueAsk, Take, Giv
 use Rattle.swd_port.specs.declared.register.Register.{Register}
 use Rattle.swd_port.specs.declared.register.Register.TheVariants.{CtrlStatRead, DrwRead, DrwWrite, RdbuffRead}
 use Rattle.swd_port.specs.declared.register.Register.TheVariants.{ResendRead}
-use Rattle.swd_port.specs.Laws.WordsRead.{ctrl_stat_holds}
+use Rattle.swd_port.specs.Registers.{ctrl_stat_holds}
 use Rattle.swd_host.specs.declared.engine.Phase.TheVariants.{Faulted}
 use Rattle.swd_host.specs.declared.task.Task.TheVariants.{Read as TaskRead, BurstRead, Write as TaskWrite, BurstWrite}
 use Rattle.swd_host.specs.declared.engine.Phase.{Phase}

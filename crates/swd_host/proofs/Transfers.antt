@@ -1,8 +1,9 @@
 -- The requests of a transfer: DRW, and the request that confirms it.
-use Rattle.swd_host.proofs.Words.{◌≡◌, ◌+◌, ◌≤◌, ℕ, Bool, true, false, refl, sym, ap, subst, inl, inr, arith, ◌∙◌}
+use Rattle.swd_host.proofs.Words.{◌≡◌, ◌≢◌, ◌+◌, ◌≤◌, ℕ, Bool, true, false, refl, sym, ap, subst, inl, inr, arith, ◌∙◌}
 use Rattle.swd_host.proofs.Words.{Option, Some, None, ◌⊎◌, Request, AccessRead, Task, Read, BurstRead, Write}
 use Rattle.swd_host.proofs.Words.{BurstWrite, access_of_task, task_is_block, Value, bus_answer, bus_done_answer}
 use Rattle.swd_host.proofs.Words.{bus_word_at, Port, port_register, Register, RdbuffRead, DrwRead, DrwWrite}
+use Rattle.swd_port.specs.declared.register.Register.TheVariants.{ApOtherRead}
 use Rattle.swd_host.proofs.Words.{PortCompletes, PortAsks, port_has_power, pending_drw_once_read, Drw, PortIgnores}
 use Rattle.swd_host.proofs.Words.{PortAccepts, PortRefuses, PortPhaseSpared, okay, wait, lost, PortSent, PortSucceeded}
 use Rattle.swd_host.proofs.Words.{PortBuffered, Transfer, Confirm, Job, At, engine_request_for, task_drw_register}
@@ -63,7 +64,7 @@ drw_read_asked n base b c k at v s t grows some e sent l h asks =
     let up : EngineTargetUp k.memory s.target = h.has.up in
     let (y, came, last) = port_free_at_rest DrwRead (port_request_for DrwRead) v s t
     (ap (λ x. port_register x (port_request_for DrwRead)) up.calm.select) refl up.calm.live up.calm.pending
-    (h.flag refl) up.calm.sticky (λ x. host_debug_power s.target up.debug up.seen) asks in
+    (h.flag refl) up.calm.sticky (λ x. host_debug_power s.target up.debug up.debug_seen) asks in
     elim came [
       | okay a ↦
           (let x : PortAccepts DrwRead true a.flip s y = a.accepts in
@@ -100,7 +101,7 @@ drw_write_asked : (n : ℕ) (base : EngineBase) (b c : ℕ) (k : EngineHand) (v 
 drw_write_asked n base b c k v s t grows r l h asks go =
     write_asked Transfer n base b c k v s t DrwWrite r (ap (λ z. (port_request_for z).read) r) refl refl refl refl
     (λ x. absurd (cc))
-    grows h.has.up.calm (λ x. host_debug_power s.target h.has.up.debug h.has.up.seen) l h asks go
+    grows h.has.up.calm (λ x. host_debug_power s.target h.has.up.debug h.has.up.debug_seen) l h asks go
 
 -- what came of an access's DRW request, where TAR has its address and no write was corrupted
 pub host_ask_drw : (task : Task) (n : ℕ) (base : EngineBase) (b c : ℕ) (k : EngineHand) (v : ℕ) (s t : Port)
@@ -133,10 +134,10 @@ stays_pending task read flip x y single a = grind (arith, confirming_pending)
 
 -- the transfer was done before x, and the request was answered OK from x to y
 done_there : (b : ℕ) (k : EngineHand) (r : Register) (read : Bool) (flip : Option ℕ) (x y : Port)
-    → y.target.pending ≡ x.target.pending → TaskTransferSent b k x.target
+    → r ≢ ApOtherRead → y.target.pending ≡ x.target.pending → TaskTransferSent b k x.target
     → PortSucceeded (access_of_task k.task) k.memory x.target
     → PortAccepts r read flip x y → TaskTransferDone b k y.target
-done_there b k r read flip x y p h d a = grind arith
+done_there b k r read flip x y near p h d a = grind arith
 
 -- what its OK tells, by the task
 confirms_at : (task : Task) (n b : ℕ) (k : EngineHand) (x y : Port) (flip : Option ℕ) → k.task ≡ task
@@ -148,7 +149,7 @@ confirms_at : (task : Task) (n b : ℕ) (k : EngineHand) (x y : Port) (flip : Op
     (engine_request_for (At Confirm) task).read flip x y → TaskConfirmPhase task n b k y
 confirms_at (BurstRead at) n b k x y flip e single h flag paid more sp d ac = absurd (cc)
 confirms_at (Read at) n b k x y flip e single h flag paid more sp d ac =
-    let done : TaskTransferDone b k y.target = done_there b k RdbuffRead true flip x y (stays_pending
+    let done : TaskTransferDone b k y.target = done_there b k RdbuffRead true flip x y (λ e. absurd (cc)) (stays_pending
     (Read at) true flip x y refl ac) h d ac in
     let by : TaskDoneWithAhead (task_ahead k.task) b k y.target =
     subst (λ a. TaskDoneWithAhead (task_ahead a) b k y.target) (sym e) done in
@@ -171,7 +172,7 @@ confirms_at (Read at) n b k x y flip e single h flag paid more sp d ac =
     )
 confirms_at (Write at word) n b k x y flip e single h flag paid more sp d ac =
     record {
-      done = done_there b k RdbuffRead true flip x y (stays_pending (Write at word) true flip x y refl ac) h d ac;
+      done = done_there b k RdbuffRead true flip x y (λ e. absurd (cc)) (stays_pending (Write at word) true flip x y refl ac) h d ac;
       answered = d.answer ∙ ap (λ a. bus_done_answer (access_of_task a) k.memory) e;
       flag = ap (λ i. i.write_error) ac.target ∙ flag;
       paid = omega arith;
@@ -179,7 +180,7 @@ confirms_at (Write at word) n b k x y flip e single h flag paid more sp d ac =
 confirms_at (BurstWrite at word) n b k x y flip e single h flag paid more sp d ac =
     let confirmed : (n' : ℕ) → n' ≤ y.tally.disturbed → TaskWriteConfirmed n' b k y =
     (λ n' i. record {
-      done = done_there b k DrwWrite false flip x y
+      done = done_there b k DrwWrite false flip x y (λ e. absurd (cc))
           (stays_pending (BurstWrite at word) false flip x y refl ac) h d ac;
       answered = d.answer ∙ ap (λ a. bus_done_answer (access_of_task a) k.memory) e;
       flag = ap (λ i. i.write_error) ac.target ∙ flag;
@@ -286,12 +287,12 @@ module _ (n : ℕ) (base : EngineBase) (b c : ℕ) (k : EngineHand) (v : ℕ) (s
       let q : Request = engine_request_for (At Confirm) k.task in
       let (x, y, first, came, last) = port_confirming_request (access_of_task k.task) k.memory r q v s t u.sent
       (engine_place_register Confirm k.task s u.serves.select) (engine_place_not_exempt Confirm k.task refl)
-      u.serves.live (h.flag refl) (λ e. host_debug_power s.target u.serves.debug u.serves.seen) asks in
+      u.serves.live (h.flag refl) (λ e. host_debug_power s.target u.serves.debug u.serves.debug_seen) asks in
       let kp = kept_by s x first in
       let ux : TaskTransferSent b k x.target = host_under_completed b k s x first u in
       let flag : x.target.write_error ≡ false = kp.write_error ∙ h.flag refl in
       let paid : n ≤ x.tally.disturbed = omega (arith, ap (λ i. i.disturbed) kp.tally, h.paid) in
-      confirming_came r q k x y (λ e. host_debug_power x.target ux.serves.debug ux.serves.seen) (At Confirm) n base c k
+      confirming_came r q k x y (λ e. host_debug_power x.target ux.serves.debug ux.serves.debug_seen) (At Confirm) n base c k
       v t (omega (arith, ap (λ i. i.lost) kp.tally)) (under_more b 1 k x (omega arith) ux) flag paid last
       (λ d a. good x y last (under_more b c k x some ux) flag paid d a)
       (λ a w. record { free = refl; before = inl (host_sure_more (n + 1) 1 c k t some w) })

@@ -1,8 +1,7 @@
 -- The sticky flags of CTRL/STAT, and the words that clear them: IHI 0031, B2, "CTRL/STAT, Control/Status register"
 -- and "ABORT, AP Abort register".
 use Rattle.std.specs.Prelude.{ℕ, ◌+◌, ◌==◌, ◌&&◌, Bool, false, if◌then◌else◌}
-use Rattle.swd_port.specs.Laws.WordsRead.{ctrl_stat_holds}
-use Rattle.swd_port.specs.Registers.{csw_of}
+use Rattle.swd_port.specs.Registers.{csw_of, ctrl_stat_holds}
 use Rattle.swd_host.specs.declared.flags.Flags.{Flags}
 
 -- the flags in a word of CTRL/STAT

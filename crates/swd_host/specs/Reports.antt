@@ -134,7 +134,8 @@ pub record HostLeavesPowered (s : Target) : Type 0 where
   pub write_error : s.write_error ≡ false
   pub debug : s.debug_power ≡ true
   pub system : s.system_power ≡ true
-  pub seen : s.power_up ≡ Seen
+  pub debug_seen : s.debug_up ≡ Seen
+  pub system_seen : s.system_up ≡ Seen
   pub live : s.reset ≡ Live
   pub increments : s.increments ≡ true
 

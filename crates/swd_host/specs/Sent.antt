@@ -14,7 +14,7 @@ use Rattle.swd_port.specs.declared.cue.Cue.TheVariants.{Ask, Take, Give}
 use Rattle.swd_port.specs.declared.register.Register.{Register}
 use Rattle.swd_port.specs.declared.register.Register.TheVariants.{CtrlStatRead, DrwRead, DrwWrite, RdbuffRead}
 use Rattle.swd_port.specs.declared.register.Register.TheVariants.{ResendRead}
-use Rattle.swd_port.specs.Laws.WordsRead.{ctrl_stat_holds}
+use Rattle.swd_port.specs.Registers.{ctrl_stat_holds}
 use Rattle.swd_port.specs.Port.{port_request_for}
 use Rattle.swd_port.specs.Stories.{is_port_ask}
 use Rattle.swd_host.specs.Reports.{HostReport}

@@ -39,7 +39,7 @@ use Rattle.swd_port.specs.declared.wire.Due.{Due}
 use Rattle.swd_port.specs.declared.wire.Due.TheVariants.{Nothing, Take, Give, Pass, Lost as DueLost}
 use Rattle.swd_port.specs.Bus.{Bus, bus_answer, bus_after}
 use Rattle.swd_port.specs.PlainMemory.{plain_address}
-use Rattle.swd_port.specs.Registers.{port_select_zero}
+use Rattle.swd_port.specs.Registers.{port_select_zero, ctrl_stat_holds}
 use Rattle.swd_bits.specs.Phases.{data_phase_number}
 use Rattle.swd_port.specs.Phases.{port_flipped}
 use Rattle.swd_port.specs.Port.{Port, Target}
@@ -50,7 +50,6 @@ use Rattle.swd_port.specs.declared.state.Reset.TheVariants.{Unreset, Live}
 use Rattle.swd_port.specs.declared.state.PowerUp.TheVariants.{Seen}
 use Rattle.swd_port.specs.declared.state.AfterAck.TheVariants.{Idle, Drives, Awaits}
 use Rattle.swd_port.specs.Transfers.{PortSent, PortBecomes, PortTarAdvanced}
-use Rattle.swd_port.specs.Laws.WordsRead.{ctrl_stat_holds}
 use Rattle.swd_host.specs.declared.flags.Flags.{Flags}
 use Rattle.swd_host.specs.declared.outcome.End.{End}
 use Rattle.swd_host.specs.declared.outcome.End.TheVariants.{Lost, TriesOut}
@@ -73,7 +72,7 @@ use Rattle.swd_host.specs.declared.engine.Engine.{Engine}
 use Rattle.swd_host.specs.Plain.{IsHostAccess}
 use Rattle.swd_host.specs.Tasks.{access_of_task, task_is_block}
 use Rattle.swd_host.specs.Engines.{engine_job}
-use Rattle.swd_host.specs.Flags.{host_reads_power}
+use Rattle.swd_host.specs.Flags.{host_reads_power, host_csw_is_configured}
 use Rattle.swd_host.specs.Requests.{engine_request_for, engine_next_place, engine_confirmed, engine_job_is_exempt}
 use Rattle.swd_host.specs.Requests.{engine_place_is_exempt, engine_place_is_confirm, engine_place_is_behind}
 use Rattle.swd_host.specs.Requests.{engine_job_starts}
@@ -134,26 +133,24 @@ pub record OpeningHasPower (m : Bus) (s : Target) : Type 0 where
   pub calm : EngineTargetCalm m s
   pub debug : s.debug_power ≡ true
   pub system : s.system_power ≡ true
-  pub seen : s.power_up ≡ Seen
+  pub debug_seen : s.debug_up ≡ Seen
+  pub system_seen : s.system_up ≡ Seen
 
 -- ready for transfers
 pub record EngineTargetUp (m : Bus) (s : Target) : Type 0 where
   pub calm : EngineTargetCalm m s
   pub debug : s.debug_power ≡ true
   pub system : s.system_power ≡ true
-  pub seen : s.power_up ≡ Seen
+  pub debug_seen : s.debug_up ≡ Seen
+  pub system_seen : s.system_up ≡ Seen
   pub increments : s.increments ≡ true
 
-pub record OpeningHasCsw (m : Bus) (s : Target) : Type 0 where
-  pub up : EngineTargetUp m s
-  pub upper : s.csw_upper ≡ 0x23
-
-abbrev pub csw_word_in_opening : ℕ
-csw_word_in_opening = 0x2300_0052
-
+-- the read buffer has the word of CSW
 pub record OpeningHasReadCsw (m : Bus) (s : Target) : Type 0 where
   pub up : EngineTargetUp m s
-  pub buffer : s.buffer ≡ Some csw_word_in_opening
+  pub word : ℕ
+  pub buffer : s.buffer ≡ Some word
+  pub configured : host_csw_is_configured word ≡ true
 
 pub record EngineHasTar (k : EngineHand) (s : Target) : Type 0 where
   pub up : EngineTargetUp k.memory s
@@ -170,7 +167,8 @@ pub record EngineTargetServes (s : Target) : Type 0 where
   pub select : s.select ≡ port_select_zero
   pub debug : s.debug_power ≡ true
   pub system : s.system_power ≡ true
-  pub seen : s.power_up ≡ Seen
+  pub debug_seen : s.debug_up ≡ Seen
+  pub system_seen : s.system_up ≡ Seen
   pub increments : s.increments ≡ true
 
 -- the transfer was sent; b accesses are begun
@@ -188,7 +186,7 @@ EnginePlaceHas Select b k s = EngineTargetCalm k.memory s
 EnginePlaceHas Power b k s = EngineTargetCalm k.memory s
 EnginePlaceHas Powered b k s = OpeningAsksPower k.memory s
 EnginePlaceHas Configure b k s = OpeningHasPower k.memory s
-EnginePlaceHas ReadCsw b k s = OpeningHasCsw k.memory s
+EnginePlaceHas ReadCsw b k s = EngineTargetUp k.memory s
 EnginePlaceHas Configured b k s = OpeningHasReadCsw k.memory s
 EnginePlaceHas WriteTar b k s = EngineLacksTar k s
 EnginePlaceHas Transfer b k s = EngineHasTar k s
@@ -298,7 +296,7 @@ abbrev pub task_ahead : Task → Ahead
 task_ahead task = if task_is_block task then NextSent else Unsent
 
 abbrev pub EngineWordReturned : HostStep → ℕ → ℕ → EngineHand → Target → Type 0
-EngineWordReturned Configured word b k s = EngineTargetUp k.memory s × (word ≡ csw_word_in_opening)
+EngineWordReturned Configured word b k s = EngineTargetUp k.memory s × (host_csw_is_configured word ≡ true)
 EngineWordReturned Confirm word b k s =
     TaskDoneWithAhead (task_ahead k.task) b k s × (bus_answer (access_of_task k.task) k.memory ≡ Value word)
 EngineWordReturned Behind word b k s = TaskDoneWithAhead NextFailed b k s
@@ -347,7 +345,8 @@ EngineReadsStatus job n b k s = (word : ℕ) × EngineReadsFlags word s.target
 -- met as an event yet.
 pub record OpeningAskedPower (powered : Bool) (n b : ℕ) (k : EngineHand) (s : Port) : Type 0 where
   pub before : EngineBefore (At Powered) n b k s
-  pub there : powered ≡ true → s.target.write_error ≡ false → s.target.power_up ≡ Seen
+  pub debug_there : powered ≡ true → s.target.write_error ≡ false → s.target.debug_up ≡ Seen
+  pub system_there : powered ≡ true → s.target.write_error ≡ false → s.target.system_up ≡ Seen
   pub late : powered ≡ false → s.target.write_error ≡ false → n + 1 ≤ s.tally.disturbed
 
 abbrev pub OpeningReadsPower : ℕ → ℕ → EngineHand → Port → Type 0

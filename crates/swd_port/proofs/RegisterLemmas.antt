@@ -1,11 +1,12 @@
 -- The fields of SELECT and CSW, and the bits of the words that carry them.
-use Rattle.std.proofs.Common.{◌≡◌, ℕ, zero, suc, ◌+◌, ◌*◌, ◌/◌, ◌%◌, ◌^◌, ◌<◌, refl, sym, ap, ◌∙◌, arith}
+use Rattle.std.proofs.Common.{◌≡◌, ℕ, true, false, zero, suc, ◌+◌, ◌*◌, ◌/◌, ◌%◌, ◌^◌, ◌<◌, refl, sym, ap, ◌∙◌, arith}
 use Rattle.std.specs.Prelude.{◌==◌}
 use Rattle.std.specs.Int.RustNames.{bit_and, bit_or}
 use Rattle.std.proofs.lemmas.Nat.{and_mask, and_block, or_shifted, shr_split, pow_pos, mod_below}
 use Rattle.swd_bits.specs.Bits.{bit}
 use Rattle.swd_port.specs.declared.select.Select.{Select}
-use Rattle.swd_port.specs.Registers.{select_of, select_word, select_mask, IsSelect, csw_of, csw_word, csw_mask}
+use Rattle.swd_port.specs.Registers.{select_of, select_word, select_mask, IsSelect, csw_of, csw_word, csw_mask, csw_read}
+use Rattle.swd_port.specs.Laws.Registers.{PortCswReads}
 
 -- a digit as a bit, and back
 digit : (r : ℕ) → r < 2 → bit (r == 1) ≡ r
@@ -61,6 +62,15 @@ port_csw_kept w =
     let seven : bit (w / 128 % 2 == 1) ≡ w / 128 % 2 = digit (w / 128 % 2) (omega arith) in
     omega arith
 
+-- the word that CSW reads
+pub port_csw_reads : PortCswReads
+port_csw_reads true others =
+    let low : csw_read true others / 64 % 2 ≡ 1 = omega arith in
+    record { size = omega arith; addr_inc = omega arith; device_en = ap (λ x. x == 1) low; range = omega arith }
+port_csw_reads false others =
+    let low : csw_read false others / 64 % 2 ≡ 1 = omega arith in
+    record { size = omega arith; addr_inc = omega arith; device_en = ap (λ x. x == 1) low; range = omega arith }
+
 -- the word that the code joins from a SELECT's fields
 pub select_word_joined : (s : Select) (a b d : ℕ) → a ≡ s.apsel → b ≡ bit_and s.apbanksel 15
     → d ≡ bit_and s.dpbanksel 15 → bit_or (bit_or (a * 16777216 % 4294967296) (b * 16 % 4294967296)) d ≡ select_word s
@@ -84,4 +94,4 @@ select_word_read_back s fits =
     let d : select_word s % 16 ≡ s.dpbanksel = omega arith in
     rw (a, b, d) refl
 
-pub ruleset register_laws = (port_select_kept, port_csw_kept)
+pub ruleset register_laws = (port_select_kept, port_csw_kept, port_csw_reads)

@@ -2,7 +2,7 @@
 ghost use Rattle.swd_port.specs.Laws.Phases.{PortPhaseSent, PortPhaseSentOnly, PortPhaseRead, PortNoPhaseRead};
 ghost use Rattle.swd_port.specs.Laws.Phases.{PortWholePhaseRead, PortPhasePlaceChanged, PortDamagedPhaseRead};
 ghost use Rattle.swd_port.specs.Laws.Phases.{PortUndrivenOnes, PortUndrivenRead};
-ghost use Rattle.swd_port.specs.Laws.Registers.{PortSelectKept, PortCswKept};
+ghost use Rattle.swd_port.specs.Laws.Registers.{PortSelectKept, PortCswKept, PortCswReads};
 ghost use Rattle.swd_port.specs.Laws.WordsRead.{CtrlStatWordReads, PortIdentificationReturned, CtrlStatReturned};
 ghost use Rattle.swd_port.specs.Laws.WordsRead.{PortBufferReturned, PortValueResent, PortCarriedByRequest};
 ghost use Rattle.swd_port.specs.Laws.WordsRead.{PortCarriedWhereHeld, PortCarriedWhereRefused, PortCarriedWherePassed};
@@ -23,11 +23,13 @@ pub fn phases()
     ensures ones_damaged { PortUndrivenRead }
 {}
 
-/// States which bits of a word the fields of SELECT and CSW keep: those that the register names, and no others.
+/// States which bits of a word the fields of SELECT and CSW keep: those that the register names, and no others. States
+/// the fields of the word that CSW reads.
 #[tactic(auto, using(crate::proofs::RegisterLemmas::register_laws))]
 pub fn registers()
     ensures select { PortSelectKept }
     ensures csw { PortCswKept }
+    ensures csw_reads { PortCswReads }
 {}
 
 /// States what DPIDR, CTRL/STAT, RDBUFF and RESEND return, and what they and ABORT change.
