@@ -12,7 +12,7 @@ use Rattle.swd_host.specs.Chains.{ResumeChain, first, again, AreBlockReads, Resu
 use Rattle.swd_host.proofs.Lists.{host_list_memory_append, host_list_answers_append, host_list_memory_next}
 use Rattle.swd_host.proofs.GoingOn.{resumed_take_length, resumed_rest_length}
 use Rattle.swd_port.specs.PlainBus.{IsPlain, plain_words_of}
-use Rattle.swd_host.specs.Plain.{IsPlainWithRoom}
+use Rattle.swd_host.specs.PlainRuns.{IsPlainWithRoom}
 use Rattle.swd_host.proofs.PlainShadows.{PlainShadow, plain_read_shadow}
 use Rattle.swd_host.proofs.Shadows.{ResumeShadow, ResumeHasRoom, ResumeRoomy, resume_shadow_answer, resume_shadow_next}
 use Rattle.swd_port.proofs.PlainBusLaws.{is_plain_next, plain_of_next}

@@ -26,7 +26,8 @@ pub use Rattle.swd_host.specs.Plain.{answers_of, AreHostAccesses, IsHostAccess, 
 pub use Rattle.swd_host.specs.Progress.{engine_calls_left, engine_job_is_of, engine_state_is_of, engine_least_for}
 pub use Rattle.swd_host.specs.Progress.{engine_least_in, engine_left_at_place, engine_left_for, engine_left_in}
 pub use Rattle.swd_host.specs.Progress.{engine_open_requests, engine_stray_left}
-pub use Rattle.swd_host.specs.Reports.{Closes, HostEndsAt, Fits, FitsAt, FitsFrom, FitsFromAt, HostNextAccess, IsAtRest}
+pub use Rattle.swd_host.specs.Reports.{Closes, HostEndsAt, Fits, FitsAt, FitsFrom, FitsFromAt, IsAtRest}
+pub use Rattle.swd_host.specs.Standing.{HostNextAccess}
 pub use Rattle.swd_host.specs.Reports.{HostKnowsTarget, HostIsOpen, ListCloses, ListsWithin, RunFits, RunFitsFrom}
 pub use Rattle.swd_host.specs.Reports.{RunsOver, RunsWithin, HostReport, host_report_of}
 pub use Rattle.swd_host.specs.Requests.{engine_job_starts, task_confirm_starts, engine_confirmed}

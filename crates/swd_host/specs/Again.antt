@@ -10,7 +10,8 @@ use Rattle.swd_port.specs.Bus.{Bus}
 use Rattle.swd_port.specs.Port.{Port}
 use Rattle.swd_port.specs.Completion.{MayBecome}
 use Rattle.swd_host.specs.declared.outcome.End.TheVariants.{All}
-use Rattle.swd_host.specs.Plain.{memory_after, answers_of, IsPlainWithRoom}
+use Rattle.swd_host.specs.Plain.{memory_after, answers_of}
+use Rattle.swd_host.specs.PlainRuns.{IsPlainWithRoom}
 use Rattle.swd_host.specs.Reports.{HostReport, Closes, Fits, HostKnowsTarget, HostEndsAt}
 use Rattle.swd_host.specs.Resuming.{resume_begun}
 use Rattle.swd_host.specs.Sent.{HostReportsCalls}

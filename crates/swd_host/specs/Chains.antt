@@ -7,7 +7,8 @@ use Rattle.swd_port.specs.Port.{Port}
 use Rattle.swd_port.specs.Completion.{MayBecome}
 use Rattle.swd_host.specs.declared.outcome.End.TheVariants.{All}
 use Rattle.swd_port.specs.PlainBus.{IsPlain, plain_words_of}
-use Rattle.swd_host.specs.Plain.{memory_after, answers_of, IsPlainWithRoom}
+use Rattle.swd_host.specs.Plain.{memory_after, answers_of}
+use Rattle.swd_host.specs.PlainRuns.{IsPlainWithRoom}
 use Rattle.swd_host.specs.Reports.{HostReport, Fits, IsAtRest, RunsWithin}
 use Rattle.swd_host.specs.Again.{Again, ResumePlacesBelow, ResumesOver, resume_added, resume_own_report}
 use Rattle.swd_host.specs.Again.{resume_repeats_of}

@@ -16,10 +16,10 @@ pub mod Sent
 pub mod Stages
 pub mod Reports
 pub mod Resuming
+pub mod PlainRuns
 pub mod Again
 pub mod Standing
 pub mod Sessions
-pub mod PlainRuns
 pub mod Chains
 pub mod Accepting
 pub mod Fields

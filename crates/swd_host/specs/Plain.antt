@@ -3,8 +3,7 @@ use Rattle.std.specs.Prelude.{ℕ, ◌≡◌, ◌+◌, ◌%◌, ◌^◌, ◌<◌
 use Rattle.swd_port.specs.declared.access.Access.{Access}
 use Rattle.swd_port.specs.declared.access.Access.TheVariants.{Read, Write}
 use Rattle.swd_port.specs.declared.access.Answer.{Answer}
-use Rattle.swd_port.specs.Bus.{Bus, bus_answer, bus_after, plain_of}
-use Rattle.swd_port.specs.PlainBus.{IsPlain, plain_logged}
+use Rattle.swd_port.specs.Bus.{Bus, bus_answer, bus_after}
 use Rattle.swd_port.specs.PlainMemory.{plain_address}
 
 -- the bus after a list of accesses, in order
@@ -35,9 +34,3 @@ AreHostAccesses (a ∷ list) = IsHostAccess a × AreHostAccesses list
 abbrev pub HostAccessHasRanges : Access → Type 0
 HostAccessHasRanges (Read at) = at < 2 ^ 32
 HostAccessHasRanges (Write at word) = (at < 2 ^ 32) × (word < 2 ^ 32)
-
--- PLAIN MEMORIES
--- the bus is a plain memory, and after this list its log has room for so many more transfers
-pub record IsPlainWithRoom (more : ℕ) (list : List Access) (m : Bus) : Type 0 where
-  pub plain : IsPlain m
-  pub room : plain_logged (memory_after list m) + more ≤ (plain_of m).room

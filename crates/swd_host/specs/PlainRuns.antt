@@ -9,7 +9,8 @@ use Rattle.swd_port.specs.Port.{Port}
 use Rattle.swd_port.specs.Choices.{Choice}
 use Rattle.swd_port.specs.Completion.{port_completed}
 use Rattle.swd_host.specs.declared.outcome.End.TheVariants.{All}
-use Rattle.swd_port.specs.PlainBus.{IsPlain}
+use Rattle.swd_port.specs.PlainBus.{IsPlain, plain_logged}
+use Rattle.swd_host.specs.Plain.{memory_after}
 use Rattle.swd_host.specs.Reports.{HostReport, IsAtRest, RunsWithin, Fits}
 
 -- the answers of a plain memory to a list of accesses, in order
@@ -50,3 +51,8 @@ pub record RunsPlainly (limit : ℕ) (list : List Access) (told : HostReport) (s
 abbrev pub RunsOverPlain : Type 0
 RunsOverPlain = (limit : ℕ) (list : List Access) (tries : ℕ) (told : HostReport) (s t : Port) → IsAtRest s
     → IsPlain s.target.memory → RunsWithin limit list tries told s t → RunsPlainly limit list told s t
+
+-- the bus is a plain memory, and after this list its log has room for so many more transfers
+pub record IsPlainWithRoom (more : ℕ) (list : List Access) (m : Bus) : Type 0 where
+  pub plain : IsPlain m
+  pub room : plain_logged (memory_after list m) + more ≤ (plain_of m).room

@@ -171,11 +171,6 @@ pub record RunFitsFrom (opening limit : ℕ) (list : List Access) (tries : ℕ) 
 abbrev pub RunFits : ℕ → List Access → ℕ → Bus → HostReport → Port → Port → Type 0
 RunFits limit list tries m told s t = RunFitsFrom 9 limit list tries m told s t
 
--- a is the access after the one at i
-pub record HostNextAccess (i : ℕ) (list : List Access) (a : Access) : Type 0 where
-  pub number : i + 1 < length list
-  pub same : (d : Access) → get_or list (i + 1) d ≡ a
-
 -- the same for every target at rest, whatever its memory; a simulated target that was just made is at rest
 abbrev pub RunsWithin : ℕ → List Access → ℕ → HostReport → Port → Port → Type 0
 RunsWithin limit list tries told s t = IsAtRest s → RunFits limit list tries s.target.memory told s t

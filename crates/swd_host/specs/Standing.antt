@@ -26,6 +26,11 @@ use Rattle.swd_host.specs.Tracks.{EngineDueFits}
 use Rattle.swd_host.specs.Reports.{HostReport, FitsFrom, HostEndsAt, host_due_at_end}
 use Rattle.swd_host.specs.Turns.{EnginePortLater}
 
+-- a is the access after the one at i
+pub record HostNextAccess (i : ℕ) (list : List Access) (a : Access) : Type 0 where
+  pub number : i + 1 < length list
+  pub same : (d : Access) → get_or list (i + 1) d ≡ a
+
 -- the report of an engine
 abbrev pub engine_report : List Answer → Engine → End → HostReport
 engine_report answers e ended = record {

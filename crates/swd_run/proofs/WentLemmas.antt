@@ -16,7 +16,8 @@ use Rattle.swd_recorder.specs.Steps.{recorded_due_count}
 use Rattle.swd_host.specs.declared.outcome.End.{End}
 use Rattle.swd_host.specs.declared.outcome.End.TheVariants.{All, Lost, TriesOut, WrongId, Confused}
 use Rattle.swd_port.specs.PlainBus.{plain_words_of}
-use Rattle.swd_host.specs.Plain.{answers_of, IsPlainWithRoom}
+use Rattle.swd_host.specs.Plain.{answers_of}
+use Rattle.swd_host.specs.PlainRuns.{IsPlainWithRoom}
 use Rattle.swd_host.specs.Reports.{HostReport, Closes, HostEndsAt, host_due_at_end, Fits, IsAtRest, HostKnowsTarget}
 use Rattle.swd_host.specs.Reports.{RunsWithin, host_most_requests}
 use Rattle.swd_host.specs.Again.{ResumeCloses, ResumeFits, resume_added}

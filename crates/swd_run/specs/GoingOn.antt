@@ -7,7 +7,8 @@ use Rattle.swd_port.specs.Port.{Port}
 use Rattle.swd_host.specs.declared.outcome.End.{End}
 use Rattle.swd_host.specs.declared.outcome.End.TheVariants.{All, Lost}
 use Rattle.swd_port.specs.PlainBus.{IsPlain, plain_words_of}
-use Rattle.swd_host.specs.Plain.{memory_after, answers_of, IsPlainWithRoom}
+use Rattle.swd_host.specs.Plain.{memory_after, answers_of}
+use Rattle.swd_host.specs.PlainRuns.{IsPlainWithRoom}
 use Rattle.swd_host.specs.Reports.{HostReport, Closes, RunsWithin, host_most_requests}
 use Rattle.swd_host.specs.Again.{Again, ResumeCloses, ResumesOver}
 use Rattle.swd_host.specs.Resuming.{host_end_is_all}

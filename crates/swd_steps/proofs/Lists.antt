@@ -6,7 +6,7 @@ use Rattle.std.proofs.lemmas.Option.{slice_get_within, get_or_from_slice_get}
 use Rattle.swd_port.specs.declared.access.Access.{Access}
 use Rattle.swd_port.specs.declared.access.Access.TheVariants.{Read}
 use Rattle.swd_host.specs.Plain.{AreHostAccesses, HostAccessHasRanges, host_access_is_aligned, IsHostAccess}
-use Rattle.swd_host.specs.Reports.{HostNextAccess}
+use Rattle.swd_host.specs.Standing.{HostNextAccess}
 use Rattle.swd_host.proofs.Folding.{host_list_valid_next, host_access_valid}
 
 -- what stands at i of the rest of a list from place k on stands at k + i of the list

@@ -69,7 +69,8 @@ powered_recording p s h = record {
   write_error = h.write_error;
   debug = h.debug;
   system = h.system;
-  seen = h.seen;
+  debug_seen = h.debug_seen;
+  system_seen = h.system_seen;
   live = h.live;
   increments = h.increments;
 }

@@ -14,7 +14,7 @@ use Rattle.swd_host.specs.declared.engine.State.TheVariants.{Resting}
 use Rattle.swd_host.specs.declared.outcome.End.{End}
 use Rattle.swd_host.specs.declared.outcome.Outcome.TheVariants.{Opened, Stopped}
 use Rattle.swd_host.specs.Calls.{EngineTurns}
-use Rattle.swd_host.specs.Reports.{HostNextAccess}
+use Rattle.swd_host.specs.Standing.{HostNextAccess}
 use Rattle.swd_host.specs.Stages.{EngineListCalls}
 use Rattle.swd_host.specs.Standing.{EngineDoes, EnginePerforms, EngineStands, EngineStays}
 use Rattle.swd_host.specs.Tracks.{EngineDueFits}
