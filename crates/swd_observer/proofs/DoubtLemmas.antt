@@ -74,15 +74,14 @@ log_same c x y s = rw (s.pending, s.tar, s.memory) refl
 
 doubt_flying : (before : List Transfer) (told : List ObservedAccess) (how : How) (b : StartedTransfer)
     (increments : Option Bool) (tar : Option ℕ) (x y : Target) → ObservedSame x y → IsObservedDoubt how x
-    → IfSome increments (λ i. x.increments ≡ i)
-    → IfSome tar (λ a. a < 2 ^ 32) → ObservedFlying (ObservedSince before told) b increments tar x
+    → IfSome increments (λ i. x.increments ≡ i) → ObservedFlying (ObservedSince before told) b increments tar x
     → ObservedResting (ObservedSince before (told ++ doubtful how b tar ∷ [])) None y
-doubt_flying before told how b increments tar x y s d inc range h = record {
+doubt_flying before told how b increments tar x y s d inc h = record {
   now = subst (λ m. ObservedSince before (told ++ doubtful how b tar ∷ []) m.log) (sym s.memory)
       (may_now before told how b increments tar x d h);
   later = λ c k. subst (λ m. ObservedSince before (told ++ doubtful how b tar ∷ []) m.log) (sym (log_same c x y s))
       (may_now before told how b increments tar (port_completion c x) (observed_doubt_stays how c x d)
-      (observed_flying_completes (ObservedSince before told) b increments tar c x inc range h));
+      (observed_flying_completes (ObservedSince before told) b increments tar c x inc h));
   aimed = tt;
 }
 
@@ -101,15 +100,14 @@ rest_same E tar x y s h = record {
 
 doubt_flight : (before : List Transfer) (told : List ObservedAccess) (how : How) (b : Option StartedTransfer)
     (increments : Option Bool) (tar : Option ℕ) (x y : Target) → ObservedSame x y → IsObservedDoubt how x
-    → IfSome increments (λ i. x.increments ≡ i)
-    → IfSome tar (λ a. a < 2 ^ 32) → ObservedFlight (ObservedSince before told) b increments tar x
+    → IfSome increments (λ i. x.increments ≡ i) → ObservedFlight (ObservedSince before told) b increments tar x
     → ObservedResting (ObservedSince before (told ++ one_observed (observed_begun how None tar b)))
     (observed_tar_lost b tar) y
-doubt_flight before told how None increments tar x y s d inc range h =
+doubt_flight before told how None increments tar x y s d inc h =
     subst (λ l. ObservedResting (ObservedSince before l) tar y) (sym (append-nil told))
     (rest_same (ObservedSince before told) tar x y s h)
-doubt_flight before told how (Some b) increments tar x y s d inc range h =
-    doubt_flying before told how b increments tar x y s d inc range h
+doubt_flight before told how (Some b) increments tar x y s d inc h =
+    doubt_flying before told how b increments tar x y s d inc h
 
 -- a TAR of which nothing is known
 forget : (E : List Transfer → Type 0) (b : Option StartedTransfer) (tar : Option ℕ) (y : Target)
@@ -141,21 +139,21 @@ doubt_sent before told how ToSelect word place o x y s d h = record {
   select = tt;
   increments = observed_same_value Bool o.increments x.increments y.increments s.increments h.increments;
   range = range_lost o.begun o.tar h.range;
-  flight = doubt_flight before told how o.begun o.increments o.tar x y s d h.increments h.range h.flight;
+  flight = doubt_flight before told how o.begun o.increments o.tar x y s d h.increments h.flight;
 }
 doubt_sent before told how ToCsw word place o x y s d h = record {
   select = observed_same_value Select o.select x.select y.select s.select h.select;
   increments = tt;
   range = range_lost o.begun o.tar h.range;
   flight = doubt_flight before told how o.begun (observed_increments_sent ToCsw word o.increments) o.tar x y s d
-      h.increments h.range h.flight;
+      h.increments h.flight;
 }
 doubt_sent before told how ToTar word place o x y s d h = record {
   select = observed_same_value Select o.select x.select y.select s.select h.select;
   increments = observed_same_value Bool o.increments x.increments y.increments s.increments h.increments;
   range = range_none o.begun;
   flight = forget _ o.begun word y
-      (doubt_flight before told how o.begun o.increments word x y s d h.increments h.range h.flight);
+      (doubt_flight before told how o.begun o.increments word x y s d h.increments h.flight);
 }
 doubt_sent before told how ToDrw word place o x y s d h = record {
   select = observed_same_value Select o.select x.select y.select s.select h.select;
@@ -166,7 +164,7 @@ doubt_sent before told how ToDrw word place o x y s d h = record {
     word = observed_whole o.increments word;
     place = place;
   })) o.increments o.tar x y s d
-      h.increments h.range h.flight;
+      h.increments h.flight;
 }
 
 doubt_at : (before : List Transfer) (told : List ObservedAccess) (how : How) (sent : Option SentWrite) (o : Observer)
@@ -176,7 +174,7 @@ doubt_at before told how None o x y s d h = record {
   select = observed_same_value Select o.select x.select y.select s.select h.select;
   increments = observed_same_value Bool o.increments x.increments y.increments s.increments h.increments;
   range = range_lost o.begun o.tar h.range;
-  flight = doubt_flight before told how o.begun o.increments o.tar x y s d h.increments h.range h.flight;
+  flight = doubt_flight before told how o.begun o.increments o.tar x y s d h.increments h.flight;
 }
 doubt_at before told how (Some sent) o x y s d h = doubt_sent before told how sent.written sent.word sent.place o x y
     s d h
@@ -210,13 +208,13 @@ spoil_sent before told how ToSelect word place o x y s d rest h = record {
   select = tt;
   increments = observed_same_value Bool o.increments x.increments y.increments s.increments h.increments;
   range = range_lost o.begun o.tar h.range;
-  flight = doubt_flight before told how o.begun o.increments o.tar x y s d h.increments h.range h.flight;
+  flight = doubt_flight before told how o.begun o.increments o.tar x y s d h.increments h.flight;
 }
 spoil_sent before told how ToCsw word place o x y s d rest h = record {
   select = observed_same_value Select o.select x.select y.select s.select h.select;
   increments = tt;
   range = range_lost o.begun o.tar h.range;
-  flight = doubt_flight before told how o.begun o.increments o.tar x y s d h.increments h.range h.flight;
+  flight = doubt_flight before told how o.begun o.increments o.tar x y s d h.increments h.flight;
 }
 spoil_sent before told how ToTar word place o x y s d rest h = record {
   select = observed_same_value Select o.select x.select y.select s.select h.select;
@@ -224,7 +222,7 @@ spoil_sent before told how ToTar word place o x y s d rest h = record {
   range = range_none o.begun;
   flight = subst (λ b. ObservedResting (ObservedSince before (told ++ one_observed (observed_begun how None word b)))
       (observed_tar_lost b None) y) (sym rest) (forget (ObservedSince before (told ++ [])) None o.tar y
-      (doubt_flight before told how None o.increments o.tar x y s d h.increments h.range
+      (doubt_flight before told how None o.increments o.tar x y s d h.increments
       (subst (λ b. ObservedFlight (ObservedSince before told) b o.increments o.tar x) rest h.flight)));
 }
 spoil_sent before told how ToDrw word place o x y s d rest h = record {
@@ -244,7 +242,7 @@ spoil_at before told how None o x y s d rest h = record {
   select = observed_same_value Select o.select x.select y.select s.select h.select;
   increments = observed_same_value Bool o.increments x.increments y.increments s.increments h.increments;
   range = range_lost o.begun o.tar h.range;
-  flight = doubt_flight before told how o.begun o.increments o.tar x y s d h.increments h.range h.flight;
+  flight = doubt_flight before told how o.begun o.increments o.tar x y s d h.increments h.flight;
 }
 spoil_at before told how (Some sent) o x y s d rest h =
     spoil_sent before told how sent.written sent.word sent.place o x y s d rest h

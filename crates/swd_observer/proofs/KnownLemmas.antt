@@ -1,8 +1,8 @@
 -- What is known stays known when the pending transfer takes effect.
-use Rattle.std.proofs.Common.{◌≡◌, ◌≢◌, ◌+◌, ◌%◌, ◌<◌, ◌^◌, ℕ, Bool, true, false, List, refl, sym, ap, subst, inl, inr}
+use Rattle.std.proofs.Common.{◌≡◌, ◌≢◌, ◌+◌, ◌%◌, ◌<◌, ℕ, Bool, true, false, List, refl, sym, ap, subst, inl, inr}
 use Rattle.std.proofs.Common.{arith, ◌∙◌}
 use Rattle.std.specs.Prelude.{Option, Some, None, IfSome, unwrap_or, ◌&&◌, ◌==◌, if◌then◌else◌, not as no}
-use Rattle.std.specs.Option.{option_map}
+use Rattle.std.specs.Option.{option_and_then}
 use Rattle.swd_port.specs.declared.access.Transfer.{Transfer}
 use Rattle.swd_port.specs.Bus.{bus_succeeds, bus_transfer_of}
 use Rattle.swd_port.specs.Port.{Port, Target}
@@ -37,29 +37,24 @@ rests_done E tar c x choice h = record {
 }
 
 -- the next address, inside a kilobyte
-next_inside : (wraps : Bool) (at : ℕ) → at < 2 ^ 32 → at % 4 ≡ 0 → at % 1024 ≢ 1020
-    → port_tar_next_address wraps at ≡ at + 4
-next_inside true at range aligned inside = omega arith
-next_inside false at range aligned inside = omega arith
+next_inside : (at : ℕ) → at % 4 ≡ 0 → at % 1024 ≢ 1020 → port_tar_next_address at ≡ Some (at + 4)
+next_inside at aligned inside = let below : at % 1024 + 4 < 1024 = omega arith in grind arith
 
-advanced_at : (test : Bool) (wraps : Bool) (at : ℕ) (now : Option ℕ) → at < 2 ^ 32
-    → now ≡ Some (port_tar_next_address wraps at)
-    → ((at % 4 == 0) && no (at % 1024 == 1020)) ≡ test → IfSome (if test then Some (at + 4) else None) (λ a. now
-    ≡ Some a)
-advanced_at true wraps at now range e test = e ∙ ap (λ n. Some n) (next_inside wraps at range (grind arith)
-    (grind arith))
-advanced_at false wraps at now range e test = tt
+advanced_at : (test : Bool) (at : ℕ) (now : Option ℕ) → now ≡ port_tar_next_address at
+    → ((at % 4 == 0) && no (at % 1024 == 1020)) ≡ test
+    → IfSome (if test then Some (at + 4) else None) (λ a. now ≡ Some a)
+advanced_at true at now e test = e ∙ next_inside at (grind arith) (grind arith)
+advanced_at false at now e test = tt
 
-advanced : (increments : Option Bool) (tar : Option ℕ) (c : Choice) (x : Target) (now : Option ℕ)
-    → IfSome increments (λ b. x.increments ≡ b) → IfSome tar (λ a. a < 2 ^ 32) → IfSome tar (λ a. x.tar ≡ Some a)
-    → now ≡ (if x.increments then option_map (port_tar_next_address c.wraps) x.tar else x.tar)
+advanced : (increments : Option Bool) (tar : Option ℕ) (x : Target) (now : Option ℕ)
+    → IfSome increments (λ b. x.increments ≡ b) → IfSome tar (λ a. x.tar ≡ Some a)
+    → now ≡ (if x.increments then option_and_then port_tar_next_address x.tar else x.tar)
     → IfSome (observed_tar_advance increments tar) (λ a. now ≡ Some a)
-advanced None tar c x now inc range at e = tt
-advanced (Some true) None c x now inc range at e = tt
-advanced (Some true) (Some a) c x now inc range at e =
-    advanced_at _ c.wraps a now range (rw (inc, at) at e) refl
-advanced (Some false) None c x now inc range at e = tt
-advanced (Some false) (Some a) c x now inc range at e = rw (inc, at) at e
+advanced None tar x now inc at e = tt
+advanced (Some true) None x now inc at e = tt
+advanced (Some true) (Some a) x now inc at e = advanced_at _ a now (rw (inc, at) at e) refl
+advanced (Some false) None x now inc at e = tt
+advanced (Some false) (Some a) x now inc at e = rw (inc, at) at e
 
 -- where TAR is known the pending transfer is at that address, whatever the target chooses
 pub observed_transfer_at_tar : (tar : Option ℕ) (c : Choice) (x : Target) → IfSome tar (λ a. x.tar ≡ Some a)
@@ -71,60 +66,57 @@ observed_transfer_at_tar (Some a) c x h = ap (λ o. unwrap_or o c.address) h
 took_off : (E : List Transfer → Type 0) (b : StartedTransfer) (increments : Option Bool) (tar : Option ℕ) (c : Choice)
     (x : Target)
     (drw : Drw) (test : Bool) → bus_succeeds (pending_access_at (unwrap_or x.tar c.address) drw) x.memory ≡ test
-    → IfSome increments (λ b. x.increments ≡ b) → IfSome tar (λ a. a < 2 ^ 32)
-    → ObservedCalm x → x.pending ≡ Some drw → IsObservedPending b drw → IfSome tar (λ a. x.tar ≡ Some a)
-    → E x.memory.log
+    → IfSome increments (λ b. x.increments ≡ b) → ObservedCalm x → x.pending ≡ Some drw → IsObservedPending b drw
+    → IfSome tar (λ a. x.tar ≡ Some a) → E x.memory.log
     → ObservedFlying E b increments tar (port_completion c x)
-took_off E b increments tar c x Reads true test inc range calm pending of at e =
+took_off E b increments tar c x Reads true test inc calm pending of at e =
     gone (record {
       sticky_error = rw (pending, test, calm.sticky_error) refl;
       write_error = calm.write_error;
       debug_power = calm.debug_power;
-      power_up = calm.power_up;
+      debug_up = calm.debug_up;
     }) refl (bus_transfer_of (pending_access_at (unwrap_or x.tar c.address) Reads) x.memory) x.memory.log (record {
       read = sym of;
       addr = observed_transfer_at_tar tar c x at;
       word = λ w. absurd (cc);
     }) (rw (pending, test) refl) e (λ r. rw (pending, test) refl)
-    (advanced increments tar c x (port_completion c x).tar inc range at (rw (pending, test) refl))
-took_off E b increments tar c x (Writes word) true test inc range calm pending of at e =
+    (advanced increments tar x (port_completion c x).tar inc at (rw (pending, test) refl))
+took_off E b increments tar c x (Writes word) true test inc calm pending of at e =
     gone (record {
       sticky_error = rw (pending, test, calm.sticky_error) refl;
       write_error = calm.write_error;
       debug_power = calm.debug_power;
-      power_up = calm.power_up;
+      debug_up = calm.debug_up;
     }) refl (bus_transfer_of (pending_access_at (unwrap_or x.tar c.address) (Writes word)) x.memory) x.memory.log
     (record {
       read = sym of.0;
       addr = observed_transfer_at_tar tar c x at;
       word = λ w. of.1;
     }) (rw (pending, test) refl) e (λ r. absurd (let r0 = of.0 in cc))
-    (advanced increments tar c x (port_completion c x).tar inc range at (rw (pending, test) refl))
-took_off E b increments tar c x Reads false test inc range calm pending of at e =
+    (advanced increments tar x (port_completion c x).tar inc at (rw (pending, test) refl))
+took_off E b increments tar c x Reads false test inc calm pending of at e =
     failed refl (rw (pending, test, calm.sticky_error) refl) (rw (pending, test) e)
-took_off E b increments tar c x (Writes word) false test inc range calm pending of at e =
+took_off E b increments tar c x (Writes word) false test inc calm pending of at e =
     failed refl (rw (pending, test, calm.sticky_error) refl) (rw (pending, test) e)
 
 -- a transfer in flight, pending, done or failed, is one of these after the pending one took effect
 pub observed_flying_completes : (E : List Transfer → Type 0) (b : StartedTransfer) (increments : Option Bool)
     (tar : Option ℕ) (c : Choice) (x : Target)
-    → IfSome increments (λ b. x.increments ≡ b) → IfSome tar (λ a. a < 2 ^ 32)
-    → ObservedFlying E b increments tar x → ObservedFlying E b increments tar (port_completion c x)
-observed_flying_completes E b increments tar c x inc range (owed calm drw pending of at e) =
-    took_off E b increments tar c x drw _ refl inc range calm pending of at e
-observed_flying_completes E b increments tar c x inc range (gone calm none t log fits is e buffer next) =
+    → IfSome increments (λ b. x.increments ≡ b) → ObservedFlying E b increments tar x
+    → ObservedFlying E b increments tar (port_completion c x)
+observed_flying_completes E b increments tar c x inc (owed calm drw pending of at e) =
+    took_off E b increments tar c x drw _ refl inc calm pending of at e
+observed_flying_completes E b increments tar c x inc (gone calm none t log fits is e buffer next) =
     observed_no_pending_keeps (λ y. ObservedFlying E b increments tar y) c x none
     (gone calm none t log fits is e buffer next)
-observed_flying_completes E b increments tar c x inc range (failed none error e) =
+observed_flying_completes E b increments tar c x inc (failed none error e) =
     observed_no_pending_keeps (λ y. ObservedFlying E b increments tar y) c x none (failed none error e)
 
 flight_on : (E : List Transfer → Type 0) (b : Option StartedTransfer) (increments : Option Bool) (tar : Option ℕ)
     (c : Choice) (x : Target) → IsPortChoice c → IfSome increments (λ b. x.increments ≡ b)
-    → IfSome tar (λ a. a < 2 ^ 32)
     → ObservedFlight E b increments tar x → ObservedFlight E b increments tar (port_completion c x)
-flight_on E None increments tar c x choice inc range h = rests_done E tar c x choice h
-flight_on E (Some b) increments tar c x choice inc range h =
-    observed_flying_completes E b increments tar c x inc range h
+flight_on E None increments tar c x choice inc h = rests_done E tar c x choice h
+flight_on E (Some b) increments tar c x choice inc h = observed_flying_completes E b increments tar c x inc h
 
 pub observer_holds_completed : (E : List Transfer → Type 0) (o : Observer) (c : Choice) (x : Target) → IsPortChoice c
     → ObserverHolds E o x → ObserverHolds E o (port_completion c x)
@@ -132,7 +124,7 @@ observer_holds_completed E o c x choice h = record {
   select = h.select;
   increments = h.increments;
   range = h.range;
-  flight = flight_on E o.begun o.increments o.tar c x choice h.increments h.range h.flight;
+  flight = flight_on E o.begun o.increments o.tar c x choice h.increments h.flight;
 }
 
 -- no write was sent
