@@ -11,7 +11,7 @@ struct Row {
     told: &'static [u8],
 }
 
-const ROWS: [Row; 37] = [
+const ROWS: [Row; 38] = [
     Row {
         name: "a write is told at the next request's OK",
         made: true,
@@ -240,6 +240,12 @@ const ROWS: [Row; 37] = [
         made: true,
         listing: b"dp 8 write ok 00000001\nap c write ok 00000001\ndp 4 read ok 00000020\n\
             dp c read ok 00000000\n",
+        told: b"@46 w 00000000 00000001\n",
+    },
+    Row {
+        name: "there it can be refused, so its OK shows the write before it",
+        made: true,
+        listing: b"dp 8 write ok 00000001\nap c write ok 00000001\ndp 4 read ok 00000020\n",
         told: b"@46 w 00000000 00000001\n",
     },
     Row {
