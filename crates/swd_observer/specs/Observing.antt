@@ -246,7 +246,7 @@ is_observed_rc RC = true
 is_observed_rc addr = false
 
 -- a data register of another access port, or a banked one (IHI 0031, MEM-AP, "BD0-BD3, Banked Data
--- registers"): the port model has no such register, and on a chip it may be any access
+-- registers"): in the port model it accesses no memory, and on a chip it may be any access
 abbrev pub is_observed_data_register : Select → Reg4 → Bool
 is_observed_data_register s addr = (s.apbanksel == 1) || ((s.apbanksel == 0) && is_observed_rc addr)
 

@@ -119,7 +119,8 @@ pub struct Observations {
 pub(crate) enum RequestEffect {
     /// Nothing that an observer tracks.
     Other,
-    /// It may access memory by a register that the port model doesn't have. The field says whether it reads.
+    /// It may access memory on a chip, by a register that doesn't in the port model. The field says whether it
+    /// reads.
     Elsewhere(bool),
     Reads,
     Writes(Written),
