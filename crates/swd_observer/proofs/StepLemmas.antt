@@ -116,7 +116,7 @@ observer_knows_sent_write E o y w ok word place (Some found) refuses sent rest q
     observer_knows_arrival E o y w (word_observed ok word) found place refuses rest quiet intact power up
     (observed_word_small ok word small) is h
 
--- where no write to SELECT is unconfirmed, SELECT is what it is known to be
+-- a write to another register leaves what is known of SELECT
 select_kept : (w : Written) (word : Option ℕ) (old : Option Select) (place : ℕ)
     → no (is_observed_select_sent (Some (record { written = w; word = word; place = place }))) ≡ true
     → observed_select_sent w word old ≡ old
@@ -130,6 +130,7 @@ arrived_select : (sent : Option SentWrite) (o : Observer) → no (is_observed_se
 arrived_select None o e = refl
 arrived_select (Some s) o e = select_kept s.written s.word o.select s.place e
 
+-- where no write to SELECT is unconfirmed, SELECT is what it is known to be
 pub observed_select_known : (E : List Transfer → Type 0) (o : Observer) (x : Target)
     → no (is_observed_select_sent o.sent) ≡ true → ObserverKnows E o x → IfSome o.select (λ v. x.select ≡ v)
 observed_select_known E o x e (here clean h) =
@@ -141,11 +142,11 @@ pub observed_left_set : (a b : Bool) → (a && b) ≡ true → a ≡ true
 observed_left_set true b e = refl
 observed_left_set false b e = absurd (cc)
 
+-- of two bits that are both set, the second is set
 pub observed_right_set : (a b : Bool) → (a && b) ≡ true → b ≡ true
 observed_right_set true b e = e
 observed_right_set false b e = absurd (cc)
 
--- DPBANKSEL isn't 0 where it is known not to be
 other_is : (known : Option Select) (s : Select) → is_observed_other_bank known ≡ true → IfSome known (λ v. s ≡ v)
     → (s.dpbanksel == 0) ≡ false
 other_is None s e h = absurd (cc)
@@ -155,6 +156,7 @@ other_is (Some v) s e h = ap (λ z. z.dpbanksel == 0) h ∙ clear (v.dpbanksel =
     clear false e = refl
     clear true e = absurd (cc)
 
+-- DPBANKSEL isn't 0 where it is known not to be
 pub observed_other_bank : (E : List Transfer → Type 0) (o : Observer) (x : Target) → ObserverKnows E o x
     → is_other_bank_observed o ≡ true → (x.select.dpbanksel == 0) ≡ false
 observed_other_bank E o x k e = other_is o.select x.select (observed_left_set _ _ e)
