@@ -47,6 +47,7 @@ use Rattle.swd_observer.proofs.OkayLemmas.{observer_knows_drw_read, observed_sam
 use Rattle.swd_observer.proofs.StepLemmas.{observed_first_clear, observed_second_clear, observer_confirmed_unsent}
 use Rattle.swd_observer.proofs.StepLemmas.{observed_buffer_right, observed_write_no_word, observed_read_word}
 use Rattle.swd_observer.proofs.StepLemmas.{observer_knows_sent_write, observed_line_at_read, observed_line_at_write}
+use Rattle.swd_observer.proofs.StepLemmas.{observed_other_bank}
 use Rattle.swd_observer.proofs.StepLemmas.{observed_ap_power, observed_read_phase_keeps, observed_found_word}
 use Rattle.swd_observer.proofs.StepLemmas.{observed_power_at_drw, observed_drw_register, observed_quiet_at_write}
 use Rattle.swd_observer.proofs.UnsureLemmas.{observed_may_select, observed_select_is_sure, observer_holds_may_read}
@@ -125,36 +126,39 @@ write_leaves : (before : List Transfer) (told : List ObservedAccess) (o : Observ
     → (y.debug_power ≡ true) × (y.debug_up ≡ Seen)) → word < 2 ^ 32
     → IfSome found (λ f. IfSome (word_observed ok word) (λ v. f ≡ v)) → ObservedSettled (ObservedSince before told) o y
     → After before told o k (word_observed ok word) place (port_after_bits refuses (port_arrival_of r found) y)
-write_leaves before told o y r Other ok word place found refuses other writes fits sent rest quiet intact power small is h =
-    untold before told o (port_after_bits refuses (port_arrival_of r found) y) (observer_settled_knows _ o (port_after_bits refuses
-    (port_arrival_of r found) y) sent rest
-    (observed_same_settled _ o y (port_after_bits refuses (port_arrival_of r found) y) (observed_same_at_data r found refuses y fits)
-    h))
-write_leaves before told o y r (Elsewhere e) ok word place found refuses other writes fits sent rest quiet intact power small
+write_leaves before told o y r Other ok word place found refuses other writes fits sent rest quiet intact power small
     is h =
+    untold before told o (port_after_bits refuses (port_arrival_of r found) y) (observer_settled_knows _ o
+    (port_after_bits refuses (port_arrival_of r found) y) sent rest
+    (observed_same_settled _ o y (port_after_bits refuses (port_arrival_of r found) y)
+    (observed_same_at_data r found refuses y fits) h))
+write_leaves before told o y r (Elsewhere e) ok word place found refuses other writes fits sent rest quiet intact power
+    small is h =
     observer_settled_knows _ o (port_after_bits refuses (port_arrival_of r found) y) sent rest (settled_more before told
     (record { place = place; read = e; addr = None; word = None; how = May }) o
     (port_after_bits refuses (port_arrival_of r found) y) refl
-    (observed_same_settled _ o y (port_after_bits refuses (port_arrival_of r found) y) (observed_same_at_data r found refuses y fits)
-    h))
-write_leaves before told o y r (Writes w) ok word place found refuses other writes fits sent rest quiet intact power small is
-    h =
+    (observed_same_settled _ o y (port_after_bits refuses (port_arrival_of r found) y)
+    (observed_same_at_data r found refuses y fits) h))
+write_leaves before told o y r (Writes w) ok word place found refuses other writes fits sent rest quiet intact power
+    small is h =
     untold before told (observer_accepted (Writes w) (word_observed ok word) place o)
     (port_after_bits refuses (port_arrival_of r found) y) (subst (λ z. ObserverKnows (ObservedSince before told)
     (observer_accepted (Writes w) (word_observed ok word) place o)
     (port_after_bits refuses (port_arrival_of z found) y)) (sym fits)
-    (observer_knows_sent_write _ o y w ok word place found refuses sent rest (quiet w fits) intact (λ e. (power w fits e).0)
-    (λ e. (power w fits e).1) small is h))
-write_leaves before told o y r Reads ok word place found refuses other writes fits sent rest quiet intact power small is h =
-    absurd (cc)
-write_leaves before told o y r MayRead ok word place found refuses other writes fits sent rest quiet intact power small is h =
-    absurd (cc)
-write_leaves before told o y r (MayWrite w) ok word place found refuses other writes fits sent rest quiet intact power small
+    (observer_knows_sent_write _ o y w ok word place found refuses sent rest (quiet w fits) intact
+    (λ e. (power w fits e).0) (λ e. (power w fits e).1) small is h))
+write_leaves before told o y r Reads ok word place found refuses other writes fits sent rest quiet intact power small
     is h =
+    absurd (cc)
+write_leaves before told o y r MayRead ok word place found refuses other writes fits sent rest quiet intact power small
+    is h =
+    absurd (cc)
+write_leaves before told o y r (MayWrite w) ok word place found refuses other writes fits sent rest quiet intact power
+    small is h =
     held _ (observer_accepted (MayWrite w) (word_observed ok word) place o)
     (port_after_bits refuses (port_arrival_of r found) y) sent
-    (observer_holds_may_write before told o y w (observed_whole o.increments (word_observed ok word)) place r refuses found
-    other rest fits (whole_found found o.increments (word_observed ok word) is) h)
+    (observer_holds_may_write before told o y w (observed_whole o.increments (word_observed ok word)) place r refuses
+    found other rest fits (whole_found found o.increments (word_observed ok word) is) h)
 
 write_same : (k : RequestEffect) (r : Register) (chosen : Choice) (x : Target) → is_observed_reading k ≡ false
     → ObservedKindFits k r → ObservedSame x (port_after_okay chosen r x)
@@ -176,14 +180,15 @@ ObserverConfirmed before told o q word ok place x = After before
     (observer_confirmed o) (observed_kind (observer_confirmed o).select q) (word_observed ok word) place x
 
 read_asked : (before : List Transfer) (told : List ObservedAccess) (o : Observer) (q : Request) (word : ℕ) (ok : Bool)
-    (place : ℕ) (s a b t : Port) (mark : Mark) (c : Choice) (bits : ℕ) → observed_class q ≡ Confirms → q.read ≡ true
+    (place : ℕ) (s a b t : Port) (mark : Mark) (c : Choice) (bits : ℕ) → observed_class o q ≡ Confirms → q.read ≡ true
     → PortCompletes s a → PortAsksNow mark c a q 1 b
     → (d : Port) → PortCompletes b d → bits < 2 ^ 33 → data_phase_word bits ≡ word_observed ok word → PortTakes d bits t
     → ObserverKnows (ObservedSince before told) o s.target → ObserverConfirmed before told o q word ok place d.target
 read_asked before told o q word ok place s a b t mark c bits tells reads first now d last range carries takes k =
     let h : ObservedOkayed a q b = observed_ask_okayed mark c a q b now in
+    let known = observer_knows_stays (ObservedSince before told) o s a first k in
     let plainly : is_exempt_register (port_register a.target.select q) ≡ false =
-    observed_not_exempt a.target.select q tells in
+    observed_not_exempt o a.target.select q tells (observed_other_bank (ObservedSince before told) o a.target known) in
     let clear : (a.target.sticky_error || a.target.write_error || is_port_unpowered q.ap (port_has_power a.target))
     ≡ false =
     h.clear plainly in
@@ -205,7 +210,7 @@ read_asked before told o q word ok place s a b t mark c bits tells reads first n
     a.target
     (observed_posted_value a.target.select q h.choice a.target)
     (observed_read_word h.flip (port_value_in h.choice (port_register a.target.select q) a.target) bits word ok
-    got carries))) (observer_knows_stays (ObservedSince before told) o s a first k) in
+    got carries))) known in
     let left : ObserverConfirmed before told o q word ok place
     (port_after_okay h.choice (port_register a.target.select q) a.target) =
     read_leaves before (told ++ one_observed (observed_flight_access Took (observed_whole o.increments
@@ -218,7 +223,7 @@ read_asked before told o q word ok place s a b t mark c bits tells reads first n
     observer_knows_stays _ _ b d last (subst (ObserverConfirmed before told o q word ok place) (sym h.target) left)
 
 pub observer_okay_read : (before : List Transfer) (told : List ObservedAccess) (o : Observer) (q : Request) (word : ℕ)
-    (ok : Bool) (place : ℕ) (s a t : Port) (bits : ℕ) → observed_class q ≡ Confirms → q.read ≡ true
+    (ok : Bool) (place : ℕ) (s a t : Port) (bits : ℕ) → observed_class o q ≡ Confirms → q.read ≡ true
     → PortAsks s q 1 a → bits < 2 ^ 33 → data_phase_word bits ≡ word_observed ok word
     → PortTakes a bits t → ObserverKnows (ObservedSince before told) o s.target
     → ObserverConfirmed before told o q word ok place t.target
@@ -230,7 +235,7 @@ observer_okay_read before told o q word ok place s d t bits tells reads (a, b, m
 
 write_asked : (before : List Transfer) (told : List ObservedAccess) (o : Observer) (q : Request) (word : ℕ) (ok : Bool)
     (place : ℕ)
-    (s a b : Port) (mark : Mark) (c : Choice) (bits : ℕ) → observed_class q ≡ Confirms → q.read ≡ false
+    (s a b : Port) (mark : Mark) (c : Choice) (bits : ℕ) → observed_class o q ≡ Confirms → q.read ≡ false
     → PortCompletes s a → PortAsksNow mark c a q 1 b
     → (d t : Port) → PortCompletes b d → bits < 2 ^ 33 → word < 2 ^ 32 → data_phase_word bits ≡ word_observed ok word
     → PortGives d bits t
@@ -238,8 +243,9 @@ write_asked : (before : List Transfer) (told : List ObservedAccess) (o : Observe
 write_asked before told o q word ok place s a b mark c bits tells writes first now d t last range small carries
     (e, f, third, given, fourth) k =
     let h : ObservedOkayed a q b = observed_ask_okayed mark c a q b now in
+    let known = observer_knows_stays (ObservedSince before told) o s a first k in
     let plainly : is_exempt_register (port_register a.target.select q) ≡ false =
-    observed_not_exempt a.target.select q tells in
+    observed_not_exempt o a.target.select q tells (observed_other_bank (ObservedSince before told) o a.target known) in
     let clear : (a.target.sticky_error || a.target.write_error || is_port_unpowered q.ap (port_has_power a.target))
     ≡ false =
     h.clear plainly in
@@ -250,7 +256,7 @@ write_asked before told o q word ok place s a b mark c bits tells writes first n
     (h.settled plainly) (observed_whole_right o.increments
     (if is_observed_posted_read q then word_observed ok word else None) a.target
     (observed_write_no_word q.read _ (word_observed ok word) a.target writes))
-    (observer_knows_stays (ObservedSince before told) o s a first k) in
+    known in
     let fits = observed_kind_fits (observer_confirmed o).select a.target.select q settled.select in
     let same : ObservedSame a.target (port_after_okay h.choice (port_register a.target.select q) a.target) =
     write_same (observed_kind (observer_confirmed o).select q) (port_register a.target.select q) h.choice a.target
@@ -261,19 +267,20 @@ write_asked before told o q word ok place s a b mark c bits tells writes first n
     let line : b.link.line ≡ Awaits (port_register a.target.select q) h.flip =
     h.line ∙ observed_line_at_write q.read (port_register a.target.select q) h.flip _ writes in
     let is : f.target ≡ port_after_bits given.refuses (port_arrival_of (port_register a.target.select q)
-    (data_phase_word (port_flipped h.flip bits))) (port_after_okay h.choice (port_register a.target.select q) a.target) =
-    ap (λ p. p.target) given.after ∙ ap (λ p. port_after_bits given.refuses (port_arrival p.link.line bits) p.target) still_e
-    ∙ ap (λ l. port_after_bits given.refuses (port_arrival l bits) b.target) line
+    (data_phase_word (port_flipped h.flip bits)))
+    (port_after_okay h.choice (port_register a.target.select q) a.target) =
+    ap (λ p. p.target) given.after ∙ ap (λ p. port_after_bits given.refuses (port_arrival p.link.line bits) p.target)
+    still_e ∙ ap (λ l. port_after_bits given.refuses (port_arrival l bits) b.target) line
     ∙ ap (λ z. port_after_bits given.refuses (port_arrival_of (port_register a.target.select q)
     (data_phase_word (port_flipped h.flip bits))) z) h.target in
     let left : ObserverConfirmed before told o q word ok place
-    (port_after_bits given.refuses (port_arrival_of (port_register a.target.select q) (data_phase_word (port_flipped h.flip bits)))
-    (port_after_okay h.choice (port_register a.target.select q) a.target)) =
+    (port_after_bits given.refuses (port_arrival_of (port_register a.target.select q) (data_phase_word
+    (port_flipped h.flip bits))) (port_after_okay h.choice (port_register a.target.select q) a.target)) =
     write_leaves before (told ++ one_observed (observed_flight_access Took (observed_whole o.increments
     (if is_observed_posted_read q then word_observed ok word else None)) o)) (observer_confirmed o)
     (port_after_okay h.choice (port_register a.target.select q) a.target) (port_register a.target.select q)
-    (observed_kind (observer_confirmed o).select q) ok word place (data_phase_word (port_flipped h.flip bits)) given.refuses
-    (observed_select_is_sure (observer_confirmed o).select q)
+    (observed_kind (observer_confirmed o).select q) ok word place (data_phase_word
+    (port_flipped h.flip bits)) given.refuses (observed_select_is_sure (observer_confirmed o).select q)
     (observed_writes_only (observer_confirmed o).select q writes) fits (observer_confirmed_unsent o) refl
     (λ w named. observed_quiet_at_write w (port_register a.target.select q) h.choice.refuses _ named quiet) intact
     (λ w named drw. (
@@ -288,7 +295,7 @@ write_asked before told o q word ok place s a b mark c bits tells writes first n
     observer_knows_stays _ _ f t fourth (subst (ObserverConfirmed before told o q word ok place) (sym is) left)
 
 pub observer_okay_write : (before : List Transfer) (told : List ObservedAccess) (o : Observer) (q : Request) (word : ℕ)
-    (ok : Bool) (place : ℕ) (s d t : Port) (bits : ℕ) → observed_class q ≡ Confirms → q.read ≡ false
+    (ok : Bool) (place : ℕ) (s d t : Port) (bits : ℕ) → observed_class o q ≡ Confirms → q.read ≡ false
     → PortAsks s q 1 d → bits < 2 ^ 33 → word < 2 ^ 32
     → data_phase_word bits ≡ word_observed ok word → PortGives d bits t
     → ObserverKnows (ObservedSince before told) o s.target
@@ -301,7 +308,7 @@ observer_okay_write before told o q word ok place s d t bits tells writes (a, b,
 -- after OK to a request that isn't exempt, with its data phase, what is known is true, once the transfer in flight is
 -- reported as `Took`, and the request itself if it may be an access
 pub observer_okay_moved : (read : Bool) (before : List Transfer) (told : List ObservedAccess) (o : Observer)
-    (q : Request) (word : ℕ) (ok : Bool) (place : ℕ) (s t : Port) → q.read ≡ read → observed_class q ≡ Confirms
+    (q : Request) (word : ℕ) (ok : Bool) (place : ℕ) (s t : Port) → q.read ≡ read → observed_class o q ≡ Confirms
     → (asked : Port) (bits : ℕ) → PortAsks s q 1 asked → bits < 2 ^ 33 → word < 2 ^ 32
     → data_phase_word bits ≡ word_observed ok word
     → ObservedMoves read asked bits t → ObserverKnows (ObservedSince before told) o s.target

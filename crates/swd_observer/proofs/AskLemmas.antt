@@ -19,6 +19,7 @@ use Rattle.swd_port.specs.Answers.{port_is_answered}
 use Rattle.swd_port.specs.Asking.{PortAsksNow, port_reply, port_answer, port_after_okay, port_value_in}
 use Rattle.swd_port.specs.Asking.{port_phase_after, port_has_power, IsPortWordRead}
 use Rattle.swd_port.proofs.RequestLaws.{PortReplied, port_replied}
+use Rattle.swd_observer.specs.declared.observer.Observer.{Observer}
 use Rattle.swd_observer.specs.declared.observer.Written.{Written}
 use Rattle.swd_observer.specs.declared.observer.Written.TheVariants.{Select as ToSelect, Csw as ToCsw, Tar as ToTar}
 use Rattle.swd_observer.specs.declared.observer.Written.TheVariants.{Drw as ToDrw}
@@ -28,6 +29,7 @@ use Rattle.swd_observer.specs.declared.observer.RequestEffect.TheVariants.{MayWr
 use Rattle.swd_observer.specs.Observing.{Confirms, observed_class_dp, observed_class, observed_kind_dp}
 use Rattle.swd_observer.specs.Observing.{observed_kind_mem, observed_kind_maybe, observed_kind_ap, observed_kind}
 use Rattle.swd_observer.specs.Observing.{is_observed_data_register, is_observed_posted_read, is_observed_rc}
+use Rattle.swd_observer.specs.Observing.{is_other_bank_observed}
 
 seen_okay : (mark : Mark) (reply : Reply) → PortSees mark reply 1 → reply ≡ Okay
 seen_okay Deaf reply h = absurd (let e : true ≡ false = h.not_okay in cc)
@@ -97,17 +99,18 @@ observed_ask_okayed mark c s q t h =
     }
 
 -- the requests that tell: none of them is exempt
-plain_dp : (read : Bool) (addr : Reg4) (bank0 : Bool) → observed_class_dp read addr ≡ Confirms
-    → is_exempt_register (port_dp_register read addr bank0) ≡ false
-plain_dp true R0 b e = absurd (cc)
-plain_dp false R0 b e = absurd (cc)
-plain_dp true R4 b e = absurd (cc)
-plain_dp false R4 true e = refl
-plain_dp false R4 false e = refl
-plain_dp true R8 b e = refl
-plain_dp false R8 b e = refl
-plain_dp true RC b e = refl
-plain_dp false RC b e = refl
+plain_dp : (other read : Bool) (addr : Reg4) (bank0 : Bool) → observed_class_dp other read addr ≡ Confirms
+    → (other ≡ true → bank0 ≡ false) → is_exempt_register (port_dp_register read addr bank0) ≡ false
+plain_dp other true R0 b e f = absurd (cc)
+plain_dp other false R0 b e f = absurd (cc)
+plain_dp true true R4 b e f = rw (f refl) refl
+plain_dp false true R4 b e f = absurd (cc)
+plain_dp other false R4 true e f = refl
+plain_dp other false R4 false e f = refl
+plain_dp other true R8 b e f = refl
+plain_dp other false R8 b e f = refl
+plain_dp other true RC b e f = refl
+plain_dp other false RC b e f = refl
 
 plain_ap : (m read : Bool) (addr : Reg4)
     → is_exempt_register (if m then mem_ap_register read addr else port_other_ap_register read) ≡ false
@@ -122,17 +125,18 @@ plain_ap true false RC = refl
 plain_ap false true addr = refl
 plain_ap false false addr = refl
 
-plain_by : (ap : Bool) (s : Select) (read : Bool) (addr : Reg4) → (if ap then Confirms else observed_class_dp read addr)
-    ≡ Confirms
+plain_by : (ap other : Bool) (s : Select) (read : Bool) (addr : Reg4)
+    → (if ap then Confirms else observed_class_dp other read addr) ≡ Confirms
+    → (other ≡ true → (s.dpbanksel == 0) ≡ false)
     → is_exempt_register (if ap then port_ap_register s read addr else port_dp_register read addr (s.dpbanksel == 0))
     ≡ false
-plain_by true s read addr e = plain_ap (port_selects_mem_ap s) read addr
-plain_by false s read addr e = plain_dp read addr (s.dpbanksel == 0) e
+plain_by true other s read addr e f = plain_ap (port_selects_mem_ap s) read addr
+plain_by false other s read addr e f = plain_dp other read addr (s.dpbanksel == 0) e f
 
--- a request whose OK confirms isn't exempt, whatever SELECT is
-pub observed_not_exempt : (s : Select) (q : Request) → observed_class q ≡ Confirms
-    → is_exempt_register (port_register s q) ≡ false
-observed_not_exempt s q e = plain_by q.ap s q.read q.addr e
+-- a request whose OK confirms isn't exempt, if DPBANKSEL isn't 0 where it is known not to be
+pub observed_not_exempt : (o : Observer) (s : Select) (q : Request) → observed_class o q ≡ Confirms
+    → (is_other_bank_observed o ≡ true → (s.dpbanksel == 0) ≡ false) → is_exempt_register (port_register s q) ≡ false
+observed_not_exempt o s q e f = plain_by q.ap (is_other_bank_observed o) s q.read q.addr e f
 
 -- registers of which an observer keeps nothing
 abbrev pub is_observed_harmless : Register → Bool
@@ -206,7 +210,8 @@ fits_none : (m read : Bool) (addr : Reg4)
     → ObservedKindFits (observed_kind_maybe (observed_kind_mem read addr))
     (if m then mem_ap_register read addr else port_other_ap_register read)
 fits_none true read addr = maybe_fits (observed_kind_mem read addr) (mem_ap_register read addr) (fits_mem read addr)
-fits_none false read addr = maybe_harmless (observed_kind_mem read addr) (port_other_ap_register read) (harmless_no read)
+fits_none false read addr = maybe_harmless (observed_kind_mem read addr) (port_other_ap_register read)
+    (harmless_no read)
 
 fits_some : (m d read : Bool) (addr : Reg4)
     → ObservedKindFits (if m then observed_kind_mem read addr else if d then Elsewhere read else Other)

@@ -23,7 +23,7 @@ use Rattle.swd_observer.specs.declared.observer.Observer.{Observer}
 use Rattle.swd_observer.specs.declared.observer.StartedTransfer.{StartedTransfer}
 use Rattle.swd_observer.specs.declared.observer.Standing.{Standing}
 use Rattle.swd_observer.specs.Observing.{Passes, Aborts, Confirms, observed_class_dp, observed_class, observed_doubt}
-use Rattle.swd_observer.specs.Observing.{observer_doubted, observer_arrival}
+use Rattle.swd_observer.specs.Observing.{observer_doubted, observer_arrival, is_other_bank_observed}
 use Rattle.swd_observer.specs.Explained.{ObservedSince, one_observed}
 use Rattle.swd_observer.specs.Knows.{ObservedFlying, owed, gone, failed, ObservedFlight, ObserverHolds, ObserverKnows}
 use Rattle.swd_observer.specs.Knows.{here, spoiled, ObservedStands}
@@ -40,56 +40,60 @@ use Rattle.swd_observer.proofs.StepLemmas.{observed_read_phase_keeps, observed_l
 use Rattle.swd_observer.proofs.DoubtLemmas.{observer_knows_in_doubt}
 
 -- which they are
-abort_dp : (read : Bool) (addr : Reg4) (b : Bool) → observed_class_dp read addr ≡ Aborts
+abort_dp : (other read : Bool) (addr : Reg4) (b : Bool) → observed_class_dp other read addr ≡ Aborts
     → (port_dp_register read addr b ≡ AbortWrite) × (read ≡ false)
-abort_dp false R0 b e = (refl, refl)
-abort_dp true R0 b e = absurd (cc)
-abort_dp true R4 b e = absurd (cc)
-abort_dp false R4 b e = absurd (cc)
-abort_dp true R8 b e = absurd (cc)
-abort_dp false R8 b e = absurd (cc)
-abort_dp true RC b e = absurd (cc)
-abort_dp false RC b e = absurd (cc)
+abort_dp other false R0 b e = (refl, refl)
+abort_dp other true R0 b e = absurd (cc)
+abort_dp true true R4 b e = absurd (cc)
+abort_dp false true R4 b e = absurd (cc)
+abort_dp other false R4 b e = absurd (cc)
+abort_dp other true R8 b e = absurd (cc)
+abort_dp other false R8 b e = absurd (cc)
+abort_dp other true RC b e = absurd (cc)
+abort_dp other false RC b e = absurd (cc)
 
-abort_by : (ap : Bool) (s : Select) (read : Bool) (addr : Reg4)
-    → (if ap then Confirms else observed_class_dp read addr) ≡ Aborts
+abort_by : (ap other : Bool) (s : Select) (read : Bool) (addr : Reg4)
+    → (if ap then Confirms else observed_class_dp other read addr) ≡ Aborts
     → ((if ap then port_ap_register s read addr else port_dp_register read addr (s.dpbanksel == 0)) ≡ AbortWrite)
     × (read ≡ false)
-abort_by true s read addr e = absurd (cc)
-abort_by false s read addr e = abort_dp read addr (s.dpbanksel == 0) e
+abort_by true other s read addr e = absurd (cc)
+abort_by false other s read addr e = abort_dp other read addr (s.dpbanksel == 0) e
 
-abort_is : (s : Select) (q : Request) → observed_class q ≡ Aborts → (port_register s q ≡ AbortWrite) × (q.read ≡ false)
-abort_is s q e = abort_by q.ap s q.read q.addr e
+abort_is : (o : Observer) (s : Select) (q : Request) → observed_class o q ≡ Aborts → (port_register s q
+    ≡ AbortWrite) × (q.read ≡ false)
+abort_is o s q e = abort_by q.ap (is_other_bank_observed o) s q.read q.addr e
 
-dpidr_dp : (read : Bool) (addr : Reg4) (b : Bool) → observed_class_dp read addr ≡ Passes
+dpidr_dp : (other read : Bool) (addr : Reg4) (b : Bool) → observed_class_dp other read addr ≡ Passes
     → (port_dp_register read addr b ≡ DpidrRead) × (read ≡ true)
-dpidr_dp true R0 b e = (refl, refl)
-dpidr_dp false R0 b e = absurd (cc)
-dpidr_dp true R4 b e = absurd (cc)
-dpidr_dp false R4 b e = absurd (cc)
-dpidr_dp true R8 b e = absurd (cc)
-dpidr_dp false R8 b e = absurd (cc)
-dpidr_dp true RC b e = absurd (cc)
-dpidr_dp false RC b e = absurd (cc)
+dpidr_dp other true R0 b e = (refl, refl)
+dpidr_dp other false R0 b e = absurd (cc)
+dpidr_dp true true R4 b e = absurd (cc)
+dpidr_dp false true R4 b e = absurd (cc)
+dpidr_dp other false R4 b e = absurd (cc)
+dpidr_dp other true R8 b e = absurd (cc)
+dpidr_dp other false R8 b e = absurd (cc)
+dpidr_dp other true RC b e = absurd (cc)
+dpidr_dp other false RC b e = absurd (cc)
 
-dpidr_by : (ap : Bool) (s : Select) (read : Bool) (addr : Reg4)
-    → (if ap then Confirms else observed_class_dp read addr) ≡ Passes
+dpidr_by : (ap other : Bool) (s : Select) (read : Bool) (addr : Reg4)
+    → (if ap then Confirms else observed_class_dp other read addr) ≡ Passes
     → ((if ap then port_ap_register s read addr else port_dp_register read addr (s.dpbanksel == 0)) ≡ DpidrRead)
     × (read ≡ true)
-dpidr_by true s read addr e = absurd (cc)
-dpidr_by false s read addr e = dpidr_dp read addr (s.dpbanksel == 0) e
+dpidr_by true other s read addr e = absurd (cc)
+dpidr_by false other s read addr e = dpidr_dp other read addr (s.dpbanksel == 0) e
 
-dpidr_is : (s : Select) (q : Request) → observed_class q ≡ Passes → (port_register s q ≡ DpidrRead) × (q.read ≡ true)
-dpidr_is s q e = dpidr_by q.ap s q.read q.addr e
+dpidr_is : (o : Observer) (s : Select) (q : Request) → observed_class o q ≡ Passes → (port_register s q ≡ DpidrRead) ×
+    (q.read ≡ true)
+dpidr_is o s q e = dpidr_by q.ap (is_other_bank_observed o) s q.read q.addr e
 
 -- ABORT
 abort_asked : (before : List Transfer) (told : List ObservedAccess) (o : Observer) (q : Request) (s a b d t : Port)
-    (mark : Mark) (c : Choice) (bits : ℕ) → observed_class q ≡ Aborts → PortCompletes s a → PortAsksNow mark c a q 1 b
+    (mark : Mark) (c : Choice) (bits : ℕ) → observed_class o q ≡ Aborts → PortCompletes s a → PortAsksNow mark c a q 1 b
     → PortCompletes b d → PortGives d bits t → ObserverFlagged (ObservedSince before told) o s.target
     → ObserverKnows (ObservedSince before (told ++ one_observed (observed_doubt o))) (observer_doubted o) t.target
 abort_asked before told o q s a b d t mark c bits is first now last (e, f, third, given, fourth) k =
     let h : ObservedOkayed a q b = observed_ask_okayed mark c a q b now in
-    let named : (port_register a.target.select q ≡ AbortWrite) × (q.read ≡ false) = abort_is a.target.select q is in
+    let named : (port_register a.target.select q ≡ AbortWrite) × (q.read ≡ false) = abort_is o a.target.select q is in
     let same : b.target ≡ a.target = h.target ∙ ap (λ r. port_after_okay h.choice r a.target) named.0 in
     let known : ObserverFlagged (ObservedSince before told) o e.target =
     observer_flagged_stays _ o d e third (observer_flagged_stays _ o b d last
@@ -98,8 +102,8 @@ abort_asked before told o q s a b d t mark c bits is first now last (e, f, third
     ap (λ l. l.line) (port_kept d e third).link ∙ ap (λ l. l.line) (port_kept b d last).link ∙ h.line
     ∙ observed_line_at_write q.read (port_register a.target.select q) h.flip _ named.1 ∙ ap (λ r. Awaits r h.flip)
     named.0 in
-    let after : f.target ≡ port_after_bits given.refuses (port_arrival_of AbortWrite (data_phase_word (port_flipped h.flip bits)))
-    e.target =
+    let after : f.target ≡ port_after_bits given.refuses (port_arrival_of AbortWrite (data_phase_word
+    (port_flipped h.flip bits))) e.target =
     ap (λ p. p.target) given.after ∙ ap (λ l. port_after_bits given.refuses (port_arrival l bits) e.target) line in
     observer_knows_stays _ (observer_doubted o) f t fourth
     (subst (ObserverKnows (ObservedSince before (told ++ one_observed (observed_doubt o))) (observer_doubted o))
@@ -110,7 +114,7 @@ abort_asked before told o q s a b d t mark c bits is first now last (e, f, third
 
 abort_step : (before : List Transfer) (told : List ObservedAccess) (o : Observer) (q : Request) (s d t : Port)
     (bits : ℕ)
-    → observed_class q ≡ Aborts → PortAsks s q 1 d → PortGives d bits t
+    → observed_class o q ≡ Aborts → PortAsks s q 1 d → PortGives d bits t
     → ObserverFlagged (ObservedSince before told) o s.target
     → ObserverKnows (ObservedSince before (told ++ one_observed (observed_doubt o))) (observer_doubted o) t.target
 abort_step before told o q s d t bits is (a, b, mark, c, first, now, last) gives k =
@@ -131,7 +135,7 @@ takes_of false a bits t e m = absurd (cc)
 pub observer_knows_abort : ObserverAtAbort
 observer_knows_abort before told o q word ok place s t is h k = record {
   knows = abort_step before (observed_list_flushed told o) o q s h.asked t h.bits is h.asks
-      (gives_of q.read h.asked h.bits t (abort_is s.target.select q is).1 h.moves)
+      (gives_of q.read h.asked h.bits t (abort_is o s.target.select q is).1 h.moves)
       (observer_all_flushed before told o s.target k);
   flagged = λ e. absurd (let clash : false ≡ true = e in cc);
 }
@@ -176,20 +180,20 @@ knows_live : (E : List Transfer → Type 0) (o : Observer) (chosen : Choice) (x 
 knows_live E o chosen x (here clean h) = here clean (holds_live E (observer_arrival o) chosen x h)
 knows_live E o chosen x (spoiled error rest h) = spoiled error rest (holds_live E (record o { sent = None }) chosen x h)
 
-dpidr_step : (E : List Transfer → Type 0) (o : Observer) (q : Request) (s d : Port) → observed_class q ≡ Passes
+dpidr_step : (E : List Transfer → Type 0) (o : Observer) (q : Request) (s d : Port) → observed_class o q ≡ Passes
     → PortAsks s q 1 d → ObserverKnows E o s.target → ObserverKnows E o d.target
 dpidr_step E o q s d is (a, b, mark, c, first, now, last) k =
     let h : ObservedOkayed a q b = observed_ask_okayed mark c a q b now in
     observer_knows_stays E o b d last (subst (ObserverKnows E o) (sym (h.target
-    ∙ ap (λ r. port_after_okay h.choice r a.target) (dpidr_is a.target.select q is).0))
+    ∙ ap (λ r. port_after_okay h.choice r a.target) (dpidr_is o a.target.select q is).0))
     (knows_live E o h.choice a.target (observer_knows_stays E o s a first k)))
 
-stands_live : (z : Standing) (word : ℕ) (q : Request) (s d : Port) → observed_class q ≡ Passes → PortAsks s q 1 d
-    → ObservedStands z word s.target → ObservedStands z word d.target
-stands_live z word q s d is (a, b, mark, c, first, now, last) v =
+stands_live : (z : Standing) (word : ℕ) (o : Observer) (q : Request) (s d : Port) → observed_class o q ≡ Passes
+    → PortAsks s q 1 d → ObservedStands z word s.target → ObservedStands z word d.target
+stands_live z word o q s d is (a, b, mark, c, first, now, last) v =
     let h : ObservedOkayed a q b = observed_ask_okayed mark c a q b now in
     observed_stands_stays z word b d last (subst (ObservedStands z word) (sym (h.target
-    ∙ ap (λ r. port_after_okay h.choice r a.target) (dpidr_is a.target.select q is).0))
+    ∙ ap (λ r. port_after_okay h.choice r a.target) (dpidr_is o a.target.select q is).0))
     (observed_stands_same z word a.target (port_after_okay h.choice DpidrRead a.target) refl refl refl
     (observed_stands_stays z word s a first v)))
 
@@ -197,12 +201,13 @@ stands_live z word q s d is (a, b, mark, c, first, now, last) v =
 pub observer_knows_dpidr : ObserverAtDpidr
 observer_knows_dpidr before told o q word ok place s t is h k =
     let takes : PortTakes h.asked h.bits t =
-    takes_of q.read h.asked h.bits t (dpidr_is s.target.select q is).1 h.moves in
+    takes_of q.read h.asked h.bits t (dpidr_is o s.target.select q is).1 h.moves in
     record {
       knows = observer_awaits_by (ObservedSince before told) o.older o o s.target t.target
           (λ F z. observed_read_phase_keeps (ObserverKnows F o) (λ x y e w. observer_knows_stays F o x y e w) h.asked t
           h.bits takes (dpidr_step F o q s h.asked is h.asks z))
-          (λ z w v. observed_stands_taken z w h.asked t h.bits takes (stands_live z w q s h.asked is h.asks v)) k.knows;
+          (λ z w v. observed_stands_taken z w h.asked t h.bits takes (stands_live z w o q s h.asked is h.asks v))
+          k.knows;
       flagged = λ e. observed_flag_taken h.asked t h.bits takes
           (observed_flag_asked q 1 s h.asked h.asks (k.flagged e));
     }

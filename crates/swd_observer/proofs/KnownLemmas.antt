@@ -66,8 +66,8 @@ observed_transfer_at_tar (Some a) c x h = ap (λ o. unwrap_or o c.address) h
 took_off : (E : List Transfer → Type 0) (b : StartedTransfer) (increments : Option Bool) (tar : Option ℕ) (c : Choice)
     (x : Target)
     (drw : Drw) (test : Bool) → bus_succeeds (pending_access_at (unwrap_or x.tar c.address) drw) x.memory ≡ test
-    → IfSome increments (λ b. x.increments ≡ b) → ObservedCalm x → x.pending ≡ Some drw → IsObservedPending b drw → IfSome tar (λ a. x.tar ≡ Some a)
-    → E x.memory.log
+    → IfSome increments (λ b. x.increments ≡ b) → ObservedCalm x → x.pending ≡ Some drw → IsObservedPending b drw
+    → IfSome tar (λ a. x.tar ≡ Some a) → E x.memory.log
     → ObservedFlying E b increments tar (port_completion c x)
 took_off E b increments tar c x Reads true test inc calm pending of at e =
     gone (record {

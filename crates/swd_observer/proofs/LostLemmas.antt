@@ -102,7 +102,8 @@ observer_holds_lost_read before told place d x chosen rest h =
     let s : ObservedResting (ObservedSince before (told ++ lost_read d.tar place ∷ [])) None
     (port_after_okay chosen DrwRead x) = record {
       now = observed_since_may_not before told (lost_read d.tar place) x.memory.log refl r.now;
-      later = λ c k. later_read before told place d.tar x c chosen (bus_succeeds (AccessRead (unwrap_or x.tar c.address)) x.memory) refl
+      later = λ c k. later_read before told place d.tar x c chosen
+          (bus_succeeds (AccessRead (unwrap_or x.tar c.address)) x.memory) refl
           (aimed_at d.tar x r.aimed) r.now;
       aimed = tt;
     } in

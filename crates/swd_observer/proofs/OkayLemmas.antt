@@ -228,8 +228,8 @@ observed_same_at_write chosen w x = record {
 }
 
 -- a DRW read is owed
-pub observer_knows_drw_read : (E : List Transfer → Type 0) (o : Observer) (x : Target) (chosen : Choice) (word : Option ℕ)
-    (place : ℕ)
+pub observer_knows_drw_read : (E : List Transfer → Type 0) (o : Observer) (x : Target) (chosen : Choice)
+    (word : Option ℕ) (place : ℕ)
     → o.sent ≡ None → x.sticky_error ≡ false → x.write_error ≡ false → x.debug_power ≡ true → ObservedSettled E o x
     → ObserverKnows E (observer_accepted Reads word place o) (port_after_okay chosen DrwRead x)
 observer_knows_drw_read E o x chosen word place sent quiet whole power h =
@@ -266,8 +266,8 @@ pends_same DrwWrite word p e = absurd (cc)
 pends_same r word p e = refl
 
 -- the data of a write of which an observer keeps nothing, arrived or corrupted, changes nothing of what it keeps
-pub observed_same_at_data : (r : Register) (found : Option ℕ) (refuses : Bool) (x : Target) → is_observed_harmless r ≡ true
-    → ObservedSame x (port_after_bits refuses (port_arrival_of r found) x)
+pub observed_same_at_data : (r : Register) (found : Option ℕ) (refuses : Bool) (x : Target) → is_observed_harmless r
+    ≡ true → ObservedSame x (port_after_bits refuses (port_arrival_of r found) x)
 observed_same_at_data r None refuses x e = record {
   select = refl;
   increments = refl;
@@ -333,32 +333,39 @@ pub observer_knows_arrival : (E : List Transfer → Type 0) (o : Observer) (x : 
     → IfSome known (λ v. word ≡ v) → ObservedSettled E o x
     → ObserverKnows E (observer_accepted (Writes w) known place o)
     (port_after_bits refuses (Arrives (observed_register_for w) word) x)
-observer_knows_arrival E o x ToSelect known word place refuses rest quiet intact power up range is h = here intact (record {
-  select = mapped Select select_of known word is;
-  increments = h.increments;
-  range = h.range;
-  flight = subst (λ b. ObservedFlight E b o.increments o.tar (port_after_bits refuses (Arrives SelectWrite word) x)) (sym rest)
-      (rests_by E o.tar (port_after_bits refuses (Arrives SelectWrite word) x) h.aimed h.now h.none);
-})
-observer_knows_arrival E o x ToCsw known word place refuses rest quiet intact power up range is h = here intact (record {
-  select = h.select;
-  increments = stepped known word is;
-  range = h.range;
-  flight = subst (λ b. ObservedFlight E b (option_and_then observed_increments_in known) o.tar (port_after_bits refuses
-      (Arrives CswWrite word) x)) (sym rest)
-      (rests_by E o.tar (port_after_bits refuses (Arrives CswWrite word) x) h.aimed h.now h.none);
-})
-observer_knows_arrival E o x ToTar known word place refuses rest quiet intact power up range is h = here intact (record {
-  select = h.select;
-  increments = h.increments;
-  range = range;
-  flight = subst (λ b. ObservedFlight E b o.increments known (port_after_bits refuses (Arrives TarWrite word) x)) (sym rest)
-      (rests_by E known (port_after_bits refuses (Arrives TarWrite word) x) (tar_arrives known word is) h.now h.none);
-})
-observer_knows_arrival E o x ToDrw known word place refuses rest quiet intact power up range is h = here intact (record {
-  select = h.select;
-  increments = h.increments;
-  range = h.range;
-  flight = owed (record { sticky_error = quiet; write_error = intact; debug_power = power refl; debug_up = up refl })
-      (DrwWrites word) refl (refl, observed_whole_word_has o.increments known (λ v. word ≡ v) is) h.aimed h.now;
-})
+observer_knows_arrival E o x ToSelect known word place refuses rest quiet intact power up range is h = here intact
+    (record {
+      select = mapped Select select_of known word is;
+      increments = h.increments;
+      range = h.range;
+      flight = subst (λ b. ObservedFlight E b o.increments o.tar (port_after_bits refuses (Arrives SelectWrite word) x))
+          (sym rest) (rests_by E o.tar (port_after_bits refuses (Arrives SelectWrite word) x) h.aimed h.now h.none);
+    })
+observer_knows_arrival E o x ToCsw known word place refuses rest quiet intact power up range is h = here intact
+    (record {
+      select = h.select;
+      increments = stepped known word is;
+      range = h.range;
+      flight = subst (λ b. ObservedFlight E b (option_and_then observed_increments_in known) o.tar
+          (port_after_bits refuses (Arrives CswWrite word) x)) (sym rest)
+          (rests_by E o.tar (port_after_bits refuses (Arrives CswWrite word) x) h.aimed h.now h.none);
+    })
+observer_knows_arrival E o x ToTar known word place refuses rest quiet intact power up range is h = here intact
+    (record {
+      select = h.select;
+      increments = h.increments;
+      range = range;
+      flight = subst (λ b. ObservedFlight E b o.increments known (port_after_bits refuses (Arrives TarWrite word) x))
+          (sym rest)
+          (rests_by E known (port_after_bits refuses (Arrives TarWrite word) x)
+          (tar_arrives known word is) h.now h.none);
+    })
+observer_knows_arrival E o x ToDrw known word place refuses rest quiet intact power up range is h = here intact
+    (record {
+      select = h.select;
+      increments = h.increments;
+      range = h.range;
+      flight = owed
+          (record { sticky_error = quiet; write_error = intact; debug_power = power refl; debug_up = up refl })
+          (DrwWrites word) refl (refl, observed_whole_word_has o.increments known (λ v. word ≡ v) is) h.aimed h.now;
+    })

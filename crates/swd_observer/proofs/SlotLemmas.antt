@@ -53,7 +53,7 @@ use Rattle.swd_observer.proofs.OkayLemmas.{observer_settled_knows, observed_same
 use Rattle.swd_observer.proofs.OkayLemmas.{observed_whole_word_has}
 use Rattle.swd_observer.proofs.StepLemmas.{observed_first_clear, observed_second_clear, observer_confirmed_unsent}
 use Rattle.swd_observer.proofs.StepLemmas.{observed_read_word, observed_line_at_read, observed_ap_power}
-use Rattle.swd_observer.proofs.StepLemmas.{observed_read_phase_keeps}
+use Rattle.swd_observer.proofs.StepLemmas.{observed_read_phase_keeps, observed_other_bank}
 use Rattle.swd_observer.proofs.FlagLemmas.{observer_accepted_refused, observer_older_noted}
 use Rattle.swd_observer.proofs.OlderLemmas.{observer_older_flushed, observed_stands_stays, observed_stands_taken}
 use Rattle.swd_observer.proofs.AnyLemmas.{observer_okay_moved}
@@ -285,7 +285,8 @@ settle_into E h b o x is reads addr quiet intact none (here clean k) =
       },
     )
 
-plain_goes : (E : List Transfer → Type 0) (k : RequestEffect) (r : Register) (chosen : Choice) (word : Option ℕ) (place : ℕ)
+plain_goes : (E : List Transfer → Type 0) (k : RequestEffect) (r : Register) (chosen : Choice) (word : Option ℕ)
+    (place : ℕ)
     (o : Observer) (x : Target) → is_observed_plain k ≡ true → ObservedKindFits k r → o.sent ≡ None → o.begun ≡ None
     → x.sticky_error ≡ false → x.write_error ≡ false → (r ≡ DrwRead → x.debug_power ≡ true) → ObservedSettled E o x
     → ObserverKnows E (observer_accepted k word place o) (port_after_okay chosen r x)
@@ -315,7 +316,8 @@ stands_okay : (q : Request) (is : Bool) (s : Standing) (chosen : Choice) (x : Ta
     → ObservedStands s word (port_after_okay chosen (port_register x.select q) x)
 stands_okay q is s chosen x word buffer none (inl (e, at)) =
     subst (λ z. ObservedStands z word (port_after_okay chosen (port_register x.select q) x)) (sym at)
-    (subst (λ r. ObservedStands Buffer word (port_after_okay chosen r x)) (sym (resend_is x.select q e).0) (buffer, none))
+    (subst (λ r. ObservedStands Buffer word (port_after_okay chosen r x)) (sym (resend_is x.select q e).0)
+    (buffer, none))
 stands_okay q is s chosen x word buffer none (inr (e, plainly, at)) =
     subst (λ z. ObservedStands z word (port_after_okay chosen (port_register x.select q) x)) (sym at)
     (ap (λ b. if b then x.buffer else x.last_returned) (posted_is x.select q e).0 ∙ buffer)
@@ -330,7 +332,7 @@ plain_by q known s (inl (e, at)) = resend_plain q.ap known q.read q.addr e
 plain_by q known s (inr (e, plainly, at)) = plainly
 
 fill : (E : List Transfer → Type 0) (h : Older) (o : Observer) (q : Request) (word : ℕ) (ok : Bool) (place : ℕ)
-    (s t : Port) → observed_older_slot_at q (word_observed ok word) o ≡ Some h → observed_class q ≡ Confirms
+    (s t : Port) → observed_older_slot_at q (word_observed ok word) o ≡ Some h → observed_class o q ≡ Confirms
     → ObservedHasMoved q word ok s t → ObserverKnows E o s.target
     → ObserverAwaits E (Some h) (observer_accepted (observed_kind (observer_confirmed o).select q)
     (word_observed ok word) place (observer_confirmed o)) t.target
@@ -342,13 +344,14 @@ fill E h o q word ok place s t is tells m k =
     let reads : q.read ≡ true = reads_by q _ f.standing s.target.select by in
     let takes : PortTakes m.asked m.bits t = takes_of q.read m.asked m.bits t reads m.moves in
     let r = read_by q word ok s m.asked t m.bits reads m.asks m.range m.carries takes in
+    let known = observer_knows_stays E o s r.at r.first k in
     let plainly : is_exempt_register (port_register r.at.target.select q) ≡ false =
-    observed_not_exempt r.at.target.select q tells in
+    observed_not_exempt o r.at.target.select q tells (observed_other_bank E o r.at.target known) in
     let clear = r.clear plainly in
     let quiet : r.at.target.sticky_error ≡ false = observed_first_clear _ _ _ clear in
     let intact : r.at.target.write_error ≡ false = observed_second_clear r.at.target.sticky_error _ _ clear in
-    let landed = settle_into E h f.begun o r.at.target f.is_begun f.reads f.addr quiet intact (r.settled plainly)
-    (observer_knows_stays E o s r.at r.first k) in
+    let landed = settle_into E h f.begun o r.at.target f.is_begun f.reads f.addr quiet intact
+    (r.settled plainly) known in
     let held = landed.0 in
     let goes = plain_goes (IsObservedOlder E h held) (observed_kind (observer_confirmed o).select q)
     (port_register r.at.target.select q) r.choice (word_observed ok word) place (observer_confirmed o) r.at.target
@@ -385,7 +388,7 @@ plain_of h o q word e =
 
 okay_slot : (slot : Option Older) (before : List Transfer) (told : List ObservedAccess) (o : Observer) (q : Request)
     (word : ℕ) (ok : Bool) (place : ℕ) (s t : Port) → observed_older_slot_at q (word_observed ok word) o ≡ slot
-    → observed_class q ≡ Confirms
+    → observed_class o q ≡ Confirms
     → ObservedHasMoved q word ok s t → ObserverKnows (ObservedSince before told) o s.target
     → ObserverAwaits (ObservedSince before ((told ++ one_observed (unless_observed_older slot
     (observed_flight_access Took (observed_whole o.increments

@@ -1,7 +1,7 @@
 -- CTRL/STAT was read: its flags tell what came of the write and of the transfer.
 use Rattle.std.proofs.Common.{◌≡◌, ◌<◌, ◌^◌, ℕ, Bool, true, false, List, [], ◌∷◌, ◌++◌, refl, sym, ap, subst, ◌∙◌}
 use Rattle.std.proofs.Common.{append-nil}
-use Rattle.std.specs.Prelude.{Option, Some, None, IfSome, if◌then◌else◌, ◌==◌, ◌&&◌, not as no}
+use Rattle.std.specs.Prelude.{Option, Some, None, IfSome, if◌then◌else◌, ◌==◌, ◌&&◌}
 use Rattle.swd_bits.specs.declared.request.Request.{Request}
 use Rattle.swd_bits.specs.declared.request.Reg4.{Reg4}
 use Rattle.swd_bits.specs.declared.request.Reg4.TheVariants.{R0, R4, R8, RC}
@@ -31,15 +31,12 @@ use Rattle.swd_observer.specs.declared.observer.SentWrite.{SentWrite}
 use Rattle.swd_observer.specs.Observing.{Status, Confirms, observed_class_dp, observed_class, observer_arrival}
 use Rattle.swd_observer.specs.Observing.{observer_arrival_of, observed_begun, observed_tar_lost, observer_flagged}
 use Rattle.swd_observer.specs.Observing.{observed_flagged, observed_word_of_begun, word_observed, is_status_observed}
-use Rattle.swd_observer.specs.Observing.{is_observed_bank_0, is_observed_select_sent, observed_select_sent}
+use Rattle.swd_observer.specs.Observing.{is_observed_bank_0, is_other_bank_observed}
 use Rattle.swd_observer.specs.Explained.{ObservedSince, one_observed}
 use Rattle.swd_observer.specs.Knows.{ObservedCalm, ObservedFlying, owed, gone, failed, ObservedResting, ObservedFlight}
 use Rattle.swd_observer.specs.Knows.{ObserverHolds, ObserverKnows, here, spoiled}
 use Rattle.swd_observer.proofs.ExplainLemmas.{observed_since_not}
 use Rattle.swd_observer.proofs.KnownLemmas.{observer_knows_stays, observed_no_pending_keeps, observer_unsent}
-use Rattle.swd_observer.specs.declared.observer.Written.{Written}
-use Rattle.swd_observer.specs.declared.observer.Written.TheVariants.{Select as ToSelect, Csw as ToCsw, Tar as ToTar}
-use Rattle.swd_observer.specs.declared.observer.Written.TheVariants.{Drw as ToDrw}
 use Rattle.swd_observer.specs.Transacts.{ObservedMoves}
 use Rattle.swd_observer.specs.Laws.{ObserverAtStatus, observed_list_flushed}
 use Rattle.swd_observer.proofs.FlagLemmas.{observer_older_noted, observer_status_refused, observed_flag_taken}
@@ -47,7 +44,8 @@ use Rattle.swd_observer.proofs.FlagLemmas.{observed_flag_asked}
 use Rattle.swd_observer.proofs.OlderLemmas.{observer_all_flushed}
 use Rattle.swd_observer.proofs.AskLemmas.{ObservedOkayed, observed_ask_okayed}
 use Rattle.swd_observer.proofs.StepLemmas.{observer_arrival_unsent, observed_read_phase_keeps, observed_line_at_read}
-use Rattle.swd_observer.proofs.StepLemmas.{observed_read_word}
+use Rattle.swd_observer.proofs.StepLemmas.{observed_read_word, observed_left_set, observed_right_set}
+use Rattle.swd_observer.proofs.StepLemmas.{observed_select_known}
 
 -- what didn't take place
 abbrev undone_told : StartedTransfer → Option ℕ → ObservedAccess
@@ -211,7 +209,8 @@ calm_read chosen x calm = record {
 flies_read : (E : List Transfer → Type 0) (b : StartedTransfer) (increments : Option Bool) (tar : Option ℕ)
     (chosen : Choice) (x : Target)
     → ObservedFlying E b increments tar x → ObservedFlying E b increments tar (port_after_okay chosen CtrlStatRead x)
-flies_read E b increments tar chosen x (owed calm drw pending of at e) = owed (calm_read chosen x calm) drw pending of at e
+flies_read E b increments tar chosen x (owed calm drw pending of at e) = owed (calm_read chosen x calm) drw pending of
+    at e
 flies_read E b increments tar chosen x (gone calm none t log fits is e buffer next) =
     gone (calm_read chosen x calm) none t log fits is e buffer next
 flies_read E b increments tar chosen x (failed none error e) = failed none error e
@@ -231,59 +230,39 @@ holds_read E o chosen x h = record {
   flight = flight_read E o.begun o.increments o.tar chosen x h.flight;
 }
 
-knows_read : (E : List Transfer → Type 0) (o : Observer) (chosen : Choice) (bank0 : Bool) (x : Target) → ObserverKnows E o x
-    → ObserverKnows E o (port_after_okay chosen (if bank0 then CtrlStatRead else DpOtherRead) x)
+knows_read : (E : List Transfer → Type 0) (o : Observer) (chosen : Choice) (bank0 : Bool) (x : Target)
+    → ObserverKnows E o x → ObserverKnows E o (port_after_okay chosen (if bank0 then CtrlStatRead else DpOtherRead) x)
 knows_read E o chosen true x (here clean h) = here clean (holds_read E (observer_arrival o) chosen x h)
 knows_read E o chosen true x (spoiled error rest h) = spoiled error rest (holds_read E
     (record o { sent = None }) chosen x h)
 knows_read E o chosen false x k = k
 
 -- which request it is
-status_dp : (read : Bool) (addr : Reg4) (b : Bool) → observed_class_dp read addr ≡ Status
+status_dp : (other read : Bool) (addr : Reg4) (b : Bool) → observed_class_dp other read addr ≡ Status
     → (port_dp_register read addr b ≡ (if b then CtrlStatRead else DpOtherRead)) × (read ≡ true)
-status_dp true R4 true e = (refl, refl)
-status_dp true R4 false e = (refl, refl)
-status_dp true R0 b e = absurd (cc)
-status_dp false R0 b e = absurd (cc)
-status_dp false R4 b e = absurd (cc)
-status_dp true R8 b e = absurd (cc)
-status_dp false R8 b e = absurd (cc)
-status_dp true RC b e = absurd (cc)
-status_dp false RC b e = absurd (cc)
+status_dp true true R4 b e = absurd (cc)
+status_dp false true R4 true e = (refl, refl)
+status_dp false true R4 false e = (refl, refl)
+status_dp other true R0 b e = absurd (cc)
+status_dp other false R0 b e = absurd (cc)
+status_dp other false R4 b e = absurd (cc)
+status_dp other true R8 b e = absurd (cc)
+status_dp other false R8 b e = absurd (cc)
+status_dp other true RC b e = absurd (cc)
+status_dp other false RC b e = absurd (cc)
 
-status_by : (ap : Bool) (s : Select) (read : Bool) (addr : Reg4)
-    → (if ap then Confirms else observed_class_dp read addr) ≡ Status
+status_by : (ap other : Bool) (s : Select) (read : Bool) (addr : Reg4)
+    → (if ap then Confirms else observed_class_dp other read addr) ≡ Status
     → ((if ap then port_ap_register s read addr else port_dp_register read addr (s.dpbanksel == 0))
     ≡ (if s.dpbanksel == 0 then CtrlStatRead else DpOtherRead)) × (read ≡ true)
-status_by true s read addr e = absurd (cc)
-status_by false s read addr e = status_dp read addr (s.dpbanksel == 0) e
+status_by true other s read addr e = absurd (cc)
+status_by false other s read addr e = status_dp other read addr (s.dpbanksel == 0) e
 
-status_is : (s : Select) (q : Request) → observed_class q ≡ Status
+status_is : (o : Observer) (s : Select) (q : Request) → observed_class o q ≡ Status
     → (port_register s q ≡ (if s.dpbanksel == 0 then CtrlStatRead else DpOtherRead)) × (q.read ≡ true)
-status_is s q e = status_by q.ap s q.read q.addr e
+status_is o s q e = status_by q.ap (is_other_bank_observed o) s q.read q.addr e
 
 -- DPBANKSEL is 0 where it is known to be
-select_kept : (w : Written) (word : Option ℕ) (old : Option Select) (place : ℕ)
-    → no (is_observed_select_sent (Some (record { written = w; word = word; place = place }))) ≡ true
-    → observed_select_sent w word old ≡ old
-select_kept ToSelect word old place e = absurd (cc)
-select_kept ToCsw word old place e = refl
-select_kept ToTar word old place e = refl
-select_kept ToDrw word old place e = refl
-
-arrived_select : (sent : Option SentWrite) (o : Observer) → no (is_observed_select_sent sent) ≡ true
-    → (observer_arrival_of sent o).select ≡ o.select
-arrived_select None o e = refl
-arrived_select (Some s) o e = select_kept s.written s.word o.select s.place e
-
-both_left : (a b : Bool) → (a && b) ≡ true → a ≡ true
-both_left true b e = refl
-both_left false b e = absurd (cc)
-
-both_right : (a b : Bool) → (a && b) ≡ true → b ≡ true
-both_right true b e = e
-both_right false b e = absurd (cc)
-
 bank_is : (known : Option Select) (s : Select) → is_observed_bank_0 known ≡ true → IfSome known (λ v. s ≡ v)
     → (s.dpbanksel == 0) ≡ true
 bank_is None s e h = absurd (cc)
@@ -291,10 +270,8 @@ bank_is (Some v) s e h = ap (λ z. z.dpbanksel == 0) h ∙ e
 
 bank_known : (E : List Transfer → Type 0) (o : Observer) (x : Target) → is_status_observed o ≡ true
     → ObserverKnows E o x → (x.select.dpbanksel == 0) ≡ true
-bank_known E o x e (here clean h) = bank_is o.select x.select (both_left _ _ e)
-    (subst (λ k. IfSome k (λ v. x.select ≡ v)) (arrived_select o.sent o (both_right (is_observed_bank_0 o.select) _ e))
-    h.select)
-bank_known E o x e (spoiled error rest h) = bank_is o.select x.select (both_left _ _ e) h.select
+bank_known E o x e k = bank_is o.select x.select (observed_left_set _ _ e)
+    (observed_select_known E o x (observed_right_set (is_observed_bank_0 o.select) _ e) k)
 
 -- the flags in the word
 flags_in : (chosen : Choice) (x : Target) → CtrlStatShows chosen x
@@ -316,8 +293,8 @@ StatusTold before told o word known x = ObserverKnows
     (if known then observed_flagged (register_bit 5 word) (register_bit 7 word) o else None)))
     (if known then observer_flagged (register_bit 5 word) (register_bit 7 word) o else o) x
 
-status_at : (before : List Transfer) (told : List ObservedAccess) (o : Observer) (word : ℕ) (ok : Bool) (chosen : Choice)
-    (x : Target) (known : Bool) → (ok && is_status_observed o) ≡ known
+status_at : (before : List Transfer) (told : List ObservedAccess) (o : Observer) (word : ℕ) (ok : Bool)
+    (chosen : Choice) (x : Target) (known : Bool) → (ok && is_status_observed o) ≡ known
     → IfSome (word_observed ok word) (λ w. port_value_in chosen
     (if x.select.dpbanksel == 0 then CtrlStatRead else DpOtherRead)
     x ≡ w)
@@ -327,22 +304,22 @@ status_at before told o word ok chosen x false e is k =
 status_at before told o word ok chosen x true e is k =
     let value : ctrl_stat_word_in chosen x ≡ word =
     sym (status_value chosen (x.select.dpbanksel == 0) x
-    (bank_known (ObservedSince before told) o x (both_right ok (is_status_observed o) e) k))
+    (bank_known (ObservedSince before told) o x (observed_right_set ok (is_status_observed o) e) k))
     ∙ told_word ok word (port_value_in chosen (if x.select.dpbanksel == 0 then CtrlStatRead else DpOtherRead) x)
-    (both_left ok (is_status_observed o) e) is in
+    (observed_left_set ok (is_status_observed o) e) is in
     flags_tell before told (register_bit 5 word) (register_bit 7 word) o x
     (sym (flags_in chosen x).sticky_bit ∙ ap (register_bit 5) value)
     (sym (flags_in chosen x).write_bit ∙ ap (register_bit 7) value) k
 
 status_asked : (before : List Transfer) (told : List ObservedAccess) (o : Observer) (q : Request) (word : ℕ) (ok : Bool)
-    (s a b d t : Port) (mark : Mark) (c : Choice) (bits : ℕ) → observed_class q ≡ Status → PortCompletes s a
+    (s a b d t : Port) (mark : Mark) (c : Choice) (bits : ℕ) → observed_class o q ≡ Status → PortCompletes s a
     → PortAsksNow mark c a q 1 b → PortCompletes b d → bits < 2 ^ 33 → data_phase_word bits ≡ word_observed ok word
     → PortTakes d bits t
     → ObserverKnows (ObservedSince before told) o s.target
     → StatusTold before told o word (ok && is_status_observed o) d.target
 status_asked before told o q word ok s a b d t mark c bits is first now last range carries takes k =
     let h : ObservedOkayed a q b = observed_ask_okayed mark c a q b now in
-    let named = status_is a.target.select q is in
+    let named = status_is o a.target.select q is in
     let line : d.link.line ≡ Drives (port_flipped h.flip (data_phase_number (port_value_in h.choice
     (port_register a.target.select q) a.target))) =
     ap (λ l. l.line) (port_kept b d last).link ∙ h.line ∙ observed_line_at_read q.read (port_register a.target.select q)
@@ -365,7 +342,7 @@ takes_of true a bits t e m = m
 takes_of false a bits t e m = absurd (cc)
 
 status_step : (before : List Transfer) (told : List ObservedAccess) (o : Observer) (q : Request) (word : ℕ) (ok : Bool)
-    (s d t : Port) (bits : ℕ) → observed_class q ≡ Status → PortAsks s q 1 d → bits < 2 ^ 33
+    (s d t : Port) (bits : ℕ) → observed_class o q ≡ Status → PortAsks s q 1 d → bits < 2 ^ 33
     → data_phase_word bits ≡ word_observed ok word
     → PortTakes d bits t → ObserverKnows (ObservedSince before told) o s.target
     → StatusTold before told o word (ok && is_status_observed o) t.target
@@ -379,7 +356,7 @@ status_step before told o q word ok s d t bits is (a, b, mark, c, first, now, la
 pub observer_knows_status : ObserverAtStatus
 observer_knows_status before told o q word ok place s t is h k =
     let takes : PortTakes h.asked h.bits t =
-    takes_of q.read h.asked h.bits t (status_is s.target.select q is).1 h.moves in
+    takes_of q.read h.asked h.bits t (status_is o s.target.select q is).1 h.moves in
     record {
       knows = observer_older_noted _ None (if ok && is_status_observed o then observer_flagged (register_bit 5 word)
           (register_bit 7 word) o else o) t.target

@@ -1,10 +1,11 @@
 -- What the proofs of one transaction share: flags, words, and the data phase on the line.
 use Rattle.std.proofs.Common.{◌≡◌, ◌<◌, ◌^◌, ℕ, Bool, true, false, List, refl, sym, ap, subst, ◌∙◌}
-use Rattle.std.specs.Prelude.{Option, Some, None, IfSome, unwrap_or, ◌||◌, ◌&&◌, if◌then◌else◌}
+use Rattle.std.specs.Prelude.{Option, Some, None, IfSome, unwrap_or, ◌||◌, ◌&&◌, ◌==◌, if◌then◌else◌, not as no}
 use Rattle.swd_bits.specs.declared.request.Request.{Request}
 use Rattle.swd_bits.specs.Phases.{data_phase_word, data_phase_number}
 use Rattle.swd_port.specs.declared.access.Transfer.{Transfer}
 use Rattle.swd_port.specs.declared.register.Register.{Register}
+use Rattle.swd_port.specs.declared.select.Select.{Select}
 use Rattle.swd_port.specs.declared.state.PowerUp.{PowerUp}
 use Rattle.swd_port.specs.declared.state.PowerUp.TheVariants.{Seen}
 use Rattle.swd_port.specs.declared.state.AfterAck.TheVariants.{Drives, Awaits}
@@ -23,7 +24,9 @@ use Rattle.swd_observer.specs.declared.observer.Written.TheVariants.{Select as T
 use Rattle.swd_observer.specs.declared.observer.Written.TheVariants.{Drw as ToDrw}
 use Rattle.swd_observer.specs.declared.observer.RequestEffect.TheVariants.{Writes}
 use Rattle.swd_observer.specs.Observing.{observer_arrival_of, observer_confirmed, word_observed, observer_accepted}
-use Rattle.swd_observer.specs.Knows.{ObserverKnows, spoiled}
+use Rattle.swd_observer.specs.Observing.{is_observed_select_sent, observed_select_sent, is_observed_other_bank}
+use Rattle.swd_observer.specs.Observing.{is_other_bank_observed}
+use Rattle.swd_observer.specs.Knows.{ObserverKnows, here, spoiled}
 use Rattle.swd_observer.proofs.AskLemmas.{observed_register_for}
 use Rattle.swd_observer.proofs.OkayLemmas.{ObservedSettled, IsObservedRight, observer_settled_holds}
 use Rattle.swd_observer.proofs.OkayLemmas.{observed_sent_arrives, observer_knows_arrival}
@@ -100,7 +103,8 @@ pub observer_knows_sent_write : (E : List Transfer → Type 0) (o : Observer) (y
     → ObserverKnows E (observer_accepted (Writes w) (word_observed ok word) place o)
     (port_after_bits refuses (port_arrival_of (observed_register_for w) found) y)
 observer_knows_sent_write E o y w ok word place None refuses sent rest quiet intact power up small is h =
-    spoiled refl rest (observer_settled_holds E (record o { sent = None }) (port_after_bits refuses Damaged y) rest (record {
+    spoiled refl rest (observer_settled_holds E (record o { sent = None }) (port_after_bits refuses Damaged y) rest
+    (record {
       select = h.select;
       increments = h.increments;
       range = h.range;
@@ -111,6 +115,52 @@ observer_knows_sent_write E o y w ok word place None refuses sent rest quiet int
 observer_knows_sent_write E o y w ok word place (Some found) refuses sent rest quiet intact power up small is h =
     observer_knows_arrival E o y w (word_observed ok word) found place refuses rest quiet intact power up
     (observed_word_small ok word small) is h
+
+-- a write to another register leaves what is known of SELECT
+select_kept : (w : Written) (word : Option ℕ) (old : Option Select) (place : ℕ)
+    → no (is_observed_select_sent (Some (record { written = w; word = word; place = place }))) ≡ true
+    → observed_select_sent w word old ≡ old
+select_kept ToSelect word old place e = absurd (cc)
+select_kept ToCsw word old place e = refl
+select_kept ToTar word old place e = refl
+select_kept ToDrw word old place e = refl
+
+arrived_select : (sent : Option SentWrite) (o : Observer) → no (is_observed_select_sent sent) ≡ true
+    → (observer_arrival_of sent o).select ≡ o.select
+arrived_select None o e = refl
+arrived_select (Some s) o e = select_kept s.written s.word o.select s.place e
+
+-- where no write to SELECT is unconfirmed, SELECT is what it is known to be
+pub observed_select_known : (E : List Transfer → Type 0) (o : Observer) (x : Target)
+    → no (is_observed_select_sent o.sent) ≡ true → ObserverKnows E o x → IfSome o.select (λ v. x.select ≡ v)
+observed_select_known E o x e (here clean h) =
+    subst (λ k. IfSome k (λ v. x.select ≡ v)) (arrived_select o.sent o e) h.select
+observed_select_known E o x e (spoiled error rest h) = h.select
+
+-- of two bits that are both set, the first is set
+pub observed_left_set : (a b : Bool) → (a && b) ≡ true → a ≡ true
+observed_left_set true b e = refl
+observed_left_set false b e = absurd (cc)
+
+-- of two bits that are both set, the second is set
+pub observed_right_set : (a b : Bool) → (a && b) ≡ true → b ≡ true
+observed_right_set true b e = e
+observed_right_set false b e = absurd (cc)
+
+other_is : (known : Option Select) (s : Select) → is_observed_other_bank known ≡ true → IfSome known (λ v. s ≡ v)
+    → (s.dpbanksel == 0) ≡ false
+other_is None s e h = absurd (cc)
+other_is (Some v) s e h = ap (λ z. z.dpbanksel == 0) h ∙ clear (v.dpbanksel == 0) e
+  where
+    clear : (b : Bool) → no b ≡ true → b ≡ false
+    clear false e = refl
+    clear true e = absurd (cc)
+
+-- DPBANKSEL isn't 0 where it is known not to be
+pub observed_other_bank : (E : List Transfer → Type 0) (o : Observer) (x : Target) → ObserverKnows E o x
+    → is_other_bank_observed o ≡ true → (x.select.dpbanksel == 0) ≡ false
+observed_other_bank E o x k e = other_is o.select x.select (observed_left_set _ _ e)
+    (observed_select_known E o x (observed_right_set (is_observed_other_bank o.select) _ e) k)
 
 -- after OK to a read its data phase is on the line, with the changed bit, if any
 pub observed_line_at_read : (read : Bool) (r : Register) (flip : Option ℕ) (value : ℕ) → read ≡ true

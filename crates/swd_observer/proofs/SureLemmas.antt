@@ -125,7 +125,7 @@ class_sure Confirms q word ok place o known calm plain = (
 
 end_sure : (end : TxEnd) (q : Request) (place : ℕ) (o : Observer) → IsObservedClear end q o
     → AllSure (observed_at_tx_end end q place o)
-end_sure (Moved word ok) q place o h = class_sure (observed_class q) q word ok place o h.0 h.1 h.2
+end_sure (Moved word ok) q place o h = class_sure (observed_class o q) q word ok place o h.0 h.1 h.2
 end_sure Wait q place o h = (tt, tt, tt)
 end_sure Fault q place o h = (tt, tt, tt)
 end_sure (NoAck seen) q place o h = absurd h

@@ -98,8 +98,8 @@ observer_holds_may_read before told o x chosen r word place rest (inl is) h =
     (observer_holds_lost_read before told place o x chosen rest (observer_settled_holds _ o x rest h))
 observer_holds_may_read before told o x chosen r word place rest (inr harmless) h =
     observer_no_lost_read before told true place o (port_after_okay chosen r x) rest
-    (observer_settled_holds _ o (port_after_okay chosen r x) rest (observed_same_settled _ o x (port_after_okay chosen r x)
-    (observed_same_at_okay chosen r x harmless) h))
+    (observer_settled_holds _ o (port_after_okay chosen r x) rest (observed_same_settled _ o x
+    (port_after_okay chosen r x) (observed_same_at_okay chosen r x harmless) h))
 
 -- a write
 abbrev may_told : Option ℕ → Option ℕ → ℕ → ObservedAccess
@@ -146,7 +146,8 @@ may_unmoved before told o y ToDrw word place other rest h =
     }
 
 later_write : (before : List Transfer) (told : List ObservedAccess) (place : ℕ) (tar word : Option ℕ) (x : Target)
-    (c : Choice) (refuses : Bool) (found : ℕ) (test : Bool) → bus_succeeds (AccessWrite (unwrap_or x.tar c.address) found) x.memory ≡ test
+    (c : Choice) (refuses : Bool) (found : ℕ) (test : Bool) → bus_succeeds (AccessWrite
+    (unwrap_or x.tar c.address) found) x.memory ≡ test
     → IfSome tar (λ a. x.tar ≡ Some a) → IfSome word (λ w. found ≡ w) → ObservedSince before told x.memory.log
     → ObservedSince before (told ++ may_told tar word place ∷ [])
     (port_completion c (port_after_bits refuses (Arrives DrwWrite found) x)).memory.log
@@ -158,8 +159,8 @@ later_write before told place tar word x c refuses found false test at is e = rw
     (observed_since_may_not before told (may_told tar word place) x.memory.log refl e)
 
 may_moved : (before : List Transfer) (told : List ObservedAccess) (o : Observer) (y : Target) (w : Written)
-    (word : Option ℕ) (place : ℕ) (refuses : Bool) (found : ℕ) → observed_may_select (MayWrite w) ≡ false → o.begun ≡ None
-    → IfSome word (λ v. found ≡ v) → ObservedSettled (ObservedSince before told) o y
+    (word : Option ℕ) (place : ℕ) (refuses : Bool) (found : ℕ) → observed_may_select (MayWrite w) ≡ false → o.begun
+    ≡ None → IfSome word (λ v. found ≡ v) → ObservedSettled (ObservedSince before told) o y
     → ObserverHolds (ObservedSince before (told ++ one_observed (observed_itself (MayWrite w) word o.tar place)))
     (observer_accepted (MayWrite w) word place o) (port_after_bits refuses (Arrives (observed_register_for w) found) y)
 may_moved before told o y ToSelect word place refuses found other rest is h = absurd (cc)
@@ -182,7 +183,9 @@ may_moved before told o y ToTar word place refuses found other rest is h =
       flight = resting _ o None o.increments (port_after_bits refuses (Arrives TarWrite found) y) rest (record {
         now = subst (λ l. ObservedSince before l y.memory.log) (sym (append-nil told)) h.now;
         later = λ c k. subst (λ p. ObservedSince before (told ++ [])
-            (port_completion c (record (port_after_bits refuses (Arrives TarWrite found) y) { pending = p })).memory.log)
+            (port_completion c (record (port_after_bits refuses (Arrives TarWrite found) y) {
+              pending = p;
+            })).memory.log)
             (sym h.none) (subst (λ l. ObservedSince before l y.memory.log) (sym (append-nil told)) h.now);
         aimed = tt;
       });
@@ -220,5 +223,5 @@ observer_holds_may_write before told o y w word place r refuses None other rest 
 observer_holds_may_write before told o y w word place r refuses (Some found) other rest (inl named) is h =
     subst (λ z. ObserverHolds (ObservedSince before
     (told ++ one_observed (observed_itself (MayWrite w) word o.tar place)))
-    (observer_accepted (MayWrite w) word place o) (port_after_bits refuses (port_arrival_of z (Some found)) y)) (sym named)
-    (may_moved before told o y w word place refuses found other rest is h)
+    (observer_accepted (MayWrite w) word place o) (port_after_bits refuses (port_arrival_of z (Some found)) y))
+    (sym named) (may_moved before told o y w word place refuses found other rest is h)

@@ -45,7 +45,7 @@ ObserverAtFault = (before : List Transfer) (told : List ObservedAccess) (o : Obs
 -- that this request gave. Nothing else was logged, unless the request itself is reported as `May`.
 abbrev pub ObserverAtOkay : Type 0
 ObserverAtOkay = (before : List Transfer) (told : List ObservedAccess) (o : Observer) (q : Request) (word : ℕ)
-    (ok : Bool) (place : ℕ) (s t : Port) → observed_class q ≡ Confirms → ObservedTransacts (Moved word ok) q s t
+    (ok : Bool) (place : ℕ) (s t : Port) → observed_class o q ≡ Confirms → ObservedTransacts (Moved word ok) q s t
     → ObserverKnowsSince before told o s.target →
     ObserverKnowsSince before (and_observed told (observed_at_confirm q (word_observed ok word) place o))
     (observer_after_confirm q (word_observed ok word) place o) t.target
@@ -53,13 +53,13 @@ ObserverAtOkay = (before : List Transfer) (told : List ObservedAccess) (o : Obse
 -- DPIDR shows nothing
 abbrev pub ObserverAtDpidr : Type 0
 ObserverAtDpidr = (before : List Transfer) (told : List ObservedAccess) (o : Observer) (q : Request) (word : ℕ)
-    (ok : Bool) (place : ℕ) (s t : Port) → observed_class q ≡ Passes → ObservedTransacts (Moved word ok) q s t →
+    (ok : Bool) (place : ℕ) (s t : Port) → observed_class o q ≡ Passes → ObservedTransacts (Moved word ok) q s t →
     ObserverKnowsSince before told o s.target → ObserverKnowsSince before told o t.target
 
 -- after ABORT, even with corrupted data, the transfer in flight is reported as `May`, or as `Not` after FAULT
 abbrev pub ObserverAtAbort : Type 0
 ObserverAtAbort = (before : List Transfer) (told : List ObservedAccess) (o : Observer) (q : Request) (word : ℕ)
-    (ok : Bool) (place : ℕ) (s t : Port) → observed_class q ≡ Aborts → ObservedTransacts (Moved word ok) q s t →
+    (ok : Bool) (place : ℕ) (s t : Port) → observed_class o q ≡ Aborts → ObservedTransacts (Moved word ok) q s t →
     ObserverKnowsSince before told o s.target →
     ObserverKnowsSince before (observed_list_flushed told o ++ one_observed (observed_doubt o)) (observer_doubted o)
     t.target
@@ -75,7 +75,7 @@ ObserverAtLost = (before : List Transfer) (told : List ObservedAccess) (o : Obse
 -- A read of CTRL/STAT shows the transfer's result if its parity is right and DPBANKSEL is known to be 0.
 abbrev pub ObserverAtStatus : Type 0
 ObserverAtStatus = (before : List Transfer) (told : List ObservedAccess) (o : Observer) (q : Request) (word : ℕ)
-    (ok : Bool) (place : ℕ) (s t : Port) → observed_class q ≡ Status → ObservedTransacts (Moved word ok) q s t →
+    (ok : Bool) (place : ℕ) (s t : Port) → observed_class o q ≡ Status → ObservedTransacts (Moved word ok) q s t →
     ObserverKnowsSince before told o s.target → ObserverKnowsSince before (observed_list_flushed told o ++ one_observed
     (if ok && is_status_observed o then observed_flagged (register_bit 5 word) (register_bit 7 word) o else None))
     (record (if ok && is_status_observed o then observer_flagged (register_bit 5 word)

@@ -200,6 +200,14 @@ is_observed_bank_0 (Some s) = s.dpbanksel == 0
 abbrev pub is_status_observed : Observer → Bool
 is_status_observed o = is_observed_bank_0 o.select && not (is_observed_select_sent o.sent)
 
+-- the debug port's address 4 isn't CTRL/STAT: DPBANKSEL isn't 0, and no write to SELECT is unconfirmed
+abbrev pub is_observed_other_bank : Option Select → Bool
+is_observed_other_bank None = false
+is_observed_other_bank (Some s) = not (s.dpbanksel == 0)
+
+abbrev pub is_other_bank_observed : Observer → Bool
+is_other_bank_observed o = is_observed_other_bank o.select && not (is_observed_select_sent o.sent)
+
 -- CTRL/STAT was read. WDATAERR: the write didn't arrive. STICKYERR: the transfer was a bus error. Neither:
 -- the write arrived.
 abbrev pub observer_at_wdataerr : Bool → Observer → Observer
@@ -238,7 +246,7 @@ is_observed_rc RC = true
 is_observed_rc addr = false
 
 -- a data register of another access port, or a banked one (IHI 0031, MEM-AP, "BD0-BD3, Banked Data
--- registers"): the port model has no such register, and on a chip it may be any access
+-- registers"): in the port model it accesses no memory, and on a chip it may be any access
 abbrev pub is_observed_data_register : Select → Reg4 → Bool
 is_observed_data_register s addr = (s.apbanksel == 1) || ((s.apbanksel == 0) && is_observed_rc addr)
 
@@ -309,16 +317,16 @@ is_observed_posted_read q = q.read && (q.ap || is_observed_rc q.addr)
 abbrev pub word_observed : Bool → ℕ → Option ℕ
 word_observed ok word = if ok then Some word else None
 
--- the exempt requests: the DPIDR read, the ABORT write, and the read of the debug port's address 4, which may
--- be CTRL/STAT
-abbrev pub observed_class_dp : Bool → Reg4 → Class
-observed_class_dp true R0 = Passes
-observed_class_dp false R0 = Aborts
-observed_class_dp true R4 = Status
-observed_class_dp read addr = Confirms
+-- the exempt requests: the DPIDR read, the ABORT write, and the read of the debug port's address 4, unless it
+-- is known not to be CTRL/STAT
+abbrev pub observed_class_dp : Bool → Bool → Reg4 → Class
+observed_class_dp other true R0 = Passes
+observed_class_dp other false R0 = Aborts
+observed_class_dp other true R4 = if other then Confirms else Status
+observed_class_dp other read addr = Confirms
 
-abbrev pub observed_class : Request → Class
-observed_class q = if q.ap then Confirms else observed_class_dp q.read q.addr
+abbrev pub observed_class : Observer → Request → Class
+observed_class o q = if q.ap then Confirms else observed_class_dp (is_other_bank_observed o) q.read q.addr
 
 -- RESEND returns the last returned value
 abbrev pub is_observed_r8 : Reg4 → Bool
@@ -405,14 +413,14 @@ observed_at_class Confirms q word ok place o = observed_at_confirm q (word_obser
 
 -- a transaction
 abbrev pub observer_after_tx_end : TxEnd → Request → ℕ → Observer → Observer
-observer_after_tx_end (Moved word ok) q place o = observer_after_class (observed_class q) q word ok place o
+observer_after_tx_end (Moved word ok) q place o = observer_after_class (observed_class o q) q word ok place o
 observer_after_tx_end Wait q place o = o
 observer_after_tx_end Fault q place o = record o { refused = true }
 observer_after_tx_end (NoAck seen) q place o =
     observer_unanswered (observed_kind (observer_doubted o).select q) (observer_doubted o)
 
 abbrev pub observed_at_tx_end : TxEnd → Request → ℕ → Observer → Observations
-observed_at_tx_end (Moved word ok) q place o = observed_at_class (observed_class q) q word ok place o
+observed_at_tx_end (Moved word ok) q place o = observed_at_class (observed_class o q) q word ok place o
 observed_at_tx_end Wait q place o = no_observed_access
 observed_at_tx_end Fault q place o = no_observed_access
 observed_at_tx_end (NoAck seen) q place o = record {

@@ -24,7 +24,7 @@ is_observed_elsewhere k = false
 -- transfer is in flight, and the data registers are those of AP 0
 abbrev pub IsObservedClear : TxEnd → Request → Observer → Type 0
 IsObservedClear (Moved word ok) q o = (observer_knows_select (observer_confirmed o).select ≡ true)
-    × (observed_class q ≡ Aborts → (observer_arrival o).begun ≡ None)
+    × (observed_class o q ≡ Aborts → (observer_arrival o).begun ≡ None)
     × (is_observed_elsewhere (observed_kind (observer_confirmed o).select q) ≡ false)
 IsObservedClear Wait q o = Unit {0}
 IsObservedClear Fault q o = Unit {0}

@@ -16,7 +16,8 @@ ghost use Rattle.swd_observer.specs.Observing.{observed_at_confirm, observer_aft
 ghost use Rattle.swd_observer.specs.Observing.{observer_after_tx_end, observed_at_tx_end, is_observed_read_kind};
 ghost use Rattle.swd_observer.specs.Observing.{observer_transfer_done, observed_class, word_observed};
 ghost use Rattle.swd_observer.specs.Observing.{observer_after_class, observed_at_class, observer_unanswered};
-ghost use Rattle.swd_observer.specs.Observing.{observed_unanswered_read};
+ghost use Rattle.swd_observer.specs.Observing.{observed_unanswered_read, is_observed_select_sent};
+ghost use Rattle.swd_observer.specs.Observing.{is_other_bank_observed};
 
 use crate::told::{How, ObservedAccess};
 use swd_bits::{Reg4, Request, Tx, TxEnd};
@@ -118,7 +119,8 @@ pub struct Observations {
 pub(crate) enum RequestEffect {
     /// Nothing that an observer tracks.
     Other,
-    /// It may access memory by a register that the port model doesn't have. The field says whether it reads.
+    /// It may access memory on a chip, by a register that doesn't in the port model. The field says whether it
+    /// reads.
     Elsewhere(bool),
     Reads,
     Writes(Written),
@@ -135,7 +137,7 @@ pub(crate) enum Class {
     Passes,
     /// A write of ABORT: it may clear flags, so no later request shows what they said.
     Aborts,
-    /// A read of the debug port's address 4, which may be CTRL/STAT: its flags.
+    /// A read of the debug port's address 4, unless it is known not to be CTRL/STAT: its flags.
     Status,
     /// Any other request: no flag is set, and nothing is pending.
     Confirms,
@@ -282,18 +284,46 @@ impl Observer {
         self.told(if self.refused { How::Not } else { How::May }, None)
     }
 
+    // Returns whether the unconfirmed write is to SELECT.
+    fn sends_select(self) -> bool
+        ensures { result ≡ is_observed_select_sent self.sent }
+    {
+        match self.sent {
+            Some(sent) => matches!(&sent.written, Written::Select),
+            None => false,
+        }
+    }
+
     // Returns whether the debug port's address 4 is known to be CTRL/STAT: DPBANKSEL is 0, and no write to
     // SELECT is unconfirmed.
     fn is_status_known(self) -> bool
         ensures { result ≡ is_status_observed self }
     {
-        let to_select = match self.sent {
-            Some(sent) => matches!(&sent.written, Written::Select),
-            None => false,
-        };
         match self.select {
-            Some(select) => select.dpbanksel == 0 && !to_select,
+            Some(select) => select.dpbanksel == 0 && !self.sends_select(),
             None => false,
+        }
+    }
+
+    // Returns whether the debug port's address 4 is known not to be CTRL/STAT.
+    fn is_other_bank_known(self) -> bool
+        ensures { result ≡ is_other_bank_observed self }
+    {
+        match self.select {
+            Some(select) => select.dpbanksel != 0 && !self.sends_select(),
+            None => false,
+        }
+    }
+
+    // Returns what an OK to a request shows.
+    fn class_of(self, request: Request) -> Class
+        ensures { result ≡ observed_class self request }
+    {
+        match (request.ap, request.read, request.addr) {
+            (false, true, Reg4::R0) => Class::Passes,
+            (false, false, Reg4::R0) => Class::Aborts,
+            (false, true, Reg4::R4) if !self.is_other_bank_known() => Class::Status,
+            _ => Class::Confirms,
         }
     }
 
@@ -493,11 +523,12 @@ impl Observer {
 
     // Takes a request that was answered OK, with its word.
     fn moved(&mut self, request: Request, word: u32, parity_ok: bool, place: u64) -> Observations
-        ensures observer { self.new ≡ observer_after_class (observed_class request) request word parity_ok place
+        ensures observer { self.new ≡ observer_after_class (observed_class self.old request) request word parity_ok
+            place self.old }
+        ensures tells { result ≡ observed_at_class (observed_class self.old request) request word parity_ok place
             self.old }
-        ensures tells { result ≡ observed_at_class (observed_class request) request word parity_ok place self.old }
     {
-        match class_of(request) {
+        match self.class_of(request) {
             Class::Passes => NOTHING,
             Class::Aborts => self.abort(),
             Class::Status => self.status(word, parity_ok),
@@ -559,18 +590,6 @@ impl Observer {
         ensures { result ≡ observed_last_accesses self.now }
     {
         self.flushing(self.doubt())
-    }
-}
-
-// Returns what an OK to a request shows.
-fn class_of(request: Request) -> Class
-    ensures { result ≡ observed_class request }
-{
-    match (request.ap, request.read, request.addr) {
-        (false, true, Reg4::R0) => Class::Passes,
-        (false, false, Reg4::R0) => Class::Aborts,
-        (false, true, Reg4::R4) => Class::Status,
-        _ => Class::Confirms,
     }
 }
 

@@ -11,7 +11,7 @@ struct Row {
     told: &'static [u8],
 }
 
-const ROWS: [Row; 35] = [
+const ROWS: [Row; 38] = [
     Row {
         name: "a write is told at the next request's OK",
         made: true,
@@ -141,6 +141,20 @@ const ROWS: [Row; 35] = [
         told: b"@0 w 00000000 00000001 may\n",
     },
     Row {
+        name: "a lost request for a register that may be a bus error: a flag behind it shows nothing",
+        made: true,
+        listing: b"ap c write ok 0000002a\nap 8 read none 7\nreset 52\nidle 2\n\
+            dp 0 read ok 2ba01477\ndp c read fault\ndp 4 read ok f0000020\n",
+        told: b"@0 w 00000000 0000002a may\n",
+    },
+    Row {
+        name: "OK to such a request shows the write before it, and a flag behind it nothing",
+        made: true,
+        listing: b"ap c write ok 0000002a\nap 8 read ok 00000000\ndp c read fault\n\
+            dp 4 read ok f0000020\n",
+        told: b"@0 w 00000000 0000002a\n",
+    },
+    Row {
         name: "ABORT over a write in flight",
         made: true,
         listing: b"ap c write ok 00000001\ndp 0 write ok 0000001e\ndp c read ok 00000000\n",
@@ -226,6 +240,12 @@ const ROWS: [Row; 35] = [
         made: true,
         listing: b"dp 8 write ok 00000001\nap c write ok 00000001\ndp 4 read ok 00000020\n\
             dp c read ok 00000000\n",
+        told: b"@46 w 00000000 00000001\n",
+    },
+    Row {
+        name: "there it can be refused, so its OK shows the write before it",
+        made: true,
+        listing: b"dp 8 write ok 00000001\nap c write ok 00000001\ndp 4 read ok 00000020\n",
         told: b"@46 w 00000000 00000001\n",
     },
     Row {
