@@ -1,5 +1,5 @@
--- What the report of a call of `resume` states about the plain memory. It is that of a run over the rest of the list,
--- from the memory that the call before left. And lists of which some accesses were repeated.
+-- What the report of a call of `resume` states about the bus. It is that of a run over the rest of the list,
+-- from the bus that the call before left. And lists of which some accesses were repeated.
 use Rattle.std.specs.Prelude.{ℕ, ◌≡◌, ◌≢◌, ◌+◌, ◌-◌, ◌*◌, ◌<◌, ◌≤◌, ◌⊎◌, ◌==◌, List, [], ◌∷◌, ◌++◌, length, take}
 use Rattle.std.specs.Prelude.{replicate, drop, if◌then◌else◌}
 use Rattle.swd_port.specs.declared.access.Access.{Access}
@@ -32,12 +32,12 @@ abbrev pub ResumePlacesBelow : ℕ → List ℕ → Type 0
 ResumePlacesBelow n [] = Unit {0}
 ResumePlacesBelow n (j ∷ js) = (j < n) × ResumePlacesBelow n js
 
--- the memory after the first n accesses, of which those at the places js were repeated
+-- the bus after the first n accesses, of which those at the places js were repeated
 pub record IsAfterResumeRepeats (js : List ℕ) (n : ℕ) (list : List Access) (m now : Bus) : Type 0 where
   pub places : ResumePlacesBelow n js
   pub memory : now ≡ memory_after (list_with_resume_repeats js 0 (take n list)) m
 
--- The answers are those to the first k accesses, done once each. The memory is that after these, or after these and the
+-- The answers are those to the first k accesses, done once each. The bus is that after these, or after these and the
 -- begun one, where the accesses at the places js were repeated.
 pub record AgainAt (k : ℕ) (js : List ℕ) (list : List Access) (m : Bus) (told : HostReport) (now : Bus)
     : Type 0 where
@@ -81,7 +81,7 @@ abbrev pub ResumeReportsCalls : List Access → HostReport → HostReport → Li
 ResumeReportsCalls list earlier told calls =
     HostReportsCalls (drop (length earlier.answers) list) (resume_own_report earlier told told.begun) calls
 
--- The call was a run over the rest of the list that left the memory `now`. It started from a memory that a transfer
+-- The call was a run over the rest of the list that left the bus `now`. It started from a bus that a transfer
 -- pending at the port s may have left.
 pub record ResumeFitsFrom (list : List Access) (earlier told : HostReport) (own : ℕ) (s : Port) (now : Bus) :
     Type 0 where

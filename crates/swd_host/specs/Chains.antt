@@ -64,7 +64,7 @@ resume_chain_places limit list m calls told now
     resume_chain_places limit list m before earlier left chain
     ++ resume_places_from (length earlier.answers) (fits.0 + fits.1.memory.0)
 
--- The memory, with its log, is that after the accesses at these places. No place occurs more often than there were
+-- The bus, with its log, is that after the accesses at these places. No place occurs more often than there were
 -- calls. After the answered accesses only those occur that the report counts as begun. Beside the answered ones there
 -- are at most `limit` more, and one for each call of `resume`.
 pub record ResumeChainHasDone (limit : ℕ) (list : List Access) (m : Bus) (calls : List HostReport)

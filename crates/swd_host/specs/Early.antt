@@ -119,7 +119,7 @@ ResumedBefore (Clear Select owed) n stray start s = ResumedFlagsOwed owed n stra
 ResumedBefore (Check Select owed) n stray start s = ResumedFlagsCleared owed n stray start s
 ResumedBefore job n stray start s = ⊥
 
--- SELECT's write was answered OK: no transfer is pending any more, and the memory is m
+-- SELECT's write was answered OK: no transfer is pending any more, and the bus is m
 pub record ResumedSelectSettled (n : ℕ) (m : Bus) (s : Port) : Type 0 where
   pub calm : EngineTargetCalm m s.target
   pub flag : s.target.write_error ≡ false

@@ -1,4 +1,4 @@
--- What a report states about the plain memory: the theorem of the host.
+-- What a report states about the bus: the theorem of the host.
 use Rattle.std.specs.Prelude.{ℕ, ◌≡◌, ◌≢◌, ◌+◌, ◌-◌, ◌*◌, ◌%◌, ◌<◌, ◌≤◌, List, length, take, false, true, None, min}
 use Rattle.std.specs.Prelude.{slice_index_or as get_or}
 use Rattle.swd_port.specs.declared.access.Access.{Access}
@@ -45,7 +45,7 @@ host_report_to answers ending = record {
   ended = ending.ended;
 }
 
--- The answers are exactly those to the first k accesses of the list over the plain memory. The memory `now` is that
+-- The answers are exactly those to the first k accesses of the list over the bus. The bus `now` is that
 -- after these and a prefix of the begun ones, possibly empty. At most `most` accesses are begun. `spent` requests were
 -- sent before the list.
 pub record FitsFromAt (spent most k : ℕ) (list : List Access) (m : Bus) (told : HostReport) (now : Bus) : Type 0
@@ -153,8 +153,8 @@ HostEndsAt TriesOut tries s t = (t.link.due ≡ Nothing) × (s.tally.disturbed +
     × HostKnowsTarget t.target
 HostEndsAt end tries s t = ⊥
 
--- The theorem of a call over a target with the memory m, which takes `opening` requests at least before its list, and no
--- more where none is disturbed. The report fits the memory at the end, and the memory once a transfer that is still
+-- The theorem of a call over a target with the bus m, which takes `opening` requests at least before its list, and no
+-- more where none is disturbed. The report fits the bus at the end, and the bus once a transfer that is still
 -- pending has taken effect. The call stops early only at a lost acknowledgement or after more than `tries` disturbed
 -- requests. At most `limit` unanswered accesses are begun.
 pub record RunFitsFrom (opening limit : ℕ) (list : List Access) (tries : ℕ) (m : Bus) (told : HostReport) (s t : Port)

@@ -21,7 +21,7 @@ pub data HostSession (s : Port) : List Access → List Answer → Port → Type 
       → (limit tries : ℕ) (list : List Access) (told : HostReport) → RunsWithin limit list tries told t u
       → told.ended ≡ All → HostSession s (done ++ list) (answers ++ told.answers) u
 
--- they are as one list with all accesses over the plain memory, and the target is at rest again
+-- they are as one list with all accesses over the bus, and the target is at rest again
 pub record HostSessionIsAsOne (s : Port) (list : List Access) (answers : List Answer) (t : Port) : Type 0 where
   pub rests : IsAtRest t
   pub answers_are : answers ≡ answers_of list s.target.memory
@@ -40,7 +40,7 @@ pub data HostLists (s : Port) : List Access → List Answer → Port → Type 0 
       → (limit tries : ℕ) (list : List Access) (told : HostReport) → ListsWithin limit list tries told t u
       → told.ended ≡ All → HostLists s (done ++ list) (answers ++ told.answers) u
 
--- they are as one list with all accesses over the plain memory, and the target is open again
+-- they are as one list with all accesses over the bus, and the target is open again
 pub record HostListsAreAsOne (s : Port) (list : List Access) (answers : List Answer) (t : Port) : Type 0 where
   pub open_again : HostIsOpen t
   pub answers_are : answers ≡ answers_of list s.target.memory

@@ -73,7 +73,7 @@ pub data EngineHasSentFor (i : ℕ) (o e : Engine) : Type 0 where
   anew : EngineStartsAnew e → o.requests + i ≤ e.requests → EngineHasSentFor i o e
   on : o.requests + 2 + i ≤ e.requests → EngineHasSentFor i o e
 
--- What is known of the memory after i accesses, for an engine that opened the target as o and is e now.
+-- What is known of the bus after i accesses, for an engine that opened the target as o and is e now.
 pub record EngineReachedMemory (i : ℕ) (list : List Access) (m : Bus) (o : Engine) (s : Port) (e : Engine)
     (answers : List Answer) (t : Port) : Type 0 where
   -- How many disturbances were met as events. One of the data phase of the request that confirmed the last access
@@ -146,7 +146,7 @@ pub record EnginePerforms (list : List Access) (o f : Engine) (before after : Li
 pub record EngineDoesOver (list : List Access) (m : Bus) (o f : Engine) (answers : List Answer) (end : End)
     (s t : Port) : Type 0 where
   pub now : FitsFrom o.requests (bursts_limit o.bursts) list m (engine_report answers f end) t.target.memory
-  -- the memory once a transfer that is still pending has taken effect, whatever the target chooses
+  -- the bus once a transfer that is still pending has taken effect, whatever the target chooses
   pub settled : Bus
   pub becomes : (c : Choice) → (port_completed c t).target.memory ≡ settled
   pub later : FitsFrom o.requests (bursts_limit o.bursts) list m (engine_report answers f end) settled

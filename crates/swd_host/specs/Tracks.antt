@@ -1,9 +1,9 @@
--- What the engine's state implies about the port at the other end, and the memory behind it: the invariant of the host.
+-- What the engine's state implies about the port at the other end, and the bus behind it: the invariant of the host.
 --
 -- THE LETTERS. `s` is the port as it is now, or its target. `k`, the hand, is the current access, what is known of TAR
--- and of the next access, and the memory before the current access. `n` is the number of disturbances that the port had
+-- and of the next access, and the bus before the current access. `n` is the number of disturbances that the port had
 -- counted at the start, plus the events that the engine met since. Each event was a disturbance, so the port counts at
--- least n (`paid`). `b` is how many unanswered accesses are begun, so that the memory may be that after them: 0, the
+-- least n (`paid`). `b` is how many unanswered accesses are begun, so that the bus may be that after them: 0, the
 -- current one, or in a block of reads the next one too.
 --
 -- A REQUEST has two facts: `EngineBefore` its job, where it may be sent, and `EngineDuring`, where its OK was seen and its data
@@ -27,7 +27,7 @@
 --     Owes      CTRL/STAT showed which flags are set; ABORT is written (Clear)
 --     Checks    ABORT was written, or its data was corrupted; CTRL/STAT is read again (Check)
 --     Resent    a word's parity was wrong; RESEND returns the word again (Resend)
---     Within    the engine stopped: the begun accesses allow the memory, now and later
+--     Within    the engine stopped: the begun accesses allow the bus, now and later
 use Rattle.std.specs.Prelude.{ℕ, ◌≡◌, ◌≢◌, ◌+◌, ◌%◌, ◌^◌, ◌<◌, ◌≤◌, ◌⊎◌, ◌==◌, Bool, true, false, if◌then◌else◌, Option}
 use Rattle.std.specs.Prelude.{Some, None, max}
 use Rattle.swd_bits.specs.Bits.{bit}
@@ -78,7 +78,7 @@ use Rattle.swd_host.specs.Requests.{engine_place_is_exempt, engine_place_is_conf
 use Rattle.swd_host.specs.Requests.{engine_job_starts}
 
 -- the current access, whether TAR has to be written for it, what is known of TAR and of the next access where the
--- engine rests, and the memory before the access
+-- engine rests, and the bus before the access
 pub record EngineHand : Type 0 where
   pub task : Task
   pub aims : Bool
@@ -86,11 +86,11 @@ pub record EngineHand : Type 0 where
   pub ahead : Ahead
   pub memory : Bus
 
--- the memory after the current access
+-- the bus after the current access
 abbrev pub memory_once_task_done : EngineHand → Bus
 memory_once_task_done k = bus_after (access_of_task k.task) k.memory
 
--- the next access of a block of reads, over the memory before it
+-- the next access of a block of reads, over the bus before it
 abbrev pub block_next_read : Task → Access
 block_next_read task = AccessRead (plain_address (access_of_task task) + 4)
 
@@ -273,7 +273,7 @@ pub record TaskTransferDone (b : ℕ) (k : EngineHand) (s : Target) : Type 0 whe
   pub up : EngineTargetUp (memory_once_task_done k) s
   pub advanced : PortTarAdvanced (plain_address (access_of_task k.task)) s
 
--- what is known of the next access, over the memory before it: in a block of reads it was sent, or was a bus error
+-- what is known of the next access, over the bus before it: in a block of reads it was sent, or was a bus error
 -- whose flag is cleared
 abbrev pub EngineAheadAt : Ahead → Task → Bus → Target → Type 0
 EngineAheadAt Unsent task m s = EngineTargetUp m s
@@ -414,7 +414,7 @@ EngineDuring (Check p owed) n b k s = EngineReadsStatus (Check p owed) n b k s
 
 -- ENDS
 
--- The memory is that before the access. Where the access is begun it may be that after it, and where the next one of
+-- The bus is that before the access. Where the access is begun it may be that after it, and where the next one of
 -- its block is begun too, that after both.
 pub data EngineAllowsMemory (b : ℕ) (k : EngineHand) (m : Bus) : Type 0 where
   within_none : m ≡ k.memory → EngineAllowsMemory b k m
@@ -422,7 +422,7 @@ pub data EngineAllowsMemory (b : ℕ) (k : EngineHand) (m : Bus) : Type 0 where
   within_both : 2 ≤ b → task_is_block k.task ≡ true → m ≡ bus_after (block_next_read k.task) (memory_once_task_done k)
       → EngineAllowsMemory b k m
 
--- the memory is within these now, and once nothing is pending
+-- the bus is within these now, and once nothing is pending
 pub record EngineMemoryWithin (b : ℕ) (k : EngineHand) (s : Target) : Type 0 where
   pub now : EngineAllowsMemory b k s.memory
   pub later : Bus
@@ -496,7 +496,7 @@ EngineStateTracks (Resting outcome) n tries base b k s = EngineRestsAt outcome n
 abbrev pub hand_of_engine : Engine → Bus → EngineHand
 hand_of_engine e m = record { task = e.task; aims = e.aims; tar = e.tar; ahead = e.ahead; memory = m }
 
--- what the engine's state implies about the port, from the counts and the memory at the start
+-- what the engine's state implies about the port, from the counts and the bus at the start
 abbrev pub TracksEngine : EngineBase → Bus → Engine → Port → Type 0
 TracksEngine base m e s = EngineStateTracks e.state (base.disturbed + e.events) e.tries base e.begun
     (hand_of_engine e m) s

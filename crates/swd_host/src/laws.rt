@@ -25,15 +25,15 @@ pub fn plain_runs()
     ensures runs { RunsOverPlain }
 {}
 
-/// States that successive lists and blocks, each of which ended `All`, are as one list. Their answers are those of a
-/// plain memory to the concatenated list, and the target's memory is that after it. The target is at rest again.
+/// States that successive lists and blocks, each of which ended `All`, are as one list. Their answers are those of the
+/// bus to the concatenated list, and the bus is that after it. The target is at rest again.
 pub fn sessions()
     ensures { (s : Port) (list : List Access) (answers : List Answer) (t : Port) → IsAtRest s
         → HostSession s list answers t → HostSessionIsAsOne s list answers t }
 {}
 
 /// States that successive lists and blocks over an open target, each of which ended `All`, are as one list. Their answers
-/// are those of a plain memory to the concatenated list, and the target's memory is that after it. The target is open
+/// are those of the bus to the concatenated list, and the bus is that after it. The target is open
 /// again.
 pub fn lists()
     ensures { (s : Port) (list : List Access) (answers : List Answer) (t : Port) → HostIsOpen s
@@ -41,7 +41,7 @@ pub fn lists()
 {}
 
 /// States what a call and the calls of `resume` after it do, over a target that was at rest. Each is a run over the
-/// rest of the list, from the memory that the one before left. `chained` and `done` assume nothing of how many accesses
+/// rest of the list, from the bus that the one before left. `chained` and `done` assume nothing of how many accesses
 /// were in flight or of the room of the log.
 pub fn resumptions()
     ensures chained { ResumedCallsAreChained }

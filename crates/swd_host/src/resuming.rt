@@ -19,7 +19,7 @@ use swd_port::{Access, Answer, Wire};
 /// Resumes a run of these accesses over this wire that ended `Lost` or `TriesOut`, or a `resume` that did, from the
 /// first unanswered access on. The report covers the whole list, except that `requests` counts this call alone.
 ///
-/// The call is a run over the rest of the list. It starts from the memory as it is, or as a transfer that was left
+/// The call is a run over the rest of the list. It starts from the bus as it is, or as a transfer that was left
 /// pending leaves it. It performs the accesses in flight again, which may have taken effect before. `begun` of its
 /// report covers all unanswered accesses that this call or an earlier one started. [`laws::resumptions`] states what
 /// follows for successive calls.

@@ -258,7 +258,7 @@ pub(crate) fn perform<W: Wire, K: AnswerSink>(
 /// Performs the accesses in order over a target at rest.
 ///
 /// Over a target that conforms to the model, each answered access took effect exactly once (at `BusFault` not at all).
-/// The answers are those of a plain memory to the first accesses of the list. The run stops early only at a lost
+/// The answers are those of the bus to the first accesses of the list. The run stops early only at a lost
 /// acknowledgement or after more than `tries` disturbed requests; [`resume`](crate::resume) continues from both. A
 /// whole run sends eight idle cycles at its end (only tested), and leaves the target at rest with power on.
 ///

@@ -63,6 +63,6 @@ port_completed c s = record s { target = port_completion c s.target }
 abbrev pub PortCompletes : Port → Port → Type 0
 PortCompletes s t = (t ≡ s) ⊎ ((c : Choice) × IsPortChoice c × (t ≡ port_completed c s))
 
--- the memory may become m once the pending transfer has taken effect
+-- the bus may become m once the pending transfer has taken effect
 abbrev pub MayBecome : Port → Bus → Type 0
 MayBecome s m = (c : Choice) × IsPortChoice c × (m ≡ (port_completed c s).target.memory)

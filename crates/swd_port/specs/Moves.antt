@@ -12,7 +12,7 @@ use Rattle.swd_port.specs.Leading.{port_line_awaits}
 abbrev pub PortAround : (Port → Port → Type 0) → Port → Port → Type 0
 PortAround Step s t = (a : Port) × (b : Port) × PortCompletes s a × Step a b × PortCompletes b t
 
--- what a completion keeps: all except STICKYERR, TAR, the read buffer, the pending transfer and the memory
+-- what a completion keeps: all except STICKYERR, TAR, the read buffer, the pending transfer and the bus
 pub record PortKept (s t : Port) : Type 0 where
   pub link : t.link ≡ s.link
   pub tally : t.tally ≡ s.tally
@@ -68,7 +68,7 @@ port_reset_target s = record s.target {
   write_error = port_line_awaits s.link.line || s.target.write_error;
 }
 
--- a line reset: nothing is due, and except for that every register, the pending transfer and the memory are unchanged
+-- a line reset: nothing is due, and except for that every register, the pending transfer and the bus are unchanged
 pub record PortWasReset (s t : Port) : Type 0 where
   pub link : t.link ≡ port_idle_link
   pub target : t.target ≡ port_reset_target s

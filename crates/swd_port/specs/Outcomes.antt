@@ -9,7 +9,7 @@ use Rattle.swd_port.specs.Choices.{Choice, IsPortChoice}
 use Rattle.swd_port.specs.Answers.{is_exempt_register}
 use Rattle.swd_port.specs.Asking.{port_value_in, port_phase_after, port_after_okay, port_after_wait, port_after_fault}
 
--- what no request changes, whatever its answer and mark: the written registers, and the memory
+-- what no request changes, whatever its answer and mark: the written registers, and the bus
 pub record PortSteady (x y : Target) : Type 0 where
   pub write_error : y.write_error ≡ x.write_error
   pub debug_power : y.debug_power ≡ x.debug_power
@@ -115,7 +115,7 @@ pub data PortFaultOrLost (r : Register) (ap : Bool) (seen : ℕ) (s t : Port) : 
   lost : PortNoneSeen seen s t → PortIgnores s t ⊎ PortRefuses r ap s t → PortFaultOrLost r ap seen s t
 
 -- what a request that accesses neither DRW nor an AP register elsewhere keeps, whatever its result: the written
--- registers, STICKYERR, the memory and the pending transfer; and a target that is reset, or live, stays so
+-- registers, STICKYERR, the bus and the pending transfer; and a target that is reset, or live, stays so
 pub record PortUnmoved (x y : Target) : Type 0 where
   pub steady : PortSteady x y
   pub sticky_error : y.sticky_error ≡ x.sticky_error

@@ -136,7 +136,7 @@ pub record Target : Type 0 where
   pub pending : Option Drw
   -- the word that DPIDR returns; no call changes it
   pub identification : ℕ
-  -- the memory behind the access port
+  -- the bus behind the access port
   pub memory : Bus
 
 -- Counts beside the state: the requests so far, and how many of them were disturbed and lost, by their marks.

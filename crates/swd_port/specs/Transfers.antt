@@ -22,7 +22,7 @@ PortBuffered (Write at word) m x = Unit {0}
 abbrev pub PortTarAdvanced : ℕ → Target → Type 0
 PortTarAdvanced at x = x.increments ≡ true → at % 4 ≡ 0 → at < 2 ^ 32 → (at + 4) % 1024 ≢ 0 → x.tar ≡ Some (at + 4)
 
--- An access whose DRW transfer was accepted, over the memory as it was then: the transfer is pending, done, or failed.
+-- An access whose DRW transfer was accepted, over the bus as it was then: the transfer is pending, done, or failed.
 pub data PortSent (access : Access) (m : Bus) (x : Target) : Type 0 where
   owed : x.pending ≡ Some (pending_drw_of access) → x.tar ≡ Some (plain_address access) → x.memory ≡ m
       → x.sticky_error ≡ false → PortSent access m x
@@ -31,7 +31,7 @@ pub data PortSent (access : Access) (m : Bus) (x : Target) : Type 0 where
   failed : bus_succeeds access m ≡ false → x.pending ≡ None → x.memory ≡ bus_after access m → x.sticky_error ≡ true →
       x.tar ≡ None → x.buffer ≡ None → PortSent access m x
 
--- the memory once no transfer is pending any more, whatever the flags
+-- the bus once no transfer is pending any more, whatever the flags
 pub data PortBecomes (m : Bus) (x : Target) : Type 0 where
   idle : x.pending ≡ None → x.memory ≡ m → PortBecomes m x
   pends : (access : Access) → x.pending ≡ Some (pending_drw_of access) → x.tar ≡ Some (plain_address access) →
@@ -54,7 +54,7 @@ pub record PortAimed (at : ℕ) (m : Bus) (x : Target) : Type 0 where
   pub pending : x.pending ≡ None
   pub sticky_error : x.sticky_error ≡ false
 
--- the access was done: its answer, the memory, the read buffer and TAR
+-- the access was done: its answer, the bus, the read buffer and TAR
 pub record PortSucceeded (access : Access) (m : Bus) (x : Target) : Type 0 where
   pub answer : bus_answer access m ≡ bus_done_answer access m
   pub memory : x.memory ≡ bus_after access m

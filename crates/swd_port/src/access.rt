@@ -1,4 +1,4 @@
-//! Accesses of a plain memory, their answers, and the transfers in its log.
+//! Accesses of a bus, their answers, and the transfers in its log.
 ghost use Rattle.std.specs.Prelude.{◌≡◌, ◌+◌, ◌*◌, ◌≤◌, ◌^◌, ◌++◌, OnOk};
 ghost use Rattle.swd_port.specs.PlainMemory.{plain_reads};
 
@@ -8,7 +8,7 @@ use std::fmt;
 /// The maximum number of accesses in one call of a host.
 pub const MOST_ACCESSES: u32 = 65_536;
 
-/// One access of the memory behind the access port: a word at a byte address that is a multiple of 4.
+/// One access of the bus behind the access port: a word at a byte address that is a multiple of 4.
 #[derive(Clone, Copy, Debug, PartialEq, Eq)]
 pub enum Access {
     /// A read of the word at this address.
@@ -28,7 +28,7 @@ pub enum Answer {
     BusFault,
 }
 
-/// A transfer that succeeded, as logged by the memory.
+/// A transfer that succeeded, as logged by the bus.
 #[derive(Clone, Copy, Debug, PartialEq, Eq)]
 pub struct Transfer {
     /// Whether it was a read, not a write.

@@ -21,7 +21,7 @@ PortCompletionTwice = (s t u : Port) → PortCompletes s t → PortCompletes t u
 abbrev pub PortCompletionKeeps : Type 0
 PortCompletionKeeps = (s t : Port) → PortCompletes s t → PortKept s t
 
--- what the memory may become after a completion, it might have become before it
+-- what the bus may become after a completion, it might have become before it
 abbrev pub PortMayBecomeStays : Type 0
 PortMayBecomeStays = (m : Bus) (s t : Port) → PortCompletes s t → MayBecome t m → MayBecome s m
 
@@ -30,7 +30,7 @@ abbrev pub PortMayBecomeCarried : Type 0
 PortMayBecomeCarried = (m : Bus) (s t : Port) → t.target.pending ≡ s.target.pending →
     t.target.tar ≡ s.target.tar → t.target.memory ≡ s.target.memory → MayBecome t m → MayBecome s m
 
--- without a pending transfer the memory may become only what it is
+-- without a pending transfer the bus may become only what it is
 pub record PortMayBecomeOfNone : Type 0 where
   pub same : (s : Port) → s.target.pending ≡ None → MayBecome s s.target.memory
   pub only : (m : Bus) (s : Port) → s.target.pending ≡ None → MayBecome s m → m ≡ s.target.memory

@@ -31,12 +31,12 @@ abbrev pub PortSentFails : Type 0
 PortSentFails = (access : Access) (m : Bus) (x : Target) → x.pending ≡ None → x.sticky_error ≡ true →
     PortSent access m x → PortFailed access m x
 
--- in any case the memory becomes that after the plain access
+-- in any case the bus becomes that after the access
 abbrev pub PortSentBecomes : Type 0
 PortSentBecomes = (access : Access) (m : Bus) (x : Target) → PortSent access m x
     → PortBecomes (bus_after access m) x
 
--- a completion keeps the memory that `PortBecomes` states
+-- a completion keeps the bus that `PortBecomes` states
 abbrev pub PortBecomesStays : Type 0
 PortBecomesStays = (m : Bus) (s t : Port) → PortCompletes s t → PortBecomes m s.target → PortBecomes m t.target
 
@@ -45,15 +45,15 @@ abbrev pub PortBecomesCarried : Type 0
 PortBecomesCarried = (m : Bus) (x y : Target) → y.pending ≡ x.pending → y.tar ≡ x.tar → y.memory ≡ x.memory →
     PortBecomes m x → PortBecomes m y
 
--- once no transfer is pending, it is the memory
+-- once no transfer is pending, it is the bus
 abbrev pub PortBecomesIs : Type 0
 PortBecomesIs = (m : Bus) (x : Target) → x.pending ≡ None → PortBecomes m x → x.memory ≡ m
 
--- it is also the memory after the pending transfer takes effect
+-- it is also the bus after the pending transfer takes effect
 abbrev pub PortBecomesCompleted : Type 0
 PortBecomesCompleted = (m : Bus) (c : Choice) (x : Target) → PortBecomes m x → (port_completion c x).memory ≡ m
 
--- the memory of a sent transfer is that before it, or that after it
+-- the bus of a sent transfer is that before it, or that after it
 abbrev pub PortSentMemory : Type 0
 PortSentMemory = (access : Access) (m : Bus) (x : Target) → PortSent access m x →
     (x.memory ≡ m) ⊎ (x.memory ≡ bus_after access m)

@@ -88,7 +88,7 @@ abbrev pub PortCarriedByReset : Type 0
 PortCarriedByReset = (s t : Port) → PortWasReset s t → PortCarries s.target t.target
 
 -- ABORT's bits 2 and 3 clear STICKYERR and WDATAERR; it doesn't change the last returned value, the read buffer, TAR,
--- the memory or the pending transfer
+-- the bus or the pending transfer
 pub record PortAbortClears (word : ℕ) (x y : Target) : Type 0 where
   pub sticky_cleared : register_bit 2 word ≡ true → y.sticky_error ≡ false
   pub sticky_kept : register_bit 2 word ≡ false → y.sticky_error ≡ x.sticky_error

@@ -1,4 +1,4 @@
-//! Laws of the memory behind the access port: transfers by DRW, their completion, and whole accesses.
+//! Laws of the bus behind the access port: transfers by DRW, their completion, and whole accesses.
 ghost use Rattle.swd_port.specs.Laws.Completion.{PortCompletionNotYet, CompletionWithoutPending, PortCompletionTwice};
 ghost use Rattle.swd_port.specs.Laws.Completion.{PortCompletionKeeps};
 ghost use Rattle.swd_port.specs.Laws.Completion.{PortMayBecomeStays, PortMayBecomeCarried, PortMayBecomeOfNone};
@@ -11,8 +11,8 @@ ghost use Rattle.swd_port.specs.Laws.Accesses.{PortWordWritten, PortWordRead};
 ghost use Rattle.swd_port.specs.Laws.Buses.{BusOfAnswers, BusOfChanges, BusOfHolds};
 
 /// States what completion of the pending transfer does. It may occur or not, occurs once, and does nothing where no
-/// transfer is pending. It changes only what belongs to the transfer. What the memory may become depends on the
-/// transfer, TAR and the memory alone.
+/// transfer is pending. It changes only what belongs to the transfer. What the bus may become depends on the
+/// transfer, TAR and the bus alone.
 pub fn completion()
     ensures not_yet { PortCompletionNotYet }
     ensures of_none { CompletionWithoutPending }
@@ -44,8 +44,8 @@ pub fn transfers()
 {}
 
 /// States what a whole write and a whole read of a word do, at a target ready for transfers with TAR set. If the
-/// requests are answered OK and the one that carries the word isn't disturbed, the memory is that after the access,
-/// done once. A read returns the memory's word. The proofs use the laws above alone.
+/// requests are answered OK and the one that carries the word isn't disturbed, the bus is that after the access,
+/// done once. A read returns the bus's word. The proofs use the laws above alone.
 pub fn accesses()
     ensures written { PortWordWritten }
     ensures read { PortWordRead }
