@@ -7,7 +7,7 @@ use Rattle.swd_trace.specs.declared.item.Item.TheVariants.{Junk}
 use Rattle.swd_observer.specs.declared.trace.TraceObserver.{TraceObserver}
 use Rattle.swd_observer.specs.Observing.{observer_unknown}
 use Rattle.swd_observer.specs.Traces.{observed_shown_at, trace_observer_step, trace_observer_after}
-use Rattle.swd_observer_text.specs.Accesses.{observer_text_shown, observer_text_of_items}
+use Rattle.swd_capture.specs.Accesses.{observer_text_shown, observer_text_of_items}
 
 -- what some items show, and others behind them
 pub observer_text_joins : (items others : List Item) (t : TraceObserver)

@@ -2,7 +2,7 @@
 ghost use Rattle.std.specs.Prelude.{◌≡◌, ◌+◌, ◌≤◌, ◌++◌, ◌∷◌, []};
 ghost use Rattle.std.specs.Fmt.{decimal};
 ghost use Rattle.arrayvec.specs.ArrayString.{array_string_len};
-ghost use Rattle.swd_observer_text.specs.Accesses.{observer_text_access, observer_text_gap, observer_text_word};
+ghost use Rattle.swd_capture.specs.Accesses.{observer_text_access, observer_text_gap, observer_text_word};
 
 use arrayvec::ArrayString;
 use swd_bits::push_word;

@@ -7,17 +7,17 @@ ghost use Rattle.swd_resync.specs.AsItems.{resync_part_items};
 ghost use Rattle.swd_resync.specs.declared.part.Part.TheVariants.{Item as OfStretch};
 ghost use Rattle.swd_observer.specs.Observing.{observed_last_accesses, observer_unknown};
 ghost use Rattle.swd_observer.specs.Traces.{trace_observer_after};
-ghost use Rattle.swd_observer_text.specs.Accesses.{observer_text_of_items, observer_text_of_gap, observer_text_shown};
-ghost use Rattle.swd_observer_text.specs.Accesses.{observer_text_reported, observer_text_of_access};
+ghost use Rattle.swd_capture.specs.Accesses.{observer_text_of_items, observer_text_of_gap, observer_text_shown};
+ghost use Rattle.swd_capture.specs.Accesses.{observer_text_reported, observer_text_of_access};
 
-use crate::line::{LONGEST, line_of, line_of_gap};
+use crate::access_line::{LONGEST, line_of, line_of_gap};
 use arrayvec::ArrayString;
 use swd_observer::{Observations, ObservedAccess, Observer, ShownItem, TraceObserver};
 use swd_resync::{Part, phase_len};
 use swd_trace::Item;
 
 /// The most bytes of the lines for one part.
-pub const LONGEST_SHOWN: usize = 4 * LONGEST;
+pub(crate) const LONGEST_SHOWN: usize = 4 * LONGEST;
 
 // Appends the line of an access, if there is one.
 fn push_told<const N: usize>(text: &mut ArrayString<N>, told: Option<ObservedAccess>)
@@ -143,7 +143,7 @@ fn watch_skip<const N: usize>(observer: &mut TraceObserver, count: u64, text: &m
 ///
 /// `PLACE` is in decimal: the number of bits before the first bit of the access's request, or of the gap. `ADDR` and
 /// `WORD` are eight lower-case hexadecimal digits, or `????????` if unknown. Accesses are listed in their order.
-pub fn watch_part<const N: usize>(
+pub(crate) fn watch_part<const N: usize>(
     observer: &mut TraceObserver,
     over: bool,
     part: &Part,
@@ -162,7 +162,7 @@ pub fn watch_part<const N: usize>(
 }
 
 /// Appends the lines of the accesses that weren't reported yet, for a capture that ends here.
-pub fn push_last<const N: usize>(observer: &TraceObserver, text: &mut ArrayString<N>)
+pub(crate) fn push_last<const N: usize>(observer: &TraceObserver, text: &mut ArrayString<N>)
     requires { array_string_len text.old + LONGEST_SHOWN ≤ N }
     ensures bytes { text.new.bytes ≡ text.old.bytes
         ++ observer_text_reported (observed_last_accesses observer.now.observer) }

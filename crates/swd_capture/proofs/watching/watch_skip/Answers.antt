@@ -4,11 +4,11 @@ use Rattle.swd_trace.specs.declared.item.Item.TheVariants.{Junk}
 use Rattle.swd_observer.specs.declared.trace.TraceObserver.{TraceObserver}
 use Rattle.swd_observer.specs.Observing.{observer_unknown}
 use Rattle.swd_observer.specs.Traces.{trace_observer_after}
-use Rattle.swd_observer_text.specs.Accesses.{observer_text_of_items, observer_text_shown}
-use Rattle.swd_observer_text.proofs.AccessLemmas.{observer_text_after_junk, observer_text_after_skip}
-use Rattle.swd_observer_text.proofs.AccessLemmas.{observer_text_among_junk, observer_text_junk_silent}
-use Rattle.swd_observer_text.proofs.AccessLemmas.{observer_text_skip_shows}
-use Rattle.swd_observer_text.proofs.watching.watch_skip.Goals as goal
+use Rattle.swd_capture.specs.Accesses.{observer_text_of_items, observer_text_shown}
+use Rattle.swd_capture.proofs.AccessLemmas.{observer_text_after_junk, observer_text_after_skip}
+use Rattle.swd_capture.proofs.AccessLemmas.{observer_text_among_junk, observer_text_junk_silent}
+use Rattle.swd_capture.proofs.AccessLemmas.{observer_text_skip_shows}
+use Rattle.swd_capture.proofs.watching.watch_skip.Goals as goal
 
 -- an observer at another place
 abbrev at : TraceObserver → ℕ → TraceObserver
