@@ -1,6 +1,6 @@
 use Rattle.std.proofs.Common.{◌-◌, ◌≤◌, length}
 use Rattle.swd_resync.specs.Decoding.{resync_steps_left, ResyncSettled}
-use Rattle.swd_resync_tests.proofs.tests.lines_at_once.Given as goal
+use Rattle.swd_capture_tests.proofs.tests.parts.lines_at_once.Given as goal
 
 abbrev pub decreases-loop-part : goal.decreases-loop-part
 decreases-loop-part l = resync_steps_left l.decoder

@@ -1,11 +1,8 @@
 //! Drawings of traces, and of captures, at ends that fail.
 ghost use Rattle.std.specs.Prelude.{◌<◌, length};
 
-mod drawn;
-mod expect;
-
-use drawn::DPIDR_DRAWING;
-use expect::expect_eq_at;
+use super::drawn::DPIDR_DRAWING;
+use super::expect::expect_eq_at;
 use std::alloc::Global;
 use std::test::Fail;
 use swd_capture_text::Reading;

@@ -1,20 +1,11 @@
 //! A listing to the lines of what it tells.
+use super::trace_of;
 use std::alloc::Global;
 use std::io::{Read, Write};
 use std::test::Fail;
 use swd_capture::Printed;
 use swd_capture_text::{Reading, print_capture};
-use swd_text::{DecodeFault, encode_text};
-
-/// The trace text of a listing.
-pub(super) fn trace_of(alloc: Global, listing: &[u8]) -> Result<Vec<u8>, Fail> {
-    let mut listing = listing;
-    let mut trace = Vec::new(alloc);
-    match encode_text(alloc, &mut listing, &mut trace) {
-        Ok(()) => Ok(trace),
-        Err(_) => Err(Fail::from("no normal listing")),
-    }
-}
+use swd_text::DecodeFault;
 
 /// Writes the lines of what a trace tells, of a target that was just made or not.
 pub(super) fn observe<R: Read, W: Write>(

@@ -1,5 +1,5 @@
 use Rattle.swd_resync.specs.Decoding.{resync_steps_left, ResyncSettled}
-use Rattle.swd_resync_tests.proofs.tests.lines_of.Given as goal
+use Rattle.swd_capture_tests.proofs.tests.parts.lines_of.Given as goal
 
 abbrev pub decreases-loop-part : goal.decreases-loop-part
 decreases-loop-part l = resync_steps_left l.decoder

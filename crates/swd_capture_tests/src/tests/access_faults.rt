@@ -1,6 +1,7 @@
 //! Texts at fault, and readers and writers that fail at each place.
 use super::expect::expect_eq_at;
-use super::observed::{observe, trace_of};
+use super::observed::observe;
+use super::trace_of;
 use std::alloc::Global;
 use std::test::Fail;
 use swd_fakes::{FailingReader, OneByteReader, OneByteWriter, ShortWriter};

@@ -1,10 +1,8 @@
 //! Worked captures, read bit by bit, and many bits at once.
 ghost use Rattle.std.specs.Prelude.{◌<◌, ◌≤◌, length};
 
-mod rows;
-
+use super::part_rows::ROWS;
 use arrayvec::ArrayString;
-use rows::ROWS;
 use std::alloc::{AllocError, Global};
 use std::test::Fail;
 use swd_resync::{CaptureDecoder, Part};

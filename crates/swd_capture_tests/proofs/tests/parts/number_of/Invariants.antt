@@ -1,5 +1,5 @@
 use Rattle.std.proofs.Common.{◌-◌, ◌≤◌, length}
-use Rattle.swd_resync_tests.proofs.tests.number_of.Given as goal
+use Rattle.swd_capture_tests.proofs.tests.parts.number_of.Given as goal
 
 abbrev pub invariant-loop-count : goal.invariant-loop-count
 invariant-loop-count l = record {
