@@ -1,10 +1,11 @@
-use Rattle.std.proofs.Common.{◌≡◌, ℕ, List, [], Option, Err, refl, sym, subst, ◌∙◌}
+use Rattle.std.proofs.Common.{◌≡◌, ℕ, Bool, List, [], Option, Err, refl, sym, subst, ◌∙◌}
 use Rattle.swd_io.specs.Blocks.{BlockBufferSends}
 use Rattle.swd_io.specs.declared.block.Block.{Block}
 use Rattle.swd_text.specs.Outputs.{TextQueues}
 use Rattle.swd_text.specs.Sinks.{LeadsSinkOn, LeadsSinkToStop}
 use Rattle.swd_text.specs.declared.fault.DecodeFault.{DecodeFault}
 use Rattle.swd_text.specs.declared.fault.DecodeFault.TheVariants.{Text, Read, Write}
+use Rattle.swd_capture.specs.declared.printed.Printed.{Printed}
 use Rattle.swd_capture.specs.Printing.{capture_printed_parts, capture_printout}
 use Rattle.swd_capture.specs.Tellers.{IsCaptureTellerAfter}
 use Rattle.swd_capture.proofs.TellerLemmas.{capture_printed_none}
@@ -15,15 +16,24 @@ use Rattle.swd_capture_text.specs.Printers.{PrintStart, PrinterHasTaken, Printer
 use Rattle.swd_capture_text.specs.Readings.{SourceDecides, SourceReadsAs, is_over}
 use Rattle.swd_capture_text.proofs.printing.print_text.Goals as goal
 
+-- how a text is printed to a block
+abbrev start_of : {W : Type 0} → Option (List ℕ) → Reading → Printed → Block W → PrintStart
+start_of from reading printed block = record {
+  from = from;
+  name = block.writer.ghost_name;
+  printed = printed;
+  over = is_over reading;
+}
+
 -- a printer that was given no parts
-begins : {W : Type 0} (contents : W → Option (List ℕ)) (start : PrintStart) (printer : Printer) (block : Block W)
-    → IsCaptureTellerAfter start.printed start.over [] printer.teller → block.writer.ghost_name ≡ start.name
-    → BlockBufferSends contents start.from block [] → PrinterHasTaken contents start (printer, block) []
-begins contents start printer block after same sends = record {
-  after = after;
-  sends = subst (BlockBufferSends contents start.from block)
-      (sym (capture_printed_none start.printed start.over)) sends;
-  same = same;
+begins_in : {W : Type 0} (contents : W → Option (List ℕ)) (from : Option (List ℕ)) (reading : Reading)
+    (printed : Printed) (over : Bool) (printer : Printer) (block : Block W) → over ≡ is_over reading
+    → IsCaptureTellerAfter printed over [] printer.teller → BlockBufferSends contents from block []
+    → PrinterHasTaken contents (start_of from reading printed block) (printer, block) []
+begins_in contents from reading printed over printer block phases after sends = record {
+  after = subst (λ o. IsCaptureTellerAfter printed o [] printer.teller) phases after;
+  sends = subst (BlockBufferSends contents from block) (sym (capture_printed_none printed (is_over reading))) sends;
+  same = refl;
 }
 
 unread : {W : Type 0} (contents : W → Option (List ℕ)) (reading : Reading) (start : PrintStart) (fault : DecodeFault)
@@ -46,39 +56,19 @@ unread contents reading start (Write told) text left before block none r =
 
 pub returns-in-Ok : goal.returns-in-Ok
 returns-in-Ok g c = λ from empty.
-    let contents = g.W.Write.contents in
-    let reading = c.args.reading in
-    let printed = c.args.printed in
-    let old = c.args.block.now in
-    let start : PrintStart = record {
-      from = from;
-      name = old.writer.ghost_name;
-      printed = printed;
-      over = is_over reading;
-    } in
-    let after = subst (λ over. IsCaptureTellerAfter printed over [] c.new.result.teller) c.is_over.ensures
-    c.new.ensures in
+    let start = start_of from c.args.reading c.args.printed c.args.block.now in
     let r = c.in-Ok.ensures in
-    let x = r.5 start [] (begins contents start c.new.result old after refl empty) in (
-      (r.0, r.1, r.2, r.3, r.4, c.put_rows.ensures.sends from printed (is_over reading) r.1 x.after x.sends),
+    let x = r.5 start [] (begins_in g.W.Write.contents from c.args.reading c.args.printed c.is_over.result c.new.result
+    c.args.block.now c.is_over.ensures c.new.ensures empty) in (
+      (r.0, r.1, r.2, r.3, r.4, c.put_rows.ensures.sends from start.printed start.over r.1 x.after x.sends),
       c.put_rows.ensures.writer ∙ x.same,
     )
 
 pub returns-in-Err : goal.returns-in-Err
 returns-in-Err g c = λ from empty.
-    let contents = g.W.Write.contents in
-    let reading = c.args.reading in
-    let printed = c.args.printed in
-    let old = c.args.block.now in
-    let start : PrintStart = record {
-      from = from;
-      name = old.writer.ghost_name;
-      printed = printed;
-      over = is_over reading;
-    } in
-    let after = subst (λ over. IsCaptureTellerAfter printed over [] c.new.result.teller) c.is_over.ensures
-    c.new.ensures in
     let text = g.R.Read.remaining c.args.reader.now in
     let left = g.R.Read.remaining c.read_parts.new.reader in
-    unread contents reading start c.in-Err.fault text left (c.new.result, old) c.read_parts.new.writer
-    (begins contents start c.new.result old after refl empty) c.in-Err.ensures
+    unread g.W.Write.contents c.args.reading (start_of from c.args.reading c.args.printed c.args.block.now) c.in-Err.fault
+    text left (c.new.result, c.args.block.now) c.read_parts.new.writer
+    (begins_in g.W.Write.contents from c.args.reading c.args.printed c.is_over.result c.new.result c.args.block.now
+    c.is_over.ensures c.new.ensures empty) c.in-Err.ensures
