@@ -3,3 +3,4 @@ pub mod PlaceLemmas
 pub mod TableLemmas
 pub mod TextLemmas
 pub mod TellerLemmas
+pub mod AccessLemmas

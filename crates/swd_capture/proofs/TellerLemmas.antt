@@ -13,8 +13,8 @@ use Rattle.swd_resync.proofs.ItemLemmas.{resync_items_part_more}
 use Rattle.swd_port.specs.declared.select.Select.{Select}
 use Rattle.swd_observer.specs.declared.trace.TraceObserver.{TraceObserver}
 use Rattle.swd_observer.specs.Traces.{trace_observer_step, trace_observer_after, observed_shown_at}
-use Rattle.swd_observer_text.specs.Accesses.{observer_text_of_items, observer_text_shown}
-use Rattle.swd_observer_text.proofs.AccessLemmas.{observer_text_joins, observer_text_after_join}
+use Rattle.swd_capture.specs.Accesses.{observer_text_of_items, observer_text_shown}
+use Rattle.swd_capture.proofs.AccessLemmas.{observer_text_joins, observer_text_after_join}
 use Rattle.swd_capture.specs.declared.printed.LineForm.{LineForm}
 use Rattle.swd_capture.specs.declared.printed.Printed.{Printed}
 use Rattle.swd_capture.specs.declared.printed.Printed.TheVariants.{Lines, Counts, Accesses}

@@ -1,3 +1,4 @@
+pub mod Accesses
 pub mod Places
 pub mod Names
 pub mod Flags

@@ -14,7 +14,7 @@ use Rattle.swd_port.specs.declared.select.Select.{Select}
 use Rattle.swd_observer.specs.declared.trace.TraceObserver.{TraceObserver}
 use Rattle.swd_observer.specs.Observing.{observed_last_accesses}
 use Rattle.swd_observer.specs.Traces.{trace_observer_after, trace_observer_made, trace_observer_unknown}
-use Rattle.swd_observer_text.specs.Accesses.{observer_text_of_items, observer_text_reported}
+use Rattle.swd_capture.specs.Accesses.{observer_text_of_items, observer_text_reported}
 use Rattle.swd_capture.specs.declared.printed.Printed.{Printed}
 use Rattle.swd_capture.specs.declared.printed.Printed.TheVariants.{Lines, Counts, Accesses}
 use Rattle.swd_capture.specs.declared.printed.LineForm.{LineForm}

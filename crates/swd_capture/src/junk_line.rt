@@ -51,8 +51,8 @@ fn push_tens<const N: usize>(text: &mut ArrayString<N>, tens: u64)
     text.push_str(digits.format(tens));
 }
 
-// Replaces `@`, the digits of a number of tens (both are `len` bytes), and the spaces after them by `@` and the digits of
-// another number. Within a hundred it writes the last digit alone.
+// Replaces `@`, the digits of a number of tens (both are `len` bytes), and the spaces after them by `@` and the digits
+// of another number. Within a hundred it writes the last digit alone.
 fn change_tens(text: &mut ArrayString<ROOM>, len: usize, from: u64, to: u64)
     requires holds { text.old.bytes ≡ capture_tens_prefix from ++ replicate 20 32 }
     requires counts { len ≡ length (capture_tens_prefix from) }

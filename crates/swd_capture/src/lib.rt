@@ -2,6 +2,7 @@
 //! accesses of the target's memory. A line may have the part's place, the register's name, and the flags of its word.
 #![tactic(auto)]
 
+mod access_line;
 mod bit_count;
 mod flags;
 mod junk_line;
@@ -10,8 +11,9 @@ mod names;
 mod printed;
 mod table;
 mod teller;
+mod watching;
 
-pub use laws::rows_are_named_by_kind;
+pub use laws::{rows_are_named_by_kind, skips_are_forgotten};
 pub use printed::{LineForm, Printed};
 pub use table::ROWS;
 pub use teller::{LONGEST_ENTRY, MOST_JUNK, Teller};

@@ -1,3 +1,2 @@
+pub mod PartLemmas
 pub mod SourceLemmas
-pub mod CaptureLemmas
-pub mod ListerLemmas

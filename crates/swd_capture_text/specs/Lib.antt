@@ -1,4 +1,5 @@
 pub mod Readings
 pub mod Captures
 pub mod Sources
-pub mod Listers
+pub mod PartSinks
+pub mod Printers

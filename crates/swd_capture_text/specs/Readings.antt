@@ -28,3 +28,7 @@ abbrev pub SourceDecides : Reading → List Bool → List Part → Type 0
 SourceDecides Trace bits parts = (items : List Item) × (parts ≡ map Told items) × IsDecided bits items
 SourceDecides (Capture over) bits parts =
     (decoder : CaptureDecoder) × ResyncHasRead over decoder bits parts × (resync_held_len decoder < 142)
+
+-- these are the parts of the bits
+abbrev pub SourceReadsAs : Reading → List Bool → List Part → Type 0
+SourceReadsAs reading bits parts = parts ≡ source_reading_parts reading bits

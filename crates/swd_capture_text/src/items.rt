@@ -17,7 +17,8 @@ use swd_trace::Item;
 ///
 /// If the writer fails or takes no bytes: how many bytes of the output were written. These are exactly its first ones.
 pub fn print_items<W: Write>(printed: Printed, writer: &mut W, items: &[Item]) -> Result<(), u64>
-    ensures { WritesOutput result (W.contents writer.old) (W.contents writer.new) (print_items_output printed items.now) }
+    ensures { WritesOutput result (W.contents writer.old) (W.contents writer.new)
+        (print_items_output printed items.now) }
 {
     let mut teller = Teller::new(printed, false);
     let mut line = ArrayString::new();

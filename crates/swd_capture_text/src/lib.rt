@@ -3,13 +3,15 @@
 
 mod items;
 pub mod laws;
-mod lister;
+mod parts;
+mod printer;
 mod printing;
 mod queue;
 mod reading;
 mod source;
 
 pub use items::print_items;
+pub use parts::{PartSink, read_parts};
 pub use printing::print_capture;
 pub use reading::Reading;
 pub use source::Source;

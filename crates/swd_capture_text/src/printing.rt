@@ -1,12 +1,46 @@
 //! The engine of `swd decode` with an option: prints a trace text.
+ghost use Rattle.std.specs.Prelude.{◌≡◌, List, ℕ, [], Option};
+ghost use Rattle.swd_io.specs.Blocks.{BlockBufferSends};
+ghost use Rattle.swd_text.specs.Outputs.{TextQueues};
+ghost use Rattle.swd_capture.specs.Printing.{capture_printed_parts, capture_printout};
 ghost use Rattle.swd_capture_text.specs.Captures.{Prints};
+ghost use Rattle.swd_capture_text.specs.Readings.{SourceDecides, SourceReadsAs, is_over};
 
-use crate::lister::CaptureLister;
+use crate::parts::read_parts;
+use crate::printer::Printer;
+use crate::queue::put_rows;
 use crate::reading::Reading;
 use std::io::{Read, Write};
 use swd_capture::Printed;
-use swd_io::read_pieces;
-use swd_text::DecodeFault;
+use swd_io::Block;
+use swd_text::{DecodeFault, end_output};
+
+// Also queues the output for a trace text.
+fn print_text<R: Read, W: Write>(
+    reading: Reading,
+    printed: Printed,
+    reader: &mut R,
+    block: &mut Block<'_, W>,
+) -> Result<(), DecodeFault>
+    ensures { (start : Option (List ℕ)) → BlockBufferSends W.contents start block.old []
+        → TextQueues (SourceDecides reading) (SourceReadsAs reading) (capture_printed_parts printed (is_over reading))
+        (capture_printout printed (is_over reading)) W.contents result (R.remaining reader.old)
+        (R.remaining reader.new) start block.new
+        × (block.new.writer.ghost_name ≡ block.old.writer.ghost_name) }
+{
+    match read_parts(
+        reading,
+        reader,
+        block,
+        Printer::new(printed, reading.is_over()),
+    ) {
+        Ok(mut printer) => {
+            put_rows(block, &mut printer.line, &printer.teller);
+            Ok(())
+        }
+        Err(fault) => Err(fault),
+    }
+}
 
 /// Reads a trace text as a trace or as a capture, and prints it. The output of each part is written as soon as the
 /// part is decided: no later bits can change it, and in a capture `swd_resync::CaptureDecoder` holds it no longer. At
@@ -27,13 +61,7 @@ pub fn print_capture<R: Read, W: Write>(
     ensures { Prints reading printed result (R.remaining reader.old) (R.remaining reader.new)
         (W.contents writer.old) (W.contents writer.new) }
 {
-    let mut lister = CaptureLister::new(reading, printed);
-    match read_pieces(reader, writer, &mut lister) {
-        Ok(()) => {}
-        Err(unread) => return Err(DecodeFault::of(unread)),
-    }
-    match lister.finish(writer) {
-        Ok(()) => Ok(()),
-        Err(written) => Err(DecodeFault::Write { written }),
-    }
+    let mut block = Block::new(writer, 0);
+    let read = print_text(reading, printed, reader, &mut block);
+    end_output(&mut block, read)
 }

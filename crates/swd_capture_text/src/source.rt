@@ -105,8 +105,8 @@ impl Source {
         }
     }
 
-    /// Returns junk bits that are the next parts of a trace, each of them one. `None` says nothing about what is due, and
-    /// changes nothing. `due` returns the same parts one by one.
+    /// Returns junk bits that are the next parts of a trace, each of them one. `None` says nothing about what is due,
+    /// and changes nothing. `due` returns the same parts one by one.
     #[inline(always)]
     pub(crate) fn due_junk(&mut self) -> Option<TxBits>
         ensures junk { IfSome result (λ found. (reading : Reading) (bits : List Bool) (parts : List Part)

@@ -1,21 +1,20 @@
 //! Draws a trace or a capture from its text.
 ghost use Rattle.std.specs.Prelude.{◌≡◌, ◌≤◌, [], length};
 ghost use Rattle.swd_io.specs.Blocks.{WritesOutput, BlockQueues};
-ghost use Rattle.swd_draw.specs.Collecting.{Collects};
 ghost use Rattle.swd_draw.specs.Drawings.{drawing_of};
 ghost use Rattle.swd_draw.specs.Draws.{Draws};
 ghost use Rattle.swd_draw.specs.Rows.{drawing_rows};
 ghost use Rattle.swd_resync.specs.declared.part.Part.{Part};
 
-use crate::collector::Collector;
 use crate::head::push_drawing_head;
+use crate::kept::DrawnParts;
 use crate::row::{RowText, push_row};
 use std::io::{Read, Write};
 use swd_capture::{LineForm, Printed, Teller};
-use swd_capture_text::Reading;
-use swd_io::{Block, Unread, read_pieces};
+use swd_capture_text::{Reading, read_parts};
+use swd_io::Block;
 use swd_resync::Part;
-use swd_text::{DecodeFault, TextFault};
+use swd_text::DecodeFault;
 
 // The most bytes that are put into a block at once.
 const CHUNK: usize = 1024;
@@ -80,19 +79,6 @@ fn write_drawing<W: Write>(
     }
 }
 
-// Reads a text to its end, and keeps the parts that are drawn.
-fn collect<R: Read>(reading: Reading, reader: &mut R) -> Result<Collector, Unread<TextFault>>
-    ensures { Collects reading result (R.remaining reader.old) (R.remaining reader.new) }
-{
-    let mut collector = Collector::new(reading);
-    match read_pieces(reader, &mut (), &mut collector) {
-        Ok(()) => {}
-        Err(unread) => return Err(unread),
-    }
-    collector.take_last();
-    Ok(collector)
-}
-
 /// Reads a trace text as a trace or as a capture, and writes a drawing of its first parts as SVG: a row for each part,
 /// with the waves of SWCLK and SWDIO, and a box for each field of a transaction. At most 80 transactions, and at most
 /// 200 parts, are drawn. The whole text is read first. It allocates nothing, its time is linear in the text, and
@@ -111,12 +97,10 @@ pub fn draw_capture<R: Read, W: Write>(
     ensures { Draws reading result (R.remaining reader.old) (R.remaining reader.new)
         (W.contents writer.old) (W.contents writer.new) }
 {
-    let collector = match collect(reading, reader) {
-        Ok(collector) => collector,
-        Err(Unread::Reader) => return Err(DecodeFault::Read),
-        Err(Unread::Consumer(fault)) => return Err(DecodeFault::Text(fault)),
+    let kept = match read_parts(reading, reader, &mut (), DrawnParts::new()) {
+        Ok(kept) => kept,
+        Err(fault) => return Err(fault),
     };
-    let kept = collector.kept();
     match write_drawing(writer, reading.is_over(), kept.parts(), kept.is_longer()) {
         Ok(()) => Ok(()),
         Err(written) => Err(DecodeFault::Write { written }),

@@ -1,8 +1,13 @@
 //! Keeps the parts that are drawn.
 ghost use Rattle.std.specs.Prelude.{◌≡◌, ◌≤◌, ◌∷◌, [], ◌++◌, List, length};
+ghost use Rattle.swd_bits.specs.BitLists.{tx_bits_of};
 ghost use Rattle.swd_resync.specs.declared.part.Part.{Part};
+ghost use Rattle.swd_text.specs.Sinks.{LeadsSinkOn, sink_takes_nothing, sink_leads_join};
+ghost use Rattle.swd_capture.specs.Printing.{capture_junk_parts};
 ghost use Rattle.swd_draw.specs.Drawings.{drawn_weight};
 
+use swd_bits::TxBits;
+use swd_capture_text::PartSink;
 use swd_resync::Part;
 use swd_trace::Item;
 
@@ -12,7 +17,7 @@ pub(crate) const MOST_PARTS: usize = 200;
 // The most transactions of a drawing.
 const MOST_TRANSACTIONS: u8 = 80;
 
-/// The first parts of a trace, up to the last that is drawn.
+/// A sink of parts, which keeps the first of them, up to the last that is drawn.
 #[derive(Drop)]
 pub(crate) struct DrawnParts {
     parts: [Part; MOST_PARTS],
@@ -64,6 +69,20 @@ impl DrawnParts {
         self.left -= weight_of(part);
     }
 
+    // Takes junk bits, each of them a part.
+    fn add_junk(&mut self, junk: TxBits)
+        ensures { (parts : List Part) → KeepsDrawn parts self.old
+            → KeepsDrawn (parts ++ capture_junk_parts (tx_bits_of junk)) self.new }
+    {
+        let mut bits = junk.bits;
+        let mut left = junk.len;
+        while left > 0 {
+            self.add(&Part::Item(Item::Junk(bits % 2 == 1)));
+            bits /= 2;
+            left -= 1;
+        }
+    }
+
     /// Returns the parts that are drawn.
     pub(crate) fn parts(&self) -> &[Part]
         ensures parts { result.now ≡ drawn_kept_parts self.now }
@@ -78,4 +97,28 @@ impl DrawnParts {
     {
         self.longer
     }
+}
+
+impl PartSink<()> for DrawnParts {
+    ghost use Rattle.swd_draw.specs.Collecting.{DrawnHasTaken, drawing_never_stops};
+
+    ghost led = { LeadsSinkOn DrawnHasTaken };
+
+    ghost stops = { drawing_never_stops };
+
+    fn take_part(&mut self, _writer: &mut (), part: &Part) {
+        self.add(part);
+    }
+
+    fn take_junk(&mut self, _writer: &mut (), junk: TxBits) {
+        self.add_junk(junk);
+    }
+
+    fn pause(&mut self, _writer: &mut ()) -> Result<(), u64> {
+        Ok(())
+    }
+
+    ghost led_nowhere = { sink_takes_nothing DrawnHasTaken };
+
+    ghost led_on = { sink_leads_join DrawnHasTaken };
 }

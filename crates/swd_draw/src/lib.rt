@@ -1,7 +1,6 @@
 //! Draws a short stretch of a trace or a capture as SVG.
 #![tactic(auto)]
 
-mod collector;
 mod drawing;
 mod field;
 mod head;

@@ -1,5 +1,6 @@
+pub mod SinkLemmas
 pub mod ListerLemmas
-pub mod DecodingLemmas
+pub mod OutputLemmas
 pub mod DigitLemmas
 pub mod CommentLemmas
 pub mod PieceLemmas

@@ -1,27 +1,26 @@
 -- Laws of a trace text that is listed as it is read.
 use Rattle.std.proofs.Common.{◌≡◌, ℕ, zero, suc, ◌+◌, ◌-◌, ◌*◌, ◌/◌, ◌%◌, ◌<◌, ◌≤◌, ◌^◌, Bool, true, false, List, []}
-use Rattle.std.proofs.Common.{◌∷◌, ◌++◌, length, map, take, Option, Result, Ok, Err, refl, sym, ap, ◌∙◌, subst}
+use Rattle.std.proofs.Common.{◌∷◌, ◌++◌, length, map, take, Option, refl, sym, ap, ◌∙◌, subst}
 use Rattle.std.proofs.Common.{append_assoc, arith, inl}
-use Rattle.std.specs.Prelude.{OnOk, OnErr, IfErr}
-use Rattle.std.proofs.KnownBytes.{Appends-nil}
 use Rattle.std.proofs.Math.Seq.{take-append_seam}
 use Rattle.std.proofs.lemmas.List.{length-append, append-nil, map-append}
 use Rattle.swd_io.specs.Blocks.{BlockBufferSends}
 use Rattle.swd_io.specs.declared.block.Block.{Block}
 use Rattle.swd_bits.specs.Bits.{low_bits}
 use Rattle.swd_bits.proofs.BitsLemmas.{length-low_bits}
-use Rattle.swd_bits.proofs.ScanLemmas.{scan_bits_no_byte}
 use Rattle.swd_bits.specs.Listing.{tx_line}
 use Rattle.swd_bits.specs.declared.tx.Tx.{Tx as Transaction}
 use Rattle.swd_trace.specs.declared.item.Item.{Item}
 use Rattle.swd_trace.specs.declared.item.Item.TheVariants.{Tx, Idle, Junk}
 use Rattle.swd_trace.specs.declared.decoder.Decoder.{Decoder}
 use Rattle.swd_trace.specs.Reading.{items_after, reading_of}
-use Rattle.swd_trace.specs.Decided.{DecidesNoItem}
+use Rattle.swd_trace.specs.Decided.{IsDecided, DecidesNoItem}
+use Rattle.swd_trace.proofs.DecidedLemmas.{decided_items_are_longest}
 use Rattle.swd_trace.specs.Texts.{item_line, listing}
 use Rattle.swd_trace.specs.Held.{decoder_rest, decoder_fed, idle_items}
 use Rattle.swd_trace.proofs.NumberLemmas.{decoder_bits_mod, decoder_bits_parted}
-use Rattle.swd_text.specs.Listers.{DecodeTextLists, DecodeTextListed, DecodeTextHasRead}
+use Rattle.swd_text.specs.Listers.{DecodeTextLists, ListerHasTaken}
+use Rattle.swd_text.specs.Outputs.{OutputStart}
 use Rattle.swd_text.specs.declared.lister.Lister.{Lister}
 
 -- nothing at all decides nothing
@@ -33,24 +32,23 @@ none_undecided readings e = λ item h.
     absurd cc
 
 -- a lister that has taken nothing
-pub decode_text_reads_nothing : {W : Type 0} (contents : W → Option (List ℕ)) (lister : Lister) (writer : W) →
-    ((more : List Bool) → decoder_rest lister.decoder more ≡ reading_of more) → decoder_fed lister.decoder ≡ 0
-    → lister.scan ≡ false →
-    lister.place ≡ 0 → lister.written ≡ 0 → DecodeTextHasRead contents (contents writer) (lister, writer) []
-decode_text_reads_nothing contents lister writer law fed scan place written = record {
-  read = record {
-    bits = [];
-    items = [];
-    reads = scan_bits_no_byte lister.scan scan;
-    undecided = none_undecided _ (law []);
-    law = law;
-    count = fed;
-    counted = omega arith;
-  };
-  gone = Appends-nil _;
-  written = omega arith;
-  place = omega arith;
+pub lister_takes_nothing : {W : Type 0} (contents : W → Option (List ℕ)) (start : Option (List ℕ)) (lister : Lister)
+    (block : Block W) → ((more : List Bool) → decoder_rest lister.decoder more ≡ reading_of more)
+    → decoder_fed lister.decoder ≡ 0 → BlockBufferSends contents start block []
+    → ListerHasTaken contents (record { from = start; name = block.writer.ghost_name }) (lister, block) []
+lister_takes_nothing contents start lister block law fed sends = record {
+  items = [];
+  lists = record { law = law; count = fed; counted = omega arith; sends = sends };
+  undecided = none_undecided _ (law []);
+  same = refl;
 }
+
+-- what a lister was given decides the items
+pub lister_decides : {W : Type 0} (contents : W → Option (List ℕ)) (start : OutputStart) (state : Lister × Block W)
+    (bits : List Bool) → (h : ListerHasTaken contents start state bits) → IsDecided bits h.items
+lister_decides contents start state bits h =
+    decided_items_are_longest h.items (λ more. reading_of (bits ++ more)) (decoder_rest state.0.decoder) h.lists.law
+    h.undecided
 
 -- the lines of some items and one more
 pub decode_text_listing_more : (items : List Item) (item : Item)
@@ -94,29 +92,6 @@ decode_text_takes_bits contents start before after block bits items next law fed
       counted = omega arith;
       sends = h.sends;
     }
-
--- what was listed, by its bits and items
-pub decode_text_lists_of : {W : Type 0} (contents : W → Option (List ℕ)) (start : Option (List ℕ)) (decoder : Decoder)
-    (comment : Bool) (block : Block W) (seen : List ℕ) →
-    (h : DecodeTextListed contents start decoder comment block seen)
-    → DecodeTextLists contents start decoder block h.read.bits h.read.items
-decode_text_lists_of contents start decoder comment block seen h = record {
-  law = h.read.law;
-  count = h.read.count;
-  counted = h.read.counted;
-  sends = h.sends;
-}
-
--- two facts of an Ok
-pub decode_text_on_ok : {A E : Type 0} {P Q R : Type 0} (r : Result A E) → (P → Q → R) → OnOk r P → OnOk r Q → OnOk r R
-decode_text_on_ok (Ok x) f p q = f p q
-decode_text_on_ok (Err e) f p q = tt
-
--- two facts of an Err
-pub decode_text_on_err : {A E : Type 0} {Q : Type 0} {P R : E → Type 0} (r : Result A E) → ((e : E) → P e → Q → R e)
-    → IfErr r P → OnErr r Q → IfErr r R
-decode_text_on_err (Ok x) f p q = tt
-decode_text_on_err (Err e) f p q = f e p q
 
 -- the lines of some items, and of others after them
 pub decode_text_listing_append : (a b : List Item) → listing (a ++ b) ≡ listing a ++ listing b

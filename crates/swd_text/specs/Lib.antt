@@ -1,3 +1,6 @@
+pub mod Outputs
+pub mod TextBits
+pub mod Sinks
 pub mod Listers
 pub mod Decoding
 pub mod Encoding

@@ -20,7 +20,7 @@ pub enum TextFault {
 
 /// The error at which a consumer of a trace text stops.
 #[derive(Clone, Copy, Debug, PartialEq, Eq)]
-pub enum TakeFault {
+pub(crate) enum TakeFault {
     /// The trace text is invalid.
     Text(TextFault),
     /// The writer failed, as at `DecodeFault::Write`.
@@ -44,7 +44,7 @@ pub enum DecodeFault {
 
 impl DecodeFault {
     /// Returns the error of a trace text that wasn't read to its end.
-    pub fn of(unread: Unread<TakeFault>) -> DecodeFault
+    pub(crate) fn of(unread: Unread<TakeFault>) -> DecodeFault
         ensures { result ≡ decode_text_fault unread }
     {
         match unread {

@@ -1,9 +1,7 @@
-//! Converts a trace text to its listing, piece by piece.
-ghost use Rattle.std.specs.Prelude.{◌≡◌, ℕ, ◌+◌, ◌-◌, ◌^◌, ◌<◌, ◌≤◌, min, List, Bool, false, true, ◌∷◌, ◌++◌};
-ghost use Rattle.std.specs.Prelude.{[], length, map, take, Option, OnOk, OnErr, IfErr};
+//! Lists the items of bits.
+ghost use Rattle.std.specs.Prelude.{◌≡◌, ℕ, ◌+◌, ◌-◌, ◌^◌, ◌<◌, ◌≤◌, List, Bool, ◌∷◌, ◌++◌};
+ghost use Rattle.std.specs.Prelude.{[], map, Option};
 ghost use Rattle.swd_io.specs.Blocks.{BlockBufferSends, BlockQueues};
-ghost use Rattle.swd_io.specs.Pieces.{LeadsConsumerOn, LeadsConsumerToEnd};
-ghost use Rattle.swd_io.proofs.PieceLemmas.{consumer_reads_no_byte, consumer_pieces_join, consumer_pieces_fault};
 ghost use Rattle.swd_trace.specs.declared.item.Item;
 ghost use Rattle.swd_trace.specs.Reading.{reading_of};
 ghost use Rattle.swd_trace.specs.Texts.{item_line, listing};
@@ -14,36 +12,24 @@ ghost use Rattle.swd_bits.specs.Transactions.{SpellsTx};
 ghost use Rattle.swd_bits.specs.declared.tx.Tx.{Tx};
 ghost use Rattle.swd_trace.specs.Held.{decoder_fed, decoder_rest, idle_items, IsDecoderSettled};
 ghost use Rattle.swd_trace.specs.Decided.{DecidesNoItem};
-ghost use Rattle.swd_text.specs.Decoding.{DecodeTextFinishes};
-ghost use Rattle.swd_text.specs.Listers.{DecodeTextLists, DecodeTextContinues, DecodeTextListed, DecodeTextHasRead};
-ghost use Rattle.swd_text.specs.Listers.{DecodeTextStopsAt, DecodeTextStopsIn, DecodeTextEnds};
+ghost use Rattle.swd_text.specs.Listers.{DecodeTextLists, ListerHasTaken, ListerStops};
+ghost use Rattle.swd_text.specs.Sinks.{LeadsSinkOn, LeadsSinkToStop, sink_takes_nothing, sink_leads_join};
 
-use crate::comment::comment_len;
-use crate::digits::{WIDTH, digits_of};
-use crate::fault::{TakeFault, TextFault};
+use crate::reader::BitSink;
 use crate::tx_line::put_tx;
 use arrayvec::ArrayString;
 use std::io::Write;
-use swd_bits::{Scan, Sign, TxBits};
-use swd_io::{Block, Consumer};
+use swd_bits::TxBits;
+use swd_io::Block;
 use swd_trace::{Decoder, FoundTx, Item, LONGEST_LINE};
 
 // Room for the longest line and its line feed.
 const ROOM: usize = LONGEST_LINE + 1;
 
-// The most bits fed before digits are taken 64 at once, so that the count can't overflow.
-const MOST_FED: u64 = u64::MAX - WIDTH as u64;
-
-/// A consumer of a trace text, which takes digits many at once, and any other byte alone. It writes the line
-/// of each item as soon as no later bits can change the item.
+/// A sink of the bits of a trace text. It writes the line of each item as soon as no later bits can change the item.
 #[derive(Drop)]
 pub(crate) struct Lister {
-    scan: Scan,
     decoder: Decoder,
-    // The number of bytes taken, at most 2^64 - 1.
-    place: u64,
-    // The number of bytes written, at most 2^64 - 1.
-    written: u64,
     // A buffer for one line. It is kept, since a new one for each line takes time.
     line: ArrayString<ROOM>,
 }
@@ -179,15 +165,9 @@ impl Lister {
         ensures settled { IsDecoderSettled result.decoder }
         ensures law { (more : List Bool) → decoder_rest result.decoder more ≡ reading_of more }
         ensures fed { decoder_fed result.decoder ≡ 0 }
-        ensures scan { result.scan ≡ false }
-        ensures place { result.place ≡ 0 }
-        ensures written { result.written ≡ 0 }
     {
         Lister {
-            scan: Scan::new(),
             decoder: Decoder::new(),
-            place: 0,
-            written: 0,
             line: ArrayString::new(),
         }
     }
@@ -198,8 +178,7 @@ impl Lister {
         ensures lists { (start : Option (List ℕ)) (bits : List Bool) (items : List Item)
             → DecodeTextLists W.contents start self.old.decoder block.old bits items
             → (more : List Item) × DecodeTextLists W.contents start self.new.decoder block.new bits more }
-        ensures scan { self.new.scan ≡ self.old.scan }
-        ensures place { self.new.place ≡ self.old.place }
+        ensures fed { decoder_fed self.new.decoder ≡ decoder_fed self.old.decoder }
         ensures writer { block.new.writer.ghost_name ≡ block.old.writer.ghost_name }
     {
         while let Some(spelled) = self.decoder.due_tx() {
@@ -213,8 +192,7 @@ impl Lister {
         ensures lists { (start : Option (List ℕ)) (bits : List Bool) (items : List Item)
             → DecodeTextLists W.contents start self.old.decoder block.old bits items
             → (more : List Item) × DecodeTextLists W.contents start self.new.decoder block.new bits more }
-        ensures scan { self.new.scan ≡ self.old.scan }
-        ensures place { self.new.place ≡ self.old.place }
+        ensures fed { decoder_fed self.new.decoder ≡ decoder_fed self.old.decoder }
         ensures writer { block.new.writer.ghost_name ≡ block.old.writer.ghost_name }
     {
         if let Some(junk) = self.decoder.due_junk() {
@@ -229,64 +207,13 @@ impl Lister {
             → (more : List Item) × DecodeTextLists W.contents start self.new.decoder block.new bits more }
         ensures settled { IsDecoderSettled self.new.decoder }
         ensures undecided { DecidesNoItem (decoder_rest self.new.decoder) }
-        ensures scan { self.new.scan ≡ self.old.scan }
-        ensures place { self.new.place ≡ self.old.place }
+        ensures fed { decoder_fed self.new.decoder ≡ decoder_fed self.old.decoder }
         ensures writer { block.new.writer.ghost_name ≡ block.old.writer.ghost_name }
     {
         self.put_txs(block);
         self.put_lost(block);
         while let Some(item) = self.decoder.due() {
             put_line(block, &mut self.line, &item);
-        }
-    }
-
-    // Takes a bit, unless it is one too many.
-    fn bit<W: Write>(&mut self, block: &mut Block<'_, W>, bit: bool) -> Result<(), TextFault>
-        requires { IsDecoderSettled self.old.decoder }
-        ensures ok { OnOk result ((start : Option (List ℕ)) (bits : List Bool) (items : List Item)
-            → DecodeTextLists W.contents start self.old.decoder block.old bits items
-            → (more : List Item) × DecodeTextLists W.contents start self.new.decoder block.new (bits ++ bit ∷ []) more) }
-        ensures settled { IsDecoderSettled self.new.decoder }
-        ensures undecided { OnOk result (DecidesNoItem (decoder_rest self.new.decoder)) }
-        ensures scan { self.new.scan ≡ self.old.scan }
-        ensures place { self.new.place ≡ self.old.place }
-        ensures writer { block.new.writer.ghost_name ≡ block.old.writer.ghost_name }
-        ensures long { IfErr result (λ fault. (fault ≡ TextFault.TooLong) × (decoder_fed self.old.decoder ≡ 2 ^ 64 - 1)) }
-        ensures same { OnErr result ((self.new ≡ self.old) × (block.new ≡ block.old)) }
-    {
-        if self.decoder.fed() == u64::MAX {
-            return Err(TextFault::TooLong);
-        }
-        self.decoder.take(bit);
-        self.put_due(block);
-        Ok(())
-    }
-
-    // Takes the byte at an index of a piece, or returns why it isn't allowed there.
-    fn byte<W: Write>(
-        &mut self,
-        block: &mut Block<'_, W>,
-        byte: u8,
-        index: usize,
-    ) -> Result<(), TextFault>
-        requires { IsDecoderSettled self.old.decoder }
-        ensures settled { IsDecoderSettled self.new.decoder }
-        ensures place { self.new.place ≡ self.old.place }
-        ensures writer { block.new.writer.ghost_name ≡ block.old.writer.ghost_name }
-        ensures ok { OnOk result ((start : Option (List ℕ)) (seen : List ℕ)
-            → DecodeTextContinues W.contents start self.old block.old seen
-            → DecodeTextContinues W.contents start self.new block.new (seen ++ byte ∷ [])) }
-        ensures err { IfErr result (λ fault. (start : Option (List ℕ)) (seen : List ℕ)
-            → DecodeTextContinues W.contents start self.old block.old seen
-            → DecodeTextStopsAt fault (min (self.old.place + index) (2 ^ 64 - 1)) seen byte
-            × ((comment : Bool) × DecodeTextListed W.contents start self.new.decoder comment block.new seen)) }
-    {
-        match self.scan.byte(byte) {
-            Sign::Passed => Ok(()),
-            Sign::Bad => Err(TextFault::BadChar {
-                place: self.place.saturating_add(index as u64),
-            }),
-            Sign::Bit(bit) => self.bit(block, bit),
         }
     }
 
@@ -304,8 +231,7 @@ impl Lister {
             → (more : List Item)
             × DecodeTextLists W.contents start self.new.decoder block.new (before ++ low_bits result bits) more }
         ensures settled { IsDecoderSettled self.new.decoder }
-        ensures scan { self.new.scan ≡ self.old.scan }
-        ensures place { self.new.place ≡ self.old.place }
+        ensures fed { decoder_fed self.new.decoder ≡ decoder_fed self.old.decoder + result }
         ensures writer { block.new.writer.ghost_name ≡ block.old.writer.ghost_name }
     {
         if let Some(found) = self.decoder.take_tx(bits, count) {
@@ -328,8 +254,7 @@ impl Lister {
             → (more : List Item)
             × DecodeTextLists W.contents start self.new.decoder block.new (before ++ low_bits result bits) more }
         ensures settled { IsDecoderSettled self.new.decoder }
-        ensures scan { self.new.scan ≡ self.old.scan }
-        ensures place { self.new.place ≡ self.old.place }
+        ensures fed { decoder_fed self.new.decoder ≡ decoder_fed self.old.decoder + result }
         ensures writer { block.new.writer.ghost_name ≡ block.old.writer.ghost_name }
     {
         let taken = self.decoder.take_bits(bits, count);
@@ -337,93 +262,8 @@ impl Lister {
         taken
     }
 
-    // Returns whether digits at the front of a text may be taken at once. They may not in a comment, in a
-    // short text, before a blank, or where the count of bits might overflow. The bytes are then taken one by
-    // one.
-    #[inline]
-    fn may_take_digits(&self, text: &[u8]) -> bool
-        ensures long { result ≡ true → WIDTH ≤ length text.now }
-        ensures outside { result ≡ true → self.now.scan ≡ false }
-        ensures room { result ≡ true → decoder_fed self.now.decoder + WIDTH < 2 ^ 64 }
-    {
-        text.len() >= WIDTH
-            && text[0] >= b'0'
-            && !self.scan.in_comment()
-            && self.decoder.fed() <= MOST_FED
-    }
-
-    // Takes digits at the front of a text at once, and returns how many: 0 or more.
-    fn digits<W: Write>(&mut self, block: &mut Block<'_, W>, text: &[u8]) -> usize
-        requires { IsDecoderSettled self.old.decoder }
-        ensures settled { IsDecoderSettled self.new.decoder }
-        ensures place { self.new.place ≡ self.old.place }
-        ensures writer { block.new.writer.ghost_name ≡ block.old.writer.ghost_name }
-        ensures within { result ≤ length text.now }
-        ensures taken { (start : Option (List ℕ)) (seen : List ℕ)
-            → DecodeTextContinues W.contents start self.old block.old seen
-            → DecodeTextContinues W.contents start self.new block.new (seen ++ take result text.now) }
-    {
-        if !self.may_take_digits(text) {
-            return 0;
-        }
-        let digits = digits_of(text);
-        if digits.count == 0 {
-            return 0;
-        }
-        usize::from(self.bits_at_once(block, digits.bits, digits.count))
-    }
-
-    // Takes bytes at the front of a text at once, and returns how many: those of an open comment, or digits,
-    // or 0.
-    #[inline(always)]
-    fn bytes_at_once<W: Write>(&mut self, block: &mut Block<'_, W>, text: &[u8]) -> usize
-        requires { IsDecoderSettled self.old.decoder }
-        ensures settled { IsDecoderSettled self.new.decoder }
-        ensures place { self.new.place ≡ self.old.place }
-        ensures writer { block.new.writer.ghost_name ≡ block.old.writer.ghost_name }
-        ensures within { result ≤ length text.now }
-        ensures taken { (start : Option (List ℕ)) (seen : List ℕ)
-            → DecodeTextContinues W.contents start self.old block.old seen
-            → DecodeTextContinues W.contents start self.new block.new (seen ++ take result text.now) }
-    {
-        if self.scan.in_comment() {
-            return comment_len(text);
-        }
-        self.digits(block, text)
-    }
-
-    // Takes the bytes of a piece, up to the first one that isn't allowed.
-    fn bytes<W: Write>(&mut self, block: &mut Block<'_, W>, piece: &[u8]) -> Result<(), TextFault>
-        requires { IsDecoderSettled self.old.decoder }
-        ensures settled { IsDecoderSettled self.new.decoder }
-        ensures writer { block.new.writer.ghost_name ≡ block.old.writer.ghost_name }
-        ensures ok { OnOk result ((start : Option (List ℕ)) (seen : List ℕ)
-            → DecodeTextContinues W.contents start self.old block.old seen
-            → DecodeTextContinues W.contents start self.new block.new (seen ++ piece.now)) }
-        ensures place { OnOk result (self.new.place ≡ min (self.old.place + length piece.now) (2 ^ 64 - 1)) }
-        ensures err { IfErr result (λ fault. (start : Option (List ℕ)) (seen : List ℕ)
-            → DecodeTextContinues W.contents start self.old block.old seen
-            → self.old.place ≡ min (length seen) (2 ^ 64 - 1)
-            → DecodeTextStopsIn W.contents start block.new fault (seen ++ piece.now)) }
-    {
-        let mut index = 0;
-        while index < piece.len() {
-            let taken = self.bytes_at_once(block, &piece[index..]);
-            if taken > 0 {
-                index += taken;
-                continue;
-            }
-            if let Err(fault) = self.byte(block, piece[index], index) {
-                return Err(fault);
-            }
-            index += 1;
-        }
-        self.place = self.place.saturating_add(piece.len() as u64);
-        Ok(())
-    }
-
-    // Also queues the lines of the items that the end of the trace decides.
-    fn put_last<W: Write>(&mut self, block: &mut Block<'_, W>)
+    /// Also queues the lines of the items that the end of the trace decides.
+    pub(crate) fn put_last<W: Write>(&mut self, block: &mut Block<'_, W>)
         ensures sends { (start : Option (List ℕ)) (bits : List Bool) (items : List Item)
             → DecodeTextLists W.contents start self.old.decoder block.old bits items
             → BlockBufferSends W.contents start block.new (listing (reading_of bits)) }
@@ -433,48 +273,40 @@ impl Lister {
             put_line(block, &mut self.line, &item);
         }
     }
+}
 
-    /// Ends a listing whose text was read to its end.
-    pub(crate) fn finish<W: Write>(&mut self, writer: &mut W) -> Result<(), u64>
-        ensures { (start : Option (List ℕ)) (seen : List ℕ)
-            → DecodeTextHasRead W.contents start (self.old, writer.old) seen
-            → DecodeTextFinishes result seen start (W.contents writer.new) }
-    {
-        let mut block = Block::new(writer, self.written);
-        self.put_last(&mut block);
+impl<'a, W: Write> BitSink<Block<'a, W>> for Lister {
+    ghost ready = { λ lister. IsDecoderSettled lister.decoder };
+
+    ghost fed = { λ lister. decoder_fed lister.decoder };
+
+    ghost led = { LeadsSinkOn (ListerHasTaken W.contents) };
+
+    ghost stops = { LeadsSinkToStop (ListerHasTaken W.contents) (ListerStops W.contents) };
+
+    #[inline(always)]
+    fn fed(&self) -> u64 {
+        self.decoder.fed()
+    }
+
+    fn take_bit(&mut self, block: &mut Block<'a, W>, bit: bool) {
+        self.decoder.take(bit);
+        self.put_due(block);
+    }
+
+    #[inline(always)]
+    fn take_bits(&mut self, block: &mut Block<'a, W>, bits: u64, count: u8) -> u8 {
+        self.bits_at_once(block, bits, count)
+    }
+
+    fn pause(&mut self, block: &mut Block<'a, W>) -> Result<(), u64> {
         match block.flush() {
             Ok(_) => Ok(()),
             Err(written) => Err(written),
         }
     }
-}
 
-impl<W: Write> Consumer<W> for Lister {
-    type Fault = TakeFault;
+    ghost led_nowhere = { sink_takes_nothing (ListerHasTaken W.contents) };
 
-    ghost can_take = { λ lister. IsDecoderSettled lister.decoder };
-
-    ghost takes = { LeadsConsumerOn (DecodeTextHasRead W.contents) };
-
-    ghost stops = { LeadsConsumerToEnd (DecodeTextHasRead W.contents) (DecodeTextEnds W.contents) };
-
-    // Writes what the piece decides before more is read.
-    fn take(&mut self, writer: &mut W, piece: &[u8]) -> Result<(), TakeFault> {
-        let mut block = Block::new(writer, self.written);
-        let listed = self.bytes(&mut block, piece);
-        match block.flush() {
-            Ok(written) => self.written = written,
-            Err(written) => return Err(TakeFault::Write { written }),
-        }
-        match listed {
-            Ok(()) => Ok(()),
-            Err(fault) => Err(TakeFault::Text(fault)),
-        }
-    }
-
-    ghost takes_nothing = { consumer_reads_no_byte (DecodeTextHasRead W.contents) };
-
-    ghost takes_on = { consumer_pieces_join (DecodeTextHasRead W.contents) };
-
-    ghost stops_later = { consumer_pieces_fault (DecodeTextHasRead W.contents) (DecodeTextEnds W.contents) };
+    ghost led_on = { sink_leads_join (ListerHasTaken W.contents) };
 }

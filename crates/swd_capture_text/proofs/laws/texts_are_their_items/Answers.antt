@@ -22,9 +22,5 @@ bits_in (item ∷ items) =
     ∙ bits_before (item_bits item) (10 ∷ trace_text items) (bits_of_items items) (bits_in items)
 
 pub returns : goal.returns
-returns c = λ items read counted. record {
-  bits = bits_of_items items;
-  has = bits_in items;
-  counted = counted;
-  read = ap (map Told) (sym read);
-}
+returns c = λ items read counted.
+    (bits_of_items items, record { has = bits_in items; counted = counted }, ap (map Told) (sym read))

@@ -5,7 +5,7 @@ use Rattle.swd_bits.proofs.BitsLemmas.{length-low_bits}
 use Rattle.swd_trace.specs.declared.item.Item.TheVariants.{Junk}
 use Rattle.swd_resync.specs.AsItems.{resync_items}
 use Rattle.swd_observer.specs.Traces.{trace_observer_after}
-use Rattle.swd_observer_text.specs.Accesses.{observer_text_of_items}
+use Rattle.swd_capture.specs.Accesses.{observer_text_of_items}
 use Rattle.swd_capture.specs.declared.printed.Printed.TheVariants.{Counts, Accesses}
 use Rattle.swd_capture.specs.declared.teller.Teller.{Teller}
 use Rattle.swd_capture.specs.Printing.{capture_junk_parts, capture_observer_of, capture_printed_parts}

@@ -11,7 +11,6 @@ loop-item-preserved g c = record {
             c.put_line.new.block bits i.0 c.in-Some.item
             c.in-Some.ensures.item c.in-Some.ensures.fed (λ all s. c.put_line.ensures.sends start all s) i.1,
       );
-  scan = c.loop-item.invariant.scan;
-  place = c.loop-item.invariant.place;
+  fed = c.due.ensures.fed ∙ c.loop-item.invariant.fed;
   writer = c.put_line.ensures.writer ∙ c.loop-item.invariant.writer;
 }

@@ -15,8 +15,8 @@ loop-spelled-preserved g c = record {
             c.loop-spelled.block c.put_held_tx.new.block bits i.0 (Tx tx)
             gives.law gives.fed (λ all s. c.put_held_tx.ensures.sends tx spelled start all s) i.1,
       );
-  scan = c.loop-spelled.invariant.scan;
-  place = c.loop-spelled.invariant.place;
+  fed = (c.in-Some.ensures.tx.gives c.in-Some.ensures.tx.found.0 c.in-Some.ensures.tx.found.1).fed
+      ∙ c.loop-spelled.invariant.fed;
   writer = c.put_held_tx.ensures.writer ∙ c.loop-spelled.invariant.writer;
 }
 

@@ -1,0 +1,81 @@
+//! Worked captures, read bit by bit, and many bits at once.
+ghost use Rattle.std.specs.Prelude.{◌<◌, ◌≤◌, length};
+
+use super::part_rows::ROWS;
+use arrayvec::ArrayString;
+use std::alloc::{AllocError, Global};
+use std::test::Fail;
+use swd_resync::{CaptureDecoder, Part};
+use swd_trace::LONGEST_LINE;
+
+// Adds a part's line to a text.
+fn push_part(text: &mut String, part: &Part) -> Result<(), AllocError> {
+    let mut line: ArrayString<LONGEST_LINE> = ArrayString::new();
+    part.push_line(&mut line);
+    text.push_str(line.as_str())?;
+    text.push('\n')
+}
+
+// The lines of the parts of a capture.
+fn lines_of(alloc: Global, over: bool, bits: &[u8]) -> Result<String, AllocError> {
+    let mut decoder = CaptureDecoder::new(over);
+    let mut text = String::new(alloc);
+    for bit in bits {
+        if decoder.fed() == u64::MAX {
+            break;
+        }
+        decoder.take(*bit == b'1');
+        while let Some(part) = decoder.due() {
+            push_part(&mut text, &part)?;
+        }
+    }
+    while let Some(end) = decoder.last() {
+        push_part(&mut text, &end)?;
+    }
+    Ok(text)
+}
+
+// Returns the first bits as a number, the first one least significant, and how many: at most 64.
+fn number_of(bits: &[u8]) -> (u64, u8)
+    requires { 0 < length bits.now }
+    ensures some { 0 < result.1 }
+    ensures most { result.1 ≤ 64 }
+    ensures within { result.1 ≤ length bits.now }
+{
+    let mut number = 0;
+    let mut count: u8 = 0;
+    while count < 64 && usize::from(count) < bits.len() {
+        number |= u64::from(bits[usize::from(count)] == b'1') << count;
+        count += 1;
+    }
+    (number, count)
+}
+
+// The same lines, from a decoder that takes up to 64 bits at once.
+fn lines_at_once(alloc: Global, over: bool, bits: &[u8]) -> Result<String, AllocError> {
+    let mut decoder = CaptureDecoder::new(over);
+    let mut text = String::new(alloc);
+    let mut index = 0;
+    while index < bits.len() && decoder.fed() < u64::MAX - 64 {
+        let (number, count) = number_of(&bits[index..]);
+        index += usize::from(decoder.take_bits(number, count));
+        while let Some(part) = decoder.due() {
+            push_part(&mut text, &part)?;
+        }
+    }
+    while let Some(end) = decoder.last() {
+        push_part(&mut text, &end)?;
+    }
+    Ok(text)
+}
+
+#[test]
+fn worked_captures(rt: HostRuntime) -> Result<(), Fail> {
+    for row in ROWS {
+        let lines = lines_of(rt.alloc(), row.over, row.bits.as_bytes())?;
+        assert_eq!(rt; lines.as_str(), row.lines, "at {}", row.name);
+        let at_once = lines_at_once(rt.alloc(), row.over, row.bits.as_bytes())?;
+        assert_eq!(rt; at_once.as_str(), row.lines, "at once, at {}", row.name);
+    }
+    Ok(())
+}

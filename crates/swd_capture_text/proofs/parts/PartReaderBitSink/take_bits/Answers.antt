@@ -1,0 +1,16 @@
+use Rattle.std.proofs.Common.{◌++◌, arith}
+use Rattle.swd_bits.specs.Bits.{low_bits}
+use Rattle.swd_bits.proofs.BitsLemmas.{length-low_bits}
+use Rattle.swd_capture_text.proofs.PartLemmas.{parts_gather_bits}
+use Rattle.swd_capture_text.proofs.parts.PartReaderBitSink.take_bits.Goals as goal
+
+pub returns-clause-led : goal.returns-clause-led
+returns-clause-led g c = λ start before h.
+    let n = c.take_bits-taken.result in
+    let next = low_bits n c.args.bits in
+    let m = c.give_due.ensures.gathers start (before ++ next) h.parts
+    (parts_gather_bits g.K.PartSink.led start c.args.self.now.source c.take_bits-taken.new.self
+    (c.args.self.now.sink, c.args.writer.now) before next h.parts n
+    (c.take_bits-taken.ensures.has start.reading before h.parts) c.take_bits-taken.ensures.fed
+    (length-low_bits n c.args.bits) (omega arith) h.gathers) in
+    record { parts = m.0; gathers = m.1; decides = m.2 }

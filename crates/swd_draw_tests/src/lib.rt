@@ -1,5 +1,0 @@
-//! The tests of drawings.
-#![tactic(auto)]
-
-#[cfg(test)]
-mod tests;

@@ -1,5 +1,0 @@
-//! Listings and what they tell, and readers and writers that fail.
-mod expect;
-mod faults;
-mod observed;
-mod rows;

@@ -1,6 +1,0 @@
-use Rattle.std.proofs.Common.{ap}
-use Rattle.swd_observer_text.proofs.AccessLemmas.{observer_text_after_skip}
-use Rattle.swd_observer_text.proofs.laws.skips_are_forgotten.Goals as goal
-
-pub returns : goal.returns
-returns c = λ over n t some. ap (λ o. o.observer) (observer_text_after_skip n t some)
