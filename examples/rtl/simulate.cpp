@@ -1,12 +1,11 @@
 // The chip as Verilator builds it, at the other end of the C library's host: writes words, reads them back, and reads
 // past the end of the RAM. Its arguments are those of bench.v. The status is 1 if an answer is wrong.
 #include <cstdio>
-#include <memory>
 #include "Vbench.h"
 #include "verilated.h"
 #include "line.h"
 
-static std::unique_ptr<Vbench> chip;
+static Vbench *chip;
 
 // One clock: the host's bit is set while SWCLK is low, and the line sampled before the rising edge.
 int line_clock(int drive)
@@ -31,7 +30,8 @@ int main(int count, char **words)
 	bool good = true;
 
 	Verilated::commandArgs(count, words);
-	chip = std::make_unique<Vbench>();
+	Vbench bench;
+	chip = &bench;
 	for (size_t i = 0; i < image; i++) {
 		uint32_t address = base + 4 * uint32_t(i);
 		accesses[i] = { address, 0x9e3779b9 * uint32_t(i + 1), 1 };
@@ -50,6 +50,6 @@ int main(int count, char **words)
 	}
 	std::printf("%s: %u accesses answered, %u in flight, %llu requests\n", swd_outcome_name(run.end.kind),
 	            run.answered, run.begun, (unsigned long long)run.requests);
-	chip->final();
+	bench.final();
 	return good && run.end.kind == SWD_ALL ? 0 : 1;
 }
