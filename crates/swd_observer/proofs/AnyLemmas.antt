@@ -36,6 +36,7 @@ use Rattle.swd_observer.specs.Knows.{ObserverHolds, ObserverKnows, here}
 use Rattle.swd_observer.specs.Transacts.{ObservedMoves}
 use Rattle.swd_observer.proofs.ExplainLemmas.{observed_since_may_not}
 use Rattle.swd_observer.proofs.KnownLemmas.{observer_knows_stays, observer_unsent}
+use Rattle.swd_observer.proofs.AskLemmas.{observed_quiet_at_write}
 use Rattle.swd_observer.proofs.AskLemmas.{ObservedOkayed, observed_ask_okayed, observed_not_exempt, ObservedKindFits}
 use Rattle.swd_observer.proofs.AskLemmas.{observed_kind_fits, observed_register_for, observed_posted_value}
 use Rattle.swd_observer.proofs.AskLemmas.{is_observed_writing, is_observed_reading, observed_reads_only}
@@ -93,80 +94,80 @@ settled_more before told t o x how h = record {
 }
 
 -- a read that was answered OK
-read_leaves : (before : List Transfer) (told : List ObservedAccess) (o : Observer) (x : Target) (busy : Bool)
+read_leaves : (before : List Transfer) (told : List ObservedAccess) (o : Observer) (x : Target) (choice : Choice)
     (r : Register) (k : RequestEffect)
     (word : Option ℕ) (place : ℕ) → is_observed_writing k ≡ false → ObservedKindFits k r → o.sent ≡ None
     → o.begun ≡ None → x.sticky_error ≡ false → x.write_error ≡ false → (r ≡ DrwRead → x.debug_power ≡ true)
-    → ObservedSettled (ObservedSince before told) o x → After before told o k word place (port_after_okay busy r x)
-read_leaves before told o x busy r Other word place reads fits sent rest quiet intact power h =
-    untold before told o (port_after_okay busy r x) (observer_settled_knows _ o (port_after_okay busy r x) sent rest
-    (observed_same_settled _ o x (port_after_okay busy r x) (observed_same_at_okay busy r x fits) h))
-read_leaves before told o x busy r (Elsewhere e) word place reads fits sent rest quiet intact power h =
-    observer_settled_knows _ o (port_after_okay busy r x) sent rest (settled_more before told
-    (record { place = place; read = e; addr = None; word = None; how = May }) o (port_after_okay busy r x) refl
-    (observed_same_settled _ o x (port_after_okay busy r x) (observed_same_at_okay busy r x fits) h))
-read_leaves before told o x busy r Reads word place reads fits sent rest quiet intact power h =
-    untold before told (observer_accepted Reads word place o) (port_after_okay busy r x)
+    → ObservedSettled (ObservedSince before told) o x → After before told o k word place (port_after_okay choice r x)
+read_leaves before told o x choice r Other word place reads fits sent rest quiet intact power h =
+    untold before told o (port_after_okay choice r x) (observer_settled_knows _ o (port_after_okay choice r x) sent rest
+    (observed_same_settled _ o x (port_after_okay choice r x) (observed_same_at_okay choice r x fits) h))
+read_leaves before told o x choice r (Elsewhere e) word place reads fits sent rest quiet intact power h =
+    observer_settled_knows _ o (port_after_okay choice r x) sent rest (settled_more before told
+    (record { place = place; read = e; addr = None; word = None; how = May }) o (port_after_okay choice r x) refl
+    (observed_same_settled _ o x (port_after_okay choice r x) (observed_same_at_okay choice r x fits) h))
+read_leaves before told o x choice r Reads word place reads fits sent rest quiet intact power h =
+    untold before told (observer_accepted Reads word place o) (port_after_okay choice r x)
     (subst (λ z. ObserverKnows (ObservedSince before told) (observer_accepted Reads word place o)
-    (port_after_okay busy z x)) (sym fits)
-    (observer_knows_drw_read _ o x busy word place sent quiet intact (power fits) h))
-read_leaves before told o x busy r (Writes w) word place reads fits sent rest quiet intact power h = absurd (cc)
-read_leaves before told o x busy r MayRead word place reads fits sent rest quiet intact power h =
-    held _ (observer_accepted MayRead word place o) (port_after_okay busy r x) sent
-    (observer_holds_may_read before told o x busy r word place rest fits h)
-read_leaves before told o x busy r (MayWrite w) word place reads fits sent rest quiet intact power h = absurd (cc)
+    (port_after_okay choice z x)) (sym fits)
+    (observer_knows_drw_read _ o x choice word place sent quiet intact (power fits) h))
+read_leaves before told o x choice r (Writes w) word place reads fits sent rest quiet intact power h = absurd (cc)
+read_leaves before told o x choice r MayRead word place reads fits sent rest quiet intact power h =
+    held _ (observer_accepted MayRead word place o) (port_after_okay choice r x) sent
+    (observer_holds_may_read before told o x choice r word place rest fits h)
+read_leaves before told o x choice r (MayWrite w) word place reads fits sent rest quiet intact power h = absurd (cc)
 
-write_leaves : (before : List Transfer) (told : List ObservedAccess) (o : Observer) (y : Target) (r : Register)
+write_leaves : (refuses : Bool) (before : List Transfer) (told : List ObservedAccess) (o : Observer) (y : Target) (r : Register)
     (k : RequestEffect) (ok : Bool)
     (word place : ℕ) (found : Option ℕ) → observed_may_select k ≡ false → is_observed_reading k ≡ false
     → ObservedKindFits k r → o.sent ≡ None
     → o.begun ≡ None → y.sticky_error ≡ false → y.write_error ≡ false
     → ((w : Written) → r ≡ observed_register_for w → w ≡ ToDrw
-    → (y.debug_power ≡ true) × (y.power_up ≡ Seen)) → word < 2 ^ 32
+    → (y.debug_power ≡ true) × (y.debug_up ≡ Seen)) → word < 2 ^ 32
     → IfSome found (λ f. IfSome (word_observed ok word) (λ v. f ≡ v)) → ObservedSettled (ObservedSince before told) o y
-    → After before told o k (word_observed ok word) place (port_after_bits (port_arrival_of r found) y)
-write_leaves before told o y r Other ok word place found other writes fits sent rest quiet intact power small is h =
-    untold before told o (port_after_bits (port_arrival_of r found) y) (observer_settled_knows _ o (port_after_bits
+    → After before told o k (word_observed ok word) place (port_after_bits refuses (port_arrival_of r found) y)
+write_leaves refuses before told o y r Other ok word place found other writes fits sent rest quiet intact power small is h =
+    untold before told o (port_after_bits refuses (port_arrival_of r found) y) (observer_settled_knows _ o (port_after_bits refuses
     (port_arrival_of r found) y) sent rest
-    (observed_same_settled _ o y (port_after_bits (port_arrival_of r found) y) (observed_same_at_data r found y fits)
+    (observed_same_settled _ o y (port_after_bits refuses (port_arrival_of r found) y) (observed_same_at_data refuses r found y fits)
     h))
-write_leaves before told o y r (Elsewhere e) ok word place found other writes fits sent rest quiet intact power small
+write_leaves refuses before told o y r (Elsewhere e) ok word place found other writes fits sent rest quiet intact power small
     is h =
-    observer_settled_knows _ o (port_after_bits (port_arrival_of r found) y) sent rest (settled_more before told
+    observer_settled_knows _ o (port_after_bits refuses (port_arrival_of r found) y) sent rest (settled_more before told
     (record { place = place; read = e; addr = None; word = None; how = May }) o
-    (port_after_bits (port_arrival_of r found) y) refl
-    (observed_same_settled _ o y (port_after_bits (port_arrival_of r found) y) (observed_same_at_data r found y fits)
+    (port_after_bits refuses (port_arrival_of r found) y) refl
+    (observed_same_settled _ o y (port_after_bits refuses (port_arrival_of r found) y) (observed_same_at_data refuses r found y fits)
     h))
-write_leaves before told o y r (Writes w) ok word place found other writes fits sent rest quiet intact power small is
+write_leaves refuses before told o y r (Writes w) ok word place found other writes fits sent rest quiet intact power small is
     h =
     untold before told (observer_accepted (Writes w) (word_observed ok word) place o)
-    (port_after_bits (port_arrival_of r found) y) (subst (λ z. ObserverKnows (ObservedSince before told)
+    (port_after_bits refuses (port_arrival_of r found) y) (subst (λ z. ObserverKnows (ObservedSince before told)
     (observer_accepted (Writes w) (word_observed ok word) place o)
-    (port_after_bits (port_arrival_of z found) y)) (sym fits)
-    (observer_knows_sent_write _ o y w ok word place found sent rest quiet intact (λ e. (power w fits e).0)
+    (port_after_bits refuses (port_arrival_of z found) y)) (sym fits)
+    (observer_knows_sent_write refuses _ o y w ok word place found sent rest quiet intact (λ e. (power w fits e).0)
     (λ e. (power w fits e).1) small is h))
-write_leaves before told o y r Reads ok word place found other writes fits sent rest quiet intact power small is h =
+write_leaves refuses before told o y r Reads ok word place found other writes fits sent rest quiet intact power small is h =
     absurd (cc)
-write_leaves before told o y r MayRead ok word place found other writes fits sent rest quiet intact power small is h =
+write_leaves refuses before told o y r MayRead ok word place found other writes fits sent rest quiet intact power small is h =
     absurd (cc)
-write_leaves before told o y r (MayWrite w) ok word place found other writes fits sent rest quiet intact power small
+write_leaves refuses before told o y r (MayWrite w) ok word place found other writes fits sent rest quiet intact power small
     is h =
     held _ (observer_accepted (MayWrite w) (word_observed ok word) place o)
-    (port_after_bits (port_arrival_of r found) y) sent
-    (observer_holds_may_write before told o y w (observed_whole o.increments (word_observed ok word)) place r found
+    (port_after_bits refuses (port_arrival_of r found) y) sent
+    (observer_holds_may_write refuses before told o y w (observed_whole o.increments (word_observed ok word)) place r found
     other rest fits (whole_found found o.increments (word_observed ok word) is) h)
 
-write_same : (k : RequestEffect) (r : Register) (busy : Bool) (x : Target) → is_observed_reading k ≡ false
-    → ObservedKindFits k r → ObservedSame x (port_after_okay busy r x)
-write_same Other r busy x writes fits = observed_same_at_okay busy r x fits
-write_same (Elsewhere e) r busy x writes fits = observed_same_at_okay busy r x fits
-write_same (Writes w) r busy x writes fits =
-    subst (λ z. ObservedSame x (port_after_okay busy z x)) (sym fits) (observed_same_at_write busy w x)
-write_same Reads r busy x writes fits = absurd (cc)
-write_same MayRead r busy x writes fits = absurd (cc)
-write_same (MayWrite w) r busy x writes (inl fits) =
-    subst (λ z. ObservedSame x (port_after_okay busy z x)) (sym fits) (observed_same_at_write busy w x)
-write_same (MayWrite w) r busy x writes (inr fits) = observed_same_at_okay busy r x fits
+write_same : (k : RequestEffect) (r : Register) (choice : Choice) (x : Target) → is_observed_reading k ≡ false
+    → ObservedKindFits k r → ObservedSame x (port_after_okay choice r x)
+write_same Other r choice x writes fits = observed_same_at_okay choice r x fits
+write_same (Elsewhere e) r choice x writes fits = observed_same_at_okay choice r x fits
+write_same (Writes w) r choice x writes fits =
+    subst (λ z. ObservedSame x (port_after_okay choice z x)) (sym fits) (observed_same_at_write choice w x)
+write_same Reads r choice x writes fits = absurd (cc)
+write_same MayRead r choice x writes fits = absurd (cc)
+write_same (MayWrite w) r choice x writes (inl fits) =
+    subst (λ z. ObservedSame x (port_after_okay choice z x)) (sym fits) (observed_same_at_write choice w x)
+write_same (MayWrite w) r choice x writes (inr fits) = observed_same_at_okay choice r x fits
 
 -- the observer and what was told, after such a request
 abbrev pub ObserverConfirmed : List Transfer → List ObservedAccess → Observer → Request → ℕ → Bool → ℕ → Target → Type 0
@@ -189,27 +190,27 @@ read_asked before told o q word ok place s a b t mark c bits tells reads first n
     h.clear plainly in
     let quiet : a.target.sticky_error ≡ false = observed_first_clear _ _ _ clear in
     let intact : a.target.write_error ≡ false = observed_second_clear a.target.sticky_error _ _ clear in
-    let line : d.link.line ≡ Drives (port_flipped h.flip (data_phase_number (port_value_in h.busy
-    (port_register a.target.select q) h.filler a.target))) =
+    let line : d.link.line ≡ Drives (port_flipped h.flip (data_phase_number (port_value_in h.choice
+    (port_register a.target.select q) a.target))) =
     ap (λ l. l.line) (port_kept b d last).link ∙ h.line ∙ observed_line_at_read q.read (port_register a.target.select q)
     h.flip _ reads in
-    let got : PortPhaseGot h.flip (port_value_in h.busy (port_register a.target.select q) h.filler a.target) bits =
-    port_data_taken h.flip (port_value_in h.busy (port_register a.target.select q) h.filler a.target) bits d t line
+    let got : PortPhaseGot h.flip (port_value_in h.choice (port_register a.target.select q) a.target) bits =
+    port_data_taken h.flip (port_value_in h.choice (port_register a.target.select q) a.target) bits d t line
     (h.value reads) range takes in
     let settled = observer_confirm_settles before told (observed_whole o.increments
     (if is_observed_posted_read q then word_observed ok word else None)) o a.target quiet intact
     (h.settled plainly)
     (observed_whole_right o.increments (if is_observed_posted_read q then word_observed ok word else None) a.target
     (observed_buffer_right (is_observed_posted_read q) ok word
-    (port_value_in h.busy (port_register a.target.select q) h.filler a.target) h.filler
+    (port_value_in h.choice (port_register a.target.select q) a.target) h.choice.filler
     a.target
-    (observed_posted_value a.target.select q h.busy h.filler a.target)
-    (observed_read_word h.flip (port_value_in h.busy (port_register a.target.select q) h.filler a.target) bits word ok
+    (observed_posted_value a.target.select q h.choice a.target)
+    (observed_read_word h.flip (port_value_in h.choice (port_register a.target.select q) a.target) bits word ok
     got carries))) (observer_knows_stays (ObservedSince before told) o s a first k) in
     let left : ObserverConfirmed before told o q word ok place
-    (port_after_okay h.busy (port_register a.target.select q) a.target) =
+    (port_after_okay h.choice (port_register a.target.select q) a.target) =
     read_leaves before (told ++ one_observed (observed_flight_access Took (observed_whole o.increments
-    (if is_observed_posted_read q then word_observed ok word else None)) o)) (observer_confirmed o) a.target h.busy
+    (if is_observed_posted_read q then word_observed ok word else None)) o)) (observer_confirmed o) a.target h.choice
     (port_register a.target.select q) (observed_kind (observer_confirmed o).select q) (word_observed ok word)
     place (observed_reads_only (observer_confirmed o).select q reads)
     (observed_kind_fits (observer_confirmed o).select a.target.select q settled.select) (observer_confirmed_unsent o)
@@ -252,38 +253,39 @@ write_asked before told o q word ok place s a b mark c bits tells writes first n
     (observed_write_no_word q.read _ (word_observed ok word) a.target writes))
     (observer_knows_stays (ObservedSince before told) o s a first k) in
     let fits = observed_kind_fits (observer_confirmed o).select a.target.select q settled.select in
-    let same : ObservedSame a.target (port_after_okay h.busy (port_register a.target.select q) a.target) =
-    write_same (observed_kind (observer_confirmed o).select q) (port_register a.target.select q) h.busy a.target
+    let same : ObservedSame a.target (port_after_okay h.choice (port_register a.target.select q) a.target) =
+    write_same (observed_kind (observer_confirmed o).select q) (port_register a.target.select q) h.choice a.target
     (observed_writes_only (observer_confirmed o).select q writes) fits in
     let none : b.target.pending ≡ None = ap (λ x. x.pending) h.target ∙ same.pending ∙ settled.none in
     let still_d : d ≡ b = no_pending_same b d none last in
     let still_e : e ≡ b = no_pending_same d e (ap (λ p. p.target.pending) still_d ∙ none) third ∙ still_d in
     let line : b.link.line ≡ Awaits (port_register a.target.select q) h.flip =
     h.line ∙ observed_line_at_write q.read (port_register a.target.select q) h.flip _ writes in
-    let is : f.target ≡ port_after_bits (port_arrival_of (port_register a.target.select q)
-    (data_phase_word (port_flipped h.flip bits))) (port_after_okay h.busy (port_register a.target.select q) a.target) =
-    ap (λ p. p.target) given.after ∙ ap (λ p. port_after_bits (port_arrival p.link.line bits) p.target) still_e
-    ∙ ap (λ l. port_after_bits (port_arrival l bits) b.target) line
-    ∙ ap (λ z. port_after_bits (port_arrival_of (port_register a.target.select q)
+    let is : f.target ≡ port_after_bits given.refuses (port_arrival_of (port_register a.target.select q)
+    (data_phase_word (port_flipped h.flip bits))) (port_after_okay h.choice (port_register a.target.select q) a.target) =
+    ap (λ p. p.target) given.after ∙ ap (λ p. port_after_bits given.refuses (port_arrival p.link.line bits) p.target) still_e
+    ∙ ap (λ l. port_after_bits given.refuses (port_arrival l bits) b.target) line
+    ∙ ap (λ z. port_after_bits given.refuses (port_arrival_of (port_register a.target.select q)
     (data_phase_word (port_flipped h.flip bits))) z) h.target in
     let left : ObserverConfirmed before told o q word ok place
-    (port_after_bits (port_arrival_of (port_register a.target.select q) (data_phase_word (port_flipped h.flip bits)))
-    (port_after_okay h.busy (port_register a.target.select q) a.target)) =
-    write_leaves before (told ++ one_observed (observed_flight_access Took (observed_whole o.increments
+    (port_after_bits given.refuses (port_arrival_of (port_register a.target.select q) (data_phase_word (port_flipped h.flip bits)))
+    (port_after_okay h.choice (port_register a.target.select q) a.target)) =
+    write_leaves given.refuses before (told ++ one_observed (observed_flight_access Took (observed_whole o.increments
     (if is_observed_posted_read q then word_observed ok word else None)) o)) (observer_confirmed o)
-    (port_after_okay h.busy (port_register a.target.select q) a.target) (port_register a.target.select q)
+    (port_after_okay h.choice (port_register a.target.select q) a.target) (port_register a.target.select q)
     (observed_kind (observer_confirmed o).select q) ok word place (data_phase_word (port_flipped h.flip bits))
     (observed_select_is_sure (observer_confirmed o).select q)
-    (observed_writes_only (observer_confirmed o).select q writes) fits (observer_confirmed_unsent o) refl quiet intact
+    (observed_writes_only (observer_confirmed o).select q writes) fits (observer_confirmed_unsent o) refl
+    (observed_quiet_at_write a.target.select q h.choice.refuses a.target.sticky_error writes ∙ quiet) intact
     (λ w named drw. (
       observed_ap_power q a.target clear
           (observed_drw_is_ap a.target.select q
           (inr (observed_drw_register w Seen (port_register a.target.select q) named drw))),
-      observed_power_at_drw w (port_register a.target.select q) h.busy a.target.power_up named drw,
+      observed_power_at_drw w (port_register a.target.select q) h.choice.debug_late a.target.debug_up named drw,
     )) small
     (observed_found_word h.flip bits word ok (data_phase_word (port_flipped h.flip bits)) range small carries refl)
     (observed_same_settled _ (observer_confirmed o) a.target
-    (port_after_okay h.busy (port_register a.target.select q) a.target) same settled) in
+    (port_after_okay h.choice (port_register a.target.select q) a.target) same settled) in
     observer_knows_stays _ _ f t fourth (subst (ObserverConfirmed before told o q word ok place) (sym is) left)
 
 pub observer_okay_write : (before : List Transfer) (told : List ObservedAccess) (o : Observer) (q : Request) (word : ℕ)

@@ -12,10 +12,11 @@ use Rattle.swd_port.specs.declared.state.Reply.TheVariants.{Okay, Waits, Faults,
 use Rattle.swd_port.specs.declared.mark.Mark.{Mark}
 use Rattle.swd_port.specs.declared.mark.Mark.TheVariants.{Clean, Wait, Flip, Deaf, Mute}
 use Rattle.swd_port.specs.Port.{Port, Target, port_register, port_dp_register, port_ap_register, mem_ap_register}
-use Rattle.swd_port.specs.Port.{port_no_ap_register, port_selects_mem_ap}
-use Rattle.swd_port.specs.Choices.{Choice, is_port_wait, port_flip_of}
+use Rattle.swd_port.specs.Port.{port_other_ap_register, port_selects_mem_ap}
+use Rattle.swd_port.specs.Choices.{Choice, port_flip_of}
 use Rattle.swd_port.specs.Answers.{is_exempt_register, port_may_wait, port_reply_under, PortSees, is_port_unpowered}
 use Rattle.swd_port.specs.Answers.{port_is_answered}
+use Rattle.swd_port.specs.Asking.{stickyerr_once_read}
 use Rattle.swd_port.specs.Asking.{PortAsksNow, port_reply, port_answer, port_after_okay, port_value_in}
 use Rattle.swd_port.specs.Asking.{port_phase_after, port_has_power, IsPortWordRead}
 use Rattle.swd_port.proofs.RequestLaws.{PortReplied, port_replied}
@@ -63,13 +64,12 @@ clear_by false false true e f = absurd (cc)
 
 -- an OK that was seen, whatever the mark
 pub record ObservedOkayed (s : Port) (q : Request) (t : Port) : Type 0 where
-  pub busy : Bool
-  pub filler : ℕ
+  pub choice : Choice
   pub flip : Option ℕ
-  pub target : t.target ≡ port_after_okay busy (port_register s.target.select q) s.target
+  pub target : t.target ≡ port_after_okay choice (port_register s.target.select q) s.target
   pub line : t.link.line ≡ port_phase_after q.read (port_register s.target.select q) flip
-      (port_value_in busy (port_register s.target.select q) filler s.target)
-  pub value : q.read ≡ true → port_value_in busy (port_register s.target.select q) filler s.target < 2 ^ 32
+      (port_value_in choice (port_register s.target.select q) s.target)
+  pub value : q.read ≡ true → port_value_in choice (port_register s.target.select q) s.target < 2 ^ 32
   pub settled : is_exempt_register (port_register s.target.select q) ≡ false → s.target.pending ≡ None
   pub clear : is_exempt_register (port_register s.target.select q) ≡ false →
       (s.target.sticky_error || s.target.write_error || is_port_unpowered q.ap (port_has_power s.target)) ≡ false
@@ -86,8 +86,7 @@ observed_ask_okayed mark c s q t h =
     let k : PortReplied mark c Okay (port_register s.target.select q) s q 1 t =
     port_replied mark c Okay (port_register s.target.select q) s q 1 t is refl h in
     record {
-      busy = is_port_wait mark;
-      filler = c.filler;
+      choice = c;
       flip = port_flip_of mark;
       target = ap (λ p. p.target) k.after;
       line = ap (λ p. p.link.line) k.after;
@@ -112,7 +111,7 @@ plain_dp true RC b e = refl
 plain_dp false RC b e = refl
 
 plain_ap : (m read : Bool) (addr : Reg4)
-    → is_exempt_register (if m then mem_ap_register read addr else port_no_ap_register read) ≡ false
+    → is_exempt_register (if m then mem_ap_register read addr else port_other_ap_register read) ≡ false
 plain_ap true true R0 = refl
 plain_ap true true R4 = refl
 plain_ap true true R8 = refl
@@ -183,7 +182,7 @@ fits_mem false R4 = refl
 fits_mem false R8 = refl
 fits_mem false RC = refl
 
-harmless_no : (read : Bool) → is_observed_harmless (port_no_ap_register read) ≡ true
+harmless_no : (read : Bool) → is_observed_harmless (port_other_ap_register read) ≡ true
 harmless_no true = refl
 harmless_no false = refl
 
@@ -206,13 +205,13 @@ maybe_harmless (MayWrite w) r h = inr h
 
 fits_none : (m read : Bool) (addr : Reg4)
     → ObservedKindFits (observed_kind_maybe (observed_kind_mem read addr))
-    (if m then mem_ap_register read addr else port_no_ap_register read)
+    (if m then mem_ap_register read addr else port_other_ap_register read)
 fits_none true read addr = maybe_fits (observed_kind_mem read addr) (mem_ap_register read addr) (fits_mem read addr)
-fits_none false read addr = maybe_harmless (observed_kind_mem read addr) (port_no_ap_register read) (harmless_no read)
+fits_none false read addr = maybe_harmless (observed_kind_mem read addr) (port_other_ap_register read) (harmless_no read)
 
 fits_some : (m d read : Bool) (addr : Reg4)
     → ObservedKindFits (if m then observed_kind_mem read addr else if d then Elsewhere read else Other)
-    (if m then mem_ap_register read addr else port_no_ap_register read)
+    (if m then mem_ap_register read addr else port_other_ap_register read)
 fits_some true d read addr = fits_mem read addr
 fits_some false true read addr = harmless_no read
 fits_some false false read addr = harmless_no read
@@ -236,31 +235,59 @@ pub observed_kind_fits : (known : Option Select) (s : Select) (q : Request) → 
 observed_kind_fits known s q h = fits_by q.ap known s q.read q.addr h
 
 -- the reads that give the read buffer
-posted_mem : (m : Bool) (addr : Reg4) (busy : Bool) (filler : ℕ) (x : Target)
-    → port_value_in busy (if m then mem_ap_register true addr else port_no_ap_register true) filler x
-    ≡ unwrap_or x.buffer filler
-posted_mem true R0 busy filler x = refl
-posted_mem true R4 busy filler x = refl
-posted_mem true R8 busy filler x = refl
-posted_mem true RC busy filler x = refl
-posted_mem false addr busy filler x = refl
+posted_mem : (m : Bool) (addr : Reg4) (choice : Choice) (x : Target)
+    → port_value_in choice (if m then mem_ap_register true addr else port_other_ap_register true) x
+    ≡ unwrap_or x.buffer choice.filler
+posted_mem true R0 choice x = refl
+posted_mem true R4 choice x = refl
+posted_mem true R8 choice x = refl
+posted_mem true RC choice x = refl
+posted_mem false addr choice x = refl
 
-posted_by : (ap : Bool) (s : Select) (read : Bool) (addr : Reg4) (busy : Bool) (filler : ℕ) (x : Target)
+posted_by : (ap : Bool) (s : Select) (read : Bool) (addr : Reg4) (choice : Choice) (x : Target)
     → (read && (ap || is_observed_rc addr)) ≡ true
-    → port_value_in busy (if ap then port_ap_register s read addr else port_dp_register read addr (s.dpbanksel == 0))
-    filler x ≡ unwrap_or x.buffer filler
-posted_by true s true addr busy filler x e = posted_mem (port_selects_mem_ap s) addr busy filler x
-posted_by true s false addr busy filler x e = absurd (cc)
-posted_by false s false addr busy filler x e = absurd (cc)
-posted_by false s true R0 busy filler x e = absurd (cc)
-posted_by false s true R4 busy filler x e = absurd (cc)
-posted_by false s true R8 busy filler x e = absurd (cc)
-posted_by false s true RC busy filler x e = refl
+    → port_value_in choice (if ap then port_ap_register s read addr else port_dp_register read addr (s.dpbanksel == 0))
+    x ≡ unwrap_or x.buffer choice.filler
+posted_by true s true addr choice x e = posted_mem (port_selects_mem_ap s) addr choice x
+posted_by true s false addr choice x e = absurd (cc)
+posted_by false s false addr choice x e = absurd (cc)
+posted_by false s true R0 choice x e = absurd (cc)
+posted_by false s true R4 choice x e = absurd (cc)
+posted_by false s true R8 choice x e = absurd (cc)
+posted_by false s true RC choice x e = refl
+
+quiet_mem : (m : Bool) (addr : Reg4) (refuses flag : Bool)
+    → stickyerr_once_read refuses (if m then mem_ap_register false addr else port_other_ap_register false) flag ≡ flag
+quiet_mem true R0 refuses flag = refl
+quiet_mem true R4 refuses flag = refl
+quiet_mem true R8 refuses flag = refl
+quiet_mem true RC refuses flag = refl
+quiet_mem false addr refuses flag = refl
+
+quiet_dp : (addr : Reg4) (bank0 : Bool) (refuses flag : Bool)
+    → stickyerr_once_read refuses (port_dp_register false addr bank0) flag ≡ flag
+quiet_dp R0 bank0 refuses flag = refl
+quiet_dp R4 true refuses flag = refl
+quiet_dp R4 false refuses flag = refl
+quiet_dp R8 bank0 refuses flag = refl
+quiet_dp RC bank0 refuses flag = refl
+
+quiet_by : (ap : Bool) (s : Select) (read : Bool) (addr : Reg4) (refuses flag : Bool) → read ≡ false
+    → stickyerr_once_read refuses
+    (if ap then port_ap_register s read addr else port_dp_register read addr (s.dpbanksel == 0)) flag ≡ flag
+quiet_by true s false addr refuses flag e = quiet_mem (port_selects_mem_ap s) addr refuses flag
+quiet_by false s false addr refuses flag e = quiet_dp addr (s.dpbanksel == 0) refuses flag
+quiet_by ap s true addr refuses flag e = absurd (cc)
+
+-- OK to a write sets no STICKYERR: a bus error elsewhere comes with its data
+pub observed_quiet_at_write : (s : Select) (q : Request) (refuses flag : Bool) → q.read ≡ false
+    → stickyerr_once_read refuses (port_register s q) flag ≡ flag
+observed_quiet_at_write s q refuses flag e = quiet_by q.ap s q.read q.addr refuses flag e
 
 -- an AP read or an RDBUFF read gives the word of the read buffer, or the filler where that is unknown
-pub observed_posted_value : (s : Select) (q : Request) (busy : Bool) (filler : ℕ) (x : Target)
-    → is_observed_posted_read q ≡ true → port_value_in busy (port_register s q) filler x ≡ unwrap_or x.buffer filler
-observed_posted_value s q busy filler x e = posted_by q.ap s q.read q.addr busy filler x e
+pub observed_posted_value : (s : Select) (q : Request) (choice : Choice) (x : Target)
+    → is_observed_posted_read q ≡ true → port_value_in choice (port_register s q) x ≡ unwrap_or x.buffer choice.filler
+observed_posted_value s q choice x e = posted_by q.ap s q.read q.addr choice x e
 
 -- a read writes nothing, and a write reads nothing
 abbrev pub is_observed_writing : RequestEffect → Bool

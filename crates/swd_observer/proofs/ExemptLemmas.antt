@@ -90,7 +90,7 @@ abort_asked : (before : List Transfer) (told : List ObservedAccess) (o : Observe
 abort_asked before told o q s a b d t mark c bits is first now last (e, f, third, given, fourth) k =
     let h : ObservedOkayed a q b = observed_ask_okayed mark c a q b now in
     let named : (port_register a.target.select q ≡ AbortWrite) × (q.read ≡ false) = abort_is a.target.select q is in
-    let same : b.target ≡ a.target = h.target ∙ ap (λ r. port_after_okay h.busy r a.target) named.0 in
+    let same : b.target ≡ a.target = h.target ∙ ap (λ r. port_after_okay h.choice r a.target) named.0 in
     let known : ObserverFlagged (ObservedSince before told) o e.target =
     observer_flagged_stays _ o d e third (observer_flagged_stays _ o b d last
     (subst (ObserverFlagged (ObservedSince before told) o) (sym same) (observer_flagged_stays _ o s a first k))) in
@@ -98,14 +98,14 @@ abort_asked before told o q s a b d t mark c bits is first now last (e, f, third
     ap (λ l. l.line) (port_kept d e third).link ∙ ap (λ l. l.line) (port_kept b d last).link ∙ h.line
     ∙ observed_line_at_write q.read (port_register a.target.select q) h.flip _ named.1 ∙ ap (λ r. Awaits r h.flip)
     named.0 in
-    let after : f.target ≡ port_after_bits (port_arrival_of AbortWrite (data_phase_word (port_flipped h.flip bits)))
+    let after : f.target ≡ port_after_bits given.refuses (port_arrival_of AbortWrite (data_phase_word (port_flipped h.flip bits)))
     e.target =
-    ap (λ p. p.target) given.after ∙ ap (λ l. port_after_bits (port_arrival l bits) e.target) line in
+    ap (λ p. p.target) given.after ∙ ap (λ l. port_after_bits given.refuses (port_arrival l bits) e.target) line in
     observer_knows_stays _ (observer_doubted o) f t fourth
     (subst (ObserverKnows (ObservedSince before (told ++ one_observed (observed_doubt o))) (observer_doubted o))
     (sym after) (observer_knows_in_doubt before told o e.target
-    (port_after_bits (port_arrival_of AbortWrite (data_phase_word (port_flipped h.flip bits))) e.target)
-    (observed_same_at_data AbortWrite (data_phase_word (port_flipped h.flip bits)) e.target refl)
+    (port_after_bits given.refuses (port_arrival_of AbortWrite (data_phase_word (port_flipped h.flip bits))) e.target)
+    (observed_same_at_data given.refuses AbortWrite (data_phase_word (port_flipped h.flip bits)) e.target refl)
     (observer_doubt_is_doubt o e.target known.flagged) known.knows))
 
 abort_step : (before : List Transfer) (told : List ObservedAccess) (o : Observer) (q : Request) (s d t : Port)
@@ -138,59 +138,59 @@ observer_knows_abort before told o q word ok place s t is h k = record {
 
 -- DPIDR: a fresh target is live, and nothing else changed
 flies_live : (E : List Transfer → Type 0) (b : StartedTransfer) (increments : Option Bool) (tar : Option ℕ)
-    (busy : Bool) (x : Target)
-    → ObservedFlying E b increments tar x → ObservedFlying E b increments tar (port_after_okay busy DpidrRead x)
-flies_live E b increments tar busy x (owed calm drw pending of at e) =
+    (choice : Choice) (x : Target)
+    → ObservedFlying E b increments tar x → ObservedFlying E b increments tar (port_after_okay choice DpidrRead x)
+flies_live E b increments tar choice x (owed calm drw pending of at e) =
     owed (record {
       sticky_error = calm.sticky_error;
       write_error = calm.write_error;
       debug_power = calm.debug_power;
-      power_up = calm.power_up;
+      debug_up = calm.debug_up;
     }) drw pending of at e
-flies_live E b increments tar busy x (gone calm none t log fits is e buffer next) =
+flies_live E b increments tar choice x (gone calm none t log fits is e buffer next) =
     gone (record {
       sticky_error = calm.sticky_error;
       write_error = calm.write_error;
       debug_power = calm.debug_power;
-      power_up = calm.power_up;
+      debug_up = calm.debug_up;
     }) none t log fits is e buffer next
-flies_live E b increments tar busy x (failed none error e) = failed none error e
+flies_live E b increments tar choice x (failed none error e) = failed none error e
 
 flight_live : (E : List Transfer → Type 0) (b : Option StartedTransfer) (increments : Option Bool) (tar : Option ℕ)
-    (busy : Bool) (x : Target) → ObservedFlight E b increments tar x
-    → ObservedFlight E b increments tar (port_after_okay busy DpidrRead x)
-flight_live E None increments tar busy x h = record { now = h.now; later = h.later; aimed = h.aimed }
-flight_live E (Some b) increments tar busy x h = flies_live E b increments tar busy x h
+    (choice : Choice) (x : Target) → ObservedFlight E b increments tar x
+    → ObservedFlight E b increments tar (port_after_okay choice DpidrRead x)
+flight_live E None increments tar choice x h = record { now = h.now; later = h.later; aimed = h.aimed }
+flight_live E (Some b) increments tar choice x h = flies_live E b increments tar choice x h
 
-holds_live : (E : List Transfer → Type 0) (o : Observer) (busy : Bool) (x : Target) → ObserverHolds E o x
-    → ObserverHolds E o (port_after_okay busy DpidrRead x)
-holds_live E o busy x h = record {
+holds_live : (E : List Transfer → Type 0) (o : Observer) (choice : Choice) (x : Target) → ObserverHolds E o x
+    → ObserverHolds E o (port_after_okay choice DpidrRead x)
+holds_live E o choice x h = record {
   select = h.select;
   increments = h.increments;
   range = h.range;
-  flight = flight_live E o.begun o.increments o.tar busy x h.flight;
+  flight = flight_live E o.begun o.increments o.tar choice x h.flight;
 }
 
-knows_live : (E : List Transfer → Type 0) (o : Observer) (busy : Bool) (x : Target) → ObserverKnows E o x
-    → ObserverKnows E o (port_after_okay busy DpidrRead x)
-knows_live E o busy x (here clean h) = here clean (holds_live E (observer_arrival o) busy x h)
-knows_live E o busy x (spoiled error rest h) = spoiled error rest (holds_live E (record o { sent = None }) busy x h)
+knows_live : (E : List Transfer → Type 0) (o : Observer) (choice : Choice) (x : Target) → ObserverKnows E o x
+    → ObserverKnows E o (port_after_okay choice DpidrRead x)
+knows_live E o choice x (here clean h) = here clean (holds_live E (observer_arrival o) choice x h)
+knows_live E o choice x (spoiled error rest h) = spoiled error rest (holds_live E (record o { sent = None }) choice x h)
 
 dpidr_step : (E : List Transfer → Type 0) (o : Observer) (q : Request) (s d : Port) → observed_class q ≡ Passes
     → PortAsks s q 1 d → ObserverKnows E o s.target → ObserverKnows E o d.target
 dpidr_step E o q s d is (a, b, mark, c, first, now, last) k =
     let h : ObservedOkayed a q b = observed_ask_okayed mark c a q b now in
     observer_knows_stays E o b d last (subst (ObserverKnows E o) (sym (h.target
-    ∙ ap (λ r. port_after_okay h.busy r a.target) (dpidr_is a.target.select q is).0))
-    (knows_live E o h.busy a.target (observer_knows_stays E o s a first k)))
+    ∙ ap (λ r. port_after_okay h.choice r a.target) (dpidr_is a.target.select q is).0))
+    (knows_live E o h.choice a.target (observer_knows_stays E o s a first k)))
 
 stands_live : (z : Standing) (word : ℕ) (q : Request) (s d : Port) → observed_class q ≡ Passes → PortAsks s q 1 d
     → ObservedStands z word s.target → ObservedStands z word d.target
 stands_live z word q s d is (a, b, mark, c, first, now, last) v =
     let h : ObservedOkayed a q b = observed_ask_okayed mark c a q b now in
     observed_stands_stays z word b d last (subst (ObservedStands z word) (sym (h.target
-    ∙ ap (λ r. port_after_okay h.busy r a.target) (dpidr_is a.target.select q is).0))
-    (observed_stands_same z word a.target (port_after_okay h.busy DpidrRead a.target) refl refl refl
+    ∙ ap (λ r. port_after_okay h.choice r a.target) (dpidr_is a.target.select q is).0))
+    (observed_stands_same z word a.target (port_after_okay h.choice DpidrRead a.target) refl refl refl
     (observed_stands_stays z word s a first v)))
 
 -- after a DPIDR read that is answered OK, what was known is true, with nothing reported

@@ -1,5 +1,6 @@
 -- A flag that is set stays set, and where a request was refused one is.
 use Rattle.std.proofs.Common.{◌≡◌, ℕ, Bool, true, false, List, refl, sym, ap, subst, inl, inr, ◌∙◌, ◌⊎◌}
+use Rattle.std.proofs.Common.{arith}
 use Rattle.std.specs.Prelude.{Option, Some, None, ◌||◌, ◌&&◌, if◌then◌else◌, not as no}
 use Rattle.swd_bits.specs.declared.request.Request.{Request}
 use Rattle.swd_port.specs.declared.mark.Mark.{Mark}
@@ -12,6 +13,7 @@ use Rattle.swd_port.specs.Choices.{Choice, is_port_wait, is_port_deaf}
 use Rattle.swd_port.specs.Completion.{port_completion, PortCompletes}
 use Rattle.swd_port.specs.Answers.{port_is_answered, is_exempt_register, is_port_unpowered, port_may_wait}
 use Rattle.swd_port.specs.Asking.{PortAsks, PortAsksNow, port_reply, port_answer, port_has_power, port_target_after}
+use Rattle.swd_port.specs.Asking.{stickyerr_once_read}
 use Rattle.swd_port.specs.Moving.{PortPasses, PortTakes}
 use Rattle.swd_port.proofs.RequestLaws.{port_replied}
 use Rattle.swd_observer.specs.declared.told.How.{How}
@@ -72,18 +74,23 @@ pub observed_doubt_stays : (how : How) (c : Choice) (x : Target) → IsObservedD
 observed_doubt_stays how c x (inl e) = inl e
 observed_doubt_stays how c x (inr (e, f)) = inr (e, observed_flag_completion c x f)
 
+-- an OK clears no flag, and an access elsewhere may set one
+okay_flags : (refuses : Bool) (r : Register) (sticky write : Bool) → (sticky || write) ≡ true
+    → (stickyerr_once_read refuses r sticky || write) ≡ true
+okay_flags refuses r sticky write f = grind arith
+
 -- whatever is replied, no flag is cleared
-flags_replied : (busy : Bool) (reply : Reply) (r : Register) (ap : Bool) (x : Target) → ObservedFlagSet x
-    → ObservedFlagSet (port_target_after busy reply r ap x)
-flags_replied busy Okay r ap x f = f
-flags_replied busy Waits r ap x f = f
-flags_replied busy Faults r ap x f = or_more x.sticky_error x.write_error (is_port_unpowered ap (port_has_power x)) f
-flags_replied busy Silent r ap x f = f
+flags_replied : (choice : Choice) (reply : Reply) (r : Register) (ap : Bool) (x : Target) → ObservedFlagSet x
+    → ObservedFlagSet (port_target_after choice reply r ap x)
+flags_replied choice Okay r ap x f = okay_flags choice.refuses r x.sticky_error x.write_error f
+flags_replied choice Waits r ap x f = f
+flags_replied choice Faults r ap x f = or_more x.sticky_error x.write_error (is_port_unpowered ap (port_has_power x)) f
+flags_replied choice Silent r ap x f = f
 
 pub observed_flag_ask_now : (mark : Mark) (c : Choice) (q : Request) (seen : ℕ) (s t : Port)
     → PortAsksNow mark c s q seen t → ObservedFlagSet s.target → ObservedFlagSet t.target
 observed_flag_ask_now mark c q seen s t h f = subst ObservedFlagSet (sym (ap (λ p. p.target) h.after))
-    (flags_replied (is_port_wait mark) (port_reply mark s.target q) (port_register s.target.select q) q.ap s.target f)
+    (flags_replied c (port_reply mark s.target q) (port_register s.target.select q) q.ap s.target f)
 
 -- where a flag is set, one is set after a request, whatever its answer and its mark
 pub observed_flag_asked : (q : Request) (seen : ℕ) (s t : Port) → PortAsks s q seen t → ObservedFlagSet s.target
@@ -121,9 +128,9 @@ refused_by false false false true false e = refl
 refused_by false false false false true e = refl
 refused_by false false false false false e = absurd (cc)
 
-fault_flags : (mark : Mark) (busy : Bool) (q : Request) (x : Target) → port_reply mark x q ≡ Faults
-    → ObservedFlagSet (port_target_after busy Faults (port_register x.select q) q.ap x)
-fault_flags mark busy q x e =
+fault_flags : (mark : Mark) (choice : Choice) (q : Request) (x : Target) → port_reply mark x q ≡ Faults
+    → ObservedFlagSet (port_target_after choice Faults (port_register x.select q) q.ap x)
+fault_flags mark choice q x e =
     refused_by (no (port_is_answered x.reset (port_register x.select q)))
     (is_exempt_register (port_register x.select q)) x.sticky_error x.write_error
     (is_port_unpowered q.ap (port_has_power x))
@@ -136,7 +143,7 @@ observed_fault_flagged q s t (a, b, mark, c, first, now, last) =
     let is : port_reply mark a.target q ≡ Faults = observed_fault_reply mark (port_reply mark a.target q) now.sees in
     let after = port_replied mark c Faults (port_register a.target.select q) a q 4 b is refl now in
     observed_flag_stays b t last (subst ObservedFlagSet (sym (ap (λ p. p.target) after.after)) (fault_flags mark
-    (is_port_wait mark) q a.target is))
+    c q a.target is))
 
 -- what the steps of an observer make of it
 pub observer_arrival_refused : (s : Option SentWrite) (o : Observer) → (observer_arrival_of s o).refused ≡ o.refused

@@ -2,7 +2,7 @@
 use Rattle.std.proofs.Common.{◌≡◌, ◌≢◌, ◌+◌, ◌%◌, ◌<◌, ◌^◌, ℕ, Bool, true, false, List, refl, sym, ap, subst, inl, inr}
 use Rattle.std.proofs.Common.{arith, ◌∙◌}
 use Rattle.std.specs.Prelude.{Option, Some, None, IfSome, unwrap_or, ◌&&◌, ◌==◌, if◌then◌else◌, not as no}
-use Rattle.std.specs.Option.{option_map}
+use Rattle.std.specs.Option.{option_and_then}
 use Rattle.swd_port.specs.declared.access.Transfer.{Transfer}
 use Rattle.swd_port.specs.Bus.{bus_succeeds, bus_transfer_of}
 use Rattle.swd_port.specs.Port.{Port, Target}
@@ -37,27 +37,23 @@ rests_done E tar c x choice h = record {
 }
 
 -- the next address, inside a kilobyte
-next_inside : (wraps : Bool) (at : ℕ) → at < 2 ^ 32 → at % 4 ≡ 0 → at % 1024 ≢ 1020
-    → port_tar_next_address wraps at ≡ at + 4
-next_inside true at range aligned inside = omega arith
-next_inside false at range aligned inside = omega arith
+next_inside : (at : ℕ) → at % 4 ≡ 0 → at % 1024 ≢ 1020 → port_tar_next_address at ≡ Some (at + 4)
+next_inside at aligned inside = let below : at % 1024 + 4 < 1024 = omega arith in grind arith
 
-advanced_at : (test : Bool) (wraps : Bool) (at : ℕ) (now : Option ℕ) → at < 2 ^ 32
-    → now ≡ Some (port_tar_next_address wraps at)
+advanced_at : (test : Bool) (at : ℕ) (now : Option ℕ) → now ≡ port_tar_next_address at
     → ((at % 4 == 0) && no (at % 1024 == 1020)) ≡ test → IfSome (if test then Some (at + 4) else None) (λ a. now
     ≡ Some a)
-advanced_at true wraps at now range e test = e ∙ ap (λ n. Some n) (next_inside wraps at range (grind arith)
-    (grind arith))
-advanced_at false wraps at now range e test = tt
+advanced_at true at now e test = e ∙ next_inside at (grind arith) (grind arith)
+advanced_at false at now e test = tt
 
 advanced : (increments : Option Bool) (tar : Option ℕ) (c : Choice) (x : Target) (now : Option ℕ)
     → IfSome increments (λ b. x.increments ≡ b) → IfSome tar (λ a. a < 2 ^ 32) → IfSome tar (λ a. x.tar ≡ Some a)
-    → now ≡ (if x.increments then option_map (port_tar_next_address c.wraps) x.tar else x.tar)
+    → now ≡ (if x.increments then option_and_then port_tar_next_address x.tar else x.tar)
     → IfSome (observed_tar_advance increments tar) (λ a. now ≡ Some a)
 advanced None tar c x now inc range at e = tt
 advanced (Some true) None c x now inc range at e = tt
 advanced (Some true) (Some a) c x now inc range at e =
-    advanced_at _ c.wraps a now range (rw (inc, at) at e) refl
+    advanced_at _ a now (rw (inc, at) at e) refl
 advanced (Some false) None c x now inc range at e = tt
 advanced (Some false) (Some a) c x now inc range at e = rw (inc, at) at e
 
@@ -80,7 +76,7 @@ took_off E b increments tar c x Reads true test inc range calm pending of at e =
       sticky_error = rw (pending, test, calm.sticky_error) refl;
       write_error = calm.write_error;
       debug_power = calm.debug_power;
-      power_up = calm.power_up;
+      debug_up = calm.debug_up;
     }) refl (bus_transfer_of (pending_access_at (unwrap_or x.tar c.address) Reads) x.memory) x.memory.log (record {
       read = sym of;
       addr = observed_transfer_at_tar tar c x at;
@@ -92,7 +88,7 @@ took_off E b increments tar c x (Writes word) true test inc range calm pending o
       sticky_error = rw (pending, test, calm.sticky_error) refl;
       write_error = calm.write_error;
       debug_power = calm.debug_power;
-      power_up = calm.power_up;
+      debug_up = calm.debug_up;
     }) refl (bus_transfer_of (pending_access_at (unwrap_or x.tar c.address) (Writes word)) x.memory) x.memory.log
     (record {
       read = sym of.0;

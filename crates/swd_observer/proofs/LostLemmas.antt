@@ -15,7 +15,7 @@ use Rattle.swd_port.specs.declared.state.Reply.TheVariants.{Okay, Waits, Faults,
 use Rattle.swd_port.specs.declared.access.Access.TheVariants.{Read as AccessRead}
 use Rattle.swd_port.specs.Bus.{bus_succeeds, bus_transfer_of}
 use Rattle.swd_port.specs.Port.{Port, Target, port_register}
-use Rattle.swd_port.specs.Choices.{Choice, is_port_wait}
+use Rattle.swd_port.specs.Choices.{Choice}
 use Rattle.swd_port.specs.Completion.{port_completion, pending_access_at}
 use Rattle.swd_port.specs.Asking.{PortAsks, PortAsksNow, port_after_okay, port_target_after, port_reply}
 use Rattle.swd_port.specs.Asking.{pending_drw_once_read}
@@ -79,30 +79,30 @@ aimed_at None x h = tt
 aimed_at (Some a) x h = h.0
 
 later_read : (before : List Transfer) (told : List ObservedAccess) (place : ℕ) (tar : Option ℕ) (x : Target)
-    (c : Choice) (busy : Bool) (test : Bool) → bus_succeeds (AccessRead (unwrap_or x.tar c.address)) x.memory ≡ test
+    (c : Choice) (choice : Choice) (test : Bool) → bus_succeeds (AccessRead (unwrap_or x.tar c.address)) x.memory ≡ test
     → IfSome tar (λ a. x.tar ≡ Some a) → ObservedSince before told x.memory.log
     → ObservedSince before (told ++ lost_read tar place ∷ [])
-    (port_completion c (port_after_okay busy DrwRead x)).memory.log
-later_read before told place tar x c busy true test at e = rw test
+    (port_completion c (port_after_okay choice DrwRead x)).memory.log
+later_read before told place tar x c choice true test at e = rw test
     (observed_since_may_took before told (lost_read tar place)
     (bus_transfer_of (pending_access_at (unwrap_or x.tar c.address) DrwReads) x.memory) x.memory.log refl
     (record { read = refl; addr = observed_transfer_at_tar tar c x at; word = tt }) e)
-later_read before told place tar x c busy false test at e = rw test
+later_read before told place tar x c choice false test at e = rw test
     (observed_since_may_not before told (lost_read tar place) x.memory.log refl e)
 
 -- a DRW read that was accepted unseen: what is known is true, once it is reported as `May`, with TAR unknown from
 -- then on
 pub observer_holds_lost_read : (before : List Transfer) (told : List ObservedAccess) (place : ℕ) (d : Observer)
-    (x : Target) (busy : Bool) → d.begun ≡ None → ObserverHolds (ObservedSince before told) d x
+    (x : Target) (choice : Choice) → d.begun ≡ None → ObserverHolds (ObservedSince before told) d x
     → ObserverHolds (ObservedSince before (told ++ lost_read d.tar place ∷ [])) (record d { tar = None })
-    (port_after_okay busy DrwRead x)
-observer_holds_lost_read before told place d x busy rest h =
+    (port_after_okay choice DrwRead x)
+observer_holds_lost_read before told place d x choice rest h =
     let r : ObservedResting (ObservedSince before told) d.tar x =
     subst (λ b. ObservedFlight (ObservedSince before told) b d.increments d.tar x) rest h.flight in
     let s : ObservedResting (ObservedSince before (told ++ lost_read d.tar place ∷ [])) None
-    (port_after_okay busy DrwRead x) = record {
+    (port_after_okay choice DrwRead x) = record {
       now = observed_since_may_not before told (lost_read d.tar place) x.memory.log refl r.now;
-      later = λ c k. later_read before told place d.tar x c busy (bus_succeeds (AccessRead (unwrap_or x.tar c.address)) x.memory) refl
+      later = λ c k. later_read before told place d.tar x c choice (bus_succeeds (AccessRead (unwrap_or x.tar c.address)) x.memory) refl
           (aimed_at d.tar x r.aimed) r.now;
       aimed = tt;
     } in
@@ -111,7 +111,7 @@ observer_holds_lost_read before told place d x busy rest h =
       increments = h.increments;
       range = tt;
       flight = subst (λ b. ObservedFlight (ObservedSince before (told ++ lost_read d.tar place ∷ [])) b d.increments
-          None (port_after_okay busy DrwRead x)) (sym rest) s;
+          None (port_after_okay choice DrwRead x)) (sym rest) s;
     }
 
 writes_not : (w : Written) → DrwRead ≡ observed_register_for w → ⊥
@@ -149,21 +149,21 @@ pub observed_same_self : (x : Target) → ObservedSame x x
 observed_same_self x = record { select = refl; increments = refl; tar = refl; pending = refl; memory = refl }
 
 drw_lost : (before : List Transfer) (told : List ObservedAccess) (o : Observer) (q : Request) (place : ℕ) (x : Target)
-    (busy : Bool)
+    (choice : Choice)
     → port_register x.select q ≡ DrwRead → ObserverFlagged (ObservedSince before told) o x
-    → Lost before told o q place (port_after_okay busy (port_register x.select q) x)
-drw_lost before told o q place x busy named k =
+    → Lost before told o q place (port_after_okay choice (port_register x.select q) x)
+drw_lost before told o q place x choice named k =
     let h : ObserverHolds (ObservedSince before (told ++ one_observed (observed_doubt o))) (observer_doubted o) x =
     observer_holds_in_doubt before told o x x (observed_same_self x) (observer_doubt_is_doubt o x k.flagged) k.knows in
     let reads : is_observed_read_kind (observed_kind (observer_doubted o).select q) ≡ true =
     reads_drw (observed_kind (observer_doubted o).select q) (port_register x.select q) named
     (observed_kind_fits (observer_doubted o).select x.select q h.select) in
-    subst (λ r. Lost before told o q place (port_after_okay busy r x)) (sym named)
+    subst (λ r. Lost before told o q place (port_after_okay choice r x)) (sym named)
     (subst (λ b. ObserverHolds (ObservedSince before ((told ++ one_observed (observed_doubt o))
     ++ one_observed (if b then observed_may_access true (observer_doubted o).tar None place else None)))
-    (if b then record (observer_doubted o) { tar = None } else observer_doubted o) (port_after_okay busy DrwRead x))
+    (if b then record (observer_doubted o) { tar = None } else observer_doubted o) (port_after_okay choice DrwRead x))
     (sym reads)
-    (observer_holds_lost_read before (told ++ one_observed (observed_doubt o)) place (observer_doubted o) x busy refl
+    (observer_holds_lost_read before (told ++ one_observed (observed_doubt o)) place (observer_doubted o) x choice refl
     h))
 
 abbrev is_drw_read : Register → Bool
@@ -179,12 +179,12 @@ pends_kept DrwRead p e = absurd (cc)
 pends_kept r p e = refl
 
 okay_lost : (before : List Transfer) (told : List ObservedAccess) (o : Observer) (q : Request) (place : ℕ) (x : Target)
-    (busy : Bool)
+    (choice : Choice)
     (drw : Bool) → is_drw_read (port_register x.select q) ≡ drw → ObserverFlagged (ObservedSince before told) o x
-    → Lost before told o q place (port_after_okay busy (port_register x.select q) x)
-okay_lost before told o q place x busy true e k =
-    drw_lost before told o q place x busy (drw_read_is (port_register x.select q) e) k
-okay_lost before told o q place x busy false e k = kept_lost before told o q place x _ (record {
+    → Lost before told o q place (port_after_okay choice (port_register x.select q) x)
+okay_lost before told o q place x choice true e k =
+    drw_lost before told o q place x choice (drw_read_is (port_register x.select q) e) k
+okay_lost before told o q place x choice false e k = kept_lost before told o q place x _ (record {
   select = refl;
   increments = refl;
   tar = refl;
@@ -193,16 +193,16 @@ okay_lost before told o q place x busy false e k = kept_lost before told o q pla
 }) k
 
 lost_by : (before : List Transfer) (told : List ObservedAccess) (o : Observer) (q : Request) (place : ℕ) (x : Target)
-    (busy : Bool)
+    (choice : Choice)
     (reply : Reply) → ObserverFlagged (ObservedSince before told) o x
-    → Lost before told o q place (port_target_after busy reply (port_register x.select q) q.ap x)
-lost_by before told o q place x busy Okay k =
-    okay_lost before told o q place x busy (is_drw_read (port_register x.select q)) refl k
-lost_by before told o q place x busy Waits k = kept_lost before told o q place x _
+    → Lost before told o q place (port_target_after choice reply (port_register x.select q) q.ap x)
+lost_by before told o q place x choice Okay k =
+    okay_lost before told o q place x choice (is_drw_read (port_register x.select q)) refl k
+lost_by before told o q place x choice Waits k = kept_lost before told o q place x _
     (record { select = refl; increments = refl; tar = refl; pending = refl; memory = refl }) k
-lost_by before told o q place x busy Faults k = kept_lost before told o q place x _
+lost_by before told o q place x choice Faults k = kept_lost before told o q place x _
     (record { select = refl; increments = refl; tar = refl; pending = refl; memory = refl }) k
-lost_by before told o q place x busy Silent k = kept_lost before told o q place x x (observed_same_self x) k
+lost_by before told o q place x choice Silent k = kept_lost before told o q place x x (observed_same_self x) k
 
 -- an observer without an unconfirmed write has none, whether or not TAR becomes unknown at a lost acknowledgement
 pub observer_unanswered_unsent : (read : Bool) (d : Observer) → d.sent ≡ None
@@ -227,7 +227,7 @@ lost_now before told o q seen place mark c s t h k =
     t.target) (sym (observer_unanswered_unsent (is_observed_read_kind (observed_kind (observer_doubted o).select q))
     (observer_doubted o) (observer_doubted_unsent o)))
     (subst (Lost before told o q place) (sym (ap (λ p. p.target) h.after))
-    (lost_by before told o q place s.target (is_port_wait mark) (port_reply mark s.target q) k)))
+    (lost_by before told o q place s.target c (port_reply mark s.target q) k)))
 
 lost_asked : (before : List Transfer) (told : List ObservedAccess) (o : Observer) (q : Request) (seen place : ℕ)
     (s t : Port) → PortAsks s q seen t → ObserverFlagged (ObservedSince before told) o s.target

@@ -49,13 +49,13 @@ flies_anew E b increments tar r x (owed calm drw pending of at e) = owed (record
   sticky_error = calm.sticky_error;
   write_error = calm.write_error;
   debug_power = calm.debug_power;
-  power_up = calm.power_up;
+  debug_up = calm.debug_up;
 }) drw pending of at e
 flies_anew E b increments tar r x (gone calm none t log fits is e buffer next) = gone (record {
   sticky_error = calm.sticky_error;
   write_error = calm.write_error;
   debug_power = calm.debug_power;
-  power_up = calm.power_up;
+  debug_up = calm.debug_up;
 }) none t log fits is e buffer next
 flies_anew E b increments tar r x (failed none error e) = failed none error e
 

@@ -5,6 +5,7 @@ use Rattle.std.specs.Prelude.{Option, Some, None, IfSome, ◌&&◌, ◌==◌, na
 use Rattle.std.specs.Option.{option_map, option_and_then}
 use Rattle.swd_bits.specs.Phases.{data_phase_word, data_phase_number}
 use Rattle.swd_bits.proofs.PhaseLemmas.{data_phase_of_found_word, flipped_data_phase_no_word}
+use Rattle.swd_port.specs.Choices.{Choice}
 use Rattle.swd_port.specs.declared.access.Transfer.{Transfer}
 use Rattle.swd_port.specs.declared.select.Select.{Select}
 use Rattle.swd_port.specs.declared.register.Register.{Register}
@@ -199,9 +200,9 @@ pending_same DrwRead p e = absurd (cc)
 pending_same r p e = refl
 
 -- OK to a request for a register of which an observer keeps nothing changes nothing of what it keeps
-pub observed_same_at_okay : (busy : Bool) (r : Register) (x : Target) → is_observed_harmless r ≡ true
-    → ObservedSame x (port_after_okay busy r x)
-observed_same_at_okay busy r x e = record {
+pub observed_same_at_okay : (choice : Choice) (r : Register) (x : Target) → is_observed_harmless r ≡ true
+    → ObservedSame x (port_after_okay choice r x)
+observed_same_at_okay choice r x e = record {
   select = refl;
   increments = refl;
   tar = refl;
@@ -216,9 +217,9 @@ write_pends_not ToTar p = refl
 write_pends_not ToDrw p = refl
 
 -- nor does OK to a write that an observer tracks: its effect comes with its data
-pub observed_same_at_write : (busy : Bool) (w : Written) (x : Target)
-    → ObservedSame x (port_after_okay busy (observed_register_for w) x)
-observed_same_at_write busy w x = record {
+pub observed_same_at_write : (choice : Choice) (w : Written) (x : Target)
+    → ObservedSame x (port_after_okay choice (observed_register_for w) x)
+observed_same_at_write choice w x = record {
   select = refl;
   increments = refl;
   tar = refl;
@@ -227,18 +228,18 @@ observed_same_at_write busy w x = record {
 }
 
 -- a DRW read is owed
-pub observer_knows_drw_read : (E : List Transfer → Type 0) (o : Observer) (x : Target) (busy : Bool) (word : Option ℕ)
+pub observer_knows_drw_read : (E : List Transfer → Type 0) (o : Observer) (x : Target) (choice : Choice) (word : Option ℕ)
     (place : ℕ)
     → o.sent ≡ None → x.sticky_error ≡ false → x.write_error ≡ false → x.debug_power ≡ true → ObservedSettled E o x
-    → ObserverKnows E (observer_accepted Reads word place o) (port_after_okay busy DrwRead x)
-observer_knows_drw_read E o x busy word place sent quiet whole power h =
+    → ObserverKnows E (observer_accepted Reads word place o) (port_after_okay choice DrwRead x)
+observer_knows_drw_read E o x choice word place sent quiet whole power h =
     here (observer_unsent o.sent _ sent) (subst
     (λ s. ObserverHolds E (observer_arrival_of s (observer_accepted Reads word place o))
-    (port_after_okay busy DrwRead x)) (sym sent) (record {
+    (port_after_okay choice DrwRead x)) (sym sent) (record {
       select = h.select;
       increments = h.increments;
       range = h.range;
-      flight = owed (record { sticky_error = quiet; write_error = whole; debug_power = power; power_up = refl })
+      flight = owed (record { sticky_error = quiet; write_error = whole; debug_power = power; debug_up = refl })
           DrwReads
           refl refl h.aimed h.now;
     }))
@@ -265,16 +266,16 @@ pends_same DrwWrite word p e = absurd (cc)
 pends_same r word p e = refl
 
 -- the data of a write of which an observer keeps nothing, arrived or corrupted, changes nothing of what it keeps
-pub observed_same_at_data : (r : Register) (found : Option ℕ) (x : Target) → is_observed_harmless r ≡ true
-    → ObservedSame x (port_after_bits (port_arrival_of r found) x)
-observed_same_at_data r None x e = record {
+pub observed_same_at_data : (refuses : Bool) (r : Register) (found : Option ℕ) (x : Target) → is_observed_harmless r ≡ true
+    → ObservedSame x (port_after_bits refuses (port_arrival_of r found) x)
+observed_same_at_data refuses r None x e = record {
   select = refl;
   increments = refl;
   tar = refl;
   pending = refl;
   memory = refl;
 }
-observed_same_at_data r (Some word) x e = record {
+observed_same_at_data refuses r (Some word) x e = record {
   select = select_same r word x.select e;
   increments = increments_same r word x.increments e;
   tar = tar_same r word x.tar e;
@@ -325,39 +326,39 @@ tar_arrives (Some w) word h = ap (λ n. Some n) h
 
 -- in a settled state without a flag, the word of a write that an observer tracks arrives: what it knows is true, with
 -- the write unconfirmed
-pub observer_knows_arrival : (E : List Transfer → Type 0) (o : Observer) (x : Target) (w : Written) (known : Option ℕ)
+pub observer_knows_arrival : (refuses : Bool) (E : List Transfer → Type 0) (o : Observer) (x : Target) (w : Written) (known : Option ℕ)
     (word place : ℕ)
     → o.begun ≡ None → x.sticky_error ≡ false → x.write_error ≡ false → (w ≡ ToDrw → x.debug_power ≡ true)
-    → (w ≡ ToDrw → x.power_up ≡ Seen) → IfSome known (λ v. v < 2 ^ 32)
+    → (w ≡ ToDrw → x.debug_up ≡ Seen) → IfSome known (λ v. v < 2 ^ 32)
     → IfSome known (λ v. word ≡ v) → ObservedSettled E o x
     → ObserverKnows E (observer_accepted (Writes w) known place o)
-    (port_after_bits (Arrives (observed_register_for w) word) x)
-observer_knows_arrival E o x ToSelect known word place rest quiet intact power up range is h = here intact (record {
+    (port_after_bits refuses (Arrives (observed_register_for w) word) x)
+observer_knows_arrival refuses E o x ToSelect known word place rest quiet intact power up range is h = here intact (record {
   select = mapped Select select_of known word is;
   increments = h.increments;
   range = h.range;
-  flight = subst (λ b. ObservedFlight E b o.increments o.tar (port_after_bits (Arrives SelectWrite word) x)) (sym rest)
-      (rests_by E o.tar (port_after_bits (Arrives SelectWrite word) x) h.aimed h.now h.none);
+  flight = subst (λ b. ObservedFlight E b o.increments o.tar (port_after_bits refuses (Arrives SelectWrite word) x)) (sym rest)
+      (rests_by E o.tar (port_after_bits refuses (Arrives SelectWrite word) x) h.aimed h.now h.none);
 })
-observer_knows_arrival E o x ToCsw known word place rest quiet intact power up range is h = here intact (record {
+observer_knows_arrival refuses E o x ToCsw known word place rest quiet intact power up range is h = here intact (record {
   select = h.select;
   increments = stepped known word is;
   range = h.range;
-  flight = subst (λ b. ObservedFlight E b (option_and_then observed_increments_in known) o.tar (port_after_bits
+  flight = subst (λ b. ObservedFlight E b (option_and_then observed_increments_in known) o.tar (port_after_bits refuses
       (Arrives CswWrite word) x)) (sym rest)
-      (rests_by E o.tar (port_after_bits (Arrives CswWrite word) x) h.aimed h.now h.none);
+      (rests_by E o.tar (port_after_bits refuses (Arrives CswWrite word) x) h.aimed h.now h.none);
 })
-observer_knows_arrival E o x ToTar known word place rest quiet intact power up range is h = here intact (record {
+observer_knows_arrival refuses E o x ToTar known word place rest quiet intact power up range is h = here intact (record {
   select = h.select;
   increments = h.increments;
   range = range;
-  flight = subst (λ b. ObservedFlight E b o.increments known (port_after_bits (Arrives TarWrite word) x)) (sym rest)
-      (rests_by E known (port_after_bits (Arrives TarWrite word) x) (tar_arrives known word is) h.now h.none);
+  flight = subst (λ b. ObservedFlight E b o.increments known (port_after_bits refuses (Arrives TarWrite word) x)) (sym rest)
+      (rests_by E known (port_after_bits refuses (Arrives TarWrite word) x) (tar_arrives known word is) h.now h.none);
 })
-observer_knows_arrival E o x ToDrw known word place rest quiet intact power up range is h = here intact (record {
+observer_knows_arrival refuses E o x ToDrw known word place rest quiet intact power up range is h = here intact (record {
   select = h.select;
   increments = h.increments;
   range = h.range;
-  flight = owed (record { sticky_error = quiet; write_error = intact; debug_power = power refl; power_up = up refl })
+  flight = owed (record { sticky_error = quiet; write_error = intact; debug_power = power refl; debug_up = up refl })
       (DrwWrites word) refl (refl, observed_whole_word_has o.increments known (λ v. word ≡ v) is) h.aimed h.now;
 })

@@ -59,7 +59,7 @@ calm_refused v u x off calm = record {
   sticky_error = rw (calm.sticky_error, off calm) refl;
   write_error = calm.write_error;
   debug_power = calm.debug_power;
-  power_up = calm.power_up;
+  debug_up = calm.debug_up;
 }
 
 flies_refused : (E : List Transfer → Type 0) (b : StartedTransfer) (increments : Option Bool) (tar : Option ℕ)
@@ -101,21 +101,21 @@ or_false true = refl
 or_false false = refl
 
 powered_calm : (ap : Bool) (x : Target) → ObservedCalm x → is_port_unpowered ap (port_has_power x) ≡ false
-powered_calm true x calm = rw (calm.debug_power, calm.power_up) refl
+powered_calm true x calm = rw (calm.debug_power, calm.debug_up) refl
 powered_calm false x calm = refl
 
-waited : (E : List Transfer → Type 0) (o : Observer) (busy : Bool) (q : Request) (x : Target) → ObserverKnows E o x
-    → ObserverKnows E o (port_target_after busy Waits (port_register x.select q) q.ap x)
-waited E o busy q x k =
-    subst (λ s. ObserverKnows E o (record (port_target_after busy Waits (port_register x.select q) q.ap x)
+waited : (E : List Transfer → Type 0) (o : Observer) (choice : Choice) (q : Request) (x : Target) → ObserverKnows E o x
+    → ObserverKnows E o (port_target_after choice Waits (port_register x.select q) q.ap x)
+waited E o choice q x k =
+    subst (λ s. ObserverKnows E o (record (port_target_after choice Waits (port_register x.select q) q.ap x)
     { sticky_error = s })) (or_false x.sticky_error)
-    (knows_refused E o (port_target_after busy Waits (port_register x.select q) q.ap x).read_ok false x (λ calm. refl)
+    (knows_refused E o (port_target_after choice Waits (port_register x.select q) q.ap x).read_ok false x (λ calm. refl)
     k)
 
-faulted : (E : List Transfer → Type 0) (o : Observer) (busy : Bool) (q : Request) (x : Target) → ObserverKnows E o x
-    → ObserverKnows E o (port_target_after busy Faults (port_register x.select q) q.ap x)
-faulted E o busy q x k =
-    knows_refused E o (port_target_after busy Faults (port_register x.select q) q.ap x).read_ok
+faulted : (E : List Transfer → Type 0) (o : Observer) (choice : Choice) (q : Request) (x : Target) → ObserverKnows E o x
+    → ObserverKnows E o (port_target_after choice Faults (port_register x.select q) q.ap x)
+faulted E o choice q x k =
+    knows_refused E o (port_target_after choice Faults (port_register x.select q) q.ap x).read_ok
     (is_port_unpowered q.ap (port_has_power x)) x (powered_calm q.ap x) k
 
 passed : (E : List Transfer → Type 0) (o : Observer) (s t : Port) → PortPasses s t → ObserverKnows E o s.target
@@ -129,14 +129,14 @@ wait_now : (E : List Transfer → Type 0) (o : Observer) (q : Request) (mark : M
 wait_now E o q mark c s t h k =
     let is : port_reply mark s.target q ≡ Waits = observed_wait_reply mark (port_reply mark s.target q) h.sees in
     let after = port_replied mark c Waits (port_register s.target.select q) s q 2 t is refl h in
-    subst (ObserverKnows E o) (sym (ap (λ p. p.target) after.after)) (waited E o true q s.target k)
+    subst (ObserverKnows E o) (sym (ap (λ p. p.target) after.after)) (waited E o c q s.target k)
 
 fault_now : (E : List Transfer → Type 0) (o : Observer) (q : Request) (mark : Mark) (c : Choice) (s t : Port)
     → PortAsksNow mark c s q 4 t → ObserverKnows E o s.target → ObserverKnows E o t.target
 fault_now E o q mark c s t h k =
     let is : port_reply mark s.target q ≡ Faults = observed_fault_reply mark (port_reply mark s.target q) h.sees in
     let after = port_replied mark c Faults (port_register s.target.select q) s q 4 t is refl h in
-    subst (ObserverKnows E o) (sym (ap (λ p. p.target) after.after)) (faulted E o true q s.target k)
+    subst (ObserverKnows E o) (sym (ap (λ p. p.target) after.after)) (faulted E o c q s.target k)
 
 -- what is known is true after a request at which WAIT is seen, and its turnaround
 pub observer_knows_wait : (E : List Transfer → Type 0) (o : Observer) (q : Request) (s a t : Port) → PortAsks s q 2 a

@@ -7,6 +7,7 @@ use Rattle.swd_bits.specs.declared.request.Request.{Request}
 use Rattle.swd_bits.specs.declared.request.Reg4.{Reg4}
 use Rattle.swd_bits.specs.declared.request.Reg4.TheVariants.{R0, R4, R8, RC}
 use Rattle.swd_bits.specs.Phases.{data_phase_word, data_phase_number}
+use Rattle.swd_port.specs.Choices.{Choice}
 use Rattle.swd_port.specs.declared.access.Transfer.{Transfer}
 use Rattle.swd_port.specs.declared.register.Register.{Register}
 use Rattle.swd_port.specs.declared.register.Register.TheVariants.{DrwRead, ResendRead}
@@ -14,7 +15,7 @@ use Rattle.swd_port.specs.declared.select.Select.{Select}
 use Rattle.swd_port.specs.declared.state.AfterAck.TheVariants.{Drives}
 use Rattle.swd_port.specs.Phases.{port_flipped}
 use Rattle.swd_port.specs.Port.{Port, Target, port_register, port_dp_register, port_ap_register, mem_ap_register}
-use Rattle.swd_port.specs.Port.{port_no_ap_register, port_selects_mem_ap}
+use Rattle.swd_port.specs.Port.{port_other_ap_register, port_selects_mem_ap}
 use Rattle.swd_port.specs.Answers.{is_exempt_register, is_port_unpowered}
 use Rattle.swd_port.specs.Completion.{PortCompletes}
 use Rattle.swd_port.specs.Asking.{PortAsks, port_after_okay, port_has_power, is_port_posted, port_value_in}
@@ -59,7 +60,7 @@ use Rattle.swd_observer.proofs.AnyLemmas.{observer_okay_moved}
 
 -- which request it is
 posted_mem : (m : Bool) (addr : Reg4)
-    → is_port_posted (if m then mem_ap_register true addr else port_no_ap_register true) ≡ true
+    → is_port_posted (if m then mem_ap_register true addr else port_other_ap_register true) ≡ true
 posted_mem true R0 = refl
 posted_mem true R4 = refl
 posted_mem true R8 = refl
@@ -169,13 +170,12 @@ word_is (Some v) word value e h = sym e ∙ h
 record ReadBy (q : Request) (word : ℕ) (ok : Bool) (s d : Port) : Type 0 where
   at : Port
   after : Port
-  busy : Bool
-  filler : ℕ
+  choice : Choice
   first : PortCompletes s at
   last : PortCompletes after d
-  gave : IfSome (word_observed ok word) (λ v. port_value_in busy (port_register at.target.select q) filler at.target
+  gave : IfSome (word_observed ok word) (λ v. port_value_in choice (port_register at.target.select q) at.target
       ≡ v)
-  target : after.target ≡ port_after_okay busy (port_register at.target.select q) at.target
+  target : after.target ≡ port_after_okay choice (port_register at.target.select q) at.target
   settled : is_exempt_register (port_register at.target.select q) ≡ false → at.target.pending ≡ None
   clear : is_exempt_register (port_register at.target.select q) ≡ false →
       (at.target.sticky_error || at.target.write_error || is_port_unpowered q.ap (port_has_power at.target)) ≡ false
@@ -184,7 +184,7 @@ read_by : (q : Request) (word : ℕ) (ok : Bool) (s d t : Port) (bits : ℕ) →
     → bits < 2 ^ 33 → data_phase_word bits ≡ word_observed ok word → PortTakes d bits t → ReadBy q word ok s d
 read_by q word ok s d t bits reads (a, b, mark, c, first, now, last) range carries takes =
     let h : ObservedOkayed a q b = observed_ask_okayed mark c a q b now in
-    let value = port_value_in h.busy (port_register a.target.select q) h.filler a.target in
+    let value = port_value_in h.choice (port_register a.target.select q) a.target in
     let line : d.link.line ≡ Drives (port_flipped h.flip (data_phase_number value)) =
     ap (λ l. l.line) (port_kept b d last).link ∙ h.line ∙ observed_line_at_read q.read (port_register a.target.select q)
     h.flip _ reads in
@@ -192,8 +192,7 @@ read_by q word ok s d t bits reads (a, b, mark, c, first, now, last) range carri
     record {
       at = a;
       after = b;
-      busy = h.busy;
-      filler = h.filler;
+      choice = h.choice;
       first = first;
       last = last;
       gave = observed_read_word h.flip value bits word ok got carries;
@@ -216,7 +215,7 @@ right_posted q word ok s t held h stands e =
     (takes_of q.read h.asked h.bits t reads h.moves) in
     let there : ObservedStands Buffer held r.at.target = observed_stands_stays Buffer held s r.at r.first stands in
     word_is (word_observed ok word) held _
-    (observed_posted_value r.at.target.select q r.busy r.filler r.at.target e ∙ ap (λ b. unwrap_or b r.filler) there.0)
+    (observed_posted_value r.at.target.select q r.choice r.at.target e ∙ ap (λ b. unwrap_or b r.choice.filler) there.0)
     r.gave
 
 right_resent : (q : Request) (word : ℕ) (ok : Bool) (s t : Port) (held : ℕ) → ObservedHasMoved q word ok s t
@@ -228,8 +227,8 @@ right_resent q word ok s t held h stands e =
     (takes_of q.read h.asked h.bits t reads h.moves) in
     let there : ObservedStands Returned held r.at.target = observed_stands_stays Returned held s r.at r.first stands in
     word_is (word_observed ok word) held _
-    (ap (λ z. port_value_in r.busy z r.filler r.at.target) (resend_is r.at.target.select q e).0
-    ∙ ap (λ b. unwrap_or b r.filler) there) r.gave
+    (ap (λ z. port_value_in r.choice z r.at.target) (resend_is r.at.target.select q e).0
+    ∙ ap (λ b. unwrap_or b r.choice.filler) there) r.gave
 
 right_at : (z : Standing) (q : Request) (word : ℕ) (ok : Bool) (increments : Option Bool) (s t : Port) (held : ℕ)
     → ObservedHasMoved q word ok s t → ObservedStands z held s.target
@@ -286,20 +285,20 @@ settle_into E h b o x is reads addr quiet intact none (here clean k) =
       },
     )
 
-plain_goes : (E : List Transfer → Type 0) (k : RequestEffect) (r : Register) (busy : Bool) (word : Option ℕ) (place : ℕ)
+plain_goes : (E : List Transfer → Type 0) (k : RequestEffect) (r : Register) (choice : Choice) (word : Option ℕ) (place : ℕ)
     (o : Observer) (x : Target) → is_observed_plain k ≡ true → ObservedKindFits k r → o.sent ≡ None → o.begun ≡ None
     → x.sticky_error ≡ false → x.write_error ≡ false → (r ≡ DrwRead → x.debug_power ≡ true) → ObservedSettled E o x
-    → ObserverKnows E (observer_accepted k word place o) (port_after_okay busy r x)
-plain_goes E Other r busy word place o x is fits sent rest quiet intact power h =
-    observer_settled_knows E o (port_after_okay busy r x) sent rest
-    (observed_same_settled E o x (port_after_okay busy r x) (observed_same_at_okay busy r x fits) h)
-plain_goes E Reads r busy word place o x is fits sent rest quiet intact power h =
-    subst (λ z. ObserverKnows E (observer_accepted Reads word place o) (port_after_okay busy z x)) (sym fits)
-    (observer_knows_drw_read E o x busy word place sent quiet intact (power fits) h)
-plain_goes E (Elsewhere e) r busy word place o x is fits sent rest quiet intact power h = absurd (cc)
-plain_goes E (Writes w) r busy word place o x is fits sent rest quiet intact power h = absurd (cc)
-plain_goes E MayRead r busy word place o x is fits sent rest quiet intact power h = absurd (cc)
-plain_goes E (MayWrite w) r busy word place o x is fits sent rest quiet intact power h = absurd (cc)
+    → ObserverKnows E (observer_accepted k word place o) (port_after_okay choice r x)
+plain_goes E Other r choice word place o x is fits sent rest quiet intact power h =
+    observer_settled_knows E o (port_after_okay choice r x) sent rest
+    (observed_same_settled E o x (port_after_okay choice r x) (observed_same_at_okay choice r x fits) h)
+plain_goes E Reads r choice word place o x is fits sent rest quiet intact power h =
+    subst (λ z. ObserverKnows E (observer_accepted Reads word place o) (port_after_okay choice z x)) (sym fits)
+    (observer_knows_drw_read E o x choice word place sent quiet intact (power fits) h)
+plain_goes E (Elsewhere e) r choice word place o x is fits sent rest quiet intact power h = absurd (cc)
+plain_goes E (Writes w) r choice word place o x is fits sent rest quiet intact power h = absurd (cc)
+plain_goes E MayRead r choice word place o x is fits sent rest quiet intact power h = absurd (cc)
+plain_goes E (MayWrite w) r choice word place o x is fits sent rest quiet intact power h = absurd (cc)
 
 plain_untold : (k : RequestEffect) (word tar : Option ℕ) (place : ℕ) → is_observed_plain k ≡ true
     → observed_itself k word tar place ≡ None
@@ -311,14 +310,14 @@ plain_untold MayRead word tar place e = absurd (cc)
 plain_untold (MayWrite w) word tar place e = absurd (cc)
 
 -- where the word stands behind the request
-stands_okay : (q : Request) (is : Bool) (s : Standing) (busy : Bool) (x : Target) (word : ℕ) → x.buffer ≡ Some word
+stands_okay : (q : Request) (is : Bool) (s : Standing) (choice : Choice) (x : Target) (word : ℕ) → x.buffer ≡ Some word
     → x.pending ≡ None → StandsBy q false is s
-    → ObservedStands s word (port_after_okay busy (port_register x.select q) x)
-stands_okay q is s busy x word buffer none (inl (e, at)) =
-    subst (λ z. ObservedStands z word (port_after_okay busy (port_register x.select q) x)) (sym at)
-    (subst (λ r. ObservedStands Buffer word (port_after_okay busy r x)) (sym (resend_is x.select q e).0) (buffer, none))
-stands_okay q is s busy x word buffer none (inr (e, plainly, at)) =
-    subst (λ z. ObservedStands z word (port_after_okay busy (port_register x.select q) x)) (sym at)
+    → ObservedStands s word (port_after_okay choice (port_register x.select q) x)
+stands_okay q is s choice x word buffer none (inl (e, at)) =
+    subst (λ z. ObservedStands z word (port_after_okay choice (port_register x.select q) x)) (sym at)
+    (subst (λ r. ObservedStands Buffer word (port_after_okay choice r x)) (sym (resend_is x.select q e).0) (buffer, none))
+stands_okay q is s choice x word buffer none (inr (e, plainly, at)) =
+    subst (λ z. ObservedStands z word (port_after_okay choice (port_register x.select q) x)) (sym at)
     (ap (λ b. if b then x.buffer else x.last_returned) (posted_is x.select q e).0 ∙ buffer)
 
 reads_by : (q : Request) (is : Bool) (s : Standing) (select : Select) → StandsBy q false is s → q.read ≡ true
@@ -352,15 +351,15 @@ fill E h o q word ok place s t is tells m k =
     (observer_knows_stays E o s r.at r.first k) in
     let held = landed.0 in
     let goes = plain_goes (IsObservedOlder E h held) (observed_kind (observer_confirmed o).select q)
-    (port_register r.at.target.select q) r.busy (word_observed ok word) place (observer_confirmed o) r.at.target
+    (port_register r.at.target.select q) r.choice (word_observed ok word) place (observer_confirmed o) r.at.target
     (plain_by q (observer_confirmed o).select f.standing by)
     (observed_kind_fits (observer_confirmed o).select r.at.target.select q landed.2.select)
     (observer_confirmed_unsent o) refl quiet intact
     (λ e. observed_ap_power q r.at.target clear (observed_drw_is_ap r.at.target.select q (inl e))) landed.2 in
     let stands : ObservedStands h.standing held r.after.target =
     subst (ObservedStands h.standing held) (sym r.target) (subst (λ z. ObservedStands z held
-    (port_after_okay r.busy (port_register r.at.target.select q) r.at.target)) (sym f.at)
-    (stands_okay q _ f.standing r.busy r.at.target held landed.1 (r.settled plainly) by)) in (
+    (port_after_okay r.choice (port_register r.at.target.select q) r.at.target)) (sym f.at)
+    (stands_okay q _ f.standing r.choice r.at.target held landed.1 (r.settled plainly) by)) in (
       held,
       observed_stands_taken h.standing held m.asked t m.bits takes
           (observed_stands_stays h.standing held r.after m.asked r.last stands),

@@ -21,7 +21,7 @@ use Rattle.swd_port.specs.Asking.{PortAsks, PortAsksNow, port_after_okay, port_v
 use Rattle.swd_port.specs.Asking.{power_up_after}
 use Rattle.swd_port.specs.Moving.{PortTakes}
 use Rattle.swd_port.specs.Moves.{PortPhaseGot}
-use Rattle.swd_port.specs.Laws.WordsRead.{CtrlStatReads}
+use Rattle.swd_port.specs.Laws.WordsRead.{CtrlStatShows}
 use Rattle.swd_port.proofs.CompletionLaws.{port_kept}
 use Rattle.swd_port.proofs.MovingLaws.{port_data_taken}
 use Rattle.swd_port.proofs.StatusLaws.{ctrl_stat_word_reads}
@@ -202,43 +202,43 @@ flags_tell before told false true o x flag damaged (spoiled error rest h) =
     here tt (drop_spoiled before told false (observer_arrival o) o x rest h)
 
 -- CTRL/STAT leaves all that an observer keeps: power that was seen to be there stays
-calm_read : (busy : Bool) (x : Target) → ObservedCalm x → ObservedCalm (port_after_okay busy CtrlStatRead x)
-calm_read busy x calm = record {
+calm_read : (choice : Choice) (x : Target) → ObservedCalm x → ObservedCalm (port_after_okay choice CtrlStatRead x)
+calm_read choice x calm = record {
   sticky_error = calm.sticky_error;
   write_error = calm.write_error;
   debug_power = calm.debug_power;
-  power_up = rw calm.power_up refl;
+  debug_up = rw calm.debug_up refl;
 }
 
 flies_read : (E : List Transfer → Type 0) (b : StartedTransfer) (increments : Option Bool) (tar : Option ℕ)
-    (busy : Bool) (x : Target)
-    → ObservedFlying E b increments tar x → ObservedFlying E b increments tar (port_after_okay busy CtrlStatRead x)
-flies_read E b increments tar busy x (owed calm drw pending of at e) = owed (calm_read busy x calm) drw pending of at e
-flies_read E b increments tar busy x (gone calm none t log fits is e buffer next) =
-    gone (calm_read busy x calm) none t log fits is e buffer next
-flies_read E b increments tar busy x (failed none error e) = failed none error e
+    (choice : Choice) (x : Target)
+    → ObservedFlying E b increments tar x → ObservedFlying E b increments tar (port_after_okay choice CtrlStatRead x)
+flies_read E b increments tar choice x (owed calm drw pending of at e) = owed (calm_read choice x calm) drw pending of at e
+flies_read E b increments tar choice x (gone calm none t log fits is e buffer next) =
+    gone (calm_read choice x calm) none t log fits is e buffer next
+flies_read E b increments tar choice x (failed none error e) = failed none error e
 
 flight_read : (E : List Transfer → Type 0) (b : Option StartedTransfer) (increments : Option Bool) (tar : Option ℕ)
-    (busy : Bool) (x : Target) → ObservedFlight E b increments tar x
-    → ObservedFlight E b increments tar (port_after_okay busy CtrlStatRead x)
-flight_read E None increments tar busy x h = record { now = h.now; later = h.later; aimed = h.aimed }
-flight_read E (Some b) increments tar busy x h = flies_read E b increments tar busy x h
+    (choice : Choice) (x : Target) → ObservedFlight E b increments tar x
+    → ObservedFlight E b increments tar (port_after_okay choice CtrlStatRead x)
+flight_read E None increments tar choice x h = record { now = h.now; later = h.later; aimed = h.aimed }
+flight_read E (Some b) increments tar choice x h = flies_read E b increments tar choice x h
 
-holds_read : (E : List Transfer → Type 0) (o : Observer) (busy : Bool) (x : Target) → ObserverHolds E o x
-    → ObserverHolds E o (port_after_okay busy CtrlStatRead x)
-holds_read E o busy x h = record {
+holds_read : (E : List Transfer → Type 0) (o : Observer) (choice : Choice) (x : Target) → ObserverHolds E o x
+    → ObserverHolds E o (port_after_okay choice CtrlStatRead x)
+holds_read E o choice x h = record {
   select = h.select;
   increments = h.increments;
   range = h.range;
-  flight = flight_read E o.begun o.increments o.tar busy x h.flight;
+  flight = flight_read E o.begun o.increments o.tar choice x h.flight;
 }
 
-knows_read : (E : List Transfer → Type 0) (o : Observer) (busy bank0 : Bool) (x : Target) → ObserverKnows E o x
-    → ObserverKnows E o (port_after_okay busy (if bank0 then CtrlStatRead else DpOtherRead) x)
-knows_read E o busy true x (here clean h) = here clean (holds_read E (observer_arrival o) busy x h)
-knows_read E o busy true x (spoiled error rest h) = spoiled error rest (holds_read E
-    (record o { sent = None }) busy x h)
-knows_read E o busy false x k = k
+knows_read : (E : List Transfer → Type 0) (o : Observer) (choice : Choice) (bank0 : Bool) (x : Target) → ObserverKnows E o x
+    → ObserverKnows E o (port_after_okay choice (if bank0 then CtrlStatRead else DpOtherRead) x)
+knows_read E o choice true x (here clean h) = here clean (holds_read E (observer_arrival o) choice x h)
+knows_read E o choice true x (spoiled error rest h) = spoiled error rest (holds_read E
+    (record o { sent = None }) choice x h)
+knows_read E o choice false x k = k
 
 -- which request it is
 status_dp : (read : Bool) (addr : Reg4) (b : Bool) → observed_class_dp read addr ≡ Status
@@ -299,15 +299,15 @@ bank_known E o x e (here clean h) = bank_is o.select x.select (both_left _ _ e)
 bank_known E o x e (spoiled error rest h) = bank_is o.select x.select (both_left _ _ e) h.select
 
 -- the flags in the word
-flags_in : (busy : Bool) (x : Target) → CtrlStatReads x.sticky_error x.read_ok x.write_error x.debug_power
-    x.system_power (is_port_power_there (power_up_after busy CtrlStatRead x.power_up)) (ctrl_stat_word_in busy x)
-flags_in busy x = ctrl_stat_word_reads x.sticky_error x.read_ok x.write_error x.debug_power x.system_power
-    (is_port_power_there (power_up_after busy CtrlStatRead x.power_up))
+flags_in : (choice : Choice) (x : Target) → CtrlStatShows choice x
+flags_in choice x = ctrl_stat_word_reads choice.others x.sticky_error x.read_ok x.write_error x.debug_power
+    (is_port_power_there (power_up_after choice.debug_late CtrlStatRead x.debug_up)) x.system_power
+    (is_port_power_there (power_up_after choice.system_late CtrlStatRead x.system_up))
 
-status_value : (busy bank0 : Bool) (filler : ℕ) (x : Target) → bank0 ≡ true
-    → port_value_in busy (if bank0 then CtrlStatRead else DpOtherRead) filler x ≡ ctrl_stat_word_in busy x
-status_value busy true filler x e = refl
-status_value busy false filler x e = absurd (cc)
+status_value : (choice : Choice) (bank0 : Bool) (x : Target) → bank0 ≡ true
+    → port_value_in choice (if bank0 then CtrlStatRead else DpOtherRead) x ≡ ctrl_stat_word_in choice x
+status_value choice true x e = refl
+status_value choice false x e = absurd (cc)
 
 told_word : (ok : Bool) (word value : ℕ) → ok ≡ true → IfSome (word_observed ok word) (λ w. value ≡ w) → value ≡ word
 told_word true word value e h = h
@@ -319,23 +319,23 @@ StatusTold before told o word known x = ObserverKnows
     (if known then observed_flagged (register_bit 5 word) (register_bit 7 word) o else None)))
     (if known then observer_flagged (register_bit 5 word) (register_bit 7 word) o else o) x
 
-status_at : (before : List Transfer) (told : List ObservedAccess) (o : Observer) (word : ℕ) (ok : Bool) (busy : Bool)
-    (filler : ℕ) (x : Target) (known : Bool) → (ok && is_status_observed o) ≡ known
-    → IfSome (word_observed ok word) (λ w. port_value_in busy
+status_at : (before : List Transfer) (told : List ObservedAccess) (o : Observer) (word : ℕ) (ok : Bool) (choice : Choice)
+    (x : Target) (known : Bool) → (ok && is_status_observed o) ≡ known
+    → IfSome (word_observed ok word) (λ w. port_value_in choice
     (if x.select.dpbanksel == 0 then CtrlStatRead else DpOtherRead)
-    filler x ≡ w)
+    x ≡ w)
     → ObserverKnows (ObservedSince before told) o x → StatusTold before told o word known x
-status_at before told o word ok busy filler x false e is k =
+status_at before told o word ok choice x false e is k =
     subst (λ l. ObserverKnows (ObservedSince before l) o x) (sym (append-nil told)) k
-status_at before told o word ok busy filler x true e is k =
-    let value : ctrl_stat_word_in busy x ≡ word =
-    sym (status_value busy (x.select.dpbanksel == 0) filler x
+status_at before told o word ok choice x true e is k =
+    let value : ctrl_stat_word_in choice x ≡ word =
+    sym (status_value choice (x.select.dpbanksel == 0) x
     (bank_known (ObservedSince before told) o x (both_right ok (is_status_observed o) e) k))
-    ∙ told_word ok word (port_value_in busy (if x.select.dpbanksel == 0 then CtrlStatRead else DpOtherRead) filler x)
+    ∙ told_word ok word (port_value_in choice (if x.select.dpbanksel == 0 then CtrlStatRead else DpOtherRead) x)
     (both_left ok (is_status_observed o) e) is in
     flags_tell before told (register_bit 5 word) (register_bit 7 word) o x
-    (sym (flags_in busy x).sticky_bit ∙ ap (register_bit 5) value)
-    (sym (flags_in busy x).write_bit ∙ ap (register_bit 7) value) k
+    (sym (flags_in choice x).sticky_bit ∙ ap (register_bit 5) value)
+    (sym (flags_in choice x).write_bit ∙ ap (register_bit 7) value) k
 
 status_asked : (before : List Transfer) (told : List ObservedAccess) (o : Observer) (q : Request) (word : ℕ) (ok : Bool)
     (s a b d t : Port) (mark : Mark) (c : Choice) (bits : ℕ) → observed_class q ≡ Status → PortCompletes s a
@@ -346,21 +346,21 @@ status_asked : (before : List Transfer) (told : List ObservedAccess) (o : Observ
 status_asked before told o q word ok s a b d t mark c bits is first now last range carries takes k =
     let h : ObservedOkayed a q b = observed_ask_okayed mark c a q b now in
     let named = status_is a.target.select q is in
-    let line : d.link.line ≡ Drives (port_flipped h.flip (data_phase_number (port_value_in h.busy
-    (port_register a.target.select q) h.filler a.target))) =
+    let line : d.link.line ≡ Drives (port_flipped h.flip (data_phase_number (port_value_in h.choice
+    (port_register a.target.select q) a.target))) =
     ap (λ l. l.line) (port_kept b d last).link ∙ h.line ∙ observed_line_at_read q.read (port_register a.target.select q)
     h.flip _ named.1 in
-    let got : PortPhaseGot h.flip (port_value_in h.busy (port_register a.target.select q) h.filler a.target) bits =
-    port_data_taken h.flip (port_value_in h.busy (port_register a.target.select q) h.filler a.target) bits d t line
+    let got : PortPhaseGot h.flip (port_value_in h.choice (port_register a.target.select q) a.target) bits =
+    port_data_taken h.flip (port_value_in h.choice (port_register a.target.select q) a.target) bits d t line
     (h.value named.1) range takes in
     let known : StatusTold before told o word (ok && is_status_observed o) a.target =
-    status_at before told o word ok h.busy h.filler a.target (ok && is_status_observed o) refl
-    (subst (λ r. IfSome (word_observed ok word) (λ w. port_value_in h.busy r h.filler a.target ≡ w)) named.0
-    (observed_read_word h.flip (port_value_in h.busy (port_register a.target.select q) h.filler a.target) bits word ok
+    status_at before told o word ok h.choice a.target (ok && is_status_observed o) refl
+    (subst (λ r. IfSome (word_observed ok word) (λ w. port_value_in h.choice r a.target ≡ w)) named.0
+    (observed_read_word h.flip (port_value_in h.choice (port_register a.target.select q) a.target) bits word ok
     got carries)) (observer_knows_stays (ObservedSince before told) o s a first k) in
     observer_knows_stays _ _ b d last (subst (StatusTold before told o word (ok && is_status_observed o))
-    (sym (h.target ∙ ap (λ r. port_after_okay h.busy r a.target) named.0))
-    (knows_read _ _ h.busy (a.target.select.dpbanksel == 0) a.target known))
+    (sym (h.target ∙ ap (λ r. port_after_okay h.choice r a.target) named.0))
+    (knows_read _ _ h.choice (a.target.select.dpbanksel == 0) a.target known))
 
 takes_of : (read : Bool) (a : Port) (bits : ℕ) (t : Port) → read ≡ true → ObservedMoves read a bits t
     → PortTakes a bits t

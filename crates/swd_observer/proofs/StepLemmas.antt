@@ -12,7 +12,7 @@ use Rattle.swd_port.specs.Phases.{port_flipped}
 use Rattle.swd_port.specs.Port.{Port, Target}
 use Rattle.swd_port.specs.Answers.{is_port_unpowered, is_port_power_there}
 use Rattle.swd_port.specs.Completion.{PortCompletes}
-use Rattle.swd_port.specs.Asking.{port_phase_after, port_has_power, power_up_after}
+use Rattle.swd_port.specs.Asking.{port_phase_after, port_has_power, debug_up_after}
 use Rattle.swd_port.specs.Moving.{PortTakes, port_arrival_of, port_after_bits, Damaged}
 use Rattle.swd_port.specs.Moves.{PortPhaseGot, whole, damaged}
 use Rattle.swd_observer.specs.declared.observer.Observer.{Observer}
@@ -91,14 +91,14 @@ observed_word_small false word h = tt
 
 -- a settled state, and the data of a write that an observer tracks, arrived or corrupted: what it knows is true, with
 -- the write unconfirmed
-pub observer_knows_sent_write : (E : List Transfer → Type 0) (o : Observer) (y : Target) (w : Written) (ok : Bool)
+pub observer_knows_sent_write : (refuses : Bool) (E : List Transfer → Type 0) (o : Observer) (y : Target) (w : Written) (ok : Bool)
     (word place : ℕ) (found : Option ℕ) → o.sent ≡ None → o.begun ≡ None → y.sticky_error ≡ false
-    → y.write_error ≡ false → (w ≡ ToDrw → y.debug_power ≡ true) → (w ≡ ToDrw → y.power_up ≡ Seen) → word < 2 ^ 32
+    → y.write_error ≡ false → (w ≡ ToDrw → y.debug_power ≡ true) → (w ≡ ToDrw → y.debug_up ≡ Seen) → word < 2 ^ 32
     → IfSome found (λ f. IfSome (word_observed ok word) (λ v. f ≡ v)) → ObservedSettled E o y
     → ObserverKnows E (observer_accepted (Writes w) (word_observed ok word) place o)
-    (port_after_bits (port_arrival_of (observed_register_for w) found) y)
-observer_knows_sent_write E o y w ok word place None sent rest quiet intact power up small is h =
-    spoiled refl rest (observer_settled_holds E (record o { sent = None }) (port_after_bits Damaged y) rest (record {
+    (port_after_bits refuses (port_arrival_of (observed_register_for w) found) y)
+observer_knows_sent_write refuses E o y w ok word place None sent rest quiet intact power up small is h =
+    spoiled refl rest (observer_settled_holds E (record o { sent = None }) (port_after_bits refuses Damaged y) rest (record {
       select = h.select;
       increments = h.increments;
       range = h.range;
@@ -106,8 +106,8 @@ observer_knows_sent_write E o y w ok word place None sent rest quiet intact powe
       now = h.now;
       none = h.none;
     }))
-observer_knows_sent_write E o y w ok word place (Some found) sent rest quiet intact power up small is h =
-    observer_knows_arrival E o y w (word_observed ok word) found place rest quiet intact power up
+observer_knows_sent_write refuses E o y w ok word place (Some found) sent rest quiet intact power up small is h =
+    observer_knows_arrival refuses E o y w (word_observed ok word) found place rest quiet intact power up
     (observed_word_small ok word small) is h
 
 -- after OK to a read its data phase is on the line, with the changed bit, if any
@@ -126,7 +126,7 @@ observed_line_at_write true r flip value e = absurd (cc)
 pub observed_ap_power : (q : Request) (x : Target) →
     (x.sticky_error || x.write_error || is_port_unpowered q.ap (port_has_power x)) ≡ false → q.ap ≡ true
     → x.debug_power ≡ true
-observed_ap_power q x clear is = observed_ap_is_powered q.ap x.debug_power (is_port_power_there x.power_up)
+observed_ap_power q x clear is = observed_ap_is_powered q.ap x.debug_power (is_port_power_there x.debug_up)
     (observed_third_clear x.sticky_error x.write_error (is_port_unpowered q.ap (port_has_power x)) clear) is
 
 -- what a possible completion keeps is kept by the data phase of a read
@@ -145,9 +145,9 @@ observed_found_word flip sent word ok (Some f) range small is e =
     observed_sent_arrives flip sent word ok f range small is e
 
 -- after OK to a DRW write power-up was seen acknowledged
-pub observed_power_at_drw : (w : Written) (r : Register) (busy : Bool) (u : PowerUp) → r ≡ observed_register_for w
-    → w ≡ ToDrw → power_up_after busy r u ≡ Seen
-observed_power_at_drw w r busy u is drw = rw (is, drw) refl
+pub observed_power_at_drw : (w : Written) (r : Register) (late : Bool) (u : PowerUp) → r ≡ observed_register_for w
+    → w ≡ ToDrw → debug_up_after late r u ≡ Seen
+observed_power_at_drw w r late u is drw = rw (is, drw) refl
 
 -- a tracked write that is one to DRW has the register of one
 pub observed_drw_register : (w : Written) (s : PowerUp) (r : Register) → r ≡ observed_register_for w → w ≡ ToDrw

@@ -88,18 +88,18 @@ observed_select_is_sure known q = none_by q.ap known q.read q.addr
 
 -- a read
 pub observer_holds_may_read : (before : List Transfer) (told : List ObservedAccess) (o : Observer) (x : Target)
-    (busy : Bool) (r : Register) (word : Option ℕ) (place : ℕ) → o.begun ≡ None → (r ≡ DrwRead)
+    (choice : Choice) (r : Register) (word : Option ℕ) (place : ℕ) → o.begun ≡ None → (r ≡ DrwRead)
     ⊎ (is_observed_harmless r ≡ true) → ObservedSettled (ObservedSince before told) o x
     → ObserverHolds (ObservedSince before (told ++ one_observed (observed_itself MayRead word o.tar place)))
-    (observer_accepted MayRead word place o) (port_after_okay busy r x)
-observer_holds_may_read before told o x busy r word place rest (inl is) h =
+    (observer_accepted MayRead word place o) (port_after_okay choice r x)
+observer_holds_may_read before told o x choice r word place rest (inl is) h =
     subst (λ z. ObserverHolds (ObservedSince before (told ++ one_observed (observed_itself MayRead word o.tar place)))
-    (observer_accepted MayRead word place o) (port_after_okay busy z x)) (sym is)
-    (observer_holds_lost_read before told place o x busy rest (observer_settled_holds _ o x rest h))
-observer_holds_may_read before told o x busy r word place rest (inr harmless) h =
-    observer_no_lost_read before told true place o (port_after_okay busy r x) rest
-    (observer_settled_holds _ o (port_after_okay busy r x) rest (observed_same_settled _ o x (port_after_okay busy r x)
-    (observed_same_at_okay busy r x harmless) h))
+    (observer_accepted MayRead word place o) (port_after_okay choice z x)) (sym is)
+    (observer_holds_lost_read before told place o x choice rest (observer_settled_holds _ o x rest h))
+observer_holds_may_read before told o x choice r word place rest (inr harmless) h =
+    observer_no_lost_read before told true place o (port_after_okay choice r x) rest
+    (observer_settled_holds _ o (port_after_okay choice r x) rest (observed_same_settled _ o x (port_after_okay choice r x)
+    (observed_same_at_okay choice r x harmless) h))
 
 -- a write
 abbrev may_told : Option ℕ → Option ℕ → ℕ → ObservedAccess
@@ -145,25 +145,25 @@ may_unmoved before told o y ToDrw word place other rest h =
       });
     }
 
-later_write : (before : List Transfer) (told : List ObservedAccess) (place : ℕ) (tar word : Option ℕ) (x : Target)
+later_write : (refuses : Bool) (before : List Transfer) (told : List ObservedAccess) (place : ℕ) (tar word : Option ℕ) (x : Target)
     (c : Choice) (found : ℕ) (test : Bool) → bus_succeeds (AccessWrite (unwrap_or x.tar c.address) found) x.memory ≡ test
     → IfSome tar (λ a. x.tar ≡ Some a) → IfSome word (λ w. found ≡ w) → ObservedSince before told x.memory.log
     → ObservedSince before (told ++ may_told tar word place ∷ [])
-    (port_completion c (port_after_bits (Arrives DrwWrite found) x)).memory.log
-later_write before told place tar word x c found true test at is e = rw test
+    (port_completion c (port_after_bits refuses (Arrives DrwWrite found) x)).memory.log
+later_write refuses before told place tar word x c found true test at is e = rw test
     (observed_since_may_took before told (may_told tar word place)
     (bus_transfer_of (pending_access_at (unwrap_or x.tar c.address) (DrwWrites found)) x.memory) x.memory.log refl
     (record { read = refl; addr = observed_transfer_at_tar tar c x at; word = is }) e)
-later_write before told place tar word x c found false test at is e = rw test
+later_write refuses before told place tar word x c found false test at is e = rw test
     (observed_since_may_not before told (may_told tar word place) x.memory.log refl e)
 
-may_moved : (before : List Transfer) (told : List ObservedAccess) (o : Observer) (y : Target) (w : Written)
+may_moved : (refuses : Bool) (before : List Transfer) (told : List ObservedAccess) (o : Observer) (y : Target) (w : Written)
     (word : Option ℕ) (place found : ℕ) → observed_may_select (MayWrite w) ≡ false → o.begun ≡ None
     → IfSome word (λ v. found ≡ v) → ObservedSettled (ObservedSince before told) o y
     → ObserverHolds (ObservedSince before (told ++ one_observed (observed_itself (MayWrite w) word o.tar place)))
-    (observer_accepted (MayWrite w) word place o) (port_after_bits (Arrives (observed_register_for w) found) y)
-may_moved before told o y ToSelect word place found other rest is h = absurd (cc)
-may_moved before told o y ToCsw word place found other rest is h =
+    (observer_accepted (MayWrite w) word place o) (port_after_bits refuses (Arrives (observed_register_for w) found) y)
+may_moved refuses before told o y ToSelect word place found other rest is h = absurd (cc)
+may_moved refuses before told o y ToCsw word place found other rest is h =
     let r : ObservedResting (ObservedSince before (told ++ [])) o.tar y =
     subst (λ l. ObservedResting (ObservedSince before l) o.tar y) (sym (append-nil told))
     (observed_settled_rests _ o y h) in
@@ -171,30 +171,30 @@ may_moved before told o y ToCsw word place found other rest is h =
       select = h.select;
       increments = tt;
       range = h.range;
-      flight = resting _ o o.tar None (port_after_bits (Arrives CswWrite found) y) rest
+      flight = resting _ o o.tar None (port_after_bits refuses (Arrives CswWrite found) y) rest
           (record { now = r.now; later = r.later; aimed = r.aimed });
     }
-may_moved before told o y ToTar word place found other rest is h =
+may_moved refuses before told o y ToTar word place found other rest is h =
     record {
       select = h.select;
       increments = h.increments;
       range = tt;
-      flight = resting _ o None o.increments (port_after_bits (Arrives TarWrite found) y) rest (record {
+      flight = resting _ o None o.increments (port_after_bits refuses (Arrives TarWrite found) y) rest (record {
         now = subst (λ l. ObservedSince before l y.memory.log) (sym (append-nil told)) h.now;
         later = λ c k. subst (λ p. ObservedSince before (told ++ [])
-            (port_completion c (record (port_after_bits (Arrives TarWrite found) y) { pending = p })).memory.log)
+            (port_completion c (record (port_after_bits refuses (Arrives TarWrite found) y) { pending = p })).memory.log)
             (sym h.none) (subst (λ l. ObservedSince before l y.memory.log) (sym (append-nil told)) h.now);
         aimed = tt;
       });
     }
-may_moved before told o y ToDrw word place found other rest is h =
+may_moved refuses before told o y ToDrw word place found other rest is h =
     record {
       select = h.select;
       increments = h.increments;
       range = tt;
-      flight = resting _ o None o.increments (port_after_bits (Arrives DrwWrite found) y) rest (record {
+      flight = resting _ o None o.increments (port_after_bits refuses (Arrives DrwWrite found) y) rest (record {
         now = observed_since_may_not before told (may_told o.tar word place) y.memory.log refl h.now;
-        later = λ c k. later_write before told place o.tar word y c found
+        later = λ c k. later_write refuses before told place o.tar word y c found
             (bus_succeeds (AccessWrite (unwrap_or y.tar c.address) found) y.memory) refl h.aimed is h.now;
         aimed = tt;
       });
@@ -202,23 +202,23 @@ may_moved before told o y ToDrw word place found other rest is h =
 
 -- a write answered OK that may be one to this register: what is known is true, arrived or not, once it is reported as
 -- `May` if the register is DRW
-pub observer_holds_may_write : (before : List Transfer) (told : List ObservedAccess) (o : Observer) (y : Target)
+pub observer_holds_may_write : (refuses : Bool) (before : List Transfer) (told : List ObservedAccess) (o : Observer) (y : Target)
     (w : Written) (word : Option ℕ) (place : ℕ) (r : Register) (found : Option ℕ)
     → observed_may_select (MayWrite w) ≡ false → o.begun ≡ None
     → (r ≡ observed_register_for w) ⊎ (is_observed_harmless r ≡ true) → IfSome found (λ f. IfSome word (λ v. f ≡ v))
     → ObservedSettled (ObservedSince before told) o y
     → ObserverHolds (ObservedSince before (told ++ one_observed (observed_itself (MayWrite w) word o.tar place)))
-    (observer_accepted (MayWrite w) word place o) (port_after_bits (port_arrival_of r found) y)
-observer_holds_may_write before told o y w word place r found other rest (inr harmless) is h =
-    may_unmoved before told o (port_after_bits (port_arrival_of r found) y) w word place other rest
-    (observed_same_settled _ o y (port_after_bits (port_arrival_of r found) y)
-    (observed_same_at_data r found y harmless) h)
-observer_holds_may_write before told o y w word place r None other rest (inl named) is h =
-    may_unmoved before told o (port_after_bits (port_arrival_of r None) y) w word place other rest
-    (observed_same_settled _ o y (port_after_bits (port_arrival_of r None) y)
+    (observer_accepted (MayWrite w) word place o) (port_after_bits refuses (port_arrival_of r found) y)
+observer_holds_may_write refuses before told o y w word place r found other rest (inr harmless) is h =
+    may_unmoved before told o (port_after_bits refuses (port_arrival_of r found) y) w word place other rest
+    (observed_same_settled _ o y (port_after_bits refuses (port_arrival_of r found) y)
+    (observed_same_at_data refuses r found y harmless) h)
+observer_holds_may_write refuses before told o y w word place r None other rest (inl named) is h =
+    may_unmoved before told o (port_after_bits refuses (port_arrival_of r None) y) w word place other rest
+    (observed_same_settled _ o y (port_after_bits refuses (port_arrival_of r None) y)
     (record { select = refl; increments = refl; tar = refl; pending = refl; memory = refl }) h)
-observer_holds_may_write before told o y w word place r (Some found) other rest (inl named) is h =
+observer_holds_may_write refuses before told o y w word place r (Some found) other rest (inl named) is h =
     subst (λ z. ObserverHolds (ObservedSince before
     (told ++ one_observed (observed_itself (MayWrite w) word o.tar place)))
-    (observer_accepted (MayWrite w) word place o) (port_after_bits (port_arrival_of z (Some found)) y)) (sym named)
-    (may_moved before told o y w word place found other rest is h)
+    (observer_accepted (MayWrite w) word place o) (port_after_bits refuses (port_arrival_of z (Some found)) y)) (sym named)
+    (may_moved refuses before told o y w word place found other rest is h)
