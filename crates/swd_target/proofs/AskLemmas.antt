@@ -13,7 +13,7 @@ use Rattle.swd_port.specs.declared.state.AfterAck.TheVariants.{Idle}
 use Rattle.swd_port.specs.declared.state.Reply.{Reply}
 use Rattle.swd_port.specs.declared.state.Reply.TheVariants.{Okay, Waits, Faults, Silent}
 use Rattle.swd_port.specs.Choices.{IsPortMark, is_port_deaf, is_port_wait, port_flip_of, port_disturbs, port_loses}
-use Rattle.swd_port.specs.Choices.{Choice, IsPortChoice}
+use Rattle.swd_port.specs.Choices.{Choice, IsPortChoice, PortMayBeLate}
 use Rattle.swd_port.specs.Answers.{port_reply_under, port_seen_at, PortSees, port_due_after}
 use Rattle.swd_port.specs.Completion.{PortCompletes}
 use Rattle.swd_port.specs.Asking.{PortAsks, PortAsksNow, IsPendingSettled, IsPortWordRead, port_value_in}
@@ -22,14 +22,15 @@ use Rattle.swd_port.specs.Asking.{port_tally_after}
 use Rattle.swd_port.specs.Moving.{PortGives, PortGivesNow, PortArrival, port_after_bits, port_arrival}
 use Rattle.swd_target.specs.declared.target.Target.{Target}
 use Rattle.swd_target.specs.Flips.{target_line_flipped, target_line_under}
-use Rattle.swd_target.specs.Simulations.{Simulation, simulation_stepped, simulation_transferred}
+use Rattle.swd_target.specs.Simulations.{Simulation, simulation_replied, simulation_choice_at, simulation_transferred}
 use Rattle.swd_target.specs.Simulations.{simulation_accepted_after, simulation_is_owed, simulation_settled}
 use Rattle.swd_target.specs.Simulations.{simulation_reply, simulation_phase, simulation_link_after, simulation_asked}
-use Rattle.swd_target.specs.Targets.{target_state, target_simulation, target_stand_in, target_choice_for}
+use Rattle.swd_target.specs.Targets.{target_state, target_simulation, target_choice_at, target_choice_for}
 use Rattle.swd_target.specs.Targets.{target_answer_at, target_reply_when, target_settled_when}
 use Rattle.swd_target.specs.Requests.{target_port_at, TargetTransfers, TargetAsksUnder, TargetAnswersUnder, DataComes}
 use Rattle.swd_port.proofs.AnswerLaws.{port_sees_seen_at, port_deaf_silent}
-use Rattle.swd_target.proofs.TargetLemmas.{target_choice_is_choice}
+use Rattle.swd_target.proofs.TargetLemmas.{target_choice_is_choice, target_choice_at_is_choice, target_may_be_late}
+use Rattle.swd_target.proofs.TargetLemmas.{system_on_time}
 
 -- Flip and Mute leave the reply alone
 same_reply : (mark : Mark) (waits : Bool) (r : Register) (a : Reply) → is_port_deaf mark ≡ false
@@ -67,20 +68,20 @@ simulated_reply_at mark r q s = port_reply_under mark r (target_answer_at r q.ap
 
 asks_under : (l : PortLink) (n : PortTally) (s a b t : State) (mark : Mark) (r : Register) (reply : Reply) (c : Choice)
     (q : Request) (phase : AfterAck)
-    → IsPortMark mark → IsPortChoice c → TargetTransfers s a → port_register a.select q ≡ r
+    → IsPortMark mark → IsPortChoice c → PortMayBeLate mark c → TargetTransfers s a → port_register a.select q ≡ r
     → simulated_reply_at mark r q a ≡ reply
     → IsPendingSettled reply r a.pending
-    → IsPortWordRead reply q.read (port_value_in (is_port_wait mark) r c.filler a)
+    → IsPortWordRead reply q.read (port_value_in c r a)
     → port_line_after reply phase l.line ≡ port_line_after reply
-    (port_phase_after q.read r (port_flip_of mark) (port_value_in (is_port_wait mark) r c.filler a)) l.line
-    → b ≡ port_target_after (is_port_wait mark) reply r q.ap a → TargetTransfers b t
+    (port_phase_after q.read r (port_flip_of mark) (port_value_in c r a)) l.line
+    → b ≡ port_target_after c reply r q.ap a → TargetTransfers b t
     → TargetAsksUnder mark (target_port_at l n s) q (port_seen_at mark reply)
     (target_port_at (simulation_link_after mark q reply phase l) (port_tally_after mark n) t)
-asks_under l n s a b t mark r reply c q phase legal choice before named replies settled word line after later =
+asks_under l n s a b t mark r reply c q phase legal choice late before named replies settled word line after later =
     let k : PortLink = simulation_link_after mark q reply phase l in
     let P = λ (x : Register). IsPendingSettled (simulated_reply_at mark x q a) x a.pending in
     let V = λ (x : Register). IsPortWordRead (simulated_reply_at mark x q a) q.read
-    (port_value_in (is_port_wait mark) x c.filler a) in
+    (port_value_in c x a) in
     let S = λ (x : Register). PortSees mark (simulated_reply_at mark x q a) (port_seen_at mark reply) in
     let silent = λ (deaf : is_port_deaf mark ≡ true). sym replies ∙ port_deaf_silent mark r (target_answer_at r q.ap a)
     deaf in
@@ -90,15 +91,16 @@ asks_under l n s a b t mark r reply c q phase legal choice before named replies 
     ≡ port_after_reply mark reply r q c (target_port_at l n a) =
     ap (target_port_at k (port_tally_after mark n)) after
     ∙ ap (λ (x : AfterAck). target_port_at (record k { line = x }) (port_tally_after mark n)
-    (port_target_after (is_port_wait mark) reply r q.ap a)) line in
+    (port_target_after c reply r q.ap a)) line in
     let now : PortAsksNow mark c (target_port_at l n a) q (port_seen_at mark reply)
     (target_port_at k (port_tally_after mark n) b) =
     record {
       legal = legal;
       choice = choice;
+      late = late;
       settled = subst P (sym named) (subst (λ x. IsPendingSettled x r a.pending) (sym replies) settled);
       word = subst V (sym named)
-          (subst (λ x. IsPortWordRead x q.read (port_value_in (is_port_wait mark) r c.filler a)) (sym replies) word);
+          (subst (λ x. IsPortWordRead x q.read (port_value_in c r a)) (sym replies) word);
       sees = subst S (sym named) (subst (λ x. PortSees mark x (port_seen_at mark reply)) (sym replies)
           (port_sees_seen_at mark reply legal silent));
       after = subst T (sym named) (whole ∙ ap (λ x. port_after_reply mark x r q c (target_port_at l n a))
@@ -124,7 +126,7 @@ settled_at mark waits q s deaf wait =
 -- the simulated target after a reply
 abbrev pub simulated_after_reply : Mark → Request → Simulation → Reply → Register → Simulation
 simulated_after_reply mark q a reply r =
-    simulation_accepted_after reply (simulation_stepped (λ c. port_target_after (is_port_wait mark) reply r q.ap) a)
+    simulation_accepted_after reply (simulation_replied (is_port_wait mark) reply r q.ap a)
 
 -- what a request is exactly, from its parts
 pub record SimulatedExactly (mark : Mark) (q : Request) (s t : Simulation) (reply : Reply) (phase : AfterAck) : Type 0
@@ -140,8 +142,8 @@ asks_exactly : (mark : Mark) (waits : Bool) (q : Request) (s a b t : Simulation)
     → port_register a.state.select q ≡ r
     → reply ≡ target_reply_when waits r (target_answer_at r q.ap a.state)
     → phase ≡ port_line_after reply (port_phase_after q.read r None
-    (port_value_in (is_port_wait mark) r a.quirks.filler a.state)) Idle
-    → b ≡ simulation_stepped (λ c. port_target_after (is_port_wait mark) reply r q.ap) a
+    (port_value_in (simulation_choice_at (is_port_wait mark) r a) r a.state)) Idle
+    → b ≡ simulation_replied (is_port_wait mark) reply r q.ap a
     → t ≡ simulation_accepted_after reply b
     → SimulatedExactly mark q s t reply (target_line_under mark phase)
 asks_exactly mark waits q s a b t r reply phase deaf wait named settles same replies phases after last =
@@ -157,18 +159,20 @@ asks_exactly mark waits q s a b t r reply phase deaf wait named settles same rep
     subst (λ (x : Simulation). reply ≡ port_reply_under mark (port_register x.state.select q)
     (target_answer_at (port_register x.state.select q) q.ap x.state)) (sym S) there in
     let lines : target_line_under mark phase ≡ port_line_after reply
-    (port_phase_after q.read r (port_flip_of mark) (port_value_in (is_port_wait mark) r a.quirks.filler a.state)) Idle =
+    (port_phase_after q.read r (port_flip_of mark) (port_value_in (simulation_choice_at (is_port_wait mark) r a) r a.state)) Idle =
     ap (target_line_under mark) phases
-    ∙ phase_idle reply q.read r (port_flip_of mark) (port_value_in (is_port_wait mark) r a.quirks.filler a.state) in
+    ∙ phase_idle reply q.read r (port_flip_of mark) (port_value_in (simulation_choice_at (is_port_wait mark) r a) r a.state) in
     let lined : target_line_under mark phase ≡ port_line_after reply
     (port_phase_after q.read (port_register a.state.select q) (port_flip_of mark)
-    (port_value_in (is_port_wait mark) (port_register a.state.select q) a.quirks.filler a.state)) Idle =
+    (port_value_in (simulation_choice_at (is_port_wait mark) (port_register a.state.select q) a)
+    (port_register a.state.select q) a.state)) Idle =
     subst (λ (x : Register). target_line_under mark phase ≡ port_line_after reply
-    (port_phase_after q.read x (port_flip_of mark) (port_value_in (is_port_wait mark) x a.quirks.filler a.state)) Idle)
+    (port_phase_after q.read x (port_flip_of mark) (port_value_in (simulation_choice_at (is_port_wait mark) x a) x a.state)) Idle)
     (sym same) lines in
     let P = λ (x : Simulation) (y : Reply). target_line_under mark phase ≡ port_line_after y
     (port_phase_after q.read (port_register x.state.select q) (port_flip_of mark)
-    (port_value_in (is_port_wait mark) (port_register x.state.select q) x.quirks.filler x.state)) Idle in
+    (port_value_in (simulation_choice_at (is_port_wait mark) (port_register x.state.select q) x)
+    (port_register x.state.select q) x.state)) Idle in
     let ended : t ≡ simulated_after_reply mark q a reply r = last ∙ ap (simulation_accepted_after reply) after in
     let there' : t ≡ simulated_after_reply mark q a reply (port_register a.state.select q) =
     subst (λ (x : Register). t ≡ simulated_after_reply mark q a reply x) (sym same) ended in
@@ -189,34 +193,30 @@ pub simulated_answers_under : {A : Type 0} (mark : Mark) (waits : Bool) (q : Req
     → TargetTransfers (target_state s) (target_state a)
     → target_simulation a ≡ target_settled_when waits r q.ap (target_simulation s)
     → reply ≡ target_reply_when waits r (target_answer_at r q.ap (target_state a)) → IsPendingSettled reply r a.pending
-    → IsPortWordRead reply q.read (port_value_in waits r (target_stand_in r a) (target_state a))
+    → IsPortWordRead reply q.read (port_value_in (target_choice_at waits r a) r (target_state a))
     → phase ≡ port_line_after reply (port_phase_after q.read r None
-    (port_value_in waits r (target_stand_in r a) (target_state a))) Idle
+    (port_value_in (target_choice_at waits r a) r (target_state a))) Idle
     → phase ≡ port_line_after reply (port_phase_after q.read r None
-    (port_value_in waits r a.quirks.filler (target_simulation a).state)) Idle
-    → target_state b ≡ port_target_after waits reply r q.ap (target_state a)
-    → target_simulation b ≡ simulation_stepped (λ c. port_target_after waits reply r q.ap) (target_simulation a)
+    (port_value_in (simulation_choice_at waits r (target_simulation a)) r (target_simulation a).state)) Idle
+    → target_state b ≡ port_target_after (target_choice_at waits r a) reply r q.ap (target_state a)
+    → target_simulation b ≡ simulation_replied waits reply r q.ap (target_simulation a)
     → TargetTransfers (target_state b) (target_state t)
     → target_simulation t ≡ simulation_accepted_after reply (target_simulation b)
     → TargetAnswersUnder mark q s reply (target_line_under mark phase) t
 simulated_answers_under mark waits q s a b t r reply phase legal deaf wait named same before settles replies
     simulation_settled word lawful exact after after' later last =
     let law = λ (l : PortLink) (n : PortTally). asks_under l n (target_state s) (target_state a) (target_state b)
-    (target_state t) mark r reply (target_choice_for r a) q (target_line_under mark phase)
-    legal (target_choice_is_choice r a) before same
+    (target_state t) mark r reply (target_choice_at waits r a) q (target_line_under mark phase)
+    legal (target_choice_at_is_choice waits r a) (target_may_be_late mark waits r a wait) before same
     (same_reply mark waits r (target_answer_at r q.ap (target_state a)) deaf wait ∙ sym replies) simulation_settled
-    (subst (λ w. IsPortWordRead reply q.read (port_value_in w r (target_stand_in r a) (target_state a))) (sym wait)
-    word) (ap (λ (x : AfterAck). port_line_after reply (target_line_under mark x) l.line)
-    (lawful ∙ ap (λ w. port_line_after reply
-    (port_phase_after q.read r None (port_value_in w r (target_stand_in r a) (target_state a))) Idle)
-    (sym wait)) ∙ phase_under reply q.read r (port_flip_of mark)
-    (port_value_in (is_port_wait mark) r (target_stand_in r a) (target_state a)) l.line)
-    (after ∙ ap (λ w. port_target_after w reply r q.ap (target_state a)) (sym wait)) later in
+    word (ap (λ (x : AfterAck). port_line_after reply (target_line_under mark x) l.line) lawful
+    ∙ phase_under reply q.read r (port_flip_of mark)
+    (port_value_in (target_choice_at waits r a) r (target_state a)) l.line) after later in
     let x = asks_exactly mark waits q (target_simulation s) (target_simulation a) (target_simulation b)
     (target_simulation t) r reply phase deaf wait named settles same replies (exact ∙ ap (λ w. port_line_after reply
-    (port_phase_after q.read r None (port_value_in w r a.quirks.filler (target_simulation a).state))
-    Idle) (sym wait))
-    (after' ∙ ap (λ w. simulation_stepped (λ c. port_target_after w reply r q.ap) (target_simulation a)) (sym wait))
+    (port_phase_after q.read r None
+    (port_value_in (simulation_choice_at w r (target_simulation a)) r (target_simulation a).state)) Idle) (sym wait))
+    (after' ∙ ap (λ w. simulation_replied w reply r q.ap (target_simulation a)) (sym wait))
     last in
     record { step = law; replies = x.replies; phases = x.phases; exact = x.exact }
 
@@ -226,7 +226,7 @@ simulated_answers_deaf q s =
     let r = port_register s.select q in
     let law = λ (l : PortLink) (n : PortTally). asks_under l n (target_state s) (target_state s) (target_state s)
     (target_state s) Deaf r Silent (target_choice_for r s) q Idle
-    tt (target_choice_is_choice r s) (inl refl) refl refl tt tt refl refl (inl refl) in
+    tt (target_choice_is_choice r s) (λ e. (refl, system_on_time false s.debug_up refl)) (inl refl) refl refl tt tt refl refl (inl refl) in
     record { step = law; replies = refl; phases = refl; exact = refl }
 
 -- a request keeps the law of the wire
@@ -252,11 +252,11 @@ pub simulated_gives_lawful : {A : Type 0} (a : PortArrival) (l : PortLink) (n : 
     → PortGives (target_port_at l n (target_state s)) sent (target_port_at port_idle_link n (target_state t))
 simulated_gives_lawful a l n s t sent is comes =
     let now = λ (x : PortArrival). PortGivesNow (target_port_at l n (target_state s)) sent
-    (target_port_at port_idle_link n (port_after_bits x (target_state s))) in (
+    (target_port_at port_idle_link n (port_after_bits false x (target_state s))) in (
       target_port_at l n (target_state s),
-      target_port_at port_idle_link n (port_after_bits a (target_state s)),
+      target_port_at port_idle_link n (port_after_bits false a (target_state s)),
       inl refl,
       subst now is
-          (record { after = refl }),
-      simulated_target_completes port_idle_link n (port_after_bits a (target_state s)) (target_state t) comes.later,
+          (record { refuses = false; after = refl }),
+      simulated_target_completes port_idle_link n (port_after_bits false a (target_state s)) (target_state t) comes.later,
     )

@@ -24,7 +24,7 @@ use Rattle.swd_port.specs.Choices.{Choice, IsPortMark, is_port_deaf, is_port_wai
 use Rattle.swd_port.specs.Completion.{pending_access_at, buffer_after_pending, port_completion, pending_fails}
 use Rattle.swd_port.specs.Completion.{memory_after_pending}
 use Rattle.swd_port.specs.Answers.{port_answer_by, is_exempt_register, is_port_okay, is_port_unpowered}
-use Rattle.swd_port.specs.Moving.{PortArrival, Arrives, port_after_bits}
+use Rattle.swd_port.specs.Moving.{PortArrival, Arrives}
 use Rattle.swd_port.specs.Asking.{port_has_power, IsPendingSettled, IsPortWordRead, port_line_after, port_phase_after}
 use Rattle.swd_port.specs.Asking.{port_target_after, port_value_in}
 use Rattle.swd_target.specs.declared.target.Target.{Target}
@@ -33,8 +33,11 @@ use Rattle.swd_target.specs.Contents.{target_known_word}
 use Rattle.swd_target.specs.Flips.{target_line_under}
 use Rattle.swd_target.specs.Simulations.{Simulation, simulation_accepted, simulation_accepted_after, simulation_arrived}
 use Rattle.swd_target.specs.Simulations.{simulation_choice, simulation_filled, simulation_is_owed}
+use Rattle.swd_target.specs.Simulations.{simulation_choice_at, simulation_replied, simulation_written}
+use Rattle.swd_target.specs.Simulations.{simulated_tar_after}
 use Rattle.swd_target.specs.Simulations.{simulation_stepped, simulation_transferred}
-use Rattle.swd_target.specs.Targets.{TargetSteps, target_answer_at, target_choice_for, is_target_settling}
+use Rattle.swd_target.specs.Targets.{TargetCompletes, target_answer_at, target_choice_for, is_target_settling}
+use Rattle.swd_target.specs.Targets.{target_choice_at, simulation_tar_at}
 use Rattle.swd_target.specs.Targets.{target_reply_when, target_settled_when, target_simulation}
 use Rattle.swd_target.specs.Targets.{target_stand_in, target_state}
 use Rattle.swd_target.specs.Requests.{TargetAnswersUnder}
@@ -70,7 +73,7 @@ tar_is true word = refl
 tar_is false word = refl
 
 -- so where the log stays, none was pending
-none_pending : {A : Type 0} (s t : Target A) → TargetSteps port_completion s t → IsTargetReady s.memory s
+none_pending : {A : Type 0} (s t : Target A) → TargetCompletes s t → IsTargetReady s.memory s
     → t.memory.log ≡ s.memory.log → s.pending ≡ None
 none_pending s t steps ready same =
     let at = unwrap_or (target_known_word s.tar) s.tar.word in
@@ -86,7 +89,7 @@ state_at_rest : {A : Type 0} (c : Choice) (t : Target A) → t.pending ≡ None
 state_at_rest c t e = grind arith
 
 -- a completion that leaves the log unchanged, though the pending transfer would have succeeded, changes nothing
-pub target_stays_if_unlogged : {A : Type 0} (s t : Target A) → TargetSteps port_completion s t
+pub target_stays_if_unlogged : {A : Type 0} (s t : Target A) → TargetCompletes s t
     → IsTargetReady s.memory s → t.memory.log ≡ s.memory.log → TargetStays s t
 target_stays_if_unlogged s t steps ready same =
     let none = none_pending s t steps ready same in
@@ -139,33 +142,33 @@ settles_over waits r ap_ t ready settled =
     ]
 
 -- a reply changes no memory, and looks at none
-state_over : (m : Bus) (waits : Bool) (reply : Reply) (r : Register) (ap_ : Bool) (x : State)
-    → record (port_target_after waits reply r ap_ x) { memory = m } ≡ port_target_after waits reply r ap_
+state_over : (m : Bus) (c : Choice) (reply : Reply) (r : Register) (ap_ : Bool) (x : State)
+    → record (port_target_after c reply r ap_ x) { memory = m } ≡ port_target_after c reply r ap_
     (record x { memory = m })
-state_over m waits Okay r ap_ x = refl
-state_over m waits Waits r ap_ x = refl
-state_over m waits Faults r ap_ x = refl
-state_over m waits Silent r ap_ x = refl
+state_over m c Okay r ap_ x = refl
+state_over m c Waits r ap_ x = refl
+state_over m c Faults r ap_ x = refl
+state_over m c Silent r ap_ x = refl
 
 -- a simulated target over another memory
 abbrev pub simulation_placed : PlainMemory → Simulation → Simulation
 simulation_placed m s = record s { state = record s.state { memory = bus_of m } }
 
 exact_over : (m : PlainMemory) (waits : Bool) (reply : Reply) (r : Register) (ap_ : Bool) (s : Simulation)
-    → simulation_placed m (simulation_stepped (λ c. port_target_after waits reply r ap_) s)
-    ≡ simulation_stepped (λ c. port_target_after waits reply r ap_) (simulation_placed m s)
+    → simulation_placed m (simulation_replied waits reply r ap_ s)
+    ≡ simulation_replied waits reply r ap_ (simulation_placed m s)
 exact_over m waits Okay r ap_ s = refl
 exact_over m waits Waits r ap_ s = refl
 exact_over m waits Faults r ap_ s = refl
 exact_over m waits Silent r ap_ s = refl
 
 -- nor does it change the quirks
-pub target_reply_keeps_memory : (waits : Bool) (reply : Reply) (r : Register) (ap_ : Bool) (x : State)
-    → (port_target_after waits reply r ap_ x).memory ≡ x.memory
-target_reply_keeps_memory waits Okay r ap_ x = refl
-target_reply_keeps_memory waits Waits r ap_ x = refl
-target_reply_keeps_memory waits Faults r ap_ x = refl
-target_reply_keeps_memory waits Silent r ap_ x = refl
+pub target_reply_keeps_memory : (c : Choice) (reply : Reply) (r : Register) (ap_ : Bool) (x : State)
+    → (port_target_after c reply r ap_ x).memory ≡ x.memory
+target_reply_keeps_memory c Okay r ap_ x = refl
+target_reply_keeps_memory c Waits r ap_ x = refl
+target_reply_keeps_memory c Faults r ap_ x = refl
+target_reply_keeps_memory c Silent r ap_ x = refl
 
 quirks_if : (b : Bool) (s t : Simulation) → t.quirks ≡ s.quirks → (if b then t else s).quirks ≡ s.quirks
 quirks_if true s t e = e
@@ -178,7 +181,7 @@ quirks_kept_by_accepting s = quirks_if s.quirks.late (simulation_transferred s) 
 -- a request doesn't change the quirks
 pub quirks_kept_by_request : {A : Type 0} (waits : Bool) (reply : Reply) (r : Register) (ap_ : Bool)
     (s a b t : Target A) → target_simulation a ≡ target_settled_when waits r ap_ (target_simulation s)
-    → target_simulation b ≡ simulation_stepped (λ c. port_target_after waits reply r ap_) (target_simulation a)
+    → target_simulation b ≡ simulation_replied waits reply r ap_ (target_simulation a)
     → target_simulation t ≡ simulation_accepted_after reply (target_simulation b) → t.quirks ≡ s.quirks
 quirks_kept_by_request waits reply r ap_ s a b t settles after accepts =
     let first : a.quirks ≡ s.quirks = ap (λ (x : Simulation). x.quirks) settles
@@ -193,7 +196,7 @@ quirks_kept_by_request waits reply r ap_ s a b t settles after accepts =
 pub late_quirk_kept : {A : Type 0} (waits : Bool) (reply : Reply) (r : Register) (ap_ : Bool) (s a b : Target A)
     → s.quirks.late ≡ true
     → target_simulation a ≡ target_settled_when waits r ap_ (target_simulation s)
-    → target_simulation b ≡ simulation_stepped (λ c. port_target_after waits reply r ap_) (target_simulation a)
+    → target_simulation b ≡ simulation_replied waits reply r ap_ (target_simulation a)
     → b.quirks.late ≡ true
 late_quirk_kept waits reply r ap_ s a b late settles after =
     let first : a.quirks ≡ s.quirks = ap (λ (x : Simulation). x.quirks) settles
@@ -204,11 +207,11 @@ late_quirk_kept waits reply r ap_ s a b late settles after =
 -- where a request left the log unchanged, and nothing took effect after the reply, it was unchanged before the reply
 pub target_log_before_reply : {A : Type 0} (waits : Bool) (reply : Reply) (r : Register) (ap_ : Bool)
     (s a b t : Target A)
-    → target_state b ≡ port_target_after waits reply r ap_ (target_state a) → t ≡ b → t.memory.log ≡ s.memory.log
+    → target_state b ≡ port_target_after (target_choice_at waits r a) reply r ap_ (target_state a) → t ≡ b → t.memory.log ≡ s.memory.log
     → a.memory.log ≡ s.memory.log
 target_log_before_reply waits reply r ap_ s a b t after last log =
     let memory : bus_of b.memory ≡ bus_of a.memory = ap (λ (x : State). x.memory) after
-    ∙ target_reply_keeps_memory waits reply r ap_ (target_state a) in
+    ∙ target_reply_keeps_memory (target_choice_at waits r a) reply r ap_ (target_state a) in
     ap (λ (m : Bus). m.log) (sym memory) ∙ (ap (λ (x : Target _). x.memory.log) (sym last) ∙ log)
 
 -- the word that stands for an unknown one is the target's own
@@ -219,7 +222,7 @@ stand_over m r t = refl
 
 -- what is accepted takes effect later
 pub late_quirk_arrival : (a : PortArrival) (s : Simulation) → s.quirks.late ≡ true
-    → simulation_arrived a s ≡ simulation_stepped (λ c. port_after_bits a) s
+    → simulation_arrived a s ≡ simulation_written a s
 late_quirk_arrival (Arrives r word) s e = rw e refl
 late_quirk_arrival a s e = refl
 
@@ -244,13 +247,13 @@ pub target_answers_elsewhere : {A : Type 0} (m : PlainMemory) (mark : Mark) (wai
     → port_register a.select q ≡ r
     → TargetStays s a → IsTargetReadyIf waits m s → s.quirks.late ≡ true
     → reply ≡ target_reply_when waits r (target_answer_at r q.ap (target_state a)) → IsPendingSettled reply r a.pending
-    → IsPortWordRead reply q.read (port_value_in waits r (target_stand_in r a) (target_state a))
+    → IsPortWordRead reply q.read (port_value_in (target_choice_at waits r a) r (target_state a))
     → phase ≡ port_line_after reply (port_phase_after q.read r None
-    (port_value_in waits r (target_stand_in r a) (target_state a))) Idle
+    (port_value_in (target_choice_at waits r a) r (target_state a))) Idle
     → phase ≡ port_line_after reply (port_phase_after q.read r None
-    (port_value_in waits r a.quirks.filler (target_simulation a).state)) Idle
-    → target_state b ≡ port_target_after waits reply r q.ap (target_state a)
-    → target_simulation b ≡ simulation_stepped (λ c. port_target_after waits reply r q.ap) (target_simulation a)
+    (port_value_in (simulation_choice_at waits r (target_simulation a)) r (target_simulation a).state)) Idle
+    → target_state b ≡ port_target_after (target_choice_at waits r a) reply r q.ap (target_state a)
+    → target_simulation b ≡ simulation_replied waits reply r q.ap (target_simulation a)
     → TargetAnswersUnder mark q (target_over_memory m s) reply (target_line_under mark phase) (target_over_memory m b)
 target_answers_elsewhere m mark waits q s a b r reply phase legal deaf wait named same kept ready late replies settled
     word lawful exact after after' =
@@ -269,11 +272,15 @@ target_answers_elsewhere m mark waits q s a b r reply phase legal deaf wait name
     (target_over_memory m b) r reply phase legal deaf wait named same (inl (target_state_placed m s a kept.state))
     (simulation_same_placed m s a kept.exact ∙ settles_over waits r q.ap (target_over_memory m s) ready now)
     replies settled (subst (λ f. IsPortWordRead reply q.read
-    (port_value_in waits r f (target_state (target_over_memory m a))))
+    (port_value_in (record (target_choice_at waits r a) { filler = f }) r (target_state (target_over_memory m a))))
     (sym (stand_over m r a)) word) (lawful ∙ ap (λ f. port_line_after reply
-    (port_phase_after q.read r None (port_value_in waits r f (target_state (target_over_memory m a)))) Idle)
+    (port_phase_after q.read r None (port_value_in (record (target_choice_at waits r a) { filler = f }) r
+    (target_state (target_over_memory m a)))) Idle)
     (sym (stand_over m r a))) exact
-    (ap (λ (x : State). record x { memory = bus_of m }) after ∙ state_over (bus_of m) waits reply r q.ap (target_state a))
+    (ap (λ (x : State). record x { memory = bus_of m }) after
+    ∙ state_over (bus_of m) (target_choice_at waits r a) reply r q.ap (target_state a)
+    ∙ ap (λ f. port_target_after (record (target_choice_at waits r a) { filler = f }) reply r q.ap
+    (target_state (target_over_memory m a))) (sym (stand_over m r a)))
     (ap (simulation_placed m) after' ∙ exact_over m waits reply r q.ap (target_simulation a))
     (inl refl) (sym last)
 
@@ -343,14 +350,16 @@ bus_after_pending (Some drw) at m = sym (bus_of_after (pending_access_at at drw)
 
 -- a completion takes the same step over a memory that gives the pending transfer the same answer
 pub target_completes_elsewhere : {A : Type 0} (m : PlainMemory) (s t : Target A)
-    → IsTargetAnsweredAlike s.pending s.tar.word (bus_of m) (bus_of s.memory) → TargetSteps port_completion s t
-    → TargetSteps port_completion (target_over_memory m s)
+    → IsTargetAnsweredAlike s.pending s.tar.word (bus_of m) (bus_of s.memory) → TargetCompletes s t
+    → TargetCompletes (target_over_memory m s)
     (target_over_memory (plain_after_pending s.pending s.tar.word m) t)
 target_completes_elsewhere m s t e steps =
     let here : unwrap_or (target_known_word s.tar) s.tar.word ≡ s.tar.word = tar_is s.tar.known s.tar.word in
     let after = plain_after_pending s.pending s.tar.word m in
     let is : bus_of after ≡ memory_after_pending s.pending s.tar.word (bus_of m) =
     bus_after_pending s.pending s.tar.word m in
+    let at = simulated_tar_after s.pending (pending_fails s.pending s.tar.word (bus_of s.memory)) s.increments
+    s.quirks.wrap s.tar.word in
     let there = completion_alike (target_choice_for DrwRead s) (target_state s) (bus_of m)
     (subst (λ at. IsTargetAnsweredAlike s.pending at (bus_of m) (bus_of s.memory)) (sym here) e) in
     record {
@@ -359,8 +368,13 @@ target_completes_elsewhere m s t e steps =
           ∙ (ap (λ at. record (port_completion (target_choice_for DrwRead s) (target_state s))
           { memory = memory_after_pending s.pending at (bus_of m) }) (sym here) ∙ there));
       exact = ap (simulation_placed after) steps.exact
-          ∙ (ap (λ b. simulation_filled (target_simulation (target_over_memory m s))
-          (record (port_completion (simulation_choice (target_simulation s)) (target_simulation s).state) { memory = b }))
-          is ∙ ap (simulation_filled (target_simulation (target_over_memory m s)))
-          (completion_alike (simulation_choice (target_simulation s)) (target_simulation s).state (bus_of m) e));
+          ∙ (ap (λ b. simulation_tar_at at
+          (simulation_filled (target_simulation (target_over_memory m s))
+          (record (port_completion (simulation_choice (target_simulation s)) (target_simulation s).state)
+          { memory = b }))) is
+          ∙ (ap (λ z. simulation_tar_at at (simulation_filled (target_simulation (target_over_memory m s)) z))
+          (completion_alike (simulation_choice (target_simulation s)) (target_simulation s).state (bus_of m) e)
+          ∙ ap (λ f. simulation_tar_at (simulated_tar_after s.pending f s.increments s.quirks.wrap s.tar.word)
+          (simulation_stepped port_completion (target_simulation (target_over_memory m s))))
+          (sym (fails_alike s.pending s.tar.word (bus_of m) (bus_of s.memory) e))));
     }

@@ -8,9 +8,9 @@ use Rattle.swd_port.specs.declared.state.PowerUp.TheVariants.{Unseen, Late, Seen
 use Rattle.swd_port.specs.declared.state.Reset.{Reset}
 use Rattle.swd_port.specs.declared.state.Reset.TheVariants.{Unreset, Fresh, Live}
 use Rattle.swd_target.specs.declared.target.Target.{Target}
-use Rattle.swd_target.specs.Fields.{target_fields, target_pending_fields, target_power_number, target_reset_number}
+use Rattle.swd_target.specs.Fields.{target_fields, target_pending_fields, target_powers_number, target_reset_number}
 use Rattle.swd_target.specs.Fields.{restored_target_flag, restored_target_pending}
-use Rattle.swd_target.specs.Fields.{restored_target_power, restored_target_reset, restored_target}
+use Rattle.swd_target.specs.Fields.{restored_target_powers, restored_target_reset, restored_target}
 
 -- the number of a flag is read as itself
 pub target_flag_restores : (b : Bool) → restored_target_flag (bit b) ≡ bit b
@@ -27,10 +27,16 @@ reset_read Unreset = refl
 reset_read Fresh = refl
 reset_read Live = refl
 
-power_read : (p : PowerUp) → restored_target_power (target_power_number p) ≡ target_power_number p
-power_read Unseen = refl
-power_read Late = refl
-power_read Seen = refl
+powers_read : (p q : PowerUp) → restored_target_powers (target_powers_number p q) ≡ target_powers_number p q
+powers_read Unseen Unseen = refl
+powers_read Unseen Late = refl
+powers_read Unseen Seen = refl
+powers_read Late Unseen = refl
+powers_read Late Late = refl
+powers_read Late Seen = refl
+powers_read Seen Unseen = refl
+powers_read Seen Late = refl
+powers_read Seen Seen = refl
 
 -- the numbers of a target are read as themselves
 pub target_fields_restore : {A : Type 0} (t : Target A) → restored_target (target_fields t) ≡ target_fields t
@@ -45,7 +51,7 @@ target_fields_restore t =
     )
     (rw (
       reset_read t.reset,
-      power_read t.power_up,
+      powers_read t.debug_up t.system_up,
       target_flag_restores t.sticky_error,
       target_flag_restores t.write_error,
       target_flag_restores

@@ -1,37 +1,83 @@
 -- What a target chooses, as a choice of the port machine, and when its transfers take effect.
-use Rattle.std.proofs.Common.{◌≡◌, ◌<◌, ◌^◌, ◌||◌, Bool, true, false, Option, None, refl, sym, ap, subst, arith}
+use Rattle.std.proofs.Common.{◌≡◌, ◌<◌, ◌^◌, ◌||◌, ◌∙◌, ℕ, Bool, true, false, Option, None, refl, sym, ap, subst}
+use Rattle.std.proofs.Common.{arith}
 use Rattle.std.proofs.Common.{if◌then◌else◌}
-use Rattle.std.specs.Prelude.{is_some}
+use Rattle.std.specs.Prelude.{is_some, nat_lt, ◌&&◌, ◌+◌, ◌%◌, Some}
+use Rattle.std.specs.Option.{option_and_then}
 use Rattle.swd_port.specs.Bus.{bus_of}
 use Rattle.swd_port.specs.Port.{Target as State}
 use Rattle.swd_port.specs.declared.register.Register.{Register}
-use Rattle.swd_port.specs.declared.register.Register.TheVariants.{ResendRead}
+use Rattle.swd_port.specs.declared.register.Register.TheVariants.{ResendRead, CswRead}
 use Rattle.swd_port.specs.declared.state.Drw.{Drw}
 use Rattle.swd_port.specs.declared.state.Reset.{Reset}
 use Rattle.swd_port.specs.declared.state.Reply.{Reply}
 use Rattle.swd_port.specs.declared.state.Reply.TheVariants.{Okay, Waits, Faults, Silent}
-use Rattle.swd_port.specs.Choices.{Choice, IsPortChoice}
+use Rattle.swd_port.specs.declared.mark.Mark.{Mark}
+use Rattle.swd_port.specs.declared.state.PowerUp.{PowerUp}
+use Rattle.swd_port.specs.declared.state.PowerUp.TheVariants.{Seen}
+use Rattle.swd_port.specs.Choices.{Choice, IsPortChoice, PortMayBeLate, is_port_wait}
 use Rattle.swd_port.specs.Answers.{port_answer_by, is_exempt_register, is_port_unpowered}
-use Rattle.swd_port.specs.Completion.{port_completion, pending_fails}
+use Rattle.swd_port.specs.Completion.{port_completion, pending_fails, port_tar_next_address}
 use Rattle.swd_port.specs.Asking.{IsPendingSettled, port_has_power}
 use Rattle.swd_target.specs.declared.target.Target.{Target}
 use Rattle.swd_target.specs.Simulations.{Simulation, simulation_is_owed, simulation_transferred}
+use Rattle.swd_target.specs.Simulations.{simulated_others, simulated_system_late, simulated_next_address}
 use Rattle.swd_target.specs.Targets.{target_state, target_simulation, target_stand_in, target_choice_for}
 use Rattle.swd_target.specs.Targets.{target_answer_at, target_reply_when, target_settled_when}
-use Rattle.swd_target.specs.Targets.{is_target_settling, IsChoiceByQuirks}
+use Rattle.swd_target.specs.Targets.{is_target_settling, target_choice_at}
+
+pub system_on_time : (waits : Bool) (up : PowerUp) → waits ≡ false → simulated_system_late waits up ≡ false
+system_on_time waits Seen e = refl
+system_on_time waits up e = e
 
 stand_in-fits : {A : Type 0} (r : Register) (t : Target A) → target_stand_in r t < 2 ^ 32
 stand_in-fits ResendRead t = t.last_returned.fits
 stand_in-fits r t = t.buffer.fits
 
--- the address and the word that a target chooses, its own, are below 2^32
-pub target_choice_is_choice : {A : Type 0} (r : Register) (t : Target A) → IsPortChoice (target_choice_for r t)
-target_choice_is_choice r t = record { address = t.tar.fits; filler = stand_in-fits r t }
+others_fit : (r : Register) (upper : ℕ) → simulated_others r upper < 2 ^ 32
+others_fit CswRead upper = omega arith
+others_fit r upper = omega arith
 
--- its way to end a kilobyte is that of its quirks
-pub target_choice_by_quirks : {A : Type 0} (r : Register) (t : Target A)
-    → IsChoiceByQuirks t.quirks (target_choice_for r t)
-target_choice_by_quirks r t = record { legal = target_choice_is_choice r t; wraps = refl }
+-- the address and the words that a target chooses are below 2^32
+pub target_choice_at_is_choice : {A : Type 0} (waits : Bool) (r : Register) (t : Target A)
+    → IsPortChoice (target_choice_at waits r t)
+target_choice_at_is_choice waits r t = record {
+  address = t.tar.fits;
+  filler = stand_in-fits r t;
+  others = others_fit r t.csw_upper;
+  elsewhere = omega arith;
+}
+
+-- and it finds power late where WAIT is asked for alone
+pub target_may_be_late : {A : Type 0} (mark : Mark) (waits : Bool) (r : Register) (t : Target A)
+    → is_port_wait mark ≡ waits → PortMayBeLate mark (target_choice_at waits r t)
+target_may_be_late mark waits r t is e = (sym is ∙ e, system_on_time waits t.debug_up (sym is ∙ e))
+
+pub target_choice_is_choice : {A : Type 0} (r : Register) (t : Target A) → IsPortChoice (target_choice_for r t)
+target_choice_is_choice r t = target_choice_at_is_choice false r t
+
+-- the next address inside a kilobyte
+next_inside : (wraps : Bool) (at : ℕ) → at < 2 ^ 32 → at % 1024 < 1020 → simulated_next_address wraps at ≡ at + 4
+next_inside true at range inside = omega arith
+next_inside false at range inside = omega arith
+
+advances_by : (wraps : Bool) (at : ℕ) (inside : Bool) → at < 2 ^ 32 → nat_lt (at % 1024) 1020 ≡ inside
+    → (if inside then Some (simulated_next_address wraps at) else None) ≡ port_tar_next_address at
+advances_by wraps at true range e =
+    let below : at % 1024 < 1020 = grind arith in
+    let same : nat_lt (at % 1024 + 4) 1024 ≡ true = grind arith in
+    ap Some (next_inside wraps at range below) ∙ rw same refl
+advances_by wraps at false range e =
+    let same : nat_lt (at % 1024 + 4) 1024 ≡ false = grind arith in
+    rw same refl
+
+-- TAR after a transfer that succeeded is known inside a kilobyte, where it was known
+pub target_tar_advances : (known inside : Bool) (wraps : Bool) (at : ℕ) → at < 2 ^ 32
+    → inside ≡ nat_lt (at % 1024) 1020 →
+    (if known && inside then Some (simulated_next_address wraps at) else None)
+    ≡ option_and_then port_tar_next_address (if known then Some at else None)
+target_tar_advances true inside wraps at range e = advances_by wraps at inside range (sym e)
+target_tar_advances false inside wraps at range e = refl
 
 -- the code settles exactly where that is owed by the reply that follows
 owed_by : (exempt : Bool) (waits : Bool) (r : Register) (reset : Reset) (sticky write unpowered failing : Bool)

@@ -27,10 +27,17 @@ target_reset_number Unreset = 1
 target_reset_number Fresh = 2
 target_reset_number Live = 3
 
-abbrev pub target_power_number : PowerUp → ℕ
-target_power_number Unseen = 1
-target_power_number Late = 2
-target_power_number Seen = 3
+-- the state of debug power, and that of system power
+abbrev pub target_powers_number : PowerUp → PowerUp → ℕ
+target_powers_number Unseen Unseen = 1
+target_powers_number Late Late = 2
+target_powers_number Seen Seen = 3
+target_powers_number Seen Unseen = 4
+target_powers_number Seen Late = 5
+target_powers_number Unseen Late = 6
+target_powers_number Unseen Seen = 7
+target_powers_number Late Unseen = 8
+target_powers_number Late Seen = 9
 
 -- the fields of a target
 abbrev pub target_fields : {A : Type 0} → Target A → TargetFields
@@ -48,7 +55,7 @@ target_fields t = record {
   read_ok = bit t.read_ok;
   debug_power = bit t.debug_power;
   system_power = bit t.system_power;
-  power_up = target_power_number t.power_up;
+  power_up = target_powers_number t.debug_up t.system_up;
   apsel = t.select.apsel;
   apbanksel = t.select.apbanksel;
   dpbanksel = t.select.dpbanksel;
@@ -72,8 +79,9 @@ restored_target_pending f =
 abbrev pub restored_target_reset : ℕ → ℕ
 restored_target_reset n = if n == 1 then 1 else if n == 2 then 2 else 3
 
-abbrev pub restored_target_power : ℕ → ℕ
-restored_target_power n = if n == 1 then 1 else if n == 2 then 2 else 3
+abbrev pub restored_target_powers : ℕ → ℕ
+restored_target_powers n = if n == 1 then 1 else if n == 2 then 2 else if n == 4 then 4 else if n == 5 then 5
+    else if n == 6 then 6 else if n == 7 then 7 else if n == 8 then 8 else if n == 9 then 9 else 3
 
 abbrev pub restored_target : TargetFields → TargetFields
 restored_target f = record {
@@ -90,7 +98,7 @@ restored_target f = record {
   read_ok = restored_target_flag f.read_ok;
   debug_power = restored_target_flag f.debug_power;
   system_power = restored_target_flag f.system_power;
-  power_up = restored_target_power f.power_up;
+  power_up = restored_target_powers f.power_up;
   apsel = f.apsel;
   apbanksel = f.apbanksel;
   dpbanksel = f.dpbanksel;

@@ -59,9 +59,9 @@ pub record TargetAnswers {A : Type 0} (waits : Bool) (q : Request) (s : Target A
 -- The data of a write: a step of the port model, and exactly the step that the quirks choose. Where the write isn't
 -- done, no transfer takes effect. Where transfers take effect late, the same holds over every other memory.
 pub record DataComes {A : Type 0} (a : PortArrival) (s t : Target A) : Type 0 where
-  pub later : TargetTransfers (port_after_bits a (target_state s)) (target_state t)
-  pub undone : simulation_write_done a ≡ false → target_state t ≡ port_after_bits a (target_state s)
+  pub later : TargetTransfers (port_after_bits false a (target_state s)) (target_state t)
+  pub undone : simulation_write_done a ≡ false → target_state t ≡ port_after_bits false a (target_state s)
   pub exact : target_simulation t ≡ simulation_arrived a (target_simulation s)
   pub elsewhere : (m : PlainMemory) → s.quirks.late ≡ true
-      → (target_state (target_over_memory m t) ≡ port_after_bits a (target_state (target_over_memory m s)))
+      → (target_state (target_over_memory m t) ≡ port_after_bits false a (target_state (target_over_memory m s)))
       × (target_simulation (target_over_memory m t) ≡ simulation_arrived a (target_simulation (target_over_memory m s)))

@@ -13,7 +13,7 @@ ghost use Rattle.swd_port.specs.Moving.{port_bits_driven};
 ghost use Rattle.swd_target.specs.Marks.{IsLegalPlan};
 ghost use Rattle.swd_target.specs.Flips.{target_flip_place, target_awaited_flip};
 ghost use Rattle.swd_target.specs.Simulations.{simulation_made_with, simulation_transferred};
-ghost use Rattle.swd_target.specs.Targets.{IsChoiceByQuirks};
+ghost use Rattle.swd_port.specs.Choices.{IsPortChoice};
 
 use crate::acknowledgement::seen_under;
 use crate::memory::Memory;
@@ -73,7 +73,7 @@ impl<A: Allocator> Bench<A> {
     /// Completes the pending DRW transfer, if any. Without the quirk `late` no transfer is ever pending.
     pub fn settle(&mut self)
         ensures port { bench_port self.new ≡ port_completed (bench_choice self.old) (bench_port self.old) }
-        ensures choice { IsChoiceByQuirks (bench_simulation self.old).quirks (bench_choice self.old) }
+        ensures choice { IsPortChoice (bench_choice self.old) }
         ensures exact { bench_simulation self.new ≡ simulation_transferred (bench_simulation self.old) }
         ensures plan { bench_plan self.new ≡ bench_plan self.old }
     {

@@ -1,8 +1,8 @@
 //! A target as a struct of integers, for callers that store it themselves, such as programs in C.
 ghost use Rattle.std.specs.Prelude.{◌≡◌, ◌==◌};
-ghost use Rattle.swd_target.specs.Fields.{target_content_fields, target_pending_fields, target_power_number};
+ghost use Rattle.swd_target.specs.Fields.{target_content_fields, target_pending_fields, target_powers_number};
 ghost use Rattle.swd_target.specs.Fields.{target_reset_number, restored_target_content, restored_target_pending};
-ghost use Rattle.swd_target.specs.Fields.{restored_target_power, restored_target_reset, restored_target, target_fields};
+ghost use Rattle.swd_target.specs.Fields.{restored_target_powers, restored_target_reset, restored_target, target_fields};
 
 use crate::content::Content;
 use crate::memory::Memory;
@@ -117,23 +117,36 @@ fn reset_with(number: u8) -> Reset
     }
 }
 
-fn number_of_power(power_up: PowerUp) -> u8
-    ensures { result ≡ target_power_number power_up }
+// Returns the number of the states of debug power and of system power.
+fn number_of_powers(debug_up: PowerUp, system_up: PowerUp) -> u8
+    ensures { result ≡ target_powers_number debug_up system_up }
 {
-    match power_up {
-        PowerUp::Unseen => 1,
-        PowerUp::Late => 2,
-        PowerUp::Seen => 3,
+    match (debug_up, system_up) {
+        (PowerUp::Unseen, PowerUp::Unseen) => 1,
+        (PowerUp::Late, PowerUp::Late) => 2,
+        (PowerUp::Seen, PowerUp::Seen) => 3,
+        (PowerUp::Seen, PowerUp::Unseen) => 4,
+        (PowerUp::Seen, PowerUp::Late) => 5,
+        (PowerUp::Unseen, PowerUp::Late) => 6,
+        (PowerUp::Unseen, PowerUp::Seen) => 7,
+        (PowerUp::Late, PowerUp::Unseen) => 8,
+        (PowerUp::Late, PowerUp::Seen) => 9,
     }
 }
 
-fn power_with(number: u8) -> PowerUp
-    ensures { target_power_number result ≡ restored_target_power number }
+fn powers_with(number: u8) -> (PowerUp, PowerUp)
+    ensures { target_powers_number result.0 result.1 ≡ restored_target_powers number }
 {
     match number {
-        1 => PowerUp::Unseen,
-        2 => PowerUp::Late,
-        _ => PowerUp::Seen,
+        1 => (PowerUp::Unseen, PowerUp::Unseen),
+        2 => (PowerUp::Late, PowerUp::Late),
+        4 => (PowerUp::Seen, PowerUp::Unseen),
+        5 => (PowerUp::Seen, PowerUp::Late),
+        6 => (PowerUp::Unseen, PowerUp::Late),
+        7 => (PowerUp::Unseen, PowerUp::Seen),
+        8 => (PowerUp::Late, PowerUp::Unseen),
+        9 => (PowerUp::Late, PowerUp::Seen),
+        _ => (PowerUp::Seen, PowerUp::Seen),
     }
 }
 
@@ -144,6 +157,7 @@ impl TargetFields {
         ensures numbers { target_fields result ≡ restored_target self.now }
         ensures memory { result.memory ≡ memory }
     {
+        let (debug_up, system_up) = powers_with(self.power_up);
         Target {
             quirks: self.quirks(),
             reset: reset_with(self.reset),
@@ -152,7 +166,8 @@ impl TargetFields {
             read_ok: self.read_ok == 1,
             debug_power: self.debug_power == 1,
             system_power: self.system_power == 1,
-            power_up: power_with(self.power_up),
+            debug_up,
+            system_up,
             select: Select {
                 apsel: self.apsel,
                 apbanksel: self.apbanksel,
@@ -198,7 +213,7 @@ impl<A: Allocator> Target<A> {
             read_ok: u8::from(self.read_ok),
             debug_power: u8::from(self.debug_power),
             system_power: u8::from(self.system_power),
-            power_up: number_of_power(self.power_up),
+            power_up: number_of_powers(self.debug_up, self.system_up),
             apsel: self.select.apsel,
             apbanksel: self.select.apbanksel,
             dpbanksel: self.select.dpbanksel,

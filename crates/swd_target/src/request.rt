@@ -5,7 +5,7 @@ ghost use Rattle.swd_port.specs.Choices.{IsPortMark, is_port_deaf};
 ghost use Rattle.swd_port.specs.Asking.{IsPortWordRead, port_value_in};
 ghost use Rattle.swd_port.specs.Moving.{port_arrival, port_arrival_of, port_bits_driven};
 ghost use Rattle.swd_target.specs.Flips.{target_flip_place, target_awaited_flip};
-ghost use Rattle.swd_target.specs.Simulations.{simulation_accepted_after};
+ghost use Rattle.swd_target.specs.Simulations.{simulation_accepted_after, simulation_choice_at};
 
 use crate::phase::{flip_bit, flip_line, flip_under, phase_of};
 use crate::register::register_named;
@@ -15,7 +15,7 @@ use swd_bits::{Request, word_of};
 use swd_port::{AfterAck, Mark, Register, Reply};
 
 impl<A: Allocator> Target<A> {
-    ghost use Rattle.swd_target.specs.Targets.{target_state, target_simulation, target_stand_in, target_phase_in};
+    ghost use Rattle.swd_target.specs.Targets.{target_state, target_simulation, target_choice_at, target_phase_in};
     ghost use Rattle.swd_target.specs.Requests.{TargetAnswers, TargetAnswersUnder, DataComes, TargetTransfers};
 
     /// Performs a request, and returns the reply and the data phase that follows an OK. `waits` asks for WAIT. A read
@@ -50,11 +50,11 @@ impl<A: Allocator> Target<A> {
 
     // Returns the data phase that follows a reply.
     fn phase(&self, waits: bool, reply: Reply, register: Register, read: bool) -> AfterAck
-        ensures phase { result ≡ target_phase_in waits reply read register (target_stand_in register self.now)
+        ensures phase { result ≡ target_phase_in (target_choice_at waits register self.now) reply read register
             (target_state self.now) }
-        ensures exact { result ≡ target_phase_in waits reply read register self.now.quirks.filler
-            (target_simulation self.now).state }
-        ensures word { IsPortWordRead reply read (port_value_in waits register (target_stand_in register self.now)
+        ensures exact { result ≡ target_phase_in (simulation_choice_at waits register (target_simulation self.now))
+            reply read register (target_simulation self.now).state }
+        ensures word { IsPortWordRead reply read (port_value_in (target_choice_at waits register self.now) register
             (target_state self.now)) }
         ensures driven { port_bits_driven result < 2 ^ 33 }
     {

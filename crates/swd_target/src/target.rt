@@ -3,16 +3,18 @@ ghost use Rattle.std.specs.Prelude.{◌≡◌, ◌&&◌, ◌||◌, not, true, fa
 ghost use Rattle.swd_port.specs.Port.{port_made_target};
 ghost use Rattle.swd_port.specs.Bus.{bus_of};
 ghost use Rattle.swd_port.specs.declared.state.Reset.TheVariants.{Fresh};
-ghost use Rattle.swd_port.specs.declared.register.Register.TheVariants.{DrwRead};
+ghost use Rattle.swd_port.specs.declared.register.Register.TheVariants.{CswRead, CtrlStatRead};
 ghost use Rattle.swd_port.specs.Answers.{port_is_answered};
 ghost use Rattle.swd_port.specs.declared.state.Reply.TheVariants.{Okay, Waits};
-ghost use Rattle.swd_port.specs.Asking.{IsPendingSettled, port_has_power, power_up_after, port_value_in};
-ghost use Rattle.swd_port.specs.Asking.{ctrl_stat_word_in, port_after_okay, port_after_wait, port_target_after};
+ghost use Rattle.swd_port.specs.Asking.{IsPendingSettled, port_has_power, power_up_after, debug_up_after};
+ghost use Rattle.swd_port.specs.Asking.{ctrl_stat_word_in, port_after_wait, port_value_in};
 ghost use Rattle.swd_port.specs.Registers.{csw_read};
-ghost use Rattle.swd_port.specs.Moving.{Arrives, Damaged, port_after_bits};
-ghost use Rattle.swd_port.specs.Completion.{port_completion, pending_fails, port_tar_next_address};
+ghost use Rattle.swd_port.specs.Moving.{Arrives, Damaged};
+ghost use Rattle.std.specs.Option.{option_and_then};
+ghost use Rattle.swd_port.specs.Completion.{pending_fails, port_tar_next_address};
 ghost use Rattle.swd_target.specs.Contents.{target_known_word};
-ghost use Rattle.swd_target.specs.Simulations.{simulation_made_with, simulation_accepted};
+ghost use Rattle.swd_target.specs.Simulations.{simulation_made_with, simulation_accepted, simulation_choice_at};
+ghost use Rattle.swd_target.specs.Simulations.{simulated_next_address, simulated_others, simulated_system_late};
 
 use crate::content::Content;
 use crate::memory::Memory;
@@ -38,7 +40,8 @@ pub struct Target<A: Allocator = Global> {
     pub(crate) read_ok: bool,
     pub(crate) debug_power: bool,
     pub(crate) system_power: bool,
-    pub(crate) power_up: PowerUp,
+    pub(crate) debug_up: PowerUp,
+    pub(crate) system_up: PowerUp,
     pub(crate) select: Select,
     pub(crate) increments: bool,
     pub(crate) csw_upper: u8,
@@ -50,9 +53,10 @@ pub struct Target<A: Allocator = Global> {
 }
 
 impl<A: Allocator> Target<A> {
-    ghost use Rattle.swd_target.specs.Targets.{target_state, target_simulation, target_stand_in, target_answer_at};
+    ghost use Rattle.swd_target.specs.Targets.{target_state, target_simulation, target_choice_at, target_answer_at};
+    ghost use Rattle.swd_target.specs.Targets.{TargetAdvances, TargetCompletes, TargetReplies, TargetWrites};
     ghost use Rattle.swd_target.specs.Targets.{target_reply_when, target_settled_when};
-    ghost use Rattle.swd_target.specs.Targets.{TargetSteps, target_tar_incremented, target_flags_cleared};
+    ghost use Rattle.swd_target.specs.Targets.{TargetSteps, target_flags_cleared};
     ghost use Rattle.swd_target.specs.Targets.{target_power_set, target_line_reset};
     ghost use Rattle.swd_target.specs.Requests.{TargetTransfers};
     ghost use Rattle.swd_target.specs.Elsewhere.{IsTargetReady, TargetStays};
@@ -70,7 +74,8 @@ impl<A: Allocator> Target<A> {
             read_ok: false,
             debug_power: false,
             system_power: false,
-            power_up: PowerUp::Unseen,
+            debug_up: PowerUp::Unseen,
+            system_up: PowerUp::Unseen,
             select: Select {
                 apsel: 0,
                 apbanksel: 0,
@@ -103,7 +108,7 @@ impl<A: Allocator> Target<A> {
     /// Completes the pending DRW transfer, if any.
     #[inline(always)]
     pub fn complete(&mut self)
-        ensures { TargetSteps port_completion self.old self.new }
+        ensures { TargetCompletes self.old self.new }
     {
         match self.pending {
             Some(Drw::Reads) => self.complete_read(),
@@ -114,7 +119,7 @@ impl<A: Allocator> Target<A> {
 
     fn complete_read(&mut self)
         requires { self.old.pending ≡ Some Drw.Reads }
-        ensures { TargetSteps port_completion self.old self.new }
+        ensures { TargetCompletes self.old self.new }
     {
         self.pending = None;
         match self.memory.transfer(Access::Read(self.tar.word)) {
@@ -128,7 +133,7 @@ impl<A: Allocator> Target<A> {
 
     fn complete_write(&mut self, word: u32)
         requires { self.old.pending ≡ Some (Drw.Writes word) }
-        ensures { TargetSteps port_completion self.old self.new }
+        ensures { TargetCompletes self.old self.new }
     {
         self.pending = None;
         match self.memory.transfer(Access::Write(self.tar.word, word)) {
@@ -139,10 +144,24 @@ impl<A: Allocator> Target<A> {
 
     // Increments TAR after a transfer that succeeded.
     fn step_address(&mut self)
-        ensures { TargetSteps target_tar_incremented self.old self.new }
+        ensures { TargetAdvances self.old self.new }
     {
         if self.increments {
-            self.tar.word = next(self.quirks.wrap, self.tar.word);
+            self.tar = self.next_tar();
+        }
+    }
+
+    // Returns the incremented TAR, which counts as unknown past the end of a kilobyte.
+    #[tactic(auto, using(crate::proofs::TargetLemmas::target_tar_advances))]
+    fn next_tar(&self) -> Content
+        ensures word { result.word ≡ simulated_next_address self.now.quirks.wrap self.now.tar.word }
+        ensures known { target_known_word result
+            ≡ option_and_then port_tar_next_address (target_known_word self.now.tar) }
+    {
+        let inside = self.tar.word % 1024 < 1020;
+        Content {
+            word: next(self.quirks.wrap, self.tar.word),
+            known: self.tar.known && inside,
         }
     }
 
@@ -165,7 +184,7 @@ impl<A: Allocator> Target<A> {
     fn has_power(&self) -> bool
         ensures { result ≡ port_has_power (target_state self.now) }
     {
-        self.debug_power && !matches!(&self.power_up, PowerUp::Late)
+        self.debug_power && !matches!(&self.debug_up, PowerUp::Late)
     }
 
     fn is_answering(&self, register: Register) -> bool
@@ -227,7 +246,7 @@ impl<A: Allocator> Target<A> {
 
     // Applies the effects of a reply to the target; `waits`: WAIT was asked for.
     pub(crate) fn apply(&mut self, waits: bool, reply: Reply, register: Register, ap: bool)
-        ensures { TargetSteps (λ c. port_target_after waits reply register ap) self.old self.new }
+        ensures { TargetReplies waits reply register ap self.old self.new }
     {
         match reply {
             Reply::Silent => {}
@@ -252,9 +271,11 @@ impl<A: Allocator> Target<A> {
     }
 
     fn apply_okay(&mut self, waits: bool, register: Register)
-        ensures { TargetSteps (λ c. port_after_okay waits register) self.old self.new }
+        ensures { TargetReplies waits Okay register false self.old self.new }
     {
-        self.power_up = self.power_up_after(waits, register);
+        let system_up = self.system_up_after(waits, register);
+        self.debug_up = self.debug_up_after(waits, register);
+        self.system_up = system_up;
         if is_posted(register) {
             self.read_ok = true;
             self.last_returned = self.buffer;
@@ -270,25 +291,40 @@ impl<A: Allocator> Target<A> {
         }
     }
 
-    // Returns the state of power-up after an OK. Where WAIT was asked for, CTRL/STAT finds it not acknowledged, unless
-    // it was seen before. An access port that answers has power.
-    fn power_up_after(&self, waits: bool, register: Register) -> PowerUp
-        ensures { result ≡ power_up_after waits register self.now.power_up }
+    // Returns the state of debug power after an OK. Where WAIT was asked for, CTRL/STAT finds it not acknowledged,
+    // unless it was seen before. An access port that answers has it.
+    fn debug_up_after(&self, waits: bool, register: Register) -> PowerUp
+        ensures { result ≡ debug_up_after waits register self.now.debug_up }
     {
-        match (self.power_up, register) {
+        match (self.debug_up, register) {
             (PowerUp::Seen, _) => PowerUp::Seen,
             (_, Register::CtrlStatRead) if waits => PowerUp::Late,
             (_, Register::CtrlStatRead) => PowerUp::Seen,
             (_, register) if is_access_port(register) => PowerUp::Seen,
-            (power_up, _) => power_up,
+            (debug_up, _) => debug_up,
+        }
+    }
+
+    // Returns the state of system power after an OK. CTRL/STAT finds it not acknowledged where it finds debug power so.
+    fn system_up_after(&self, waits: bool, register: Register) -> PowerUp
+        ensures { result ≡ power_up_after (simulated_system_late waits self.now.debug_up) register
+            self.now.system_up }
+    {
+        let late = waits && !matches!(&self.debug_up, PowerUp::Seen);
+        match (self.system_up, register) {
+            (PowerUp::Seen, _) => PowerUp::Seen,
+            (_, Register::CtrlStatRead) if late => PowerUp::Late,
+            (_, Register::CtrlStatRead) => PowerUp::Seen,
+            (system_up, _) => system_up,
         }
     }
 
     // Returns the word that a read returns; `waits` asks for WAIT.
     pub(crate) fn value(&self, waits: bool, register: Register) -> u32
-        ensures value { result ≡ port_value_in waits register (target_stand_in register self.now)
+        ensures value { result ≡ port_value_in (target_choice_at waits register self.now) register
             (target_state self.now) }
-        ensures exact { result ≡ port_value_in waits register self.now.quirks.filler (target_simulation self.now).state }
+        ensures exact { result ≡ port_value_in (simulation_choice_at waits register (target_simulation self.now))
+            register (target_simulation self.now).state }
     {
         match register {
             Register::DpidrRead => IDENTIFICATION,
@@ -301,22 +337,24 @@ impl<A: Allocator> Target<A> {
 
     // Returns CTRL/STAT as it is read; `waits` asks for WAIT.
     fn status(&self, waits: bool) -> u32
-        ensures { result ≡ ctrl_stat_word_in waits (target_state self.now) }
+        ensures { result ≡ ctrl_stat_word_in (target_choice_at waits CtrlStatRead self.now) (target_state self.now) }
     {
-        let power_up = self.power_up_after(waits, Register::CtrlStatRead);
-        let there = !matches!(&power_up, PowerUp::Late);
+        let debug_up = self.debug_up_after(waits, Register::CtrlStatRead);
+        let system_up = self.system_up_after(waits, Register::CtrlStatRead);
+        let debug_there = !matches!(&debug_up, PowerUp::Late);
+        let system_there = !matches!(&system_up, PowerUp::Late);
         u32::from(self.sticky_error) * CtrlStat::STICKYERR.bits()
             + u32::from(self.read_ok) * CtrlStat::READOK.bits()
             + u32::from(self.write_error) * CtrlStat::WDATAERR.bits()
             + u32::from(self.debug_power) * CtrlStat::CDBGPWRUPREQ.bits()
-            + u32::from(self.debug_power && there) * CtrlStat::CDBGPWRUPACK.bits()
+            + u32::from(self.debug_power && debug_there) * CtrlStat::CDBGPWRUPACK.bits()
             + u32::from(self.system_power) * CtrlStat::CSYSPWRUPREQ.bits()
-            + u32::from(self.system_power && there) * CtrlStat::CSYSPWRUPACK.bits()
+            + u32::from(self.system_power && system_there) * CtrlStat::CSYSPWRUPACK.bits()
     }
 
     // Returns CSW as it is read: word size alone, the device enabled, no transfer in progress.
     fn csw(&self) -> u32
-        ensures { result ≡ csw_read self.now.increments self.now.csw_upper }
+        ensures { result ≡ csw_read self.now.increments (simulated_others CswRead self.now.csw_upper) }
     {
         let csw = Csw {
             size: 2,
@@ -330,7 +368,7 @@ impl<A: Allocator> Target<A> {
 
     // Performs a write whose data arrived with right parity.
     pub(crate) fn write(&mut self, register: Register, word: u32)
-        ensures { TargetSteps (λ c. port_after_bits (Arrives register word)) self.old self.new }
+        ensures { TargetWrites (Arrives register word) self.old self.new }
     {
         if is_access_port_write(register) {
             self.forget_values();
@@ -375,12 +413,13 @@ impl<A: Allocator> Target<A> {
         let control = CtrlStat::of(word);
         self.debug_power = control.contains(CtrlStat::CDBGPWRUPREQ);
         self.system_power = control.contains(CtrlStat::CSYSPWRUPREQ);
-        self.power_up = PowerUp::Unseen;
+        self.debug_up = PowerUp::Unseen;
+        self.system_up = PowerUp::Unseen;
     }
 
     // Sets WDATAERR for a write whose data arrived with wrong parity, which isn't done.
     pub(crate) fn refuse_write(&mut self)
-        ensures { TargetSteps (λ c. port_after_bits Damaged) self.old self.new }
+        ensures { TargetWrites Damaged self.old self.new }
     {
         self.write_error = true;
     }
@@ -402,7 +441,7 @@ impl<A: Allocator> Target<A> {
 // TAR wraps or carries at the end of a kilobyte. WAIT is answered only where a mark asks for it, and not over a bus
 // error.
 impl<A: Allocator> Target<A> {
-    ghost use Rattle.swd_target.specs.Targets.{target_state, target_simulation, TargetSteps, target_settles_first};
+    ghost use Rattle.swd_target.specs.Targets.{target_state, target_simulation, TargetFails, target_settles_first};
     ghost use Rattle.swd_target.specs.Requests.{TargetTransfers};
 
     // Returns the content of a register whose value is unknown.
@@ -415,7 +454,7 @@ impl<A: Allocator> Target<A> {
 
     // Sets STICKYERR. TAR keeps its word, but counts as unknown.
     fn bus_error(&mut self)
-        ensures { TargetSteps (λ c s. record s { sticky_error = true; tar = None; buffer = None }) self.old self.new }
+        ensures { TargetFails self.old self.new }
     {
         self.sticky_error = true;
         self.tar.known = false;
@@ -462,7 +501,7 @@ impl<A: Allocator> Target<A> {
 
 // Returns the incremented address.
 fn next(wraps: bool, addr: u32) -> u32
-    ensures { result ≡ port_tar_next_address wraps addr }
+    ensures { result ≡ simulated_next_address wraps addr }
 {
     if wraps {
         addr / 1024 * 1024 + (addr % 1024 + 4) % 1024

@@ -11,7 +11,7 @@ use Rattle.swd_target.proofs.ElsewhereLemmas.{target_answers_elsewhere, late_qui
 use Rattle.swd_target.proofs.ElsewhereLemmas.{target_reply_keeps_memory, quirks_kept_by_request}
 use Rattle.swd_target.proofs.TargetLemmas.{simulation_settled_at_rest}
 use Rattle.swd_target.specs.Simulations.{Simulation}
-use Rattle.swd_target.specs.Targets.{target_state}
+use Rattle.swd_target.specs.Targets.{target_state, target_choice_at}
 use Rattle.swd_target.proofs.target.Target.request.Goals as goal
 
 pub returns-clause-answers : goal.returns-clause-answers
@@ -61,7 +61,7 @@ returns-clause-quiet g c = λ late none.
     let kept : a.memory ≡ s.memory = ap (λ (x : Simulation). plain_of x.state.memory)
     (exact ∙ sym (simulation_settled_at_rest c.args.waits r q.ap s none)) in
     let next : after.memory ≡ a.memory = ap (λ (x : State). plain_of x.memory) c.apply.ensures.state
-    ∙ ap plain_of (target_reply_keeps_memory c.args.waits c.reply-reply.result r q.ap (target_state a)) in
+    ∙ ap plain_of (target_reply_keeps_memory (target_choice_at c.args.waits r a) c.reply-reply.result r q.ap (target_state a)) in
     let last = c.accept_after.ensures.late
     (late_quirk_kept c.args.waits c.reply-reply.result r q.ap s a after late exact c.apply.ensures.exact) in
     ap (λ (x : Target _). x.memory) last ∙ (next ∙ kept)
