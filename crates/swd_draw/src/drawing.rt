@@ -1,10 +1,12 @@
 //! Draws a trace or a capture from its text.
-ghost use Rattle.std.specs.Prelude.{◌≡◌, ◌≤◌, [], length};
-ghost use Rattle.swd_io.specs.Blocks.{WritesOutput, BlockQueues};
+ghost use Rattle.std.specs.Prelude.{◌≡◌, ◌≤◌, [], length, ℕ, List, Option};
+ghost use Rattle.swd_io.specs.Blocks.{BlockBufferSends, BlockQueues};
 ghost use Rattle.swd_draw.specs.Drawings.{drawing_of};
-ghost use Rattle.swd_draw.specs.Draws.{Draws};
+ghost use Rattle.swd_draw.specs.Draws.{Draws, drawing_by, no_drawing};
 ghost use Rattle.swd_draw.specs.Rows.{drawing_rows};
 ghost use Rattle.swd_resync.specs.declared.part.Part.{Part};
+ghost use Rattle.swd_text.specs.Outputs.{TextQueues};
+ghost use Rattle.swd_capture_text.specs.Readings.{SourceDecides, SourceReadsAs};
 
 use crate::head::push_drawing_head;
 use crate::kept::DrawnParts;
@@ -14,7 +16,7 @@ use swd_capture::{LineForm, Printed, Teller};
 use swd_capture_text::{Reading, read_parts};
 use swd_io::Block;
 use swd_resync::Part;
-use swd_text::DecodeFault;
+use swd_text::{DecodeFault, end_output};
 
 // The most bytes that are put into a block at once.
 const CHUNK: usize = 1024;
@@ -53,29 +55,37 @@ fn put_rows<W: Write>(block: &mut Block<'_, W>, over: bool, parts: &[Part])
     }
 }
 
-// Writes the drawing of parts.
-//
-// # Errors
-//
-// If the writer fails: how many bytes of the drawing were written, at most 2^64 - 1. These are exactly its first ones.
-fn write_drawing<W: Write>(
-    writer: &mut W,
-    over: bool,
-    parts: &[Part],
-    longer: bool,
-) -> Result<(), u64>
+// Appends the drawing of parts.
+fn put_drawing<W: Write>(block: &mut Block<'_, W>, over: bool, parts: &[Part], longer: bool)
     requires { length parts.now ≤ 200 }
-    ensures { WritesOutput result (W.contents writer.old) (W.contents writer.new) (drawing_of over parts.now longer) }
+    ensures writer { block.new.writer.ghost_name ≡ block.old.writer.ghost_name }
+    ensures sends { (start : Option (List ℕ)) → BlockBufferSends W.contents start block.old []
+        → BlockBufferSends W.contents start block.new (drawing_of over parts.now longer) }
 {
-    let mut block = Block::new(writer, 0);
     let mut text = RowText::new();
     push_drawing_head(&mut text, parts.len(), longer);
-    put_text(&mut block, text.as_str().as_bytes());
-    put_rows(&mut block, over, parts);
-    put_text(&mut block, b"</svg>\n");
-    match block.flush() {
-        Ok(_) => Ok(()),
-        Err(written) => Err(written),
+    put_text(block, text.as_str().as_bytes());
+    put_rows(block, over, parts);
+    put_text(block, b"</svg>\n");
+}
+
+// Appends the drawing of a trace text.
+fn draw_text<R: Read, W: Write>(
+    reading: Reading,
+    reader: &mut R,
+    block: &mut Block<'_, W>,
+) -> Result<(), DecodeFault>
+    ensures { (start : Option (List ℕ)) → BlockBufferSends W.contents start block.old []
+        → TextQueues (SourceDecides reading) (SourceReadsAs reading) no_drawing (drawing_by reading) W.contents result
+        (R.remaining reader.old) (R.remaining reader.new) start block.new
+        × (block.new.writer.ghost_name ≡ block.old.writer.ghost_name) }
+{
+    match read_parts(reading, reader, &mut (), DrawnParts::new()) {
+        Ok(kept) => {
+            put_drawing(block, reading.is_over(), kept.parts(), kept.is_longer());
+            Ok(())
+        }
+        Err(fault) => Err(fault),
     }
 }
 
@@ -97,12 +107,7 @@ pub fn draw_capture<R: Read, W: Write>(
     ensures { Draws reading result (R.remaining reader.old) (R.remaining reader.new)
         (W.contents writer.old) (W.contents writer.new) }
 {
-    let kept = match read_parts(reading, reader, &mut (), DrawnParts::new()) {
-        Ok(kept) => kept,
-        Err(fault) => return Err(fault),
-    };
-    match write_drawing(writer, reading.is_over(), kept.parts(), kept.is_longer()) {
-        Ok(()) => Ok(()),
-        Err(written) => Err(DecodeFault::Write { written }),
-    }
+    let mut block = Block::new(writer, 0);
+    let read = draw_text(reading, reader, &mut block);
+    end_output(&mut block, read)
 }

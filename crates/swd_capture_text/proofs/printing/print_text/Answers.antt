@@ -68,7 +68,8 @@ pub returns-in-Err : goal.returns-in-Err
 returns-in-Err g c = λ from empty.
     let text = g.R.Read.remaining c.args.reader.now in
     let left = g.R.Read.remaining c.read_parts.new.reader in
-    unread g.W.Write.contents c.args.reading (start_of from c.args.reading c.args.printed c.args.block.now) c.in-Err.fault
+    unread g.W.Write.contents c.args.reading (start_of from c.args.reading c.args.printed c.args.block.now)
+    c.in-Err.fault
     text left (c.new.result, c.args.block.now) c.read_parts.new.writer
     (begins_in g.W.Write.contents from c.args.reading c.args.printed c.is_over.result c.new.result c.args.block.now
     c.is_over.ensures c.new.ensures empty) c.in-Err.ensures

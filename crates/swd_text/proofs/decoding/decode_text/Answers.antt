@@ -15,5 +15,6 @@ returns g c =
     let queues = c.list_text-read.ensures start (c.new-block.ensures.sends start [] (Appends-nil _) (omega arith)) in
     let same = c.writer-1.given.1 (sym (c.end_output.ensures.writer ∙ queues.1 ∙ c.new-block.ensures.writer)) in
     subst (λ w. Decodes c.end_output.result text left start (contents w)) (sym same)
-    (text_output_ends IsDecided BitsReadAs listing listing contents c.list_text-read.result c.end_output.result text left
+    (text_output_ends IsDecided BitsReadAs listing listing contents c.list_text-read.result c.end_output.result
+    text left
     start c.list_text-read.new.block c.end_output.new.block queues.0 c.end_output.ensures.ends)
