@@ -66,7 +66,7 @@ ClockedHoldsWait w s t = FrameMoved s.frame s.target w t
 
 -- the pending transfer, if any, took effect, and nothing else changed
 pub record ClockedSettles {A : Type 0} (s t : Clocked A) : Type 0 where
-  pub target : target.TargetSteps port_completion s.target t.target
+  pub target : target.TargetCompletes s.target t.target
   pub frame : t.frame ≡ s.frame
   pub waits : t.waits ≡ s.waits
 

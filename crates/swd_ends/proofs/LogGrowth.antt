@@ -21,7 +21,7 @@ use Rattle.swd_port.specs.declared.state.Reply.TheVariants.{Okay, Waits, Faults,
 use Rattle.swd_port.specs.declared.mark.Mark.TheVariants.{Clean, Wait}
 use Rattle.swd_port.specs.Bus.{Bus, bus_of, bus_succeeds, bus_transfer_of}
 use Rattle.swd_port.specs.Port.{Port, Target as State, PortTally, port_idle_link}
-use Rattle.swd_port.specs.Choices.{IsPortMark, is_port_deaf, is_port_wait}
+use Rattle.swd_port.specs.Choices.{Choice, IsPortMark, is_port_deaf, is_port_wait}
 use Rattle.swd_port.specs.Completion.{PortCompletes, pending_access_at, memory_after_pending}
 use Rattle.swd_port.specs.Asking.{port_target_after}
 use Rattle.swd_port.specs.Moving.{PortArrival}
@@ -129,12 +129,12 @@ completes_grow s t h = elim h as (λ (_ : PortCompletes s t). LiveLogGrows s.tar
       (memory_grows s.target.pending (unwrap_or s.target.tar f.0.address) s.target.memory)
 ]
 
-replied_alike : (busy : Bool) (reply : Reply) (r : Register) (port : Bool) (x : State)
-    → (port_target_after busy reply r port x).memory ≡ x.memory
-replied_alike busy Okay r port x = refl
-replied_alike busy Waits r port x = refl
-replied_alike busy Faults r port x = refl
-replied_alike busy Silent r port x = refl
+replied_alike : (c : Choice) (reply : Reply) (r : Register) (port : Bool) (x : State)
+    → (port_target_after c reply r port x).memory ≡ x.memory
+replied_alike c Okay r port x = refl
+replied_alike c Waits r port x = refl
+replied_alike c Faults r port x = refl
+replied_alike c Silent r port x = refl
 
 -- a mark under which WAIT is asked for, or isn't
 mark_for : (w : Bool) → (mark : Mark) × IsPortMark mark × (is_port_deaf mark ≡ false) × (is_port_wait mark ≡ w)
@@ -151,7 +151,7 @@ answers_grow w q s reply phase t h =
     let b = asks.1 in
     let before = completes_grow _ a asks.3 in
     let now = ap (λ (x : Port). x.target.memory.log) asks.4.after
-    ∙ ap (λ (x : Bus). x.log) (replied_alike (is_port_wait m.0) _ _ q.ap a.target) in
+    ∙ ap (λ (x : Bus). x.log) (replied_alike asks.2 _ _ q.ap a.target) in
     let after = completes_grow b _ asks.5 in
     live_log_grows_further _ a.target.memory.log _ before
     (live_log_grows_further _ b.target.memory.log _ (grows_same _ _ now) after)
