@@ -2,7 +2,6 @@
 use Rattle.std.specs.Prelude.{ℕ, ◌≡◌, Bool, true, Option, unwrap_or}
 use Rattle.swd_port.specs.PlainMemory.{PlainMemory}
 use Rattle.swd_port.specs.Port.{Target as State}
-use Rattle.swd_port.specs.Completion.{port_completion}
 use Rattle.swd_target.specs.declared.quirks.Quirks.{Quirks}
 use Rattle.swd_target.specs.Simulations.{Simulation, simulation_stepped}
 use Rattle.swd_target.specs.Elsewhere as elsewhere
@@ -66,7 +65,7 @@ ClockedHoldsWait w s t = FrameMoved s.frame s.target w t
 
 -- the pending transfer, if any, took effect, and nothing else changed
 pub record ClockedSettles {A : Type 0} (s t : Clocked A) : Type 0 where
-  pub target : target.TargetSteps port_completion s.target t.target
+  pub target : target.TargetCompletes s.target t.target
   pub frame : t.frame ≡ s.frame
   pub waits : t.waits ≡ s.waits
 

@@ -14,7 +14,7 @@ ghost use Rattle.swd_target.specs.Simulations.{simulation_made_with, simulation_
 ghost use Rattle.swd_target.specs.Stepping.{simulation_led, simulation_given, simulation_seen_at_cue};
 ghost use Rattle.swd_target.specs.Stepping.{simulation_after_cue, simulation_link_at_cue, simulation_tally_at_cue};
 ghost use Rattle.swd_target.specs.Stepping.{TargetStepsAlone};
-ghost use Rattle.swd_target.specs.Targets.{IsChoiceByQuirks};
+ghost use Rattle.swd_port.specs.Choices.{IsPortChoice};
 ghost use Rattle.swd_clocked.specs.Frames.{cycles_counted};
 ghost use Rattle.swd_clocked.specs.Rests.{frame_fits_due};
 
@@ -83,7 +83,7 @@ impl<A: Allocator> ClockedBench<A> {
     pub fn settle(&mut self)
         ensures port { clocked_bench_port self.new
             ≡ port_completed (clocked_bench_choice self.old) (clocked_bench_port self.old) }
-        ensures choice { IsChoiceByQuirks (clocked_bench_simulation self.old).quirks (clocked_bench_choice self.old) }
+        ensures choice { IsPortChoice (clocked_bench_choice self.old) }
         ensures exact { clocked_bench_simulation self.new ≡ simulation_transferred (clocked_bench_simulation self.old) }
         ensures plan { clocked_bench_plan self.new ≡ clocked_bench_plan self.old }
         ensures cycles { clocked_bench_cycles self.new ≡ clocked_bench_cycles self.old }
