@@ -95,10 +95,18 @@ call_ran limit tries list m told now due closes (k, fit) =
     }
 
 abbrev any : Choice
-any = record { address = 0; wraps = false; filler = 0 }
+any = record {
+  address = 0;
+  filler = 0;
+  others = 0;
+  elsewhere = 0;
+  refuses = false;
+  debug_late = false;
+  system_late = false;
+}
 
 is_any : IsPortChoice any
-is_any = record { address = omega arith; filler = omega arith }
+is_any = record { address = omega arith; filler = omega arith; others = omega arith; elsewhere = omega arith }
 
 -- going on
 call_resumed : (tries : ℕ) (list : List Access) (earlier told : HostReport) (due : _) (s t : Port)
