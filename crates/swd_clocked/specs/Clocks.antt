@@ -2,7 +2,6 @@
 use Rattle.std.specs.Prelude.{ℕ, ◌≡◌, Bool, true, Option, unwrap_or}
 use Rattle.swd_port.specs.PlainMemory.{PlainMemory}
 use Rattle.swd_port.specs.Port.{Target as State}
-use Rattle.swd_port.specs.Completion.{port_completion}
 use Rattle.swd_target.specs.declared.quirks.Quirks.{Quirks}
 use Rattle.swd_target.specs.Simulations.{Simulation, simulation_stepped}
 use Rattle.swd_target.specs.Elsewhere as elsewhere

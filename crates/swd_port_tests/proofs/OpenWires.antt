@@ -38,6 +38,7 @@ open_asked q due reset n = (
   record {
     legal = tt;
     choice = port_case_choice_fits;
+    late = λ e. (refl, refl);
     settled = tt;
     word = tt;
     sees =
@@ -78,7 +79,7 @@ step_of Take due reset n = (
   inl refl,
 )
 step_of (Give bits) due reset n =
-    (open_wire_port due reset n, open_wire_port Nothing reset n, inl refl, record { after = refl }, inl refl)
+    (open_wire_port due reset n, open_wire_port Nothing reset n, inl refl, record { refuses = false; after = refl }, inl refl)
 step_of Pass due reset n =
     (open_wire_port due reset n, open_wire_port Nothing reset n, inl refl, record { after = refl }, inl refl)
 
