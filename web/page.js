@@ -7,8 +7,8 @@ const list = get("list"), rows = get("rows"), spacer = get("spacer"), wave = get
 const status = get("status"), save = get("save"), query = get("query");
 const layouts = new Map();  // the fields of a transaction, by its request and answer
 const isOn = id => get(id).checked && !get(id).disabled;
-// `shown` has the items and the rows of the list: the items, or the accesses.
-let lib, file = null, shown = null, selected = 0, job = 0, hunt = 0;
+// `shown` has the items and the rows of the list: the items, or the accesses. `told` is what was said of them.
+let lib, file = null, shown = null, told = null, selected = 0, job = 0, hunt = 0;
 
 // The rows of items, and those of accesses, whose lines begin with their place.
 const rowsOfItems = items => ({ size: items.size, line: i => items.line(i, isOn("names")), place: i => items.begin(i),
@@ -212,7 +212,8 @@ async function show(name, text, place = 0) {
   list.removeAttribute("aria-activedescendant");
   const { items } = shown || {}, accesses = isOn("accesses") ? `${size} accesses, ` : "";
   const counts = () => `${items.capture.count} clocks, ${items.size} items, ${accesses}${seconds.toFixed(2)} s`;
-  say(`${name}: ${error || counts()}`, error);
+  told = [`${name}: ${error || counts()}`, error];
+  say(...told);
   select(shown && place ? shown.rows.row(place) : 0);
   const fields = () => Array.from({ length: items.size }, (_, i) =>
     fieldsToDraw(i, i + 1).map(({ name, length, value }) => [name, length, value]));
@@ -262,6 +263,7 @@ async function search(step) {
     i = (i + step * by + size) % size;
     done += by;
     if (shown.rows.line(i).toLowerCase().includes(text)) {
+      say(...told);
       select(i);
       return;
     }
