@@ -1,5 +1,5 @@
 -- A story stays one where the bus has as its content the accesses that it got. So a theorem about every bus names them.
-use Rattle.std.proofs.Common.{◌≡◌, ◌≢◌, ◌≤◌, ◌+◌, ℕ, Bool, true, false, List, [], ◌∷◌, ◌++◌, length, Option, Some, None}
+use Rattle.std.proofs.Common.{◌≡◌, ◌≢◌, ◌≤◌, ◌+◌, ℕ, true, false, List, [], ◌∷◌, ◌++◌, length, Option, Some, None}
 use Rattle.std.proofs.Common.{refl, sym, ap, subst, inl, inr, arith, ◌∙◌, append-nil}
 use Rattle.std.specs.Prelude.{if◌then◌else◌, ◌==◌, unwrap_or}
 use Rattle.std.specs.FinMap.{empty}
@@ -14,13 +14,13 @@ use Rattle.swd_port.specs.Bus.{Bus, bus_after}
 use Rattle.swd_port.specs.PlainMemory.{PlainMemory}
 use Rattle.swd_port.specs.Port.{Port, Register, Drw, Reads, Writes, port_register}
 use Rattle.swd_port.specs.Choices.{Mark, Choice}
-use Rattle.swd_port.specs.Completion.{PortCompletes, port_completed, pending_access_at, memory_after_pending}
+use Rattle.swd_port.specs.Completion.{PortCompletes, port_completed}
 use Rattle.swd_port.specs.Answers.{Reply, Okay, Waits, Faults, Silent}
 use Rattle.swd_port.specs.Asking.{PortAsksNow, port_after_reply, port_reply}
 use Rattle.swd_port.specs.Moving.{PortTakesNow, PortGivesNow, PortPassesNow}
 use Rattle.swd_port.specs.Leading.{PortLeadsNow}
 use Rattle.swd_port.specs.Stories.{IsPortStep, FitsStory, port_at, port_due_by}
-use Rattle.swd_port.specs.Reached.{pending_accesses, accesses_once_completed, accesses_of_completion, accesses_of_step}
+use Rattle.swd_port.specs.Reached.{accesses_once_completed, accesses_of_completion, accesses_of_step}
 use Rattle.swd_port.specs.Reached.{accesses_of_story, story_before}
 
 -- A LIST OF ACCESSES AS THE CONTENT OF A BUS
@@ -66,6 +66,7 @@ accesses_content_same one other same =
 abbrev pub bus_recording : List Access → Bus → Bus
 bus_recording past b = record b { content = λ made. accesses_content (past ++ made) }
 
+-- the port over such a bus
 abbrev pub port_recording : List Access → Port → Port
 port_recording past s = record s { target = record s.target { memory = bus_recording past s.target.memory } }
 

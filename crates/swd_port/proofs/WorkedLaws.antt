@@ -9,7 +9,7 @@ use Rattle.swd_port.specs.declared.access.Access.TheVariants.{Write}
 use Rattle.swd_port.specs.Bus.{Bus, bus_succeeds, bus_of}
 use Rattle.swd_bits.specs.Phases.{data_phase_number}
 use Rattle.swd_port.specs.Port.{Port, Live, DrwWrite, port_made_target, port_made, port_register}
-use Rattle.swd_port.specs.Choices.{Mark, Clean, Wait, Flip, Deaf, Mute, IsPortMark, is_port_wait, Choice, IsPortChoice}
+use Rattle.swd_port.specs.Choices.{Mark, Clean, Wait, Flip, Deaf, Mute, IsPortMark, Choice, IsPortChoice}
 use Rattle.swd_port.specs.Answers.{Okay, port_seen_at}
 use Rattle.swd_port.specs.Completion.{port_completed}
 use Rattle.swd_port.specs.Asking.{PortAsks, port_reply, port_after_reply, port_value_in, IsPendingSettled}

@@ -1,13 +1,11 @@
 -- Which accesses reach the bus in a run. For the law `accesses`: the theorem of a run holds for the bus that records them.
-use Rattle.std.proofs.Common.{◌≡◌, ◌≤◌, ◌+◌, ◌^◌, ◌<◌, ℕ, List, [], ◌∷◌, ◌++◌, length, refl, sym, ap, subst, arith, ◌∙◌}
+use Rattle.std.proofs.Common.{◌≡◌, ◌+◌, ℕ, List, [], ◌∷◌, ◌++◌, length, refl, sym, ap, subst, ◌∙◌}
 use Rattle.std.specs.Prelude.{take, drop}
 use Rattle.std.proofs.lemmas.List.{append-nil, append_assoc}
 use Rattle.swd_port.specs.declared.access.Access.{Access}
-use Rattle.swd_port.specs.declared.access.Answer.{Answer}
 use Rattle.swd_port.specs.declared.call.Call.{Call}
 use Rattle.swd_port.specs.Bus.{Bus, bus_after}
-use Rattle.swd_port.specs.Choices.{Choice, IsPortChoice}
-use Rattle.swd_port.specs.Completion.{MayBecome, port_completed}
+use Rattle.swd_port.specs.Completion.{port_completed}
 use Rattle.swd_port.specs.Port.{Port}
 use Rattle.swd_port.specs.Reached.{accesses_of_story, accesses_once_completed, story_before}
 use Rattle.swd_port.specs.Stories.{FitsStory, port_due_by, port_at}
@@ -21,8 +19,8 @@ use Rattle.swd_host.specs.Resuming.{resume_report}
 use Rattle.swd_host.specs.Tasks.{bursts_limit}
 use Rattle.swd_host.proofs.GoingOn.{resumed_take_length}
 use Rattle.swd_steps.specs.Laws.{stepped_report}
-use Rattle.swd_steps.specs.Reached.{SteppedReaches, SteppedReachesBus, SteppedReachesAfter, SteppedRunReaches}
-use Rattle.swd_steps.specs.Reached.{SteppedOpenReaches, SteppedResumeReaches, SteppedResumeReachesBus}
+use Rattle.swd_steps.specs.Reached.{SteppedReaches, SteppedReachesBus, SteppedRunReaches}
+use Rattle.swd_steps.specs.Reached.{SteppedOpenReaches, SteppedResumeReaches}
 use Rattle.swd_steps.proofs.Reporting.{stepped_run_fits, stepped_open_fits, stepped_resume_fits}
 
 -- two recording buses that are equal got the same accesses

@@ -26,6 +26,7 @@ use Rattle.swd_target.specs.Targets.{target_state, target_simulation, target_sta
 use Rattle.swd_target.specs.Targets.{target_answer_at, target_reply_when, target_settled_when}
 use Rattle.swd_target.specs.Targets.{is_target_settling, target_choice_at}
 
+-- without a Wait mark system power is on time
 pub system_on_time : (waits : Bool) (up : PowerUp) → waits ≡ false → simulated_system_late waits up ≡ false
 system_on_time waits Seen e = refl
 system_on_time waits up e = e
@@ -53,6 +54,7 @@ pub target_may_be_late : {A : Type 0} (mark : Mark) (waits : Bool) (r : Register
     → is_port_wait mark ≡ waits → PortMayBeLate mark (target_choice_at waits r t)
 target_may_be_late mark waits r t is e = (sym is ∙ e, system_on_time waits t.debug_up (sym is ∙ e))
 
+-- so is the choice where no WAIT is asked for
 pub target_choice_is_choice : {A : Type 0} (r : Register) (t : Target A) → IsPortChoice (target_choice_for r t)
 target_choice_is_choice r t = target_choice_at_is_choice false r t
 

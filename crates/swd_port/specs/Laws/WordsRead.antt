@@ -1,5 +1,5 @@
 -- Laws of the words that are read, and of returned values.
-use Rattle.std.specs.Prelude.{ℕ, ◌≡◌, ◌<◌, ◌^◌, ◌==◌, ◌&&◌, ◌⊎◌, Bool, true, false, Option, Some}
+use Rattle.std.specs.Prelude.{ℕ, ◌≡◌, ◌<◌, ◌^◌, ◌&&◌, ◌⊎◌, Bool, true, false, Option, Some}
 use Rattle.swd_port.specs.Registers.{register_bit, ctrl_stat_read, ctrl_stat_holds}
 use Rattle.swd_bits.specs.Phases.{data_phase_number}
 use Rattle.swd_port.specs.Phases.{port_flipped}

@@ -277,10 +277,7 @@ fn a_target_that_drops_its_writes_is_not_seen(rt: HostRuntime) -> Result<(), Fai
     let report = run_over_transport(rt.alloc(), &mut wire, &[WRITE], 8)?;
     expect_eq(&rt, &report.answers, &[Answer::Written]);
     expect_eq(&rt, &report.ended, &End::All);
-    let Forgetful {
-        mut bench,
-        ..
-    } = wire.into_transport();
+    let Forgetful { mut bench, .. } = wire.into_transport();
     bench.settle();
     expect_eq(&rt, &bench.memory().log(), &[]);
     Ok(())
