@@ -275,10 +275,16 @@ fn a_target_that_drops_its_writes_is_not_seen(rt: HostRuntime) -> Result<(), Fai
     };
     let mut wire: TransportWire<Forgetful, Untold> = TransportWire::new(forgetful);
     let report = run_over_transport(rt.alloc(), &mut wire, &[WRITE], 8)?;
-    expect_eq(&rt, &report.answers, &[Answer::Written]);
-    expect_eq(&rt, &report.ended, &End::All);
+    // The opening's nine requests, TAR, DRW, and the read of RDBUFF that confirms the write.
+    let wanted = Wanted {
+        answers: &[Answer::Written],
+        requests: 12,
+        ended: End::All,
+        ..LOST
+    };
+    tells(&rt, &"a target that drops its writes", &report, &wanted);
     let Forgetful { mut bench, .. } = wire.into_transport();
     bench.settle();
-    expect_eq(&rt, &bench.memory().log(), &[]);
+    expect_eq(&rt, &bench.memory().log(), &LOST.log);
     Ok(())
 }
