@@ -13,6 +13,7 @@ pub mod Replies
 pub mod Steps
 pub mod Calls
 pub mod Sent
+pub mod Sinks
 pub mod Stages
 pub mod Reports
 pub mod Resuming

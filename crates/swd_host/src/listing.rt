@@ -16,7 +16,7 @@ use crate::block::{reads_of, refusal as block_refusal};
 use crate::engine::Engine;
 use crate::outcome::{Ending, Refused, Report};
 use crate::running::{conduct_to, perform, refusal};
-use crate::sink::{AnswerSink, NoAnswers};
+use crate::sink::{AnswerSink, OneAnswer};
 use crate::task::Bursts;
 use std::alloc::Allocator;
 use swd_port::{Access, Answer, Wire};
@@ -34,7 +34,8 @@ pub fn open_target<W: Wire>(wire: &mut W, tries: u32) -> Ending
     ensures plan { W.plan wire.new ≡ W.plan wire.old }
     ensures told { HostCalls W.notes (HostReportsCalls [] (host_report_to [] result)) wire.old wire.new }
 {
-    conduct_to(wire, Engine::new(tries), &[], &mut NoAnswers)
+    let mut none = OneAnswer { answer: None };
+    conduct_to(wire, Engine::new(tries), &[], &mut none)
 }
 
 /// Performs the accesses in order over an open target, with the guarantees of [`run`](crate::run), and sends no opening.

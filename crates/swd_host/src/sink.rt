@@ -57,23 +57,27 @@ impl<A: Allocator> AnswerSink for Vec<Answer, A> {
     ghost keeps_on = { λ a b c first next. tt };
 }
 
-// Takes no answer, for a list without accesses.
+// Room for one answer, for a list without accesses.
 #[derive(Drop)]
-pub(crate) struct NoAnswers;
+pub(crate) struct OneAnswer {
+    pub(crate) answer: Option<Answer>,
+}
 
-impl AnswerSink for NoAnswers {
-    ghost taken = { λ _. [] };
+impl AnswerSink for OneAnswer {
+    ghost use Rattle.swd_host.specs.Sinks.{answer_list};
 
-    ghost most = { λ _. 0 };
+    ghost taken = { λ sink. answer_list sink.answer };
+
+    ghost most = { λ _. 1 };
 
     ghost keeps = { λ _ _. Unit {0} };
 
     fn count(&self) -> usize {
-        0
+        usize::from(self.answer.is_some())
     }
 
-    fn take(&mut self, _answer: Answer) {
-        unreachable!()
+    fn take(&mut self, answer: Answer) {
+        self.answer = Some(answer);
     }
 
     ghost keeps_all = { λ a. tt };
