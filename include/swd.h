@@ -37,10 +37,10 @@ extern "C" {
  */
 uint32_t swd_version(void);
 
-/* ---------------------------------------------------------------------------------------- the host ---- */
+/* ----------------------------------------------------------------------------- outcomes and cues ---- */
 
 /*
- * The outcome of the opening or an access.
+ * The outcome of an access or a run.
  */
 struct swd_outcome {
 	uint32_t word; /* of SWD_VALUE and SWD_WRONG_ID, else 0 */
@@ -48,41 +48,15 @@ struct swd_outcome {
 };
 
 enum {
-	SWD_OPENED = 1, /* the target is ready for accesses */
 	SWD_VALUE = 2, /* the access read `word` */
 	SWD_WRITTEN = 3, /* the access wrote its word */
-	SWD_BUS_FAULT = 4, /* the access was made once and was a bus error: the bus refused it */
-	/* From here on the engine has stopped, and starts no other access. */
-	SWD_ALL = 5, /* every access of the list is answered; of a run alone */
-	SWD_LOST = 6, /* no acknowledgement was seen: send nothing more, except by swd_engine_again or swd_run_again */
-	SWD_TRIES_OUT = 7, /* the opening or an access met more than `tries` events: see there */
+	SWD_BUS_FAULT = 4, /* the access was a bus error: the bus refused it */
+	/* From here on the end of a run. */
+	SWD_ALL = 5, /* every access of the list is answered */
+	SWD_LOST = 6, /* no acknowledgement was seen: send nothing more, except by swd_run_again */
+	SWD_TRIES_OUT = 7, /* the opening or an access met more than `tries` events: see swd_run_new */
 	SWD_WRONG_ID = 8, /* bit 0 of DPIDR isn't 1; `word` is DPIDR */
 	SWD_CONFUSED = 9 /* the target violated the protocol */
-};
-
-/*
- * A host without a wire: it says what to send next, and takes what was seen. Only `requests` is for the
- * caller; the other fields are private to the library. A struct of zeros is invalid.
- */
-struct swd_engine {
-	uint64_t requests; /* number of requests sent since it was made; may be read */
-	struct {
-		struct swd_outcome outcome;
-		struct {
-			uint8_t kind, place, error, damaged;
-		} job;
-		uint8_t kind, phase;
-	} state;
-	struct {
-		uint32_t addr, word;
-		uint8_t kind;
-	} task;
-	struct {
-		uint32_t word;
-		uint8_t known;
-	} tar;
-	uint32_t tries, events;
-	uint8_t aims, bursts, ahead, begun, stray;
 };
 
 /*
@@ -107,7 +81,7 @@ enum {
 	SWD_TAKE = 3, /* sample 33 bits, which are the reply; then a turnaround */
 	SWD_GIVE = 4, /* a turnaround; then send 33 bits */
 	SWD_PASS = 5, /* a turnaround */
-	SWD_REFUSED = 255 /* the call was refused; of swd_run_next `outcome` says why, below */
+	SWD_REFUSED = 255 /* the call was refused; of swd_run_next and swd_run_opened `outcome` says why, below */
 };
 
 /* The sixteen bits that switch from JTAG to serial wire. */
@@ -123,57 +97,32 @@ struct swd_access {
 };
 
 /*
- * Makes an engine that opens a target: a line reset with the switch, DPIDR, power, and a MEM-AP set up for
- * words. The opening, and each access, may meet `tries` events, such as a WAIT, a read word with wrong parity,
- * or write data that was corrupted; at one more it stops with SWD_TRIES_OUT. That retries make no access take
- * effect twice is a theorem of swd_host::run, which drives the same engine. From here, or from swd_engine_start,
- * to the next outcome it sends at most 9 + 5 * (tries + 1) requests, whatever the replies.
+ * A part of struct swd_run, private to the library.
  */
-void swd_engine_new(struct swd_engine *engine, uint32_t tries);
+struct swd_engine {
+	uint64_t requests;
+	struct {
+		struct swd_outcome outcome;
+		struct {
+			uint8_t kind, place, error, damaged;
+		} job;
+		uint8_t kind, phase;
+	} state;
+	struct {
+		uint32_t addr, word;
+		uint8_t kind;
+	} task;
+	struct {
+		uint32_t word;
+		uint8_t known;
+	} tar;
+	uint32_t tries, events;
+	uint8_t aims, bursts, ahead, begun, stray;
+};
 
 /*
- * Makes the same engine for blocks of reads at consecutive addresses. The request for the next word returns
- * the word before it, so that a word takes one request.
- */
-void swd_engine_blocks(struct swd_engine *engine, uint32_t tries);
-
-/*
- * Makes an engine that continues after SWD_LOST or SWD_TRIES_OUT, over the same target. Start with the first
- * access that wasn't answered; an access that was in flight may take effect twice. After swd_engine_blocks,
- * this engine reads the rest of the block one by one. Its opening may take five requests more.
- */
-void swd_engine_again(struct swd_engine *engine, uint32_t tries);
-
-/*
- * Returns what has to be sent next. SWD_REFUSED: *engine is invalid.
- */
-struct swd_cue swd_engine_cue(const struct swd_engine *engine);
-
-/*
- * Takes the reply to the cue, and returns the next cue. `reply` is the three bits sampled at SWD_ASK (an
- * undriven line reads 1), or the 33 bits sampled at SWD_TAKE; at any other kind it is ignored. At SWD_REST
- * nothing changes.
- *
- * SWD_REFUSED: *engine is invalid, or `reply` isn't below 8 at SWD_ASK, or below 2^33 at SWD_TAKE.
- */
-struct swd_cue swd_engine_next(struct swd_engine *engine, uint64_t reply);
-
-/*
- * Starts the access at `index` of a list of `count`; then call swd_engine_cue. The next access in the list
- * continues a burst if both are writes (with swd_engine_blocks, reads) and its address is the next word's in
- * the same kilobyte. Its request may then be sent with this access, and it must be the next that is started.
- *
- * Returns false: *engine is invalid; its cue isn't SWD_REST; it has stopped; `index` isn't below `count`; the
- * address isn't a multiple of 4; or another access must be started first, as said above.
- */
-bool swd_engine_start(struct swd_engine *engine, const struct swd_access *accesses, size_t count, size_t index);
-
-/* ------------------------------------------------------------------------------------------- the run ---- */
-
-/*
- * A host with the loop over the accesses of a list: it begins the next one by itself, and ends the list with eight idle
- * cycles. `requests`, `end`, `answered` and `begun` are for the caller; the other fields are private to the library. A
- * struct of zeros is invalid.
+ * A host without a wire, over a list of accesses: it says what to send next, and takes what was seen. `requests`, `end`,
+ * `answered` and `begun` are for the caller; the other fields are private to the library. A struct of zeros is invalid.
  *
  *	struct swd_run run;
  *	swd_run_new(&run, 8);
@@ -191,7 +140,7 @@ struct swd_run {
 };
 
 /*
- * Why swd_run_next refuses a call, as the `outcome.kind` of its cue.
+ * Why swd_run_next or swd_run_opened refuses a call, as the `outcome.kind` of its cue.
  */
 enum {
 	SWD_INVALID = 0, /* *run is invalid */
@@ -204,22 +153,41 @@ enum {
 };
 
 /*
- * Makes a run at its beginning: it opens a target as swd_engine_new does, and then does the accesses in order, each
- * once. The opening, and each access, may meet `tries` events. Whatever the replies, the run ends, and has then sent at
- * most 10 + 5 * tries requests, and 6 + 5 * tries for each access.
+ * Makes a run at its beginning. It opens a target: a line reset with the switch, DPIDR, power, and a MEM-AP set up for
+ * words. Then it does the accesses in order, each once, and sends eight idle cycles. The opening, and each access, may
+ * meet `tries` events, such as a WAIT, a read word with wrong parity, or write data that was corrupted; at one more it
+ * ends with SWD_TRIES_OUT. At a target that conforms to the model and was at rest, retries make no access take effect
+ * twice (docs/C.md has the theorem). Whatever the replies, the run ends, and has then sent at most 10 + 5 * tries requests, and
+ * 6 + 5 * tries for each access.
  */
 void swd_run_new(struct swd_run *run, uint32_t tries);
 
 /*
  * Makes the same run for a block of reads at consecutive addresses: the request for the next word returns the word
- * before it, so that a word takes one request.
+ * before it, so that a word takes one request. A run of swd_run_new has bursts of writes: the request of the next write,
+ * to the next word's address in the same kilobyte, confirms the one before.
  */
 void swd_run_blocks(struct swd_run *run, uint32_t tries);
 
 /*
+ * Makes a run over a target that is open already, and returns its first cue, as swd_run_cue does. It sends no opening: a
+ * list of one read costs three requests. `blocks` isn't 0 for a block of reads, as of swd_run_blocks. Pass the same list to
+ * swd_run_next.
+ *
+ * A target is open after a run, of whatever kind, that ended SWD_ALL, as long as nothing else drives the line and the
+ * target isn't reset. The library can't check that. If it doesn't hold, the answers and the end of this run, and of
+ * those behind it, may be wrong; whatever holds, each call is safe, is refused as said here, and the run ends. After an
+ * end other than SWD_ALL continue with swd_run_again, or open the target anew.
+ *
+ * SWD_REFUSED: the list isn't valid, with SWD_TOO_MANY or SWD_UNALIGNED in `outcome`. *run is unchanged.
+ */
+struct swd_cue swd_run_opened(struct swd_run *run, const struct swd_access *accesses, size_t count, uint8_t blocks,
+                              uint32_t tries);
+
+/*
  * Makes the run that continues after one that ended SWD_LOST or SWD_TRIES_OUT, over the same target and the same list,
  * with the first access that isn't answered. `answered` goes on from there; `requests` and `begun` are those of the new
- * run alone, whose opening may take five requests more. An access that was in flight may take effect twice. After
+ * run alone, whose opening may take five requests more. An access that was in flight may take effect again. After
  * swd_run_blocks, the rest of the block is read one by one.
  *
  * Returns false: *run is invalid, or didn't end so.
@@ -232,10 +200,11 @@ bool swd_run_again(struct swd_run *run, uint32_t tries);
 struct swd_cue swd_run_cue(const struct swd_run *run);
 
 /*
- * Takes the reply to the cue, as swd_engine_next does, and returns the next cue. The answer of each access that ended,
+ * Takes the reply to the cue, and returns the next cue. `reply` is the three bits sampled at SWD_ASK (an undriven line
+ * reads 1), or the 33 bits sampled at SWD_TAKE; at any other kind it is ignored. The answer of each access that ended,
  * SWD_VALUE, SWD_WRITTEN or SWD_BUS_FAULT, is written to `answers`, which has `room` objects, at the access's index. In
- * each call `accesses` must be the same list of `count`. The call at the first cue checks all of it, each later one only
- * `count`.
+ * each call `accesses` must be the same list of `count`. The call at the first cue checks all of it (of swd_run_opened,
+ * that call), each later one only `count`.
  *
  * SWD_REFUSED: for one of the reasons above, in `outcome`. *run and the answers are unchanged.
  */
@@ -247,13 +216,13 @@ struct swd_cue swd_run_next(struct swd_run *run, const struct swd_access *access
  */
 static inline const char *swd_outcome_name(uint8_t kind)
 {
-	static const char *const names[] = { "none", "opened", "value", "written", "bus error",
+	static const char *const names[] = { "none", "unknown", "value", "written", "bus error",
 	                                     "all", "lost", "tries", "id", "confused" };
 	return kind < sizeof names / sizeof *names ? names[kind] : "unknown";
 }
 
 /*
- * The name of a reason why swd_run_next refuses a call.
+ * The name of a reason why swd_run_next or swd_run_opened refuses a call.
  */
 static inline const char *swd_refusal_name(uint8_t kind)
 {

@@ -30,6 +30,9 @@ struct job {
 	struct flags owed;
 };
 
+/* The outcome of the opening, beside those of swd.h. */
+enum { OPENED = 1 };
+
 enum state { LEADING, ASKING, MOVING, WAITED, FAULTED, RESTING };
 
 struct engine {
@@ -228,7 +231,7 @@ static void value_at(struct engine *e, enum place place, uint32_t word, struct f
 		return;
 	case PLACE_CONFIGURED:
 		e->tar_known = false;
-		rest(e, (word & 0x77) == 0x52 ? SWD_OPENED : SWD_CONFUSED, 0);
+		rest(e, (word & 0x77) == 0x52 ? OPENED : SWD_CONFUSED, 0);
 		return;
 	case PLACE_CONFIRM:
 		answer(e, SWD_VALUE, word);

@@ -161,40 +161,48 @@ int line_clock(int drive)
 	return board_clock(&board, drive);
 }
 
-/* An engine once its lead was sent. */
-static struct swd_engine led(void)
+/* Passes a reply to a run over no access. */
+static struct swd_cue next(struct swd_run *run, uint64_t reply)
 {
-	struct swd_engine engine;
-	swd_engine_new(&engine, 0);
-	same("SWD_LEAD", swd_engine_cue(&engine).kind, SWD_LEAD);
-	same("SWD_ASK", swd_engine_next(&engine, 0).kind, SWD_ASK);
-	return engine;
+	struct swd_access none = { 0, 0, 0 };
+	struct swd_outcome unused;
+	return swd_run_next(run, &none, 0, &unused, 0, reply);
+}
+
+/* A run once its lead was sent. */
+static struct swd_run led(void)
+{
+	struct swd_run run;
+	swd_run_new(&run, 0);
+	same("SWD_LEAD", swd_run_cue(&run).kind, SWD_LEAD);
+	same("SWD_ASK", next(&run, 0).kind, SWD_ASK);
+	return run;
 }
 
 static void check_cues(void)
 {
-	struct swd_engine engine = led();
+	struct swd_run run = led();
 	struct swd_cue cue;
-	same("SWD_REFUSED", swd_engine_next(&engine, 8).kind, SWD_REFUSED);
-	same("SWD_TAKE", swd_engine_next(&engine, 1).kind, SWD_TAKE);
+	same("SWD_REFUSED", next(&run, 8).kind, SWD_REFUSED);
+	same("SWD_TAKE", next(&run, 1).kind, SWD_TAKE);
 	/* Bit 0 is 0, and the parity bit is 1. */
-	cue = swd_engine_next(&engine, 0x12ba01476);
+	cue = next(&run, 0x12ba01476);
 	same("SWD_REST", cue.kind, SWD_REST);
 	same("SWD_WRONG_ID", cue.outcome.kind, SWD_WRONG_ID);
 	same("identification", cue.outcome.word, 0x2ba01476);
-	engine = led();
-	swd_engine_next(&engine, 1);
+	run = led();
+	next(&run, 1);
 	/* Wrong parity, and no event allowed. */
-	same("SWD_TRIES_OUT", swd_engine_next(&engine, 1).outcome.kind, SWD_TRIES_OUT);
-	engine = led();
-	swd_engine_next(&engine, 1);
-	swd_engine_next(&engine, 0x2ba01477);
-	same("SWD_GIVE", (swd_engine_next(&engine, 1)).kind, SWD_GIVE);
-	engine = led();
-	same("SWD_PASS", swd_engine_next(&engine, 2).kind, SWD_PASS);
-	same("SWD_CONFUSED", swd_engine_next(&engine, 0).outcome.kind, SWD_CONFUSED);
-	engine = led();
-	same("SWD_LOST", swd_engine_next(&engine, 7).outcome.kind, SWD_LOST);
+	same("SWD_TRIES_OUT", next(&run, 1).outcome.kind, SWD_TRIES_OUT);
+	run = led();
+	next(&run, 1);
+	next(&run, 0x2ba01477);
+	same("SWD_GIVE", next(&run, 1).kind, SWD_GIVE);
+	run = led();
+	same("SWD_PASS", next(&run, 2).kind, SWD_PASS);
+	same("SWD_CONFUSED", next(&run, 0).outcome.kind, SWD_CONFUSED);
+	run = led();
+	same("SWD_LOST", next(&run, 7).outcome.kind, SWD_LOST);
 }
 
 static void check_outcomes(void)
@@ -203,15 +211,14 @@ static void check_outcomes(void)
 	                                               { BOARD_BASE, 0, 0 },
 	                                               { 0x30000000, 0, 0 } };
 	static const uint8_t kinds[3] = { SWD_WRITTEN, SWD_VALUE, SWD_BUS_FAULT };
-	struct swd_engine engine;
+	struct swd_outcome answers[3];
+	struct swd_run run;
 	size_t i;
 	board_new(&board);
-	swd_engine_new(&engine, 8);
-	same("SWD_OPENED", line_drive(&engine).outcome.kind, SWD_OPENED);
-	for (i = 0; i < 3; i++) {
-		same("start", swd_engine_start(&engine, accesses, 3, i), 1);
-		same("outcome", line_drive(&engine).outcome.kind, kinds[i]);
-	}
+	swd_run_new(&run, 8);
+	same("SWD_ALL", line_run(&run, accesses, 3, answers).outcome.kind, SWD_ALL);
+	for (i = 0; i < 3; i++)
+		same("outcome", answers[i].kind, kinds[i]);
 }
 
 /* A run that ends at its first request, and what is refused before and after. */
@@ -242,6 +249,11 @@ static void check_runs(void)
 	same("SWD_ENDED", swd_run_next(&run, accesses, 2, answers, 3, 7).outcome.kind, SWD_ENDED);
 	same("again", swd_run_again(&run, 8), true);
 	same("again", swd_run_again(&run, 8), false);
+	cue = swd_run_opened(&run, accesses, 3, 0, 8);
+	same("SWD_REFUSED of an open run", cue.kind, SWD_REFUSED);
+	same("SWD_UNALIGNED of an open run", cue.outcome.kind, SWD_UNALIGNED);
+	same("index of an open run", cue.outcome.word, 2);
+	same("SWD_TOO_MANY of an open run", swd_run_opened(&run, NULL, 65537, 0, 8).outcome.kind, SWD_TOO_MANY);
 	run.answered = 2;
 	same("SWD_TOO_FEW", swd_run_next(&run, accesses, 1, answers, 3, 0).outcome.kind, SWD_TOO_FEW);
 	board_new(&board);
@@ -251,6 +263,9 @@ static void check_runs(void)
 	same("SWD_WRITTEN", answers[0].kind, SWD_WRITTEN);
 	same("SWD_VALUE", answers[1].kind, SWD_VALUE);
 	same("word", answers[1].word, 1);
+	same("SWD_ASK of an open run", swd_run_opened(&run, accesses, 2, 1, 8).kind, SWD_ASK);
+	same("SWD_ALL of an open run", line_run(&run, accesses, 2, answers).outcome.kind, SWD_ALL);
+	same("answered", run.answered, 2);
 }
 
 /* Sends bits to the board's target, the first in time least significant. */

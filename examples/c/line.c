@@ -68,14 +68,6 @@ static uint64_t reply(const struct swd_cue *cue)
 	return seen;
 }
 
-struct swd_cue line_drive(struct swd_engine *engine)
-{
-	struct swd_cue cue = swd_engine_cue(engine);
-	while (cue.kind != SWD_REST && cue.kind != SWD_REFUSED)
-		cue = swd_engine_next(engine, reply(&cue));
-	return cue;
-}
-
 struct swd_cue line_run(struct swd_run *run, const struct swd_access *accesses, size_t count,
                         struct swd_outcome *answers)
 {

@@ -1,5 +1,5 @@
 /*
- * What the hosts of these examples share: the cues of a run or an engine, clock by clock.
+ * What the hosts of these examples share: the cues of a run, clock by clock.
  */
 #ifndef LINE_H
 #define LINE_H
@@ -12,11 +12,6 @@
  */
 enum { RELEASED = -1 };
 int line_clock(int drive);
-
-/*
- * Goes on to the engine's next outcome. SWD_REFUSED: the engine is none.
- */
-struct swd_cue line_drive(struct swd_engine *engine);
 
 /*
  * Does a list of accesses by a run that was made, and stores their answers, for which there is room. Gives the last

@@ -1,5 +1,5 @@
 /*
- * A long run of engine, target and decoder, by which two builds of the library are compared: lists of accesses over a
+ * A long run of host, target and decoder, by which two builds of the library are compared: lists of accesses over a
  * board whose bus takes its time, while bits arrive changed at either end. Prints a hash of every bit on the line, each
  * item that the decoder gives and each outcome. Takes the number of lists.
  */
@@ -83,32 +83,44 @@ static void fill(struct swd_access *accesses, size_t count, unsigned round)
 	}
 }
 
-/* Goes through a list, on which the engine may go on after a lost acknowledgement. */
-static void go_through(struct swd_engine *engine, const struct swd_access *accesses, size_t count, bool resumes)
+/* Goes through a list, with which the run may be continued after a lost acknowledgement. */
+static void go_through(struct swd_run *run, const struct swd_access *accesses, size_t count, bool resumes)
 {
-	size_t at = 0;
+	struct swd_outcome answers[MOST_ACCESSES];
+	uint32_t i;
+	memset(answers, 0, sizeof answers);
 	for (;;) {
-		struct swd_cue cue = line_drive(engine);
+		uint32_t first = run->answered;
+		struct swd_cue cue = line_run(run, accesses, count, answers);
 		if (cue.kind == SWD_REFUSED || cue.outcome.kind >= KINDS)
 			fail("no outcome");
+		for (i = first; i < run->answered; i++) {
+			outcomes[answers[i].kind]++;
+			mix(answers[i].kind);
+			mix(answers[i].word);
+		}
+		answered += run->answered - first;
 		outcomes[cue.outcome.kind]++;
 		mix(cue.outcome.kind);
 		mix(cue.outcome.word);
 		mix(cue.begun);
-		mix(engine->requests);
-		if (cue.outcome.kind == SWD_LOST && resumes && any() % 4 != 0) {
-			swd_engine_again(engine, 8);
-			continue;
-		}
-		if (cue.outcome.kind > SWD_BUS_FAULT)
+		mix(run->requests);
+		if (cue.outcome.kind != SWD_LOST || !resumes || any() % 4 == 0 || !swd_run_again(run, 8))
 			return;
-		if (cue.outcome.kind != SWD_OPENED) {
-			answered++;
-			at++;
-		}
+	}
+}
+
+/* Goes through lists of one over the open target, each with a bit that may arrive changed. */
+static void poll(const struct swd_access *accesses, size_t count)
+{
+	size_t i;
+	for (i = 0; i < count; i++) {
+		struct swd_run run;
 		if (any() % 8 == 0)
 			board.spoils = board.target.cycles + 1 + any() % 100;
-		if (!swd_engine_start(engine, accesses, count, at))
+		swd_run_opened(&run, accesses + i, 1, 0, any() % 9);
+		go_through(&run, accesses + i, 1, true);
+		if (run.end.kind != SWD_ALL)
 			return;
 	}
 }
@@ -120,7 +132,7 @@ int main(int argc, char **argv)
 	size_t i;
 	for (round = 0; round < lists; round++) {
 		struct swd_access accesses[MOST_ACCESSES];
-		struct swd_engine engine;
+		struct swd_run run;
 		size_t count = 1 + any() % MOST_ACCESSES;
 		if (round % 20 == 0) {
 			board_new(&board);
@@ -131,16 +143,20 @@ int main(int argc, char **argv)
 		memset(accesses, 0, sizeof accesses);
 		fill(accesses, count, round);
 		if (round % 3 == 0)
-			swd_engine_blocks(&engine, any() % 9);
+			swd_run_blocks(&run, any() % 9);
 		else
-			swd_engine_new(&engine, any() % 9);
-		go_through(&engine, accesses, count, round % 3 != 0);
+			swd_run_new(&run, any() % 9);
+		if (any() % 2 == 0)
+			board.spoils = board.target.cycles + 1 + any() % 2000;
+		go_through(&run, accesses, count, round % 3 != 0);
+		if (run.end.kind == SWD_ALL)
+			poll(accesses, count);
 	}
 	for (i = 0; i < BOARD_WORDS; i++)
 		mix(board.words[i]);
 	printf("%08lx%08lx, %lu lists, %lu cycles, %lu items, %lu answers, outcomes", (unsigned long)(hash >> 32),
 	       (unsigned long)(hash & 0xffffffffu), lists, cycles, items, answered);
-	for (i = SWD_OPENED; i < KINDS; i++)
+	for (i = SWD_VALUE; i < KINDS; i++)
 		printf(" %lu", outcomes[i]);
 	putchar('\n');
 	return 0;

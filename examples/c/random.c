@@ -69,54 +69,12 @@ static void count(bool was_refused, const void *before, const void *after, size_
 	}
 }
 
-static struct swd_engine make_engine(void)
-{
-	struct swd_engine engine;
-	memset(&engine, 0, sizeof engine);
-	switch (any() % 4) {
-	case 0:
-		swd_engine_new(&engine, (uint32_t)some());
-		break;
-	case 1:
-		swd_engine_blocks(&engine, (uint32_t)some());
-		break;
-	case 2:
-		swd_engine_again(&engine, (uint32_t)some());
-		break;
-	default:
-		fill(&engine, sizeof engine);
-		break;
-	}
-	return engine;
-}
-
 /* A reply as of a target, mostly. */
 static uint64_t reply(const struct swd_cue *cue)
 {
 	if (any() % 8 == 0)
 		return some();
 	return cue->kind == SWD_ASK ? (any() % 4 ? 1 : any() % 8) : any() % ((uint64_t)1 << 33);
-}
-
-static void try_engine(void)
-{
-	struct swd_engine engine = make_engine();
-	struct swd_access accesses[3];
-	int i;
-	fill(accesses, sizeof accesses);
-	for (i = 0; i < 40; i++) {
-		struct swd_engine before = engine;
-		struct swd_cue cue = swd_engine_cue(&engine);
-		count(cue.kind == SWD_REFUSED, &before, &engine, sizeof engine);
-		if (cue.kind > SWD_PASS && cue.kind != SWD_REFUSED)
-			fail("no cue");
-		cue = swd_engine_next(&engine, reply(&cue));
-		count(cue.kind == SWD_REFUSED, &before, &engine, sizeof engine);
-		before = engine;
-		count(!swd_engine_start(&engine, accesses, 3, any() % 4), &before, &engine, sizeof engine);
-		if (any() % 4 == 0)
-			spoil(&engine, sizeof engine);
-	}
 }
 
 static struct swd_run make_run(void)
@@ -137,6 +95,19 @@ static struct swd_run make_run(void)
 	return run;
 }
 
+/* Makes a run over an open target of any run, or is refused. */
+static void open_run(struct swd_run *run, const struct swd_access *accesses, size_t most)
+{
+	struct swd_run before = *run;
+	uint8_t blocks = (uint8_t)any();
+	struct swd_cue cue = swd_run_opened(run, accesses, most, blocks, (uint32_t)some());
+	count(cue.kind == SWD_REFUSED, &before, run, sizeof *run);
+	if (cue.kind == SWD_REFUSED && cue.outcome.kind != SWD_UNALIGNED)
+		fail("refused for another reason");
+	if (cue.kind != SWD_REFUSED && cue.kind != (most ? SWD_ASK : SWD_LEAD))
+		fail("an open run that begins otherwise");
+}
+
 /* Answers that nothing was written over. */
 static const struct swd_outcome unwritten = { 0x55555555, 0x55 };
 
@@ -148,6 +119,8 @@ static void try_run(void)
 	fill(accesses, sizeof accesses);
 	for (i = 0; i < 3; i++)
 		accesses[i].addr &= any() % 8 ? ~(uint32_t)3 : ~(uint32_t)0;
+	if (any() % 4 == 0)
+		open_run(&run, accesses, any() % 8 ? 3 : 0);
 	for (i = 0; i < 120; i++) {
 		struct swd_run before = run;
 		struct swd_outcome answers[3] = { unwritten, unwritten, unwritten };
@@ -314,7 +287,6 @@ int main(int argc, char **argv)
 {
 	unsigned long most = argc > 1 ? strtoul(argv[1], NULL, 10) : 10000000;
 	while (calls < most) {
-		try_engine();
 		try_run();
 		try_decoder();
 		try_target();

@@ -1,6 +1,6 @@
 /*
- * What a probe's firmware takes of the library: the engine over two pins of a port. It is linked to see how large that
- * is, and run nowhere; the port's registers are those of no chip.
+ * What a probe's firmware takes of the library: sessions over two pins of a port. It is linked to see how large that is,
+ * and run nowhere; the port's registers are those of no chip.
  */
 #include "line.h"
 
@@ -19,34 +19,21 @@ int line_clock(int drive)
 	return bit;
 }
 
-/* Does the accesses, and puts the words that were read into them. Gives how many were answered. */
-static size_t perform(struct swd_engine *engine, struct swd_access *accesses, size_t count)
-{
-	size_t done = 0;
-	struct swd_cue cue = line_drive(engine);
-	if (cue.outcome.kind != SWD_OPENED)
-		return 0;
-	while (swd_engine_start(engine, accesses, count, done)) {
-		cue = line_drive(engine);
-		if (cue.outcome.kind > SWD_BUS_FAULT)
-			break;
-		if (cue.outcome.kind == SWD_VALUE)
-			accesses[done].word = cue.outcome.word;
-		done++;
-	}
-	return done;
-}
+enum { MOST_ACCESSES = 4 };
 
-static struct swd_engine engine;
-static struct swd_access accesses[4];
+static struct swd_run run;
+static struct swd_access accesses[MOST_ACCESSES];
+static struct swd_outcome answers[MOST_ACCESSES];
 extern uint32_t stack_end;
 
+/* Opens a target and does the accesses; as long as all are answered, it does them again over the open target. */
 void reset(void);
 
 void reset(void)
 {
-	swd_engine_new(&engine, 8);
-	perform(&engine, accesses, 4);
+	swd_run_new(&run, 8);
+	while (line_run(&run, accesses, MOST_ACCESSES, answers).outcome.kind == SWD_ALL)
+		swd_run_opened(&run, accesses, MOST_ACCESSES, 0, 8);
 	for (;;)
 		;
 }

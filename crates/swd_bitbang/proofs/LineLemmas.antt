@@ -4,6 +4,7 @@ use Rattle.std.proofs.Common.{refl, sym, ap, ◌∙◌, subst, append_assoc, get
 use Rattle.std.specs.Io.KnownBytes.{Appends}
 use Rattle.std.specs.Prelude.{if◌then◌else◌, replicate, All}
 use Rattle.std.proofs.lemmas.List.Elements.{All-append, All-nil, All-cons, All-head, All-tail}
+use Rattle.swd_port.specs.Bus.{Bus}
 use Rattle.swd_bits.specs.Bits.{low_bits}
 use Rattle.swd_clocked.specs.Marked.{MarkedCycles}
 use Rattle.swd_sequences.specs.declared.character.Character.TheVariants.{Moves, Looks, Drives, Quits}
@@ -22,20 +23,21 @@ use Rattle.swd_bitbang.specs.Sessions.{bitbang_answer_to_sign, IsBitbangOpen, Pi
 use Rattle.swd_bitbang.specs.Lines.{ArePinsBetweenClocks, PinsWentBy, KeepsBitbangOpen}
 
 -- a session of two texts
-record Parts {A : Type 0} (front back answers : List ℕ) (s t : Pins A) : Type 0 where
-  middle : Pins A
+record Parts {D A : Type 0} (bus : D → Bus) (front back answers : List ℕ) (s t : Pins D A) : Type 0 where
+  middle : Pins D A
   first : List ℕ
   rest : List ℕ
-  goes : PinsSession front first s middle
-  after : PinsSession back rest middle t
+  goes : PinsSession bus front first s middle
+  after : PinsSession bus back rest middle t
   is : answers ≡ first ++ rest
 
-parted : {A : Type 0} (front back answers : List ℕ) (s t : Pins A) → PinsSession (front ++ back) answers s t
-    → Parts front back answers s t
-parted [] back answers s t h =
+parted : {D A : Type 0} (bus : D → Bus) (front back answers : List ℕ) (s t : Pins D A) → PinsSession bus (front ++ back)
+    answers s t
+    → Parts bus front back answers s t
+parted bus [] back answers s t h =
     record { middle = s; first = []; rest = answers; goes = (refl, refl); after = h; is = refl }
-parted (byte ∷ front) back answers s t h =
-    let more = parted front back h.2 h.0 t h.4 in
+parted bus (byte ∷ front) back answers s t h =
+    let more = parted bus front back h.2 h.0 t h.4 in
     record {
       middle = more.middle;
       first = h.1 ++ more.first;
@@ -62,113 +64,120 @@ answered_next true level rest levels e = ap (λ l. alphabet_level level ∷ l) e
 answered_next false level rest levels e = e
 
 -- a clock went by: what the host drove, and whether it looked
-record WentOnce {A : Type 0} (looks : Bool) (drive : Option Bool) (answers : List ℕ) (s t : Pins A) : Type 0 where
+record WentOnce {D A : Type 0} (bus : D → Bus) (looks : Bool) (drive : Option Bool) (answers : List ℕ)
+    (s t : Pins D A) : Type 0 where
   level : Bool
-  cycle : MarkedCycles drive level s.target t.target
+  cycle : MarkedCycles bus drive level s.target t.target
   answers_are : answers ≡ answered looks (level ∷ [])
   between : ArePinsBetweenClocks t
   drives : t.drives ≡ s.drives
 
 -- the clock falls, and rises where no bit was seen
-fell : {A : Type 0} (level : Bool) (first : List ℕ) (s m : Pins A)
-    → PinsAnswer (alphabet_byte (Moves false level)) first s m → (m ≡ pins_fallen level s) × (first ≡ [])
-fell true first s m h = (h.steps.1, h.tells ∙ ap bitbang_answer_to_sign h.steps.0)
-fell false first s m h = (h.steps.1, h.tells ∙ ap bitbang_answer_to_sign h.steps.0)
+fell : {D A : Type 0} (bus : D → Bus) (level : Bool) (first : List ℕ) (s m : Pins D A)
+    → PinsAnswer bus (alphabet_byte (Moves false level)) first s m → (m ≡ pins_fallen level s) × (first ≡ [])
+fell bus true first s m h = (h.steps.1, h.tells ∙ ap bitbang_answer_to_sign h.steps.0)
+fell bus false first s m h = (h.steps.1, h.tells ∙ ap bitbang_answer_to_sign h.steps.0)
 
 -- the bit of a clock in which none was seen
-passes : {A : Type 0} (o : Option Bool) (bit : Bool) (s t : Pins A) → o ≡ None → PinsShowBy o bit s t
-    → PinsCyclePasses bit s t
-passes o bit s t e h = subst (λ x. PinsShowBy x bit s t) e h
+passes : {D A : Type 0} (bus : D → Bus) (o : Option Bool) (bit : Bool) (s t : Pins D A) → o ≡ None → PinsShowBy bus o
+    bit s t
+    → PinsCyclePasses bus bit s t
+passes bus o bit s t e h = subst (λ x. PinsShowBy bus x bit s t) e h
 
-rose : {A : Type 0} (level : Bool) (first : List ℕ) (m t : Pins A)
-    → PinsAnswer (alphabet_byte (Moves true level)) first m t
-    → (bit : Bool) × PinsShow bit (record m { clock = true; level = level }) t × (first ≡ [])
-rose true first m t h = (h.steps.1.0, h.steps.1.1, h.tells ∙ ap bitbang_answer_to_sign h.steps.0)
-rose false first m t h = (h.steps.1.0, h.steps.1.1, h.tells ∙ ap bitbang_answer_to_sign h.steps.0)
+rose : {D A : Type 0} (bus : D → Bus) (level : Bool) (first : List ℕ) (m t : Pins D A)
+    → PinsAnswer bus (alphabet_byte (Moves true level)) first m t
+    → (bit : Bool) × PinsShow bus bit (record m { clock = true; level = level }) t × (first ≡ [])
+rose bus true first m t h = (h.steps.1.0, h.steps.1.1, h.tells ∙ ap bitbang_answer_to_sign h.steps.0)
+rose bus false first m t h = (h.steps.1.0, h.steps.1.1, h.tells ∙ ap bitbang_answer_to_sign h.steps.0)
 
 -- the bit that is driven where a clock fell
-fallen_drive : {A : Type 0} (level : Bool) (s : Pins A) (d : Bool) → s.drives ≡ d
+fallen_drive : {D A : Type 0} (level : Bool) (s : Pins D A) (d : Bool) → s.drives ≡ d
     → pins_driven (record (pins_fallen level s) { clock = true; level = level }) ≡ (if d then Some level else None)
 fallen_drive level s d e = ap (λ x. if x then Some level else None) e
 
 -- a clock at which the host doesn't look
-moves : {A : Type 0} (level d : Bool) (answers : List ℕ) (s t : Pins A) → s.drives ≡ d → ArePinsBetweenClocks s
-    → PinsSession (sequence_driven_clock level) answers s t
-    → WentOnce false (if d then Some level else None) answers s t
-moves {A} level d answers s t e between h =
-    let low = fell level h.1 s h.0 h.3 in
+moves : {D A : Type 0} (bus : D → Bus) (level d : Bool) (answers : List ℕ) (s t : Pins D A) → s.drives ≡ d
+    → ArePinsBetweenClocks s
+    → PinsSession bus (sequence_driven_clock level) answers s t
+    → WentOnce bus false (if d then Some level else None) answers s t
+moves {D} {A} bus level d answers s t e between h =
+    let low = fell bus level h.1 s h.0 h.3 in
     let up = h.4 in
-    let rise = rose level up.1 h.0 up.0 up.3 in
-    let high = subst (λ (m : Pins A). PinsShow rise.0 (record m { clock = true; level = level }) up.0) low.0 rise.1 in
-    let bit = passes _ rise.0 (record (pins_fallen level s) { clock = true; level = level }) up.0 between high in
+    let rise = rose bus level up.1 h.0 up.0 up.3 in
+    let high = subst (λ (m : Pins D A). PinsShow bus rise.0 (record m { clock = true; level = level }) up.0) low.0
+    rise.1 in
+    let bit = passes bus _ rise.0 (record (pins_fallen level s) { clock = true; level = level }) up.0 between high in
     let same : t ≡ up.0 = up.4.1 in
-    let went : WentOnce false (if d then Some level else None) answers s up.0 = record {
+    let went : WentOnce bus false (if d then Some level else None) answers s up.0 = record {
       level = rise.0;
-      cycle = subst (λ x. MarkedCycles x rise.0 s.target up.0.target) (fallen_drive level s d e) bit.cycle;
+      cycle = subst (λ x. MarkedCycles bus x rise.0 s.target up.0.target) (fallen_drive level s d e) bit.cycle;
       answers_are = h.5 ∙ ap (λ l. l ++ h.2) low.1 ∙ up.5 ∙ ap (λ l. l ++ up.2) rise.2 ∙ up.4.0;
       between = subst (λ x. (if x then None else up.0.seen) ≡ None) (sym bit.clock) refl;
       drives = bit.drives;
     } in
-    subst (λ (r : Pins A). WentOnce false (if d then Some level else None) answers s r) (sym same) went
+    subst (λ (r : Pins D A). WentOnce bus false (if d then Some level else None) answers s r) (sym same) went
 
 -- a clock at which it does
-looked : {A : Type 0} (answers : List ℕ) (s t : Pins A) → s.drives ≡ false → ArePinsBetweenClocks s
-    → PinsSession sequence_sampled_clock answers s t → WentOnce true None answers s t
-looked {A} answers s t e between h =
-    let low = fell false h.1 s h.0 h.3 in
+looked : {D A : Type 0} (bus : D → Bus) (answers : List ℕ) (s t : Pins D A) → s.drives ≡ false → ArePinsBetweenClocks s
+    → PinsSession bus sequence_sampled_clock answers s t → WentOnce bus true None answers s t
+looked {D} {A} bus answers s t e between h =
+    let low = fell bus false h.1 s h.0 h.3 in
     let at = h.4 in
     let sees = at.3.steps in
-    let here = subst (λ d. PinsSeenBy d sees.0 h.0 at.0) (ap (λ (m : Pins A). m.drives) low.0 ∙ e) sees.2 in
-    let shows = subst (λ (m : Pins A). PinsShow sees.0 m at.0) low.0 here in
-    let bit = passes _ sees.0 (pins_fallen false s) at.0 between shows in
+    let here = subst (λ d. PinsSeenBy bus d sees.0 h.0 at.0) (ap (λ (m : Pins D A). m.drives) low.0 ∙ e) sees.2 in
+    let shows = subst (λ (m : Pins D A). PinsShow bus sees.0 m at.0) low.0 here in
+    let bit = passes bus _ sees.0 (pins_fallen false s) at.0 between shows in
     let up = at.4 in
-    let rise = rose false up.1 at.0 up.0 up.3 in
-    let high = subst (λ o. PinsShowBy o rise.0 (record at.0 { clock = true; level = false }) up.0) bit.seen rise.1 in
+    let rise = rose bus false up.1 at.0 up.0 up.3 in
+    let high = subst (λ o. PinsShowBy bus o rise.0 (record at.0 { clock = true; level = false }) up.0) bit.seen rise.1
+    in
     let same : t ≡ record at.0 { clock = true; level = false } = up.4.1 ∙ high.1 in
     let first : at.1 ≡ alphabet_level sees.0 ∷ [] = at.3.tells ∙ ap bitbang_answer_to_sign sees.1 in
-    let went : WentOnce true None answers s (record at.0 { clock = true; level = false }) = record {
+    let went : WentOnce bus true None answers s (record at.0 { clock = true; level = false }) = record {
       level = sees.0;
-      cycle = subst (λ x. MarkedCycles x sees.0 s.target at.0.target) (ap (λ x. if x then Some false else None) e)
+      cycle = subst (λ x. MarkedCycles bus x sees.0 s.target at.0.target) (ap (λ x. if x then Some false else None) e)
           bit.cycle;
       answers_are = h.5 ∙ ap (λ l. l ++ h.2) low.1 ∙ at.5 ∙ ap (λ l. l ++ at.2) first
           ∙ ap (λ l. alphabet_level sees.0 ∷ l) (up.5 ∙ ap (λ l. l ++ up.2) rise.2 ∙ up.4.0);
       between = refl;
       drives = bit.drives;
     } in
-    subst (λ (r : Pins A). WentOnce true None answers s r) (sym same) went
+    subst (λ (r : Pins D A). WentOnce bus true None answers s r) (sym same) went
 
 -- CLOCKS ONE AFTER THE OTHER
 
 -- clocks went by: what the host drove in each, and whether it looked
-record WentOn {A : Type 0} (looks : Bool) (drives : List (Option Bool)) (answers : List ℕ) (s t : Pins A) : Type 0
-  where
-    levels : List Bool
-    clocks : SequenceClocksGoBy MarkedCycles drives levels s.target t.target
-    answers_are : answers ≡ answered looks levels
-    between : ArePinsBetweenClocks t
-    keeps : t.drives ≡ s.drives
+record WentOn {D A : Type 0} (bus : D → Bus) (looks : Bool) (drives : List (Option Bool)) (answers : List ℕ)
+    (s t : Pins D A) : Type 0 where
+  levels : List Bool
+  clocks : SequenceClocksGoBy (MarkedCycles bus) drives levels s.target t.target
+  answers_are : answers ≡ answered looks levels
+  between : ArePinsBetweenClocks t
+  keeps : t.drives ≡ s.drives
 
-none_on : {A : Type 0} (looks : Bool) (answers : List ℕ) (s t : Pins A) → ArePinsBetweenClocks s → (answers ≡ [])
-    × (t ≡ s) → WentOn looks [] answers s t
-none_on {A} looks answers s t between h = subst (λ (r : Pins A). WentOn looks [] answers s r) (sym h.1) (record {
-  levels = [];
-  clocks = refl;
-  answers_are = h.0 ∙ sym (answered_none looks);
-  between = between;
-  keeps = refl;
-})
+none_on : {D A : Type 0} (bus : D → Bus) (looks : Bool) (answers : List ℕ) (s t : Pins D A) → ArePinsBetweenClocks s
+    → (answers ≡ [])
+    × (t ≡ s) → WentOn bus looks [] answers s t
+none_on {D} {A} bus looks answers s t between h = subst (λ (r : Pins D A). WentOn bus looks [] answers s r) (sym h.1)
+    (record {
+      levels = [];
+      clocks = refl;
+      answers_are = h.0 ∙ sym (answered_none looks);
+      between = between;
+      keeps = refl;
+    })
 
 -- clocks that are alike but for what they carry
-several : {A X : Type 0} (looks d : Bool) (text : X → List ℕ) (drive : X → Option Bool)
-    → ((x : X) (answers : List ℕ) (s t : Pins A) → s.drives ≡ d → ArePinsBetweenClocks s
-    → PinsSession (text x) answers s t → WentOnce looks (drive x) answers s t)
-    → (xs : List X) (answers : List ℕ) (s t : Pins A) → s.drives ≡ d → ArePinsBetweenClocks s
-    → PinsSession (sequence_joined (map text xs)) answers s t → WentOn looks (map drive xs) answers s t
-several looks d text drive each [] answers s t e between h = none_on looks answers s t between h
-several looks d text drive each (x ∷ xs) answers s t e between h =
-    let p = parted (text x) (sequence_joined (map text xs)) answers s t h in
+several : {D A X : Type 0} (bus : D → Bus) (looks d : Bool) (text : X → List ℕ) (drive : X → Option Bool)
+    → ((x : X) (answers : List ℕ) (s t : Pins D A) → s.drives ≡ d → ArePinsBetweenClocks s
+    → PinsSession bus (text x) answers s t → WentOnce bus looks (drive x) answers s t)
+    → (xs : List X) (answers : List ℕ) (s t : Pins D A) → s.drives ≡ d → ArePinsBetweenClocks s
+    → PinsSession bus (sequence_joined (map text xs)) answers s t → WentOn bus looks (map drive xs) answers s t
+several bus looks d text drive each [] answers s t e between h = none_on bus looks answers s t between h
+several bus looks d text drive each (x ∷ xs) answers s t e between h =
+    let p = parted bus (text x) (sequence_joined (map text xs)) answers s t h in
     let one = each x p.first s p.middle e between p.goes in
-    let more = several looks d text drive each xs p.rest p.middle t (one.drives ∙ e) one.between p.after in
+    let more = several bus looks d text drive each xs p.rest p.middle t (one.drives ∙ e) one.between p.after in
     record {
       levels = one.level ∷ more.levels;
       clocks = (p.middle.target, one.cycle, more.clocks);
@@ -185,35 +194,38 @@ map_alike f zero x = refl
 map_alike f (suc n) x = ap (λ l. f x ∷ l) (map_alike f n x)
 
 -- the clocks of a sequence that are alike
-alike : {A X : Type 0} (looks d : Bool) (text : X → List ℕ) (drive : X → Option Bool)
-    → ((x : X) (answers : List ℕ) (s t : Pins A) → s.drives ≡ d → ArePinsBetweenClocks s
-    → PinsSession (text x) answers s t → WentOnce looks (drive x) answers s t)
-    → (n : ℕ) (x : X) (answers : List ℕ) (s t : Pins A) → s.drives ≡ d → ArePinsBetweenClocks s
-    → PinsSession (sequence_joined (replicate n (text x))) answers s t
-    → WentOn looks (replicate n (drive x)) answers s t
-alike looks d text drive each n x answers s t e between h =
-    subst (λ l. WentOn looks l answers s t) (map_alike drive n x)
-    (several looks d text drive each (replicate n x) answers s t e between
-    (subst (λ l. PinsSession (sequence_joined l) answers s t) (sym (map_alike text n x)) h))
+alike : {D A X : Type 0} (bus : D → Bus) (looks d : Bool) (text : X → List ℕ) (drive : X → Option Bool)
+    → ((x : X) (answers : List ℕ) (s t : Pins D A) → s.drives ≡ d → ArePinsBetweenClocks s
+    → PinsSession bus (text x) answers s t → WentOnce bus looks (drive x) answers s t)
+    → (n : ℕ) (x : X) (answers : List ℕ) (s t : Pins D A) → s.drives ≡ d → ArePinsBetweenClocks s
+    → PinsSession bus (sequence_joined (replicate n (text x))) answers s t
+    → WentOn bus looks (replicate n (drive x)) answers s t
+alike bus looks d text drive each n x answers s t e between h =
+    subst (λ l. WentOn bus looks l answers s t) (map_alike drive n x)
+    (several bus looks d text drive each (replicate n x) answers s t e between
+    (subst (λ l. PinsSession bus (sequence_joined l) answers s t) (sym (map_alike text n x)) h))
 
 -- whether the host looks
 abbrev looks_in : Sequence → Bool
 looks_in (Sample count) = true
 looks_in sequence = false
 
-clocks_on : {A : Type 0} (sequence : Sequence) (answers : List ℕ) (s t : Pins A)
+clocks_on : {D A : Type 0} (bus : D → Bus) (sequence : Sequence) (answers : List ℕ) (s t : Pins D A)
     → s.drives ≡ is_driven_sequence sequence
-    → ArePinsBetweenClocks s → PinsSession (sequence_clocks sequence) answers s t
-    → WentOn (looks_in sequence) (sequence_drives sequence) answers s t
-clocks_on (Drive bits count) answers s t e between h =
-    several false true sequence_driven_clock Some (λ level. moves level true) (low_bits count bits) answers s t e
+    → ArePinsBetweenClocks s → PinsSession bus (sequence_clocks sequence) answers s t
+    → WentOn bus (looks_in sequence) (sequence_drives sequence) answers s t
+clocks_on bus (Drive bits count) answers s t e between h =
+    several bus false true sequence_driven_clock Some (λ level. moves bus level true) (low_bits count bits) answers s t
+    e
     between h
-clocks_on (Hold level count) answers s t e between h =
-    alike false true sequence_driven_clock Some (λ level. moves level true) count level answers s t e between h
-clocks_on (Release count) answers s t e between h =
-    alike false false sequence_driven_clock (λ _. None) (λ level. moves level false) count false answers s t e between h
-clocks_on (Sample count) answers s t e between h =
-    alike true false (λ (_ : Bool). sequence_sampled_clock) (λ _. None) (λ _. looked) count false answers s t e between
+clocks_on bus (Hold level count) answers s t e between h =
+    alike bus false true sequence_driven_clock Some (λ level. moves bus level true) count level answers s t e between h
+clocks_on bus (Release count) answers s t e between h =
+    alike bus false false sequence_driven_clock (λ _. None) (λ level. moves bus level false) count false answers s t e
+    between h
+clocks_on bus (Sample count) answers s t e between h =
+    alike bus true false (λ (_ : Bool). sequence_sampled_clock) (λ _. None) (λ _. looked bus) count false answers s t e
+    between
     h
 
 -- what was answered are the sampled levels
@@ -225,40 +237,40 @@ samples (Release count) answers levels e = e
 samples (Sample count) answers levels e = e
 
 -- the host takes the line, or leaves it alone
-record Turned {A : Type 0} (wanted : Bool) (answers : List ℕ) (s t : Pins A) : Type 0 where
+record Turned {D A : Type 0} (wanted : Bool) (answers : List ℕ) (s t : Pins D A) : Type 0 where
   drives : t.drives ≡ wanted
   target : t.target ≡ s.target
   between : ArePinsBetweenClocks s → ArePinsBetweenClocks t
   answers_are : answers ≡ []
 
-turned_now : {A : Type 0} (wanted : Bool) (answers : List ℕ) (s t : Pins A)
+turned_now : {D A : Type 0} (wanted : Bool) (answers : List ℕ) (s t : Pins D A)
     → (answers ≡ []) × (t ≡ record s { drives = wanted })
     → Turned wanted answers s t
-turned_now {A} wanted answers s t h = subst (λ (r : Pins A). Turned wanted answers s r) (sym h.1) (record {
+turned_now {D} {A} wanted answers s t h = subst (λ (r : Pins D A). Turned wanted answers s r) (sym h.1) (record {
   drives = refl;
   target = refl;
   between = λ between. between;
   answers_are = h.0;
 })
 
-turns : {A : Type 0} (drives wanted : Bool) (answers : List ℕ) (s t : Pins A) → s.drives ≡ drives
-    → PinsSession (sequence_turn drives wanted) answers s t → Turned wanted answers s t
-turns {A} true true answers s t e h = subst (λ (r : Pins A). Turned true answers s r) (sym h.1) (record {
+turns : {D A : Type 0} (bus : D → Bus) (drives wanted : Bool) (answers : List ℕ) (s t : Pins D A) → s.drives ≡ drives
+    → PinsSession bus (sequence_turn drives wanted) answers s t → Turned wanted answers s t
+turns {D} {A} bus true true answers s t e h = subst (λ (r : Pins D A). Turned true answers s r) (sym h.1) (record {
   drives = e;
   target = refl;
   between = λ between. between;
   answers_are = h.0;
 })
-turns {A} false false answers s t e h = subst (λ (r : Pins A). Turned false answers s r) (sym h.1) (record {
+turns {D} {A} bus false false answers s t e h = subst (λ (r : Pins D A). Turned false answers s r) (sym h.1) (record {
   drives = e;
   target = refl;
   between = λ between. between;
   answers_are = h.0;
 })
-turns true false answers s t e h =
+turns bus true false answers s t e h =
     turned_now false answers s t
     (h.5 ∙ ap (λ l. l ++ h.2) (h.3.tells ∙ ap bitbang_answer_to_sign h.3.steps.0) ∙ h.4.0, h.4.1 ∙ h.3.steps.1)
-turns false true answers s t e h =
+turns bus false true answers s t e h =
     turned_now true answers s t
     (h.5 ∙ ap (λ l. l ++ h.2) (h.3.tells ∙ ap bitbang_answer_to_sign h.3.steps.0) ∙ h.4.0, h.4.1 ∙ h.3.steps.1)
 
@@ -268,23 +280,28 @@ map_both f (x ∷ xs) ys = ap (λ l. f x ∷ l) (map_both f xs ys)
 
 -- the characters of sequences, taken by pins between two clocks, are read as these sequences, and their answers are
 -- the sampled levels
-pub pins_read_sequences : {A : Type 0} (sequences : List Sequence) (drives : Bool) (answers : List ℕ) (s t : Pins A)
-    → s.drives ≡ drives → ArePinsBetweenClocks s → PinsSession (all_sequence_characters drives sequences) answers s t
-    → PinsWentBy sequences answers s t
-pins_read_sequences [] drives answers s t e between h = subst (λ r. PinsWentBy [] answers s r) (sym h.1) (record {
-  levels = [];
-  goes = (refl, refl);
-  answered = h.0;
-  between = between;
-})
-pins_read_sequences (sequence ∷ more) drives answers s t e between h =
-    let p = parted (sequence_characters drives sequence) (all_sequence_characters (is_driven_sequence sequence) more)
+pub pins_read_sequences : {D A : Type 0} (bus : D → Bus) (sequences : List Sequence) (drives : Bool) (answers : List ℕ)
+    (s t : Pins D A)
+    → s.drives ≡ drives → ArePinsBetweenClocks s → PinsSession bus (all_sequence_characters drives sequences) answers s
+    t
+    → PinsWentBy bus sequences answers s t
+pins_read_sequences bus [] drives answers s t e between h = subst (λ r. PinsWentBy bus [] answers s r) (sym h.1)
+    (record {
+      levels = [];
+      goes = (refl, refl);
+      answered = h.0;
+      between = between;
+    })
+pins_read_sequences bus (sequence ∷ more) drives answers s t e between h =
+    let p = parted bus (sequence_characters drives sequence)
+    (all_sequence_characters (is_driven_sequence sequence) more)
     answers s t h in
-    let q = parted (sequence_turn drives (is_driven_sequence sequence)) (sequence_clocks sequence) p.first s p.middle
+    let q = parted bus (sequence_turn drives (is_driven_sequence sequence)) (sequence_clocks sequence) p.first s
+    p.middle
     p.goes in
-    let turn = turns drives (is_driven_sequence sequence) q.first s q.middle e q.goes in
-    let one = clocks_on sequence q.rest q.middle p.middle turn.drives (turn.between between) q.after in
-    let rest = pins_read_sequences more (is_driven_sequence sequence) p.rest p.middle t (one.keeps ∙ turn.drives)
+    let turn = turns bus drives (is_driven_sequence sequence) q.first s q.middle e q.goes in
+    let one = clocks_on bus sequence q.rest q.middle p.middle turn.drives (turn.between between) q.after in
+    let rest = pins_read_sequences bus more (is_driven_sequence sequence) p.rest p.middle t (one.keeps ∙ turn.drives)
     one.between p.after in
     let first = sequence_sampled sequence one.levels in
     let told_first : p.first ≡ map alphabet_level first = q.is ∙ ap (λ l. l ++ q.rest) turn.answers_are
@@ -297,7 +314,8 @@ pins_read_sequences (sequence ∷ more) drives answers s t e between h =
         rest.levels,
         record {
           seen = one.levels;
-          clocks = subst (λ x. SequenceClocksGoBy MarkedCycles (sequence_drives sequence) one.levels x p.middle.target)
+          clocks = subst (λ x. SequenceClocksGoBy (MarkedCycles bus) (sequence_drives sequence) one.levels x
+              p.middle.target)
               turn.target one.clocks;
           samples = refl;
         },
@@ -378,39 +396,41 @@ bitbang_sequences_stay_open drives (sequence ∷ more) =
 -- UP TO Q
 
 -- a character that ends the session is taken by no session
-no_quit : {A : Type 0} (byte : ℕ) (first : List ℕ) (s t : Pins A) → byte ≡ alphabet_byte Quits
-    → PinsAnswer byte first s t → ⊥
-no_quit byte first s t e h =
-    let steps = subst (λ b. PinsStep (alphabet_character b) s h.sign t) e h.steps in subst IsBitbangOpen steps.0
+no_quit : {D A : Type 0} (bus : D → Bus) (byte : ℕ) (first : List ℕ) (s t : Pins D A) → byte ≡ alphabet_byte Quits
+    → PinsAnswer bus byte first s t → ⊥
+no_quit bus byte first s t e h =
+    let steps = subst (λ b. PinsStep bus (alphabet_character b) s h.sign t) e h.steps in subst IsBitbangOpen steps.0
     h.goes_on
 
 -- what was taken before the first of them
-taken_whole : {A : Type 0} (text taken levels : List ℕ) (byte : ℕ) (more left : List ℕ) (s t : Pins A)
-    → All KeepsBitbangOpen text → PinsSession taken levels s t → alphabet_character byte ≡ Some Quits
+taken_whole : {D A : Type 0} (bus : D → Bus) (text taken levels : List ℕ) (byte : ℕ) (more left : List ℕ)
+    (s t : Pins D A)
+    → All KeepsBitbangOpen text → PinsSession bus taken levels s t → alphabet_character byte ≡ Some Quits
     → text ++ alphabet_byte Quits ∷ more ≡ taken ++ byte ∷ left → taken ≡ text
-taken_whole [] [] levels byte more left s t on h quits is = refl
-taken_whole [] (b ∷ taken) levels byte more left s t on h quits is =
-    absurd (no_quit b h.1 s h.0 (sym (ap (λ l. get_or l 0 0) is)) h.3)
-taken_whole (c ∷ text) [] levels byte more left s t on h quits is =
+taken_whole bus [] [] levels byte more left s t on h quits is = refl
+taken_whole bus [] (b ∷ taken) levels byte more left s t on h quits is =
+    absurd (no_quit bus b h.1 s h.0 (sym (ap (λ l. get_or l 0 0) is)) h.3)
+taken_whole bus (c ∷ text) [] levels byte more left s t on h quits is =
     absurd ((All-head KeepsBitbangOpen c text on).1 (ap alphabet_character (ap (λ l. get_or l 0 0) is) ∙ quits))
-taken_whole (c ∷ text) (b ∷ taken) levels byte more left s t on h quits is =
-    let rest = taken_whole text taken h.2 byte more left h.0 t (All-tail KeepsBitbangOpen c text on) h.4 quits
+taken_whole bus (c ∷ text) (b ∷ taken) levels byte more left s t on h quits is =
+    let rest = taken_whole bus text taken h.2 byte more left h.0 t (All-tail KeepsBitbangOpen c text on) h.4 quits
     (ap (drop 1) is) in
     ap (λ x. x ∷ taken) (sym (ap (λ l. get_or l 0 0) is)) ∙ ap (λ l. c ∷ l) rest
 
 -- the same for a host that is served up to its `Q`: exactly the sampled levels were written
-pub pins_served_up_to_quit : {A : Type 0} (sequences : List Sequence) (more : List ℕ) (old new : Option (List ℕ))
-    (s t : Pins A)
-    → ArePinsBetweenClocks s → BitbangEndsAs ends.Quit old new
+pub pins_served_up_to_quit : {D A : Type 0} (bus : D → Bus) (sequences : List Sequence) (more : List ℕ)
+    (old new : Option (List ℕ))
+    (s t : Pins D A)
+    → ArePinsBetweenClocks s → BitbangEndsAs bus ends.Quit old new
     (all_sequence_characters s.drives sequences ++ alphabet_byte Quits ∷ more) s t
-    → (answers : List ℕ) × PinsWentBy sequences answers s t × Appends old new answers
-pins_served_up_to_quit sequences more old new s t between h =
+    → (answers : List ℕ) × PinsWentBy bus sequences answers s t × Appends old new answers
+pins_served_up_to_quit bus sequences more old new s t between h =
     let text = all_sequence_characters s.drives sequences in
-    let whole = taken_whole text h.taken h.goes.levels h.byte more h.more s t
+    let whole = taken_whole bus text h.taken h.goes.levels h.byte more h.more s t
     (bitbang_sequences_stay_open s.drives sequences) h.goes.session
     h.ends h.is in (
       h.goes.levels,
-      pins_read_sequences sequences s.drives h.goes.levels s t refl between
-          (subst (λ x. PinsSession x h.goes.levels s t) whole h.goes.session),
+      pins_read_sequences bus sequences s.drives h.goes.levels s t refl between
+          (subst (λ x. PinsSession bus x h.goes.levels s t) whole h.goes.session),
       h.goes.gone,
     )

@@ -2,6 +2,7 @@
 -- clocks, as the pins take them.
 use Rattle.std.specs.Prelude.{ℕ, ◌≡◌, ◌≢◌, Bool, List, ◌∷◌, ◌++◌, All, map, Option, Some, None, if◌then◌else◌}
 use Rattle.std.specs.Io.KnownBytes.{Appends}
+use Rattle.swd_port.specs.Bus.{Bus}
 use Rattle.swd_clocked.specs.Marked.{MarkedCycles}
 use Rattle.swd_sequences.specs.declared.character.Character.TheVariants.{Quits}
 use Rattle.swd_sequences.specs.declared.sequence.Sequence.{Sequence}
@@ -13,29 +14,30 @@ use Rattle.swd_bitbang.specs.declared.serving.Served.TheVariants as ends
 use Rattle.swd_bitbang.specs.Sessions.{PinsSession, BitbangEndsAs}
 
 -- the next fall of SWCLK begins a clock: true at first, and after each clock
-abbrev pub ArePinsBetweenClocks : {A : Type 0} → Pins A → Type 0
+abbrev pub ArePinsBetweenClocks : {D A : Type 0} → Pins D A → Type 0
 ArePinsBetweenClocks s = (if s.clock then None else s.seen) ≡ None
 
 -- Sequences were performed at the target of these pins, and their sampled levels were returned. The pins are
 -- between two clocks again.
-pub record PinsWentBy {A : Type 0} (sequences : List Sequence) (answers : List ℕ) (s t : Pins A) : Type 0 where
+pub record PinsWentBy {D A : Type 0} (bus : D → Bus) (sequences : List Sequence) (answers : List ℕ)
+    (s t : Pins D A) : Type 0 where
   pub levels : List Bool
-  pub goes : SequencesGoBy MarkedCycles sequences levels s.target t.target
+  pub goes : SequencesGoBy (MarkedCycles bus) sequences levels s.target t.target
   pub answered : answers ≡ map alphabet_level levels
   pub between : ArePinsBetweenClocks t
 
 -- The characters of sequences are read as these sequences. Each clock is one cycle of the target, in which
 -- the host drives what the sequence says. Exactly the sampled levels are returned, in order.
-abbrev pub PinsReadSequences : Type 0 → Type 0
-PinsReadSequences A = (sequences : List Sequence) (answers : List ℕ) (s t : Pins A) → ArePinsBetweenClocks s
-    → PinsSession (all_sequence_characters s.drives sequences) answers s t → PinsWentBy sequences answers s t
+abbrev pub PinsReadSequences : {D : Type 0} → Type 0 → (D → Bus) → Type 0
+PinsReadSequences {D} A bus = (sequences : List Sequence) (answers : List ℕ) (s t : Pins D A) → ArePinsBetweenClocks s
+    → PinsSession bus (all_sequence_characters s.drives sequences) answers s t → PinsWentBy bus sequences answers s t
 
 -- The same for a host that is served up to its Q: exactly the sampled levels were written.
-abbrev pub AreServed : Type 0 → Type 0
-AreServed A = (sequences : List Sequence) (more : List ℕ) (old new : Option (List ℕ)) (s t : Pins A)
+abbrev pub AreServed : {D : Type 0} → Type 0 → (D → Bus) → Type 0
+AreServed {D} A bus = (sequences : List Sequence) (more : List ℕ) (old new : Option (List ℕ)) (s t : Pins D A)
     → ArePinsBetweenClocks s
-    → BitbangEndsAs ends.Quit old new (all_sequence_characters s.drives sequences ++ alphabet_byte Quits ∷ more) s t
-    → (answers : List ℕ) × PinsWentBy sequences answers s t × Appends old new answers
+    → BitbangEndsAs bus ends.Quit old new (all_sequence_characters s.drives sequences ++ alphabet_byte Quits ∷ more) s t
+    → (answers : List ℕ) × PinsWentBy bus sequences answers s t × Appends old new answers
 
 -- a character of the protocol that doesn't end the session
 abbrev pub KeepsBitbangOpen : ℕ → Type 0

@@ -1,6 +1,7 @@
 -- What a host's characters do, one after another, and what is returned to them.
 use Rattle.std.specs.Prelude.{ℕ, ◌≡◌, ◌-◌, ◌^◌, min, List, [], ◌∷◌, ◌++◌, length, Option, Some, None}
 use Rattle.std.specs.Io.KnownBytes.{Appends, Consumes, IsAtEnd}
+use Rattle.swd_port.specs.Bus.{Bus}
 use Rattle.swd_io.specs.Blocks.{OutputStopped}
 use Rattle.swd_bitbang.specs.declared.pins.PinReply.{PinReply}
 use Rattle.swd_bitbang.specs.declared.pins.PinReply.TheVariants.{Silent, Level, Quit, Bad}
@@ -24,44 +25,47 @@ IsBitbangOpen Quit = ⊥
 IsBitbangOpen Bad = ⊥
 
 -- one character that doesn't end the session, and its answer
-pub record PinsAnswer {A : Type 0} (byte : ℕ) (levels : List ℕ) (s t : Pins A) : Type 0 where
+pub record PinsAnswer {D A : Type 0} (bus : D → Bus) (byte : ℕ) (levels : List ℕ) (s t : Pins D A) : Type 0 where
   pub sign : PinReply
-  pub steps : PinsStep (alphabet_character byte) s sign t
+  pub steps : PinsStep bus (alphabet_character byte) s sign t
   pub goes_on : IsBitbangOpen sign
   pub tells : levels ≡ bitbang_answer_to_sign sign
 
 -- characters that don't end the session, and all their answers
-abbrev pub PinsSession : {A : Type 0} → List ℕ → List ℕ → Pins A → Pins A → Type 0
-PinsSession [] levels s t = (levels ≡ []) × (t ≡ s)
-PinsSession {A} (byte ∷ text) levels s t = (m : Pins A) × (first : List ℕ) × (rest : List ℕ) × PinsAnswer byte first s m
-    × PinsSession text rest m t × (levels ≡ first ++ rest)
+abbrev pub PinsSession : {D A : Type 0} → (D → Bus) → List ℕ → List ℕ → Pins D A → Pins D A → Type 0
+PinsSession bus [] levels s t = (levels ≡ []) × (t ≡ s)
+PinsSession {D} {A} bus (byte ∷ text) levels s t = (m : Pins D A) × (first : List ℕ) × (rest : List ℕ) × PinsAnswer bus
+    byte first s m
+    × PinsSession bus text rest m t × (levels ≡ first ++ rest)
 
 -- What was read and written: the characters that were read took the pins from one state to another, and
 -- exactly their answers were written.
-pub record PinsServed {A : Type 0} (old new : Option (List ℕ)) (taken : List ℕ) (s t : Pins A) : Type 0 where
+pub record PinsServed {D A : Type 0} (bus : D → Bus) (old new : Option (List ℕ)) (taken : List ℕ)
+    (s t : Pins D A) : Type 0 where
   pub levels : List ℕ
-  pub session : PinsSession taken levels s t
+  pub session : PinsSession bus taken levels s t
   pub gone : Appends old new levels
 
 -- the same, up to a character of this kind; what follows it was ignored
-pub record PinsServedUpTo {A : Type 0} (IsEnd : List ℕ → ℕ → Type 0) (old new : Option (List ℕ)) (read : List ℕ)
-    (s t : Pins A) : Type 0 where
+pub record PinsServedUpTo {D A : Type 0} (bus : D → Bus) (IsEnd : List ℕ → ℕ → Type 0) (old new : Option (List ℕ))
+    (read : List ℕ)
+    (s t : Pins D A) : Type 0 where
   pub taken : List ℕ
   pub byte : ℕ
   pub more : List ℕ
   pub is : read ≡ taken ++ byte ∷ more
   pub ends : IsEnd taken byte
-  pub goes : PinsServed old new taken s t
+  pub goes : PinsServed bus old new taken s t
 
 -- the writer failed: exactly the first answers to a prefix of the input were written, not all of them, and
 -- `sent` is how many, at most 2^64 - 1
-pub record BitbangWriterBreaks {A : Type 0} (sent : ℕ) (old new : Option (List ℕ)) (read : List ℕ) (s t : Pins A) : Type
-    0 where
+pub record BitbangWriterBreaks {D A : Type 0} (bus : D → Bus) (sent : ℕ) (old new : Option (List ℕ)) (read : List ℕ)
+    (s t : Pins D A) : Type 0 where
   pub taken : List ℕ
   pub more : List ℕ
   pub is : read ≡ taken ++ more
   pub levels : List ℕ
-  pub session : PinsSession taken levels s t
+  pub session : PinsSession bus taken levels s t
   pub stopped : OutputStopped sent old new levels
 
 abbrev pub IsBitbangQuit : List ℕ → ℕ → Type 0
@@ -72,13 +76,14 @@ IsBitbangBadCharacter place which taken byte = (alphabet_character byte ≡ None
     × (place ≡ min (length taken) (2 ^ 64 - 1))
 
 -- how a session ended, by what was read of it
-abbrev pub BitbangEndsAs : {A : Type 0} → Served → Option (List ℕ) → Option (List ℕ) → List ℕ → Pins A → Pins A → Type 0
-BitbangEndsAs ends.Ended old new read s t = PinsServed old new read s t
-BitbangEndsAs ends.Read old new read s t = PinsServed old new read s t
-BitbangEndsAs ends.Quit old new read s t = PinsServedUpTo IsBitbangQuit old new read s t
-BitbangEndsAs (ends.Bad place which) old new read s t =
-    PinsServedUpTo (IsBitbangBadCharacter place which) old new read s t
-BitbangEndsAs (ends.Write sent) old new read s t = BitbangWriterBreaks sent old new read s t
+abbrev pub BitbangEndsAs : {D A : Type 0} → (D → Bus) → Served → Option (List ℕ) → Option (List ℕ) → List ℕ → Pins D A
+    → Pins D A → Type 0
+BitbangEndsAs bus ends.Ended old new read s t = PinsServed bus old new read s t
+BitbangEndsAs bus ends.Read old new read s t = PinsServed bus old new read s t
+BitbangEndsAs bus ends.Quit old new read s t = PinsServedUpTo bus IsBitbangQuit old new read s t
+BitbangEndsAs bus (ends.Bad place which) old new read s t =
+    PinsServedUpTo bus (IsBitbangBadCharacter place which) old new read s t
+BitbangEndsAs bus (ends.Write sent) old new read s t = BitbangWriterBreaks bus sent old new read s t
 
 -- `Ended` is reported only at the end of the input
 abbrev pub IsBitbangWhole : Served → Option (List ℕ) → Type 0
@@ -87,9 +92,9 @@ IsBitbangWhole served left = Unit {0}
 
 -- What a session says of the reader's input, if its bytes are known, of what the reader has left, of what the
 -- writer holds before and after, and of the pins.
-pub record BitbangServes {A : Type 0} (served : Served) (text left old new : Option (List ℕ)) (s t : Pins A) : Type 0
-  where
-    pub read : List ℕ
-    pub consumed : Consumes text left read
-    pub whole : IsBitbangWhole served left
-    pub ends : BitbangEndsAs served old new read s t
+pub record BitbangServes {D A : Type 0} (bus : D → Bus) (served : Served) (text left old new : Option (List ℕ))
+    (s t : Pins D A) : Type 0 where
+  pub read : List ℕ
+  pub consumed : Consumes text left read
+  pub whole : IsBitbangWhole served left
+  pub ends : BitbangEndsAs bus served old new read s t

@@ -7,6 +7,7 @@ use crate::trace::Trace;
 use std::alloc::{Allocator, Global};
 use swd_clocked::FaultyClocked;
 use swd_sequences::Character;
+use swd_target::Device;
 
 /// The result of a character.
 #[derive(Clone, Copy, Debug, PartialEq, Eq)]
@@ -29,14 +30,14 @@ pub enum PinReply {
 /// cycle.
 ///
 /// ```ignore
-/// let target = FaultyClocked::new(memory, quirks, plan);
+/// let target = FaultyClocked::new(device, quirks, plan);
 /// let mut pins = Pins::new(target, Trace::none(alloc));
 /// pins.take(b'e'); // SWCLK low, SWDIO 1
 /// pins.take(b'g'); // SWCLK high: one cycle with a 1
 /// ```
 #[derive(Debug, Drop)]
-pub struct Pins<A: Allocator = Global> {
-    target: FaultyClocked<A>,
+pub struct Pins<D, A: Allocator = Global> {
+    target: FaultyClocked<D, A>,
     clock: bool,
     level: bool,
     drives: bool,
@@ -45,12 +46,12 @@ pub struct Pins<A: Allocator = Global> {
     trace: Trace<A>,
 }
 
-impl<A: Allocator> Pins<A> {
+impl<D: Device, A: Allocator> Pins<D, A> {
     ghost use Rattle.swd_bitbang.specs.Steps.{pins_fallen, pins_driven, PinsStep, PinsShow, PinsSeenBy};
 
     /// Returns the pins of a host that drives SWDIO high, with SWCLK low and no edge yet. The bits are kept
     /// in this trace.
-    pub fn new(target: FaultyClocked<A>, trace: Trace<A>) -> Pins<A>
+    pub fn new(target: FaultyClocked<D, A>, trace: Trace<A>) -> Pins<D, A>
         ensures target { result.target ≡ target }
         ensures trace { result.trace ≡ trace }
         ensures clock { result.clock ≡ false }
@@ -69,7 +70,7 @@ impl<A: Allocator> Pins<A> {
     }
 
     /// Returns the target.
-    pub fn target(&self) -> &FaultyClocked<A>
+    pub fn target(&self) -> &FaultyClocked<D, A>
         ensures { result.now ≡ self.now.target }
     {
         &self.target
@@ -83,7 +84,7 @@ impl<A: Allocator> Pins<A> {
     }
 
     /// Returns the target and the trace.
-    pub fn into_parts(self) -> (FaultyClocked<A>, Trace<A>)
+    pub fn into_parts(self) -> (FaultyClocked<D, A>, Trace<A>)
         ensures target { result.0 ≡ self.target }
         ensures trace { result.1 ≡ self.trace }
     {
@@ -92,7 +93,7 @@ impl<A: Allocator> Pins<A> {
 
     /// Takes one character of the host.
     pub fn take(&mut self, byte: u8) -> PinReply
-        ensures { PinsStep (alphabet_character byte) self.old result self.new }
+        ensures { PinsStep D.bus (alphabet_character byte) self.old result self.new }
     {
         let Some(character) = Character::of(byte) else {
             return PinReply::Bad;
@@ -119,7 +120,7 @@ impl<A: Allocator> Pins<A> {
     }
 
     fn rise(&mut self, level: bool)
-        ensures { PinsStep (Some (Moves true level)) self.old PinReply.Silent self.new }
+        ensures { PinsStep D.bus (Some (Moves true level)) self.old PinReply.Silent self.new }
     {
         self.level = level;
         self.clock = true;
@@ -127,14 +128,14 @@ impl<A: Allocator> Pins<A> {
     }
 
     fn look(&mut self) -> bool
-        ensures { PinsSeenBy self.old.drives result self.old self.new }
+        ensures { PinsSeenBy D.bus self.old.drives result self.old self.new }
     {
         if self.drives { self.level } else { self.bit() }
     }
 
     // Returns the bit of this clock. Makes the cycle if it wasn't made yet.
     fn bit(&mut self) -> bool
-        ensures { PinsShow result self.old self.new }
+        ensures { PinsShow D.bus result self.old self.new }
     {
         if let Some(bit) = self.seen {
             return bit;

@@ -14,6 +14,7 @@ use std::alloc::Allocator;
 use std::io::{Read, Write};
 use swd_io::{Block, Consumer, read_pieces};
 use swd_sequences::level_byte;
+use swd_target::Device;
 
 /// The way in which a session ended.
 #[derive(Clone, Copy, Debug, PartialEq, Eq, Drop)]
@@ -33,8 +34,8 @@ pub enum Served {
 
 // The pins, the counts of the session, and its watch.
 #[derive(Drop)]
-struct Server<A: Allocator, V> {
-    pins: Pins<A>,
+struct Server<D, A: Allocator, V> {
+    pins: Pins<D, A>,
     // The number of characters taken, at most 2^64 - 1.
     place: u64,
     // The number of levels written, at most 2^64 - 1.
@@ -64,19 +65,19 @@ fn put_answer<W: Write>(block: &mut Block<'_, W>, sign: PinReply)
     }
 }
 
-impl<A: Allocator, V> Server<A, V> {
+impl<D: Device, A: Allocator, V> Server<D, A, V> {
     // Takes a character, or returns how it ends the session.
     fn byte<W: Write>(&mut self, block: &mut Block<'_, W>, byte: u8) -> Result<(), Served>
         ensures writer { block.new.writer.ghost_name ≡ block.old.writer.ghost_name }
         ensures written { self.new.written ≡ self.old.written }
         ensures watch { self.new.watch ≡ self.old.watch }
-        ensures goes { PinsReach self.old.pins self.new.pins }
-        ensures ok { OnOk result ((begin : BitbangBegin A) (seen : List ℕ)
-            → BitbangTaken W.contents begin self.old block.old seen
-            → BitbangTaken W.contents begin self.new block.new (seen ++ byte ∷ [])) }
-        ensures err { IfErr result (λ served. (begin : BitbangBegin A) (seen : List ℕ)
-            → BitbangTaken W.contents begin self.old block.old seen
-            → IsBitbangEnd served seen byte × BitbangTaken W.contents begin self.new block.new seen) }
+        ensures goes { PinsReach D.bus self.old.pins self.new.pins }
+        ensures ok { OnOk result ((begin : BitbangBegin D A) (seen : List ℕ)
+            → BitbangTaken D.bus W.contents begin self.old block.old seen
+            → BitbangTaken D.bus W.contents begin self.new block.new (seen ++ byte ∷ [])) }
+        ensures err { IfErr result (λ served. (begin : BitbangBegin D A) (seen : List ℕ)
+            → BitbangTaken D.bus W.contents begin self.old block.old seen
+            → IsBitbangEnd served seen byte × BitbangTaken D.bus W.contents begin self.new block.new seen) }
     {
         let sign = self.pins.take(byte);
         if let Some(served) = end_at(sign, self.place, byte) {
@@ -92,13 +93,13 @@ impl<A: Allocator, V> Server<A, V> {
         ensures writer { block.new.writer.ghost_name ≡ block.old.writer.ghost_name }
         ensures written { self.new.written ≡ self.old.written }
         ensures watch { self.new.watch ≡ self.old.watch }
-        ensures goes { PinsReach self.old.pins self.new.pins }
-        ensures ok { OnOk result ((begin : BitbangBegin A) (seen : List ℕ)
-            → BitbangTaken W.contents begin self.old block.old seen
-            → BitbangTaken W.contents begin self.new block.new (seen ++ piece.now)) }
-        ensures err { IfErr result (λ served. (begin : BitbangBegin A) (seen : List ℕ)
-            → BitbangTaken W.contents begin self.old block.old seen
-            → BitbangStopsIn W.contents begin self.new block.new served (seen ++ piece.now)) }
+        ensures goes { PinsReach D.bus self.old.pins self.new.pins }
+        ensures ok { OnOk result ((begin : BitbangBegin D A) (seen : List ℕ)
+            → BitbangTaken D.bus W.contents begin self.old block.old seen
+            → BitbangTaken D.bus W.contents begin self.new block.new (seen ++ piece.now)) }
+        ensures err { IfErr result (λ served. (begin : BitbangBegin D A) (seen : List ℕ)
+            → BitbangTaken D.bus W.contents begin self.old block.old seen
+            → BitbangStopsIn D.bus W.contents begin self.new block.new served (seen ++ piece.now)) }
     {
         for byte in piece {
             if let Err(served) = self.byte(block, *byte) {
@@ -109,15 +110,15 @@ impl<A: Allocator, V> Server<A, V> {
     }
 }
 
-impl<A: Allocator, W: Write, V: Watch<A>> Consumer<W> for Server<A, V> {
+impl<D: Device, A: Allocator, W: Write, V: Watch<D, A>> Consumer<W> for Server<D, A, V> {
     type Fault = Served;
 
     ghost can_take = { λ _. Unit {0} };
 
-    ghost takes = { PinsLeadOnWatched V.follows (LeadsConsumerOn (BitbangHasTaken W.contents)) };
+    ghost takes = { PinsLeadOnWatched V.follows (LeadsConsumerOn (BitbangHasTaken D.bus W.contents)) };
 
     ghost stops = { PinsLeadToEndWatched V.follows
-        (LeadsConsumerToEnd (BitbangHasTaken W.contents) (BitbangEnds W.contents)) };
+        (LeadsConsumerToEnd (BitbangHasTaken D.bus W.contents) (BitbangEnds D.bus W.contents)) };
 
     // Shows the watch the pins after a piece, and writes the answers to it, before more is read.
     fn take(&mut self, writer: &mut W, piece: &[u8]) -> Result<(), Served> {
@@ -135,18 +136,18 @@ impl<A: Allocator, W: Write, V: Watch<A>> Consumer<W> for Server<A, V> {
     }
 
     ghost takes_nothing = { λ a. record {
-      leads_on = consumer_reads_no_byte (BitbangHasTaken W.contents) a;
+      leads_on = consumer_reads_no_byte (BitbangHasTaken D.bus W.contents) a;
       followed = V.stays (pins_watched a);
     } };
 
     ghost takes_on = { λ a b c first next f g. record {
-      leads_on = consumer_pieces_join (BitbangHasTaken W.contents) a b c first next f.leads_on g.leads_on;
+      leads_on = consumer_pieces_join (BitbangHasTaken D.bus W.contents) a b c first next f.leads_on g.leads_on;
       followed = V.goes_on (pins_watched a) (pins_watched b) (pins_watched c) f.followed g.followed;
     } };
 
     ghost stops_later = { λ a b c first next fault f g. record {
-      leads_to_end = consumer_pieces_fault (BitbangHasTaken W.contents) (BitbangEnds W.contents) a b c first next fault f.leads_on
-          g.leads_to_end;
+      leads_to_end = consumer_pieces_fault (BitbangHasTaken D.bus W.contents) (BitbangEnds D.bus W.contents) a b c first
+          next fault f.leads_on g.leads_to_end;
       followed = V.goes_on (pins_watched a) (pins_watched b) (pins_watched c) f.followed g.followed;
     } };
 }
@@ -159,12 +160,12 @@ impl<A: Allocator, W: Write, V: Watch<A>> Consumer<W> for Server<A, V> {
 ///
 /// At `Quit`, `Ended`, `Bad` and `Read` exactly the levels that the host asked for were written. At `Write`
 /// exactly the first `written` of them were.
-pub fn serve<R: Read, W: Write, A: Allocator>(
+pub fn serve<R: Read, W: Write, D: Device, A: Allocator>(
     reader: &mut R,
     writer: &mut W,
-    pins: Pins<A>,
-) -> (Served, Pins<A>)
-    ensures { BitbangServes result.0 (R.remaining reader.old) (R.remaining reader.new)
+    pins: Pins<D, A>,
+) -> (Served, Pins<D, A>)
+    ensures { BitbangServes D.bus result.0 (R.remaining reader.old) (R.remaining reader.new)
         (W.contents writer.old) (W.contents writer.new) pins result.1 }
 {
     let (served, pins, _) = serve_watched(reader, writer, pins, Unwatched);
@@ -175,13 +176,13 @@ pub fn serve<R: Read, W: Write, A: Allocator>(
 /// pins: once all characters of the piece were taken, or those before one that ends the session, and before the
 /// last of their answers are written. Returns how the session ended, the pins that the watch was shown last, and
 /// the watch.
-pub fn serve_watched<R: Read, W: Write, A: Allocator, V: Watch<A>>(
+pub fn serve_watched<R: Read, W: Write, D: Device, A: Allocator, V: Watch<D, A>>(
     reader: &mut R,
     writer: &mut W,
-    pins: Pins<A>,
+    pins: Pins<D, A>,
     watch: V,
-) -> (Served, Pins<A>, V)
-    ensures session { BitbangServes result.0 (R.remaining reader.old) (R.remaining reader.new)
+) -> (Served, Pins<D, A>, V)
+    ensures session { BitbangServes D.bus result.0 (R.remaining reader.old) (R.remaining reader.new)
         (W.contents writer.old) (W.contents writer.new) pins result.1 }
     ensures watched { V.follows (watch, pins) (result.2, result.1) }
 {

@@ -1,4 +1,4 @@
--- The cues of engines and runs.
+-- The cues of runs.
 use Rattle.std.proofs.Common.{arith, ◌≡◌, Option, Some, None}
 use Rattle.swd_port.specs.declared.cue.Cue.{Cue}
 use Rattle.swd_port.specs.declared.cue.Cue.TheVariants.{Lead, Ask, Take, Give, Pass}

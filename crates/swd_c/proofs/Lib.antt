@@ -1,2 +1,3 @@
 mod Cues
+mod Refusals
 pub mod Targets

@@ -1,13 +1,11 @@
--- The cue of an engine as integers.
+-- The cue of a run as integers.
 use Rattle.std.specs.Prelude.{ℕ, Bool, Option, Some, None}
 use Rattle.swd_bits.specs.Bits.{bit, bits_number}
 use Rattle.swd_bits.specs.Wire.{bits_of_request}
 use Rattle.swd_port.specs.declared.cue.Cue.{Cue}
 use Rattle.swd_port.specs.declared.cue.Cue.TheVariants.{Lead, Ask, Take, Give, Pass}
-use Rattle.swd_host.specs.declared.engine.Engine.{Engine}
 use Rattle.swd_host.specs.declared.fields.OutcomeFields.{OutcomeFields}
 use Rattle.swd_host.specs.declared.outcome.Outcome.{Outcome}
-use Rattle.swd_host.specs.Engines.{engine_begun, engine_cue, engine_outcome}
 use Rattle.swd_host.specs.Fields.{no_engine_outcome, engine_outcome_fields}
 use Rattle.swd_c.specs.declared.cue.SwdCue.{SwdCue}
 
@@ -55,7 +53,3 @@ c_api_rest_cue outcome = record (c_api_cue_of_kind 0) { outcome = c_api_outcome 
 abbrev pub c_api_cue : Option Cue → Option Outcome → SwdCue
 c_api_cue (Some cue) outcome = c_api_step_cue cue
 c_api_cue None outcome = c_api_rest_cue outcome
-
--- the cue of an engine
-abbrev pub c_api_engine_cue : Engine → SwdCue
-c_api_engine_cue e = record (c_api_cue (engine_cue e) (engine_outcome e)) { begun = engine_begun e }

@@ -16,7 +16,7 @@ use Rattle.swd_target.specs.declared.fields.PendingFields.{PendingFields}
 use Rattle.swd_target.specs.declared.fields.TargetFields.{TargetFields}
 use Rattle.swd_steps.specs.declared.fields.RunFields.{RunFields}
 use Rattle.swd_c.specs.declared.cue.SwdCue.{SwdCue}
-use Rattle.swd_c.specs.declared.engine.SwdAccess.{SwdAccess}
+use Rattle.swd_c.specs.declared.access.SwdAccess.{SwdAccess}
 use Rattle.swd_c.specs.declared.item.SwdItem.{SwdItem}
 use Rattle.swd_c.specs.declared.layout.SwdLayout.{SwdLayout}
 use Rattle.swd_c.specs.declared.target.SwdTransfer.{SwdTransfer}

@@ -1,5 +1,5 @@
 pub mod Cues
-pub mod Engines
+pub mod Accesses
 pub mod Runs
 pub mod Items
 pub mod Decoders

@@ -1,10 +1,13 @@
 -- What the calls of a run leave in the caller's memory.
-use Rattle.std.specs.Prelude.{ℕ, ◌≡◌, ◌+◌, ◌<◌, List, [], ◌∷◌, length, map, slice_set, option_map}
+use Rattle.std.specs.Prelude.{ℕ, ◌≡◌, ◌+◌, ◌<◌, ◌==◌, if◌then◌else◌, List, [], ◌∷◌, length, map, slice_set}
+use Rattle.std.specs.Prelude.{option_map}
 use Rattle.swd_port.specs.declared.access.Access.{Access}
 use Rattle.swd_port.specs.declared.access.Answer.{Answer}
 use Rattle.swd_port.specs.declared.cue.Cue.{Cue}
 use Rattle.swd_host.specs.declared.fields.OutcomeFields.{OutcomeFields}
 use Rattle.swd_host.specs.declared.outcome.Outcome.TheVariants.{Answered, Stopped}
+use Rattle.swd_host.specs.declared.task.Bursts.{Bursts}
+use Rattle.swd_host.specs.declared.task.Bursts.TheVariants.{Reads, Writes}
 use Rattle.swd_host.specs.Engines.{engine_begun}
 use Rattle.swd_host.specs.Fields.{engine_outcome_fields, engine_outcome_of_kind}
 use Rattle.swd_steps.specs.declared.fields.RunFields.{RunFields}
@@ -14,9 +17,9 @@ use Rattle.swd_steps.specs.declared.run.Run.{Run}
 use Rattle.swd_steps.specs.Fields.{stepped_fields}
 use Rattle.swd_steps.specs.Runs.{SteppedExtends, SteppedRefusalReason, stepped_run_end, stepped_run_cue}
 use Rattle.swd_c.specs.declared.cue.SwdCue.{SwdCue}
-use Rattle.swd_c.specs.declared.engine.SwdAccess.{SwdAccess}
+use Rattle.swd_c.specs.declared.access.SwdAccess.{SwdAccess}
 use Rattle.swd_c.specs.Cues.{c_api_cue_of_kind, c_api_refusal, c_api_cue}
-use Rattle.swd_c.specs.Engines.{c_api_access}
+use Rattle.swd_c.specs.Accesses.{c_api_access}
 
 -- the run with these fields, of which this holds
 abbrev pub CApiHasRun : RunFields → (Run → Type 0) → Type 0
@@ -29,6 +32,10 @@ CApiHasNoRun fields = (run : Run) → stepped_fields run ≡ fields → ⊥
 -- the accesses of a list
 abbrev pub c_api_accesses : List SwdAccess → List Access
 c_api_accesses list = map c_api_access list
+
+-- the bursts of a run over an open target: of writes for 0, else of reads
+abbrev pub c_api_bursts : ℕ → Bursts
+c_api_bursts blocks = if blocks == 0 then Writes else Reads
 
 -- the cue of a run; its end, if it has ended
 abbrev pub c_api_run_cue : Run → SwdCue
@@ -68,6 +75,12 @@ pub data CApiRunRefusal (fields : RunFields) (list : List SwdAccess) (reply room
       → SteppedRefusalReason run (c_api_accesses list) reply why
       → CApiRunRefusal fields list reply room (c_api_refusal_for why)
   no_room : room < length list → CApiRunRefusal fields list reply room (c_api_refusal_with 6 0)
+
+-- the list alone is why the call is refused, whatever the run and the reply
+pub data CApiListRefusal (list : List SwdAccess) : SwdCue → Type 0 where
+  refused_list : (why : Refusal)
+      → ((run : Run) (reply : ℕ) → SteppedRefusalReason run (c_api_accesses list) reply why)
+      → CApiListRefusal list (c_api_refusal_for why)
 
 -- the index of the access is below 65,536
 abbrev pub CApiRefusalIndexIsSmall : Refusal → Type 0

@@ -1,8 +1,9 @@
 -- What the calls of a clocked target leave in the caller's memory. The caller makes its transfers. So each statement
--- about a call is for every memory that gives the results that the caller gave.
+-- about a call is for every bus that gives the results that the caller gave. A bus stands behind a target as a device
+-- of its own.
 use Rattle.std.specs.Prelude.{ℕ, ◌≡◌, ◌≢◌, ◌==◌, not, Bool, true, false, Option, Some, None, [], if◌then◌else◌}
-use Rattle.swd_port.specs.PlainMemory.{PlainMemory, plain_address, plain_answer, succeeds_at}
-use Rattle.swd_port.specs.Bus.{bus_of}
+use Rattle.swd_port.specs.PlainMemory.{PlainMemory}
+use Rattle.swd_port.specs.Bus.{Bus, bus_answer, bus_of, bus_succeeds}
 use Rattle.swd_port.specs.Port.{port_made_target}
 use Rattle.swd_port.specs.declared.access.Access.{Access}
 use Rattle.swd_port.specs.declared.access.Access.TheVariants.{Read, Write}
@@ -10,29 +11,30 @@ use Rattle.swd_port.specs.declared.access.Answer.{Answer}
 use Rattle.swd_port.specs.declared.access.Answer.TheVariants.{Value, Written, BusFault}
 use Rattle.swd_target.specs.declared.fields.PendingFields.{PendingFields}
 use Rattle.swd_target.specs.declared.quirks.Quirks.{Quirks}
+use Rattle.swd_target.specs.Elsewhere.{bus_itself}
 use Rattle.swd_target.specs.MemoryWords.{target_window}
 use Rattle.swd_target.specs.Simulations.{simulation_made_with}
 use Rattle.swd_clocked.specs.declared.clocked.Clocked.{Clocked}
 use Rattle.swd_clocked.specs.declared.fields.ClockedFields.{ClockedFields}
 use Rattle.swd_clocked.specs.Clocks.{ClocksOneCycle, ClockedHoldsWait, ClockedSettles, clocked_cycles, clocked_frame}
-use Rattle.swd_clocked.specs.Clocks.{is_clocked_wait_held, clocked_memory, clocked_simulation, clocked_state}
+use Rattle.swd_clocked.specs.Clocks.{is_clocked_wait_held, clocked_device, clocked_quirks, clocked_simulation}
+use Rattle.swd_clocked.specs.Clocks.{clocked_state}
 use Rattle.swd_clocked.specs.Fields.{clocked_fields}
 use Rattle.swd_clocked.specs.Frames.{cycles_counted, idle_frame}
-use Rattle.swd_c.specs.declared.nowhere.Nowhere.{Nowhere}
 use Rattle.swd_c.specs.declared.target.SwdTransfer.{SwdTransfer}
 
 -- a target has these fields, and its transfers take effect late
-pub record CApiNumbers (fields : ClockedFields) (c : Clocked Nowhere) : Type 0 where
+pub record CApiNumbers {D : Type 0} (fields : ClockedFields) (c : Clocked D) : Type 0 where
   pub has : clocked_fields c ≡ fields
-  pub late : (clocked_simulation c).quirks.late ≡ true
+  pub late : (clocked_quirks c).late ≡ true
 
--- a target with these fields over a memory, of which this holds
-abbrev pub CApiHasTarget : PlainMemory → ClockedFields → (Clocked Nowhere → Type 0) → Type 0
-CApiHasTarget m fields P = (c : Clocked Nowhere) × CApiNumbers fields c × (clocked_memory c ≡ m) × P c
+-- a target with these fields over a device, as a bus, of which this holds
+abbrev pub CApiHasTarget : {D : Type 0} → D → ClockedFields → (Clocked D → Type 0) → Type 0
+CApiHasTarget {D} d fields P = (c : Clocked D) × CApiNumbers fields c × (clocked_device c ≡ d) × P c
 
 -- no target has these fields
 abbrev pub CApiHasNoTarget : ClockedFields → Type 0
-CApiHasNoTarget fields = (c : Clocked Nowhere) → CApiNumbers fields c → ⊥
+CApiHasNoTarget fields = (c : Clocked Bus) → CApiNumbers fields c → ⊥
 
 -- a flag: every number but 0 sets it
 abbrev pub c_api_flag : ℕ → Bool
@@ -42,26 +44,26 @@ c_api_flag n = not (n == 0)
 abbrev pub c_api_target_quirks : Bool → ℕ → Quirks
 c_api_target_quirks wraps filler = record { wrap = wraps; late = true; filler = filler }
 
-pub record CApiTargetIsMade (wraps : Bool) (filler : ℕ) (m : PlainMemory) (c : Clocked Nowhere) : Type 0 where
-  pub state : clocked_state c ≡ port_made_target 0x2ba0_1477 (bus_of m)
-  pub exact : clocked_simulation c ≡ simulation_made_with (c_api_target_quirks wraps filler) m
+pub record CApiTargetIsMade (wraps : Bool) (filler : ℕ) (b : Bus) (c : Clocked Bus) : Type 0 where
+  pub state : clocked_state bus_itself c ≡ port_made_target 0x2ba0_1477 b
+  pub exact : clocked_simulation bus_itself c ≡ simulation_made_with (c_api_target_quirks wraps filler) b
   pub frame : clocked_frame c ≡ idle_frame
   pub held : is_clocked_wait_held c ≡ false
   pub cycles : clocked_cycles c ≡ 0
 
 -- the target was made busy, or not, and nothing else changed
-pub record CApiTargetHeld (wait : Bool) (c d : Clocked Nowhere) : Type 0 where
+pub record CApiTargetHeld (wait : Bool) (c d : Clocked Bus) : Type 0 where
   pub holds : ClockedHoldsWait wait c d
   pub cycles : clocked_cycles d ≡ clocked_cycles c
 
 -- the pending transfer took effect, and nothing else changed
-pub record CApiTargetSettled (c d : Clocked Nowhere) : Type 0 where
-  pub settles : ClockedSettles c d
+pub record CApiTargetSettled (c d : Clocked Bus) : Type 0 where
+  pub settles : ClockedSettles bus_itself c d
   pub cycles : clocked_cycles d ≡ clocked_cycles c
 
 -- one cycle passed
-pub record CApiTargetCycled (drive : Option Bool) (line : Bool) (c d : Clocked Nowhere) : Type 0 where
-  pub clocks : ClocksOneCycle drive line c d
+pub record CApiTargetCycled (drive : Option Bool) (line : Bool) (c d : Clocked Bus) : Type 0 where
+  pub clocks : ClocksOneCycle bus_itself drive line c d
   pub cycles : clocked_cycles d ≡ cycles_counted 1 (clocked_cycles c)
 
 -- the pending transfer at an address, from its integers
@@ -88,19 +90,18 @@ c_api_answer kind word =
     else if kind == 4 then Some BusFault
     else None
 
--- this is the result of the pending transfer at an address, over a memory
-pub record CApiTransferAnswer (pending : PendingFields) (addr kind word : ℕ) (a : Access) (m : PlainMemory) : Type 0
-  where
-    pub access : c_api_pending_access pending addr ≡ Some a
-    pub answer : c_api_answer kind word ≡ Some (plain_answer a m)
+-- this is the result of the pending transfer at an address, over a bus
+pub record CApiTransferAnswer (pending : PendingFields) (addr kind word : ℕ) (a : Access) (b : Bus) : Type 0 where
+  pub access : c_api_pending_access pending addr ≡ Some a
+  pub answer : c_api_answer kind word ≡ Some (bus_answer a b)
 
 -- the same for the fields of a target
-abbrev pub CApiTargetAnswered : ClockedFields → ℕ → ℕ → Access → PlainMemory → Type 0
-CApiTargetAnswered fields kind word a m = CApiTransferAnswer fields.target.pending fields.target.tar.word kind word a m
+abbrev pub CApiTargetAnswered : ClockedFields → ℕ → ℕ → Access → Bus → Type 0
+CApiTargetAnswered fields kind word a b = CApiTransferAnswer fields.target.pending fields.target.tar.word kind word a b
 
 -- the pending transfer would succeed
-abbrev pub CApiCallerIsReady : ClockedFields → PlainMemory → Type 0
-CApiCallerIsReady fields m = (a : Access) → c_api_wanted_access fields ≡ Some a → succeeds_at (plain_address a) m ≡ true
+abbrev pub CApiCallerIsReady : ClockedFields → Bus → Type 0
+CApiCallerIsReady fields b = (a : Access) → c_api_wanted_access fields ≡ Some a → bus_succeeds a b ≡ true
 
 -- the bit that the host drives, if any
 abbrev pub c_api_drive : ℕ → Option Bool
@@ -111,6 +112,6 @@ abbrev pub c_api_ready_memory : ClockedFields → PlainMemory
 c_api_ready_memory fields = target_window fields.target.tar.word (Some 0)
 
 -- in this cycle the target makes a transfer
-abbrev pub CApiTargetTransfers : Option Bool → Clocked Nowhere → Type 0
-CApiTargetTransfers drive c = (d : Clocked Nowhere) × (line : Bool) × ClocksOneCycle drive line c d
-    × ((clocked_memory d).log ≢ [])
+abbrev pub CApiTargetTransfers : Option Bool → Clocked PlainMemory → Type 0
+CApiTargetTransfers drive c = (d : Clocked PlainMemory) × (line : Bool) × ClocksOneCycle bus_of drive line c d
+    × ((clocked_device d).log ≢ [])

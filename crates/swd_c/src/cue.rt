@@ -1,12 +1,12 @@
-//! The cue of an engine as integers.
+//! The cue of a run as integers.
 ghost use Rattle.std.specs.Prelude.{◌≡◌};
 ghost use Rattle.swd_bits.specs.Bits.{bits_number};
 ghost use Rattle.swd_bits.specs.Wire.{bits_of_request};
-ghost use Rattle.swd_c.specs.Cues.{c_api_cue_of_kind, c_api_refusal, c_api_rest_cue, c_api_engine_cue, c_api_cue};
+ghost use Rattle.swd_c.specs.Cues.{c_api_cue_of_kind, c_api_refusal, c_api_rest_cue, c_api_cue};
 ghost use Rattle.swd_c.specs.Cues.{c_api_lead_cue, c_api_step_cue};
 
 use swd_bits::Request;
-use swd_host::{Engine, Outcome, OutcomeFields};
+use swd_host::{Outcome, OutcomeFields};
 use swd_port::Cue;
 
 /// What to send next, by `kind`: 0 nothing, with the outcome; 1 a lead; 2 a request; 3 the data phase of a read; 4 the
@@ -23,7 +23,7 @@ pub struct SwdCue {
     pub zeros: u32,
     /// For kind 1: for how many of the first ones to release the line.
     pub undriven: u32,
-    /// For kind 0: the outcome. For kind 255 of `swd_run_next`: the reason, and the index of the access.
+    /// For kind 0: the outcome. For kind 255 of `swd_run_next` and `swd_run_opened`: the reason, and the index of the access.
     pub outcome: OutcomeFields,
     /// The kind.
     pub kind: u8,
@@ -61,15 +61,6 @@ impl SwdCue {
         ensures { result ≡ c_api_refusal }
     {
         SwdCue::plain(REFUSED)
-    }
-
-    /// Returns the cue of an engine.
-    pub fn of(engine: &Engine) -> SwdCue
-        ensures { result ≡ c_api_engine_cue engine.now }
-    {
-        let mut cue = SwdCue::told(engine.cue(), engine.finished());
-        cue.begun = engine.begun();
-        cue
     }
 
     // Returns this cue, or the outcome if there is no cue.

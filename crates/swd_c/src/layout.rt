@@ -4,8 +4,8 @@ ghost use Rattle.swd_c.specs.Layouts.{CStructIsNumbered, c_access_layout, c_cont
 ghost use Rattle.swd_c.specs.Layouts.{c_decoder_layout, c_engine_layout, c_frame_layout, c_item_layout, c_whole_layout};
 ghost use Rattle.swd_c.specs.Layouts.{c_struct_repeated_byte, c_run_layout, c_target_layout, c_transfer_layout};
 
+use crate::access::SwdAccess;
 use crate::cue::SwdCue;
-use crate::engine::SwdAccess;
 use crate::item::SwdItem;
 use crate::target::SwdTransfer;
 use std::mem::size_of;

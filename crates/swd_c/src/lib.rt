@@ -1,29 +1,28 @@
-//! Whole runs of the host, its engine, the decoder and the clocked target for programs in C. `include/swd.h` declares
+//! Whole runs of the host, the decoder and the clocked target for programs in C. `include/swd.h` declares
 //! the exports, and `docs/C.md` says how to build the archive and what is proved.
 //!
 //! All state is in the caller's memory, as structs of integers. Each call returns, allocates no memory, and refuses
 //! invalid contents and arguments.
 #![tactic(auto)]
 
+mod access;
 mod cue;
 mod decoder;
-mod engine;
 mod item;
 mod layout;
 mod nowhere;
 mod run;
 mod target;
 
+pub use access::SwdAccess;
 pub use cue::SwdCue;
 pub use decoder::{swd_decoder_due, swd_decoder_last, swd_decoder_new, swd_decoder_take};
-pub use engine::{
-    SwdAccess, swd_engine_again, swd_engine_blocks, swd_engine_cue, swd_engine_new,
-    swd_engine_next, swd_engine_start,
-};
 pub use item::SwdItem;
 pub use layout::{SwdLayout, SwdRunLayout, swd_layout, swd_run_layout, swd_version};
 pub use nowhere::Nowhere;
-pub use run::{swd_run_again, swd_run_blocks, swd_run_cue, swd_run_new, swd_run_next};
+pub use run::{
+    swd_run_again, swd_run_blocks, swd_run_cue, swd_run_new, swd_run_next, swd_run_opened,
+};
 pub use target::{
     SwdTransfer, swd_target_cycle, swd_target_hold, swd_target_new, swd_target_settle,
     swd_target_wants,

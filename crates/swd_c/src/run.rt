@@ -8,15 +8,15 @@ ghost use Rattle.swd_host.specs.Engines.{EngineHasCue};
 ghost use Rattle.swd_steps.specs.declared.run.Run.{Run as RunType};
 ghost use Rattle.swd_steps.specs.Fields.{stepped_fields};
 ghost use Rattle.swd_steps.specs.Runs.{SteppedRan, stepped_again, stepped_anew, stepped_answers, stepped_may_resume};
-ghost use Rattle.swd_steps.specs.Runs.{stepped_run_cue};
+ghost use Rattle.swd_steps.specs.Runs.{stepped_opened, stepped_run_cue};
 ghost use Rattle.swd_c.specs.Cues.{c_api_refusal};
 ghost use Rattle.swd_c.specs.Runs.{CApiHasNoRun, CApiHasRun, CApiRefusalIndexIsSmall, CApiRunStoresAnswers};
 ghost use Rattle.swd_c.specs.Runs.{CApiRunRefusal, c_api_accesses, c_api_refusal_for, c_api_refusal_with};
-ghost use Rattle.swd_c.specs.Runs.{c_api_run_cue, c_api_stored_answers};
+ghost use Rattle.swd_c.specs.Runs.{CApiListRefusal, c_api_bursts, c_api_run_cue, c_api_stored_answers};
 
+use crate::access::{SwdAccess, access_at};
 use crate::cue::SwdCue;
-use crate::engine::{SwdAccess, access_at};
-use swd_host::{Outcome, OutcomeFields};
+use swd_host::{Bursts, Outcome, OutcomeFields};
 use swd_port::Access;
 use swd_steps::{Accesses, Answers, Refusal, Run, RunFields};
 
@@ -57,6 +57,44 @@ pub extern "C" fn swd_run_blocks(run: &mut RunFields, tries: u32)
         → SteppedRan (stepped_anew Reads tries) list [] now []) }
 {
     *run = Run::blocks(tries).fields();
+}
+
+/// Makes a run over a target that is open already, as a run leaves it that ended `All`: it sends no opening, and its first
+/// cue, which is returned, is that of the first access. `blocks` isn't 0 for a block of reads. Pass the same list to each
+/// call of `swd_run_next`.
+///
+/// Refuses the call, and leaves the fields unchanged, only if the list isn't valid.
+#[unsafe(no_mangle)]
+pub extern "C" fn swd_run_opened(
+    run: &mut RunFields,
+    accesses: &[SwdAccess],
+    blocks: u8,
+    tries: u32,
+) -> SwdCue
+    ensures opened { result.kind ≢ 255 → CApiHasRun run.new (λ now.
+        SteppedRan (stepped_opened (c_api_bursts blocks) tries) (c_api_accesses accesses.now) [] now []
+        × (result ≡ c_api_run_cue now)) }
+    ensures refused { result.kind ≡ 255 → CApiListRefusal accesses.now result }
+    ensures same { result.kind ≡ 255 → run.new ≡ run.old }
+{
+    match Run::opened(&AccessArray { accesses }, bursts_of(blocks), tries) {
+        Err(refusal) => SwdCue::refused_for(refusal),
+        Ok(now) => {
+            *run = now.fields();
+            SwdCue::of_run(&now)
+        }
+    }
+}
+
+// Returns the bursts of a run, by whether it is for blocks of reads.
+fn bursts_of(blocks: u8) -> Bursts
+    ensures { result ≡ c_api_bursts blocks }
+{
+    if blocks == 0 {
+        Bursts::Writes
+    } else {
+        Bursts::Reads
+    }
 }
 
 /// Makes the run that resumes this one over the same list, from the first unanswered access on. Returns whether it did.

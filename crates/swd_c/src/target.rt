@@ -1,10 +1,9 @@
 //! The clocked target in the caller's memory. The caller makes its transfers, on any bus.
 ghost use Rattle.std.specs.Prelude.{◌≡◌, ◌≢◌, ◌<◌, ◌≤◌, ◌==◌, true, false, IsTrue, IfSome, IsSome, MatchOption};
-ghost use Rattle.swd_port.specs.PlainMemory.{PlainMemory, plain_after};
+ghost use Rattle.swd_port.specs.Bus.{Bus as BusType, bus_after, bus_of};
 ghost use Rattle.swd_port.specs.declared.access.Access.{Access as AccessType};
 ghost use Rattle.swd_clocked.specs.declared.clocked.Clocked.{Clocked as ClockedType};
-ghost use Rattle.swd_clocked.specs.Clocks.{clocked_memory};
-ghost use Rattle.swd_c.specs.declared.nowhere.Nowhere.{Nowhere as NowhereType};
+ghost use Rattle.swd_clocked.specs.Clocks.{clocked_device};
 ghost use Rattle.swd_c.specs.Targets.{CApiTargetAnswered, CApiTransferAnswer, CApiTargetCycled, CApiHasNoTarget};
 ghost use Rattle.swd_c.specs.Targets.{CApiHasTarget, CApiTargetHeld, CApiTargetIsMade, CApiCallerIsReady};
 ghost use Rattle.swd_c.specs.Targets.{CApiNumbers, CApiTargetSettled, CApiTargetTransfers, c_api_drive, c_api_flag};
@@ -33,9 +32,9 @@ const WANTS: u8 = 2;
 const REFUSED: u8 = 255;
 
 // Returns the target with these fields over a memory.
-fn target_over(fields: &ClockedFields, memory: Memory<Nowhere>) -> Option<Clocked<Nowhere>>
-    ensures found { (c : ClockedType NowhereType) → CApiNumbers fields.now c → IsSome result }
-    ensures same { IfSome result (λ c. CApiNumbers fields.now c × (clocked_memory c ≡ memory)) }
+fn target_over(fields: &ClockedFields, memory: Memory<Nowhere>) -> Option<Clocked<Memory<Nowhere>>>
+    ensures found { (c : ClockedType BusType) → CApiNumbers fields.now c → IsSome result }
+    ensures same { IfSome result (λ c. CApiNumbers fields.now c × (clocked_device c ≡ memory)) }
 {
     if fields.target.late != 1 {
         return None;
@@ -47,23 +46,23 @@ fn target_over(fields: &ClockedFields, memory: Memory<Nowhere>) -> Option<Clocke
 /// kilobyte. `filler` is what a read returns whose value is unknown.
 #[unsafe(no_mangle)]
 pub extern "C" fn swd_target_new(target: &mut ClockedFields, wraps: u8, filler: u32)
-    ensures new { (m : PlainMemory) → CApiHasTarget m target.new (CApiTargetIsMade (c_api_flag wraps) filler m) }
+    ensures new { (b : BusType) → CApiHasTarget b target.new (CApiTargetIsMade (c_api_flag wraps) filler b) }
 {
     let quirks = Quirks {
         wrap: wraps != 0,
         late: true,
         filler,
     };
-    *target = Clocked::<Nowhere>::new(Memory::window(0, None), quirks).fields();
+    *target = Clocked::new(Memory::<Nowhere>::window(0, None), quirks).fields();
 }
 
 /// Makes the target busy, or not. While busy it answers WAIT instead of OK to each request that may get WAIT. Returns
 /// false, and leaves the fields unchanged, if they are those of no target.
 #[unsafe(no_mangle)]
 pub extern "C" fn swd_target_hold(target: &mut ClockedFields, wait: u8) -> bool
-    ensures holds { IsTrue result → (m : PlainMemory)
-        → CApiHasTarget m target.old (λ c. CApiHasTarget m target.new (CApiTargetHeld (c_api_flag wait) c)) }
-    ensures found { (c : ClockedType NowhereType) → CApiNumbers target.old c → result ≡ true }
+    ensures holds { IsTrue result → (b : BusType)
+        → CApiHasTarget b target.old (λ c. CApiHasTarget b target.new (CApiTargetHeld (c_api_flag wait) c)) }
+    ensures found { (c : ClockedType BusType) → CApiNumbers target.old c → result ≡ true }
     ensures refused { CApiHasNoTarget target.old → result ≡ false }
     ensures same { result ≡ false → target.new ≡ target.old }
 {
@@ -105,8 +104,8 @@ pub extern "C" fn swd_target_wants(target: &ClockedFields) -> SwdTransfer
 // read, 3 for written, and 4 for a bus error.
 fn answering(pending: PendingFields, addr: u32, kind: u8, word: u32) -> Option<Memory<Nowhere>>
     ensures { MatchOption result
-        ((a : AccessType) (m : PlainMemory) → CApiTransferAnswer pending addr kind word a m → ⊥)
-        (λ m. (a : AccessType) × CApiTransferAnswer pending addr kind word a m) }
+        ((a : AccessType) (b : BusType) → CApiTransferAnswer pending addr kind word a b → ⊥)
+        (λ m. (a : AccessType) × CApiTransferAnswer pending addr kind word a (bus_of m)) }
 {
     match (pending.kind, kind) {
         (1, 2) => Some(Memory::window(addr, Some(word))),
@@ -122,12 +121,12 @@ fn answering(pending: PendingFields, addr: u32, kind: u8, word: u32) -> Option<M
 /// nothing is pending, or the transfer can't have this result.
 #[unsafe(no_mangle)]
 pub extern "C" fn swd_target_settle(target: &mut ClockedFields, kind: u8, word: u32) -> bool
-    ensures settles { IsTrue result → (a : AccessType) (m : PlainMemory) → CApiTargetAnswered target.old kind word a m
-        → CApiHasTarget m target.old (λ c. CApiHasTarget (plain_after a m) target.new (CApiTargetSettled c)) }
-    ensures found { (c : ClockedType NowhereType) (a : AccessType) (m : PlainMemory)
-        → CApiNumbers target.old c → CApiTargetAnswered target.old kind word a m → result ≡ true }
-    ensures refused { ((c : ClockedType NowhereType) (a : AccessType) (m : PlainMemory)
-        → CApiNumbers target.old c → CApiTargetAnswered target.old kind word a m → ⊥) → result ≡ false }
+    ensures settles { IsTrue result → (a : AccessType) (b : BusType) → CApiTargetAnswered target.old kind word a b
+        → CApiHasTarget b target.old (λ c. CApiHasTarget (bus_after a b) target.new (CApiTargetSettled c)) }
+    ensures found { (c : ClockedType BusType) (a : AccessType) (b : BusType)
+        → CApiNumbers target.old c → CApiTargetAnswered target.old kind word a b → result ≡ true }
+    ensures refused { ((c : ClockedType BusType) (a : AccessType) (b : BusType)
+        → CApiNumbers target.old c → CApiTargetAnswered target.old kind word a b → ⊥) → result ≡ false }
     ensures same { result ≡ false → target.new ≡ target.old }
 {
     let Some(memory) = answering(target.target.pending, target.target.tar.word, kind, word) else {
@@ -153,13 +152,13 @@ fn driven(drive: u8) -> Option<bool>
 /// `drive` is above 2. The fields are unchanged then.
 #[unsafe(no_mangle)]
 pub extern "C" fn swd_target_cycle(target: &mut ClockedFields, drive: u8) -> u8
-    ensures clocks { result < 2 → (m : PlainMemory) → (target.old.waits ≡ 1 → CApiCallerIsReady target.old m)
-        → CApiHasTarget m target.old (λ c. CApiHasTarget m target.new
+    ensures clocks { result < 2 → (b : BusType) → (target.old.waits ≡ 1 → CApiCallerIsReady target.old b)
+        → CApiHasTarget b target.old (λ c. CApiHasTarget b target.new
         (CApiTargetCycled (c_api_drive drive) (result == 1) c)) }
     ensures pending { result ≡ 2 → c_api_wanted_access target.old ≢ None }
     ensures wants { result ≡ 2 → CApiHasTarget (c_api_ready_memory target.old) target.old
         (CApiTargetTransfers (c_api_drive drive)) }
-    ensures found { (c : ClockedType NowhereType) → CApiNumbers target.old c → drive < 3 → result < 3 }
+    ensures found { (c : ClockedType BusType) → CApiNumbers target.old c → drive < 3 → result < 3 }
     ensures refused { CApiHasNoTarget target.old → result ≡ 255 }
     ensures driven { 2 < drive → result ≡ 255 }
     ensures same { 2 ≤ result → target.new ≡ target.old }

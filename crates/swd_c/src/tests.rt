@@ -5,4 +5,5 @@ mod expect;
 mod items;
 mod refusals;
 mod rows;
+mod sessions;
 mod target;

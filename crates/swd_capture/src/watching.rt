@@ -138,7 +138,7 @@ fn watch_skip<const N: usize>(observer: &mut TraceObserver, count: u64, text: &m
 /// |---|---|
 /// | `@PLACE r ADDR WORD`, `@PLACE w ADDR WORD` | it took effect, exactly once |
 /// | the same with ` may` | it took effect once, or not at all: the trace doesn't show which |
-/// | the same with ` not` | it had no effect: a bus error, or data that was corrupted on the wire |
+/// | the same with ` not` | it isn't in the target's log: a bus error, or data that was corrupted on the wire |
 /// | `@PLACE gap` | no access: a gap begins here, which may hide accesses |
 ///
 /// `PLACE` is in decimal: the number of bits before the first bit of the access's request, or of the gap. `ADDR` and

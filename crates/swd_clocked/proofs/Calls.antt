@@ -5,6 +5,7 @@ use Rattle.std.proofs.lemmas.Bool.Decides.{nat_tests}
 use Rattle.swd_bits.specs.Bits.{low_bits}
 use Rattle.swd_bits.specs.Wire.{bits_of_request}
 use Rattle.swd_bits.specs.declared.request.Request.{Request}
+use Rattle.swd_port.specs.Bus.{Bus}
 use Rattle.swd_port.specs.declared.wire.Due.{Due}
 use Rattle.swd_port.specs.declared.wire.Due.TheVariants.{Nothing, Give, Lost as DueLost}
 use Rattle.swd_port.specs.declared.mark.Mark.{Mark}
@@ -73,10 +74,11 @@ kind_phase Faults read r flip v = refl
 kind_phase Silent read r flip v = refl
 
 -- the phase that a request leaves is that of its reply
-pub clocked_kind_of_seen : {A : Type 0} (m : Mark) (q : Request) (s t : Target A) (a : Reply) (phase : AfterAck)
-    → TargetAnswersUnder m q s a (target_line_under m phase) t
+pub clocked_kind_of_seen : {D : Type 0} (bus : D → Bus) (m : Mark) (q : Request) (s t : Target D) (a : Reply)
+    (phase : AfterAck)
+    → TargetAnswersUnder bus m q s a (target_line_under m phase) t
     → clocked_phase_kind phase ≡ clocked_kind_after_reply a q.read
-clocked_kind_of_seen m q s t a phase u =
+clocked_kind_of_seen bus m q s t a phase u =
     sym (kind_flipped (port_flip_of m) phase) ∙ ap clocked_phase_kind u.phases ∙ kind_phase _ q.read _ (port_flip_of m)
     _ ∙ ap (λ (y : Reply). clocked_kind_after_reply y q.read) (sym u.replies)
 
@@ -172,20 +174,21 @@ line_seen Faults read (lines.Drives bits) flip e = absurd (omega arith)
 line_seen Faults read (lines.Awaits r f) flip e = absurd (omega arith)
 
 -- what was seen of a request under a mark that the target hears
-pub record ClockedSeenUnder {A : Type 0} (m : Mark) (q : Request) (a : Reply) (s : Target A) (t : Clocked A) : Type 0
-  where
-    pub phase : AfterAck
-    pub answers : TargetAnswersUnder m q s a phase t.target
-    pub line : frame_line t.frame (port_flip_of m) ≡ port_line_after a phase lines.Idle
-    pub resting : frame_fits_due (port_due_after q.read (port_seen_at m a)) t.frame ≡ true
+pub record ClockedSeenUnder {D : Type 0} (bus : D → Bus) (m : Mark) (q : Request) (a : Reply) (s : Target D)
+    (t : Clocked D) : Type 0 where
+  pub phase : AfterAck
+  pub answers : TargetAnswersUnder bus m q s a phase t.target
+  pub line : frame_line t.frame (port_flip_of m) ≡ port_line_after a phase lines.Idle
+  pub resting : frame_fits_due (port_due_after q.read (port_seen_at m a)) t.frame ≡ true
 
 -- a request that the target sees under a mark is answered as the model says, and what is due then fits its frame
-pub clocked_seen_under_mark : {A : Type 0} (m : Mark) (q : Request) (a : Reply) (s : Target A) (w : Bool)
-    (t : Clocked A) → IsPortMark m
-    → is_port_deaf m ≡ false → w ≡ is_port_wait m → ClockedSeen q a s w t → ClockedSeenUnder m q a s t
-clocked_seen_under_mark m q a s w t legal hears waits d =
+pub clocked_seen_under_mark : {D : Type 0} (bus : D → Bus) (m : Mark) (q : Request) (a : Reply) (s : Target D)
+    (w : Bool)
+    (t : Clocked D) → IsPortMark m
+    → is_port_deaf m ≡ false → w ≡ is_port_wait m → ClockedSeen bus q a s w t → ClockedSeenUnder bus m q a s t
+clocked_seen_under_mark bus m q a s w t legal hears waits d =
     let u = d.answers.under m legal hears (sym waits) in
-    let k = clocked_kind_of_seen m q s t.target a d.phase u in
+    let k = clocked_kind_of_seen bus m q s t.target a d.phase u in
     record {
       phase = target_line_under m d.phase;
       answers = u;
@@ -207,15 +210,16 @@ frame_awaits_data (Drives bits left) flip e = absurd cc
 frame_awaits_data Passes flip e = absurd cc
 
 -- what is due after it, and the data phase
-pub clocked_link_after_seen : {A : Type 0} (m : Mark) (q : Request) (a : Reply) (s t : Target A) (phase line : AfterAck)
-    (due : Due) (l : PortLink) (seen : ℕ) → TargetAnswersUnder m q s a phase t
+pub clocked_link_after_seen : {D : Type 0} (bus : D → Bus) (m : Mark) (q : Request) (a : Reply) (s t : Target D)
+    (phase line : AfterAck)
+    (due : Due) (l : PortLink) (seen : ℕ) → TargetAnswersUnder bus m q s a phase t
     → seen ≡ port_seen_at m a → due ≡ port_due_after q.read seen → line ≡ port_line_after a phase l.line
-    → record { due = due; line = line } ≡ simulation_link_after m q (simulation_reply m q (target_simulation s))
-    (simulation_phase m q (target_simulation s)) l
-clocked_link_after_seen m q a s t phase line due l seen u sees dues lined =
+    → record { due = due; line = line } ≡ simulation_link_after m q (simulation_reply m q (target_simulation bus s))
+    (simulation_phase m q (target_simulation bus s)) l
+clocked_link_after_seen bus m q a s t phase line due l seen u sees dues lined =
     let now : record { due = due; line = line } ≡ simulation_link_after m q a phase l = rw (lined, dues, sees) refl in
     now ∙ ap (λ (y : Reply). simulation_link_after m q y phase l) u.replies
-    ∙ ap (λ (y : AfterAck). simulation_link_after m q (simulation_reply m q (target_simulation s)) y l) u.phases
+    ∙ ap (λ (y : AfterAck). simulation_link_after m q (simulation_reply m q (target_simulation bus s)) y l) u.phases
 
 -- a request that the target doesn't see
 pub clocked_mark_is_deaf : (m : Mark) → is_port_deaf m ≡ true → m ≡ Deaf
@@ -226,13 +230,14 @@ clocked_mark_is_deaf (Flip p) e = absurd cc
 clocked_mark_is_deaf (Mute p) e = absurd cc
 
 -- a request that leaves the target unchanged between transactions is answered with silence, under the mark Deaf
-pub clocked_deaf_is_silent : {A : Type 0} (m : Mark) (q : Request) (s : Target A) (w : Bool) (t : Clocked A) → m ≡ Deaf
-    → FrameMoved idle_frame s w t → ClockedSeenUnder m q Silent s t
-clocked_deaf_is_silent m q s w t deaf moved = record {
+pub clocked_deaf_is_silent : {D : Type 0} (bus : D → Bus) (m : Mark) (q : Request) (s : Target D) (w : Bool)
+    (t : Clocked D) → m ≡ Deaf
+    → FrameMoved idle_frame s w t → ClockedSeenUnder bus m q Silent s t
+clocked_deaf_is_silent bus m q s w t deaf moved = record {
   phase = lines.Idle;
-  answers = subst (λ (y : Mark). TargetAnswersUnder y q s Silent lines.Idle t.target) (sym deaf)
-      (subst (λ (y : Target _). TargetAnswersUnder Deaf q s Silent lines.Idle y) (sym moved.target)
-      (simulated_answers_deaf q s));
+  answers = subst (λ (y : Mark). TargetAnswersUnder bus y q s Silent lines.Idle t.target) (sym deaf)
+      (subst (λ (y : Target _). TargetAnswersUnder bus Deaf q s Silent lines.Idle y) (sym moved.target)
+      (simulated_answers_deaf bus q s));
   line = ap (λ (f : Frame). frame_line f (port_flip_of m)) moved.frame;
   resting = ap (λ (y : Mark). frame_fits_due (port_due_after q.read (port_seen_at y Silent)) t.frame) deaf
       ∙ ap (frame_fits_due (port_due_after q.read 7)) moved.frame;

@@ -65,7 +65,7 @@ frame_read (Awaits r bits place) h p = rw (mod-eq_of_lt p, mod-eq_of_lt h, regis
 frame_read Passes h p = refl
 
 -- the fields of a clocked target are read as themselves
-pub clocked_fields_restore : {A : Type 0} (c : Clocked A) → restored_clocked (clocked_fields c) ≡ clocked_fields c
+pub clocked_fields_restore : {D : Type 0} (c : Clocked D) → restored_clocked (clocked_fields c) ≡ clocked_fields c
 clocked_fields_restore c = rw (
   frame_read c.frame c.bits c.place,
   target_fields_restore c.target,

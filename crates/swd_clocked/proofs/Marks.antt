@@ -7,6 +7,7 @@ use Rattle.std.proofs.lemmas.Bool.Decides.{nat_tests, eqb_tells}
 use Rattle.std.proofs.lemmas.Nat.Bits.{bit_at_xor, bit_at-pow_same, bit_at-pow_other, bit_at-lt}
 use mir.Val.{bool_byte}
 use Rattle.swd_bits.specs.declared.request.Request.{Request}
+use Rattle.swd_port.specs.Bus.{Bus}
 use Rattle.swd_port.specs.declared.mark.Mark.{Mark}
 use Rattle.swd_port.specs.declared.mark.Mark.TheVariants.{Clean, Wait, Flip, Deaf, Mute}
 use Rattle.swd_port.specs.declared.register.Register.{Register}
@@ -54,39 +55,45 @@ no_end (Awaits r bits place) b q o l = l
 no_end Passes b q o l = l
 
 -- a cycle in a frame, with the bits that the mark changes
-pub record TurnedCycle {A : Type 0} (f : Frame) (mark : Mark) (drive : Option Bool) (answer : Bool) (s : Target A)
-    (w : Bool) (t : Clocked A) : Type 0 where
+pub record TurnedCycle {D : Type 0} (bus : D → Bus) (f : Frame) (mark : Mark) (drive : Option Bool) (answer : Bool)
+    (s : Target D)
+    (w : Bool) (t : Clocked D) : Type 0 where
   pub bit : Bool
-  pub cycles : Cycles f (cycle_bit_turned (mark_changes_cycle f mark (is_some drive)) (unwrap_or drive true)) bit s w t
+  pub cycles : Cycles bus f (cycle_bit_turned (mark_changes_cycle f mark (is_some drive)) (unwrap_or drive true)) bit s
+      w t
   pub sees : answer ≡ cycle_bit_turned (mark_changes_cycle f mark (is_some drive)) bit
 
-pub record OpenFrameStep {A : Type 0} (f : Frame) (drive : Option Bool) (answer : Bool) (s t : FaultyClocked A) : Type 0
-  where
-    pub turns : TurnedCycle f s.mark drive answer s.clocked.target s.clocked.waits t.clocked
-    pub keeps : CycleKeepsPlan s t
-    pub heard : t.unseen ≡ 0
+pub record OpenFrameStep {D A : Type 0} (bus : D → Bus) (f : Frame) (drive : Option Bool) (answer : Bool)
+    (s t : FaultyClocked D A) : Type 0 where
+  pub turns : TurnedCycle bus f s.mark drive answer s.clocked.target s.clocked.waits t.clocked
+  pub keeps : CycleKeepsPlan s t
+  pub heard : t.unseen ≡ 0
 
-turns_of : {A : Type 0} (m : Mark) (w : Bool) (drive : Option Bool) (answer : Bool) (s t : FaultyClocked A)
-    → CycleReaches m w drive answer s t → TurnedCycle s.clocked.frame m drive answer s.clocked.target w t.clocked
-turns_of m w drive answer s t r = record { bit = r.bit; cycles = r.cycles; sees = r.sees }
+turns_of : {D A : Type 0} (bus : D → Bus) (m : Mark) (w : Bool) (drive : Option Bool) (answer : Bool)
+    (s t : FaultyClocked D A)
+    → CycleReaches bus m w drive answer s t → TurnedCycle bus s.clocked.frame m drive answer s.clocked.target w
+    t.clocked
+turns_of bus m w drive answer s t r = record { bit = r.bit; cycles = r.cycles; sees = r.sees }
 
 -- a cycle that reaches the target is a cycle in its frame, its bit changed as the mark says
-pub turned_cycle_in_frame : {A : Type 0} (f : Frame) (m : Mark) (w : Bool) (drive : Option Bool) (answer : Bool)
-    (s t : FaultyClocked A) → CycleReaches m w drive answer s t → s.clocked.frame ≡ f
-    → TurnedCycle f m drive answer s.clocked.target w t.clocked
-turned_cycle_in_frame f m w drive answer s t r is =
-    subst (λ (x : Frame). TurnedCycle x m drive answer s.clocked.target w t.clocked) is
-    (turns_of m w drive answer s t r)
+pub turned_cycle_in_frame : {D A : Type 0} (bus : D → Bus) (f : Frame) (m : Mark) (w : Bool) (drive : Option Bool)
+    (answer : Bool)
+    (s t : FaultyClocked D A) → CycleReaches bus m w drive answer s t → s.clocked.frame ≡ f
+    → TurnedCycle bus f m drive answer s.clocked.target w t.clocked
+turned_cycle_in_frame bus f m w drive answer s t r is =
+    subst (λ (x : Frame). TurnedCycle bus x m drive answer s.clocked.target w t.clocked) is
+    (turns_of bus m w drive answer s t r)
 
 -- a cycle that reaches the target where no request ends keeps plan and mark, its bit changed as the mark says
-pub open_frame_step : {A : Type 0} (f : Frame) (drive : Option Bool) (answer : Bool) (s t : FaultyClocked A)
-    → MarkedCycles drive answer s t → s.unseen ≡ 0 → s.clocked.frame ≡ f → IsOpenFrame f
-    → OpenFrameStep f drive answer s t
-open_frame_step f drive answer s t c heard is o =
+pub open_frame_step : {D A : Type 0} (bus : D → Bus) (f : Frame) (drive : Option Bool) (answer : Bool)
+    (s t : FaultyClocked D A)
+    → MarkedCycles bus drive answer s t → s.unseen ≡ 0 → s.clocked.frame ≡ f → IsOpenFrame f
+    → OpenFrameStep bus f drive answer s t
+open_frame_step bus f drive answer s t c heard is o =
     let r = c.other heard (λ q l. no_end f (unwrap_or drive true) q o
     (subst (λ (x : Frame). IsLastRequestCycle x (unwrap_or drive true) q) is l)) in
     record {
-      turns = turned_cycle_in_frame f s.mark s.clocked.waits drive answer s t r.0 is;
+      turns = turned_cycle_in_frame bus f s.mark s.clocked.waits drive answer s t r.0 is;
       keeps = r.1;
       heard = r.0.heard;
     }
@@ -109,51 +116,55 @@ plain_open (Drives bits left) p = absurd p
 plain_open (Awaits r bits place) p = absurd p
 plain_open Passes p = tt
 
-plain_cycles : {A : Type 0} (f : Frame) (m : Mark) (drive : Option Bool) (answer : Bool) (s : Target A) (w : Bool)
-    (t : Clocked A) → IsPlainFrame f → TurnedCycle f m drive answer s w t → Cycles f (unwrap_or drive true) answer s w t
-plain_cycles (Asks bits count) m drive answer s w t p x =
-    subst (λ (b : Bool). Cycles (Asks bits count) (unwrap_or drive true) b s w t) (sym x.sees) x.cycles
-plain_cycles (Lost ones) m drive answer s w t p x =
-    subst (λ (b : Bool). Cycles (Lost ones) (unwrap_or drive true) b s w t) (sym x.sees) x.cycles
-plain_cycles High m drive answer s w t p x = subst (λ (b : Bool). Cycles High (unwrap_or drive true) b s w t)
+plain_cycles : {D : Type 0} (bus : D → Bus) (f : Frame) (m : Mark) (drive : Option Bool) (answer : Bool) (s : Target D)
+    (w : Bool)
+    (t : Clocked D) → IsPlainFrame f → TurnedCycle bus f m drive answer s w t → Cycles bus f (unwrap_or drive true)
+    answer s w t
+plain_cycles bus (Asks bits count) m drive answer s w t p x =
+    subst (λ (b : Bool). Cycles bus (Asks bits count) (unwrap_or drive true) b s w t) (sym x.sees) x.cycles
+plain_cycles bus (Lost ones) m drive answer s w t p x =
+    subst (λ (b : Bool). Cycles bus (Lost ones) (unwrap_or drive true) b s w t) (sym x.sees) x.cycles
+plain_cycles bus High m drive answer s w t p x = subst (λ (b : Bool). Cycles bus High (unwrap_or drive true) b s w t)
     (sym x.sees) x.cycles
-plain_cycles (Switches place) m drive answer s w t p x =
-    subst (λ (b : Bool). Cycles (Switches place) (unwrap_or drive true) b s w t) (sym x.sees) x.cycles
-plain_cycles (Replies reply line place) m drive answer s w t p x = absurd p
-plain_cycles (Drives bits left) m drive answer s w t p x = absurd p
-plain_cycles (Awaits r bits place) m drive answer s w t p x = absurd p
-plain_cycles Passes m drive answer s w t p x = subst (λ (b : Bool). Cycles Passes (unwrap_or drive true) b s w t)
+plain_cycles bus (Switches place) m drive answer s w t p x =
+    subst (λ (b : Bool). Cycles bus (Switches place) (unwrap_or drive true) b s w t) (sym x.sees) x.cycles
+plain_cycles bus (Replies reply line place) m drive answer s w t p x = absurd p
+plain_cycles bus (Drives bits left) m drive answer s w t p x = absurd p
+plain_cycles bus (Awaits r bits place) m drive answer s w t p x = absurd p
+plain_cycles bus Passes m drive answer s w t p x = subst
+    (λ (b : Bool). Cycles bus Passes (unwrap_or drive true) b s w t)
     (sym x.sees) x.cycles
 
 -- a cycle in such a frame is one of the target alone
-pub record PlainFrameStep {A : Type 0} (f : Frame) (drive : Option Bool) (answer : Bool) (s t : FaultyClocked A) : Type
-    0 where
-  pub cycles : Cycles f (unwrap_or drive true) answer s.clocked.target s.clocked.waits t.clocked
+pub record PlainFrameStep {D A : Type 0} (bus : D → Bus) (f : Frame) (drive : Option Bool) (answer : Bool)
+    (s t : FaultyClocked D A) : Type 0 where
+  pub cycles : Cycles bus f (unwrap_or drive true) answer s.clocked.target s.clocked.waits t.clocked
   pub keeps : CycleKeepsPlan s t
   pub heard : t.unseen ≡ 0
 
 -- a cycle that reaches the target in a frame where no bit is changed is one of the target alone
-pub plain_frame_step : {A : Type 0} (f : Frame) (drive : Option Bool) (answer : Bool) (s t : FaultyClocked A)
-    → MarkedCycles drive answer s t → s.unseen ≡ 0 → s.clocked.frame ≡ f → IsPlainFrame f
-    → PlainFrameStep f drive answer s t
-plain_frame_step f drive answer s t c heard is plain =
-    let x = open_frame_step f drive answer s t c heard is (plain_open f plain) in
+pub plain_frame_step : {D A : Type 0} (bus : D → Bus) (f : Frame) (drive : Option Bool) (answer : Bool)
+    (s t : FaultyClocked D A)
+    → MarkedCycles bus drive answer s t → s.unseen ≡ 0 → s.clocked.frame ≡ f → IsPlainFrame f
+    → PlainFrameStep bus f drive answer s t
+plain_frame_step bus f drive answer s t c heard is plain =
+    let x = open_frame_step bus f drive answer s t c heard is (plain_open f plain) in
     record {
-      cycles = plain_cycles f s.mark drive answer s.clocked.target s.clocked.waits t.clocked plain x.turns;
+      cycles = plain_cycles bus f s.mark drive answer s.clocked.target s.clocked.waits t.clocked plain x.turns;
       keeps = x.keeps;
       heard = x.heard;
     }
 
 -- cycles after cycles
-pub cycles_keep_plan_chain : {A : Type 0} (s t u : FaultyClocked A) → CycleKeepsPlan s t → CycleKeepsPlan t u
+pub cycles_keep_plan_chain : {D A : Type 0} (s t u : FaultyClocked D A) → CycleKeepsPlan s t → CycleKeepsPlan t u
     → CycleKeepsPlan s u
 cycles_keep_plan_chain s t u a b = record { plan = b.plan ∙ a.plan; mark = b.mark ∙ a.mark }
 
-pub no_cycle_keeps_plan : {A : Type 0} (s : FaultyClocked A) → CycleKeepsPlan s s
+pub no_cycle_keeps_plan : {D A : Type 0} (s : FaultyClocked D A) → CycleKeepsPlan s s
 no_cycle_keeps_plan s = record { plan = refl; mark = refl }
 
 -- where no cycle passed, nothing changed
-pub no_cycle_moves_frame : {A : Type 0} (f : Frame) (s : FaultyClocked A) → s.unseen ≡ 0 → s.clocked.frame ≡ f
+pub no_cycle_moves_frame : {D A : Type 0} (f : Frame) (s : FaultyClocked D A) → s.unseen ≡ 0 → s.clocked.frame ≡ f
     → CyclesMoveFrame f s s
 no_cycle_moves_frame f s heard is = record {
   moved = record { frame = is; target = refl; waits = refl };
@@ -162,7 +173,7 @@ no_cycle_moves_frame f s heard is = record {
 }
 
 -- cycles that changed only the frame, and a further such cycle, changed only the frame
-pub cycles_move_frame_chain : {A : Type 0} (f g : Frame) (s t u : FaultyClocked A) → CyclesMoveFrame f s t
+pub cycles_move_frame_chain : {D A : Type 0} (f g : Frame) (s t u : FaultyClocked D A) → CyclesMoveFrame f s t
     → FrameMoved g t.clocked.target t.clocked.waits u.clocked → CycleKeepsPlan t u → u.unseen ≡ 0
     → CyclesMoveFrame g s u
 cycles_move_frame_chain f g s t u a m k heard =

@@ -9,6 +9,7 @@ use Rattle.swd_bits.specs.Wire.{bits_of_request}
 use Rattle.swd_bits.specs.declared.request.Request.{Request}
 use Rattle.swd_bits.specs.declared.request.Reg4.{Reg4}
 use Rattle.swd_bits.specs.declared.request.Reg4.TheVariants.{R0, R4, R8, RC}
+use Rattle.swd_port.specs.Bus.{Bus}
 use Rattle.swd_port.specs.declared.register.Register.{Register}
 use Rattle.swd_target.specs.declared.target.Target.{Target}
 use Rattle.swd_clocked.specs.declared.frame.Frame.{Frame}
@@ -111,19 +112,21 @@ clocked_shift_takes_bit whole place rest bits n s e =
     (clocked_shift_33 whole place rest bits s)
 
 -- one cycle after others
-pub frame_moved_chain : {A : Type 0} (f g : Frame) (s : Target A) (w : Bool) (t u : Clocked A) → FrameMoved f s w t
+pub frame_moved_chain : {D : Type 0} (f g : Frame) (s : Target D) (w : Bool) (t u : Clocked D) → FrameMoved f s w t
     → FrameMoved g t.target t.waits u → FrameMoved g s w u
 frame_moved_chain f g s w t u m n = record { frame = n.frame; target = n.target ∙ m.target; waits = n.waits ∙ m.waits }
 
 -- a write's data that came after cycles that changed the frame alone came to the target from before those cycles
-pub clocked_data_after_moves : {A : Type 0} (f : Frame) (r : Register) (a b : ℕ) (s : Target A) (w : Bool)
-    (t u : Clocked A) → FrameMoved f s w t → a ≡ b → ClockedDataCame r a t.target t.waits u → ClockedDataCame r b s w u
-clocked_data_after_moves f r a b s w t u m e d = subst (λ x. ClockedDataCame r x s w u) e
-    (subst (λ (x : Target _). ClockedDataCame r a x w u) m.target
-    (subst (λ x. ClockedDataCame r a t.target x u) m.waits d))
+pub clocked_data_after_moves : {D : Type 0} (bus : D → Bus) (f : Frame) (r : Register) (a b : ℕ) (s : Target D)
+    (w : Bool)
+    (t u : Clocked D) → FrameMoved f s w t → a ≡ b → ClockedDataCame bus r a t.target t.waits u → ClockedDataCame bus r
+    b s w u
+clocked_data_after_moves bus f r a b s w t u m e d = subst (λ x. ClockedDataCame bus r x s w u) e
+    (subst (λ (x : Target _). ClockedDataCame bus r a x w u) m.target
+    (subst (λ x. ClockedDataCame bus r a t.target x u) m.waits d))
 
 -- after one more of the 33 bits that a target drives, one fewer is left
-pub drives_frame_left_less : {A : Type 0} (rest place : ℕ) (s : Target A) (w : Bool) (t : Clocked A) → place < 33
+pub drives_frame_left_less : {D : Type 0} (rest place : ℕ) (s : Target D) (w : Bool) (t : Clocked D) → place < 33
     → FrameMoved (Drives rest (33 - place - 1)) s w t → FrameMoved (Drives rest (33 - (place + 1))) s w t
 drives_frame_left_less rest place s w t h m = let e : 33 - place - 1 ≡ 33 - (place + 1) = omega arith in
     subst (λ n. FrameMoved (Drives rest n) s w t) e m

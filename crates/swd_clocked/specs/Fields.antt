@@ -1,4 +1,4 @@
--- A clocked target without its memory, as integers. Each enum that isn't optional is numbered from 1 on, so no target
+-- A clocked target without its device, as integers. Each enum that isn't optional is numbered from 1 on, so no target
 -- has all zeros. An unused field is 0.
 use Rattle.std.specs.Prelude.{ℕ, ◌==◌, ◌%◌, ◌^◌, is_some, unwrap_or, if◌then◌else◌}
 use Rattle.swd_bits.specs.Bits.{bit}
@@ -74,7 +74,7 @@ frame_fields (Awaits r bits place) = record (plain_frame 7 place)
 frame_fields Passes = plain_frame 8 0
 
 -- the fields of a clocked target
-abbrev pub clocked_fields : {A : Type 0} → Clocked A → ClockedFields
+abbrev pub clocked_fields : {D : Type 0} → Clocked D → ClockedFields
 clocked_fields c = record {
   cycles = c.cycles;
   frame = frame_fields c.frame;

@@ -6,6 +6,7 @@ use Rattle.swd_bits.specs.Transactions.{SpellsTx}
 use Rattle.swd_bits.specs.declared.request.Request.{Request}
 use Rattle.swd_bits.specs.declared.tx.TxEnd.{TxEnd}
 use Rattle.swd_bits.specs.declared.tx.TxEnd.TheVariants.{Moved, Wait, Fault, NoAck}
+use Rattle.swd_port.specs.Bus.{Bus}
 use Rattle.swd_port.specs.declared.state.Reply.{Reply}
 use Rattle.swd_port.specs.declared.state.Reply.TheVariants.{Okay, Waits, Faults, Silent}
 use Rattle.swd_port.specs.declared.state.Reset.TheVariants.{Fresh}
@@ -18,12 +19,12 @@ use Rattle.swd_clocked.specs.Frames.{idle_frame}
 use Rattle.swd_clocked.specs.Clocks.{ClocksOneCycle, clocked_state}
 
 -- what the host drives in each cycle, what is on the line, and the target before and after
-abbrev pub RunsCycles : {A : Type 0} → List (Option Bool) → List Bool → Clocked A → Clocked A → Type 0
-RunsCycles [] [] s t = t ≡ s
-RunsCycles [] (bit ∷ line) s t = ⊥
-RunsCycles (drive ∷ drives) [] s t = ⊥
-RunsCycles {A} (drive ∷ drives) (bit ∷ line) s t = (m : Clocked A) × ClocksOneCycle drive bit s m
-    × RunsCycles drives line m t
+abbrev pub RunsCycles : {D : Type 0} → (D → Bus) → List (Option Bool) → List Bool → Clocked D → Clocked D → Type 0
+RunsCycles bus [] [] s t = t ≡ s
+RunsCycles bus [] (bit ∷ line) s t = ⊥
+RunsCycles bus (drive ∷ drives) [] s t = ⊥
+RunsCycles {D} bus (drive ∷ drives) (bit ∷ line) s t = (m : Clocked D) × ClocksOneCycle bus drive bit s m
+    × RunsCycles bus drives line m t
 
 -- the host releases the line for `count` cycles
 abbrev pub released_cycles : ℕ → List (Option Bool)
@@ -51,7 +52,7 @@ frame_behind Silent = Lost 5
 frame_behind reply = idle_frame
 
 -- the line spells one transaction with this request, which ends with this reply
-pub record CyclesSpellOne {A : Type 0} (q : Request) (reply : Reply) (line : List Bool) (t : Clocked A) : Type 0 where
+pub record CyclesSpellOne {D : Type 0} (q : Request) (reply : Reply) (line : List Bool) (t : Clocked D) : Type 0 where
   pub end : TxEnd
   pub ends : ClockedEndsAs reply end
   pub spells : SpellsTx (record { request = q; result = end }) line
@@ -59,18 +60,20 @@ pub record CyclesSpellOne {A : Type 0} (q : Request) (reply : Reply) (line : Lis
 
 -- The bits of a request that is sent between transactions are on the line, and the target replies as the port model
 -- does. With what follows on the line they spell one transaction.
-pub record CyclesSpellRequest {A : Type 0} (q : Request) (phase sent : List Bool) (s m : Clocked A) : Type 0 where
+pub record CyclesSpellRequest {D : Type 0} (bus : D → Bus) (q : Request) (phase sent : List Bool)
+    (s m : Clocked D) : Type 0 where
   pub sends : sent ≡ bits_of_request q
   pub reply : Reply
   pub follows : AfterAck
-  pub answers : TargetAnswers s.waits q s.target reply follows m.target
-  pub one : (line : List Bool) (t : Clocked A) → RunsCycles (cycles_driven_behind reply q.read phase) line m t
+  pub answers : TargetAnswers bus s.waits q s.target reply follows m.target
+  pub one : (line : List Bool) (t : Clocked D) → RunsCycles bus (cycles_driven_behind reply q.read phase) line m t
       → CyclesSpellOne q reply (sent ++ line) t
 
 -- the same for every request, every reply, and every 33 bits of data
-abbrev pub RequestsSpell : Type 0 → Type 0
-RequestsSpell A = (q : Request) (phase sent : List Bool) (s m : Clocked A) → s.frame ≡ idle_frame → length phase ≡ 33
-    → RunsCycles (map Some (bits_of_request q)) sent s m → CyclesSpellRequest q phase sent s m
+abbrev pub RequestsSpell : {D : Type 0} → (D → Bus) → Type 0
+RequestsSpell {D} bus = (q : Request) (phase sent : List Bool) (s m : Clocked D) → s.frame ≡ idle_frame → length phase ≡
+    33
+    → RunsCycles bus (map Some (bits_of_request q)) sent s m → CyclesSpellRequest bus q phase sent s m
 
 -- each cycle reads 1 unless the target drives
 abbrev pub AreOnesCycles : List (Option Bool) → Type 0
@@ -78,12 +81,12 @@ AreOnesCycles [] = Unit {0}
 AreOnesCycles (drive ∷ drives) = (unwrap_or drive true ≡ true) × AreOnesCycles drives
 
 -- the target had a line reset, and nothing else of it changed
-pub record ClockedWasReset {A : Type 0} (s t : Clocked A) : Type 0 where
+pub record ClockedWasReset {D : Type 0} (bus : D → Bus) (s t : Clocked D) : Type 0 where
   pub frame : t.frame ≡ High
-  pub state : clocked_state t ≡ record (clocked_state s) { reset = Fresh }
+  pub state : clocked_state bus t ≡ record (clocked_state bus s) { reset = Fresh }
 
 -- fifty ones are a line reset, between transactions and where the target awaits a line reset
-abbrev pub OnesReset : Type 0 → Type 0
-OnesReset A = (drives : List (Option Bool)) (line : List Bool) (s t : Clocked A)
+abbrev pub OnesReset : {D : Type 0} → (D → Bus) → Type 0
+OnesReset {D} bus = (drives : List (Option Bool)) (line : List Bool) (s t : Clocked D)
     → (s.frame ≡ idle_frame) ⊎ ((ones : ℕ) × (s.frame ≡ Lost ones)) → 50 ≤ length drives → AreOnesCycles drives
-    → RunsCycles drives line s t → ClockedWasReset s t
+    → RunsCycles bus drives line s t → ClockedWasReset bus s t

@@ -7,11 +7,11 @@ ghost use Rattle.swd_clocked.specs.Frames.{frame_bits, frame_place, frame_limit,
 ghost use Rattle.swd_clocked.specs.Frames.{contended_cycle, reply_cycle_bit, unswitched_frame};
 
 use crate::frame::Frame;
-use std::alloc::{Allocator, Global};
+use std::alloc::Allocator;
 use swd_bits::{Request, SWITCH};
 use swd_port::{AfterAck, Count, Register, Reply};
 use swd_target::port::Target;
-use swd_target::{Memory, Quirks};
+use swd_target::{Device, Memory, Quirks};
 
 /// A simulated target, clock by clock: the target of `swd_target::Bench`, without marks.
 ///
@@ -19,7 +19,7 @@ use swd_target::{Memory, Quirks};
 /// sequence of cycles.
 ///
 /// ```ignore
-/// let mut target = Clocked::new(memory, quirks);
+/// let mut target = Clocked::new(device, quirks);
 /// for _ in 0..50 {
 ///     target.cycle(Some(true)); // a line reset
 /// }
@@ -27,8 +27,8 @@ use swd_target::{Memory, Quirks};
 /// // then DPIDR's request, bit by bit, and the acknowledgement with None
 /// ```
 #[derive(Debug, Drop)]
-pub struct Clocked<A: Allocator = Global> {
-    pub(crate) target: Target<A>,
+pub struct Clocked<D> {
+    pub(crate) target: Target<D>,
     pub(crate) frame: Frame,
     pub(crate) waits: bool,
     pub(crate) cycles: u64,
@@ -39,26 +39,27 @@ pub struct Clocked<A: Allocator = Global> {
     ghost counts: { cycles < 2 ^ 64 },
 }
 
-impl<A: Allocator> Clocked<A> {
+impl<D: Device> Clocked<D> {
     ghost use Rattle.swd_clocked.specs.Clocks.{clocked_state, clocked_simulation, clocked_frame, is_clocked_wait_held};
-    ghost use Rattle.swd_clocked.specs.Clocks.{clocked_cycles, clocked_contended, CountsNoCycle, clocked_memory};
+    ghost use Rattle.swd_clocked.specs.Clocks.{clocked_cycles, clocked_contended, CountsNoCycle, clocked_device};
     ghost use Rattle.swd_clocked.specs.Clocks.{clocked_quirks, ClocksOneCycle, ClockedHoldsWait, ClockedSettles};
     ghost use Rattle.swd_clocked.specs.Cycles.{FrameMoved, ClockedRequested, ClockedByteCame, AsksCycle, LostCycle};
     ghost use Rattle.swd_clocked.specs.Cycles.{HeardCycle, ClockedDataCame, Cycles, AwaitsCycle, DrivesCycle};
     ghost use Rattle.swd_clocked.specs.Cycles.{ReplyCycle, SwitchCycle};
 
-    /// Creates a target before its first line reset, with this memory behind its access port. WAIT isn't held, and
+    /// Creates a target before its first line reset, with this device behind its access port. WAIT isn't held, and
     /// DPIDR reads 2ba01477.
-    pub fn new(memory: Memory<A>, quirks: Quirks) -> Clocked<A>
-        ensures state { clocked_state result ≡ port_made_target 0x2ba0_1477 (bus_of memory) }
-        ensures exact { clocked_simulation result ≡ simulation_made_with quirks memory }
+    pub fn new(device: D, quirks: Quirks) -> Clocked<D>
+        ensures state { clocked_state D.bus result ≡ port_made_target 0x2ba0_1477 (D.bus device) }
+        ensures exact { clocked_simulation D.bus result ≡ simulation_made_with quirks (D.bus device) }
+        ensures device { clocked_device result ≡ device }
         ensures frame { clocked_frame result ≡ idle_frame }
         ensures held { is_clocked_wait_held result ≡ false }
         ensures cycles { clocked_cycles result ≡ 0 }
         ensures contended { clocked_contended result ≡ 0 }
     {
         Clocked {
-            target: Target::new(memory, quirks),
+            target: Target::new(device, quirks),
             frame: Frame::IDLE,
             waits: false,
             cycles: 0,
@@ -79,7 +80,7 @@ impl<A: Allocator> Clocked<A> {
 
     /// Completes the pending DRW transfer, if any. Without the quirk `late` no transfer is ever pending.
     pub fn settle(&mut self)
-        ensures settles { ClockedSettles self.old self.new }
+        ensures settles { ClockedSettles D.bus self.old self.new }
         ensures cycles { clocked_cycles self.new ≡ clocked_cycles self.old }
         ensures contended { clocked_contended self.new ≡ clocked_contended self.old }
         ensures quirks { clocked_quirks self.new ≡ clocked_quirks self.old }
@@ -87,30 +88,30 @@ impl<A: Allocator> Clocked<A> {
         self.target.complete();
     }
 
-    /// Returns the memory behind the access port.
-    pub fn memory(&self) -> &Memory<A>
-        ensures { (clocked_state self.now).memory ≡ bus_of result.now }
+    /// Returns the device behind the access port.
+    pub fn device(&self) -> &D
+        ensures { result.now ≡ clocked_device self.now }
     {
-        self.target.memory()
+        self.target.device()
     }
 
-    // Consumes the target, and returns the memory behind the access port.
-    pub(crate) fn into_memory(self) -> Memory<A>
-        ensures { (clocked_state self).memory ≡ bus_of result }
+    /// Consumes the target, and returns the device behind the access port.
+    pub fn into_device(self) -> D
+        ensures { result ≡ clocked_device self }
     {
-        self.target.into_memory()
+        self.target.into_device()
     }
 
     /// Performs one clock with the bit that the host drives, if any. Returns the bit on the line: the target's where it
     /// drives, else the host's, and 1 where nobody drives.
     pub fn cycle(&mut self, drive: Option<bool>) -> bool
-        ensures clocks { ClocksOneCycle drive result self.old self.new }
+        ensures clocks { ClocksOneCycle D.bus drive result self.old self.new }
         ensures cycles { clocked_cycles self.new ≡ cycles_counted 1 (clocked_cycles self.old) }
         ensures contended { clocked_contended self.new ≡ clocked_contended self.old
             + contended_cycle (clocked_frame self.old) (is_some drive) }
         ensures quirks { clocked_quirks self.new ≡ clocked_quirks self.old }
-        ensures quiet { (clocked_quirks self.old).late ≡ true → (clocked_state self.old).pending ≡ None
-            → clocked_memory self.new ≡ clocked_memory self.old }
+        ensures quiet { (clocked_quirks self.old).late ≡ true → (clocked_state D.bus self.old).pending ≡ None
+            → clocked_device self.new ≡ clocked_device self.old }
     {
         self.clock(drive.unwrap_or(true), drive.is_some())
     }
@@ -118,13 +119,13 @@ impl<A: Allocator> Clocked<A> {
     // Performs one clock with the bit that the line has where the target doesn't drive. `driven`: the host drives it.
     #[inline(always)]
     pub(crate) fn clock(&mut self, bit: bool, driven: bool) -> bool
-        ensures clocks { Cycles self.old.frame bit result self.old.target self.old.waits self.new }
+        ensures clocks { Cycles D.bus self.old.frame bit result self.old.target self.old.waits self.new }
         ensures cycles { clocked_cycles self.new ≡ cycles_counted 1 (clocked_cycles self.old) }
         ensures contended { clocked_contended self.new ≡ clocked_contended self.old
             + contended_cycle (clocked_frame self.old) driven }
         ensures quirks { clocked_quirks self.new ≡ clocked_quirks self.old }
-        ensures quiet { (clocked_quirks self.old).late ≡ true → (clocked_state self.old).pending ≡ None
-            → clocked_memory self.new ≡ clocked_memory self.old }
+        ensures quiet { (clocked_quirks self.old).late ≡ true → (clocked_state D.bus self.old).pending ≡ None
+            → clocked_device self.new ≡ clocked_device self.old }
     {
         self.cycles = self.cycles.saturating_add(1);
         self.frame.note(&mut self.contended, driven);
@@ -174,11 +175,11 @@ impl<A: Allocator> Clocked<A> {
 
     fn ask_bit(&mut self, bits: u8, count: u8, bit: bool)
         requires { count < 8 }
-        ensures asks { AsksCycle bits count bit self.old.target self.old.waits self.new }
+        ensures asks { AsksCycle D.bus bits count bit self.old.target self.old.waits self.new }
         ensures clocks { CountsNoCycle self.old self.new }
         ensures quirks { clocked_quirks self.new ≡ clocked_quirks self.old }
-        ensures quiet { (clocked_quirks self.old).late ≡ true → (clocked_state self.old).pending ≡ None
-            → clocked_memory self.new ≡ clocked_memory self.old }
+        ensures quiet { (clocked_quirks self.old).late ≡ true → (clocked_state D.bus self.old).pending ≡ None
+            → clocked_device self.new ≡ clocked_device self.old }
     {
         if count == 0 && !bit {
             self.frame = Frame::IDLE;
@@ -195,11 +196,11 @@ impl<A: Allocator> Clocked<A> {
     // Takes eight bits that begin with Start.
     #[inline(never)]
     fn byte(&mut self, bits: u8)
-        ensures came { ClockedByteCame bits self.old.target self.old.waits self.new }
+        ensures came { ClockedByteCame D.bus bits self.old.target self.old.waits self.new }
         ensures clocks { CountsNoCycle self.old self.new }
         ensures quirks { clocked_quirks self.new ≡ clocked_quirks self.old }
-        ensures quiet { (clocked_quirks self.old).late ≡ true → (clocked_state self.old).pending ≡ None
-            → clocked_memory self.new ≡ clocked_memory self.old }
+        ensures quiet { (clocked_quirks self.old).late ≡ true → (clocked_state D.bus self.old).pending ≡ None
+            → clocked_device self.new ≡ clocked_device self.old }
     {
         match Request::of(bits) {
             Some(request) => self.request(request),
@@ -208,11 +209,11 @@ impl<A: Allocator> Clocked<A> {
     }
 
     fn request(&mut self, request: Request)
-        ensures requested { ClockedRequested request self.old.target self.old.waits self.new }
+        ensures requested { ClockedRequested D.bus request self.old.target self.old.waits self.new }
         ensures clocks { CountsNoCycle self.old self.new }
         ensures quirks { clocked_quirks self.new ≡ clocked_quirks self.old }
-        ensures quiet { (clocked_quirks self.old).late ≡ true → (clocked_state self.old).pending ≡ None
-            → clocked_memory self.new ≡ clocked_memory self.old }
+        ensures quiet { (clocked_quirks self.old).late ≡ true → (clocked_state D.bus self.old).pending ≡ None
+            → clocked_device self.new ≡ clocked_device self.old }
     {
         let (reply, phase) = self.target.request(self.waits, request);
         self.frame = Frame::replied(reply, phase);
@@ -221,11 +222,11 @@ impl<A: Allocator> Clocked<A> {
     #[inline(never)]
     fn lost_bit(&mut self, ones: u8, bit: bool)
         requires { ones < 50 }
-        ensures hears { LostCycle ones bit self.old.target self.old.waits self.new }
+        ensures hears { LostCycle D.bus ones bit self.old.target self.old.waits self.new }
         ensures clocks { CountsNoCycle self.old self.new }
         ensures quirks { clocked_quirks self.new ≡ clocked_quirks self.old }
-        ensures quiet { (clocked_quirks self.old).late ≡ true → (clocked_state self.old).pending ≡ None
-            → clocked_memory self.new ≡ clocked_memory self.old }
+        ensures quiet { (clocked_quirks self.old).late ≡ true → (clocked_state D.bus self.old).pending ≡ None
+            → clocked_device self.new ≡ clocked_device self.old }
     {
         if !bit {
             self.frame = Frame::Lost(0);
@@ -240,11 +241,11 @@ impl<A: Allocator> Clocked<A> {
     #[inline(never)]
     fn switch_bit(&mut self, place: u8, bit: bool)
         requires { place < 16 }
-        ensures switches { SwitchCycle place bit self.old.target self.old.waits self.new }
+        ensures switches { SwitchCycle D.bus place bit self.old.target self.old.waits self.new }
         ensures clocks { CountsNoCycle self.old self.new }
         ensures quirks { clocked_quirks self.new ≡ clocked_quirks self.old }
-        ensures quiet { (clocked_quirks self.old).late ≡ true → (clocked_state self.old).pending ≡ None
-            → clocked_memory self.new ≡ clocked_memory self.old }
+        ensures quiet { (clocked_quirks self.old).late ≡ true → (clocked_state D.bus self.old).pending ≡ None
+            → clocked_device self.new ≡ clocked_device self.old }
     {
         if bit == (SWITCH >> place & 1 == 1) {
             self.frame = if place == 15 {
@@ -260,11 +261,11 @@ impl<A: Allocator> Clocked<A> {
     // Takes a bit that shows that the bits since the ones are no switch.
     fn other_bit(&mut self, place: u8, bit: bool)
         requires { place < 16 }
-        ensures hears { HeardCycle (unswitched_frame place) bit self.old.target self.old.waits self.new }
+        ensures hears { HeardCycle D.bus (unswitched_frame place) bit self.old.target self.old.waits self.new }
         ensures clocks { CountsNoCycle self.old self.new }
         ensures quirks { clocked_quirks self.new ≡ clocked_quirks self.old }
-        ensures quiet { (clocked_quirks self.old).late ≡ true → (clocked_state self.old).pending ≡ None
-            → clocked_memory self.new ≡ clocked_memory self.old }
+        ensures quiet { (clocked_quirks self.old).late ≡ true → (clocked_state D.bus self.old).pending ≡ None
+            → clocked_device self.new ≡ clocked_device self.old }
     {
         match place {
             1 => self.ask_bit(255, 0, bit),
@@ -292,8 +293,8 @@ impl<A: Allocator> Clocked<A> {
         ensures replies { ReplyCycle reply line place bit result self.old.target self.old.waits self.new }
         ensures clocks { CountsNoCycle self.old self.new }
         ensures quirks { clocked_quirks self.new ≡ clocked_quirks self.old }
-        ensures quiet { (clocked_quirks self.old).late ≡ true → (clocked_state self.old).pending ≡ None
-            → clocked_memory self.new ≡ clocked_memory self.old }
+        ensures quiet { (clocked_quirks self.old).late ≡ true → (clocked_state D.bus self.old).pending ≡ None
+            → clocked_device self.new ≡ clocked_device self.old }
     {
         self.frame = if place == 3 {
             Frame::after_reply(line)
@@ -314,8 +315,8 @@ impl<A: Allocator> Clocked<A> {
         ensures drives { DrivesCycle bits left bit result self.old.target self.old.waits self.new }
         ensures clocks { CountsNoCycle self.old self.new }
         ensures quirks { clocked_quirks self.new ≡ clocked_quirks self.old }
-        ensures quiet { (clocked_quirks self.old).late ≡ true → (clocked_state self.old).pending ≡ None
-            → clocked_memory self.new ≡ clocked_memory self.old }
+        ensures quiet { (clocked_quirks self.old).late ≡ true → (clocked_state D.bus self.old).pending ≡ None
+            → clocked_device self.new ≡ clocked_device self.old }
     {
         if left == 0 {
             self.frame = Frame::IDLE;
@@ -329,11 +330,11 @@ impl<A: Allocator> Clocked<A> {
     fn await_bit(&mut self, register: Register, bits: u64, place: u8, bit: bool)
         requires bits { bits < 2 ^ 33 }
         requires place { place < 34 }
-        ensures awaits { AwaitsCycle register bits place bit self.old.target self.old.waits self.new }
+        ensures awaits { AwaitsCycle D.bus register bits place bit self.old.target self.old.waits self.new }
         ensures clocks { CountsNoCycle self.old self.new }
         ensures quirks { clocked_quirks self.new ≡ clocked_quirks self.old }
-        ensures quiet { (clocked_quirks self.old).late ≡ true → (clocked_state self.old).pending ≡ None
-            → clocked_memory self.new ≡ clocked_memory self.old }
+        ensures quiet { (clocked_quirks self.old).late ≡ true → (clocked_state D.bus self.old).pending ≡ None
+            → clocked_device self.new ≡ clocked_device self.old }
     {
         if place == 0 {
             self.frame = Frame::Awaits(register, bits, 1);
@@ -351,14 +352,25 @@ impl<A: Allocator> Clocked<A> {
     #[inline(never)]
     fn arrive(&mut self, register: Register, bits: u64)
         requires { bits < 2 ^ 33 }
-        ensures came { ClockedDataCame register bits self.old.target self.old.waits self.new }
+        ensures came { ClockedDataCame D.bus register bits self.old.target self.old.waits self.new }
         ensures clocks { CountsNoCycle self.old self.new }
         ensures quirks { clocked_quirks self.new ≡ clocked_quirks self.old }
-        ensures quiet { (clocked_quirks self.old).late ≡ true → (clocked_state self.old).pending ≡ None
-            → clocked_memory self.new ≡ clocked_memory self.old }
+        ensures quiet { (clocked_quirks self.old).late ≡ true → (clocked_state D.bus self.old).pending ≡ None
+            → clocked_device self.new ≡ clocked_device self.old }
     {
         self.frame = Frame::IDLE;
         self.target.arrive(register, bits);
+    }
+}
+
+impl<M: Allocator> Clocked<Memory<M>> {
+    ghost use Rattle.swd_clocked.specs.Clocks.{clocked_state};
+
+    /// Returns the memory behind the access port.
+    pub fn memory(&self) -> &Memory<M>
+        ensures { (clocked_state bus_of self.now).memory ≡ bus_of result.now }
+    {
+        self.device()
     }
 }
 

@@ -22,12 +22,12 @@ use crate::marked::FaultyClocked;
 use std::alloc::{Allocator, Global};
 use swd_bits::Request;
 use swd_port::{Cue, Due, Mark, Wire};
-use swd_target::{Memory, Quirks};
+use swd_target::{Device, Memory, Quirks};
 
 /// A [`FaultyClocked`] as a [`Wire`], which performs each call by the target's cycles alone. Each request uses the next
 /// mark of the plan; after its end all marks are `Clean`.
 ///
-/// It behaves exactly like a `swd_target::Bench` with the same memory, quirks and plan.
+/// It behaves exactly like a `swd_target::Bench` with the same device, quirks and plan.
 ///
 /// ```ignore
 /// let memory = Memory::new(alloc, 0x2000_0000, 16, 16)?;
@@ -37,40 +37,40 @@ use swd_target::{Memory, Quirks};
 /// bench.cycles(); // 142
 /// ```
 #[derive(Debug, Drop)]
-pub struct ClockedBench<A: Allocator = Global> {
-    marked: Box<FaultyClocked<A>, A>,
+pub struct ClockedBench<D, A: Allocator = Global> {
+    marked: Box<FaultyClocked<D, A>, A>,
     due: Due,
     ghost resting: { frame_fits_due due marked.value.clocked.frame ≡ true },
     ghost heard: { marked.value.unseen ≡ 0 },
     ghost uncontended: { marked.value.clocked.contended.ticks ≡ 0 },
 }
 
-impl<A: Allocator> ClockedBench<A> {
+impl<D: Device, A: Allocator> ClockedBench<D, A> {
     ghost use Rattle.swd_clocked.specs.ClockedBenches.{clocked_bench_port, clocked_bench_link, clocked_bench_tally};
     ghost use Rattle.swd_clocked.specs.ClockedBenches.{clocked_bench_simulation, clocked_bench_plan};
-    ghost use Rattle.swd_clocked.specs.ClockedBenches.{clocked_bench_next_mark};
+    ghost use Rattle.swd_clocked.specs.ClockedBenches.{clocked_bench_next_mark, clocked_bench_device};
     ghost use Rattle.swd_clocked.specs.ClockedBenches.{clocked_bench_choice, clocked_bench_cycles, lead_cycles};
 
-    /// Creates a clocked target before its first line reset, with this memory behind its access port.
+    /// Creates a clocked target before its first line reset, with this device behind its access port.
     ///
     /// # Errors
     ///
-    /// Returns the memory and the plan if out of memory.
-    #[tactic(auto, using(swd_port::proofs::PlainLaws::bus_of_same))]
+    /// Returns the device and the plan if out of memory.
     pub fn new(
         alloc: A,
-        memory: Memory<A>,
+        device: D,
         quirks: Quirks,
         plan: Vec<Mark, A>,
-    ) -> Result<ClockedBench<A>, (Memory<A>, Vec<Mark, A>)>
+    ) -> Result<ClockedBench<D, A>, (D, Vec<Mark, A>)>
         requires { IsLegalPlan plan.items }
-        ensures port { IfOk result (λ b. clocked_bench_port b ≡ port_made 0x2ba0_1477 (bus_of memory)) }
-        ensures exact { IfOk result (λ b. clocked_bench_simulation b ≡ simulation_made_with quirks memory) }
+        ensures port { IfOk result (λ b. clocked_bench_port D.bus b ≡ port_made 0x2ba0_1477 (D.bus device)) }
+        ensures exact { IfOk result (λ b. clocked_bench_simulation D.bus b
+            ≡ simulation_made_with quirks (D.bus device)) }
         ensures plan { IfOk result (λ b. clocked_bench_plan b ≡ plan.items) }
         ensures cycles { IfOk result (λ b. clocked_bench_cycles b ≡ 0) }
-        ensures handed_back { IfErr result (λ e. (e.0 ≡ memory) × (e.1.items ≡ plan.items)) }
+        ensures handed_back { IfErr result (λ e. (e.0 ≡ device) × (e.1.items ≡ plan.items)) }
     {
-        match Box::new(alloc, FaultyClocked::new(memory, quirks, plan)) {
+        match Box::new(alloc, FaultyClocked::new(device, quirks, plan)) {
             Ok(marked) => Ok(ClockedBench {
                 marked,
                 due: Due::Nothing,
@@ -81,21 +81,29 @@ impl<A: Allocator> ClockedBench<A> {
 
     /// Completes the pending DRW transfer, if any. Without the quirk `late` no transfer is ever pending.
     pub fn settle(&mut self)
-        ensures port { clocked_bench_port self.new
-            ≡ port_completed (clocked_bench_choice self.old) (clocked_bench_port self.old) }
+        ensures port { clocked_bench_port D.bus self.new
+            ≡ port_completed (clocked_bench_choice self.old) (clocked_bench_port D.bus self.old) }
         ensures choice { IsPortChoice (clocked_bench_choice self.old) }
-        ensures exact { clocked_bench_simulation self.new ≡ simulation_transferred (clocked_bench_simulation self.old) }
+        ensures exact { clocked_bench_simulation D.bus self.new
+            ≡ simulation_transferred (clocked_bench_simulation D.bus self.old) }
         ensures plan { clocked_bench_plan self.new ≡ clocked_bench_plan self.old }
         ensures cycles { clocked_bench_cycles self.new ≡ clocked_bench_cycles self.old }
     {
         self.marked.settle();
     }
 
-    /// Returns the memory behind the access port.
-    pub fn memory(&self) -> &Memory<A>
-        ensures { (clocked_bench_port self.now).target.memory ≡ bus_of result.now }
+    /// Returns the device behind the access port.
+    pub fn device(&self) -> &D
+        ensures { result.now ≡ clocked_bench_device self.now }
     {
-        self.marked.memory()
+        self.marked.device()
+    }
+
+    /// Consumes the bench, and returns the device behind the access port.
+    pub fn into_device(self) -> D
+        ensures { result ≡ clocked_bench_device self }
+    {
+        Box::into_inner(self.marked).into_device()
     }
 
     /// Returns the number of cycles so far, saturating at `u64::MAX`.
@@ -107,11 +115,11 @@ impl<A: Allocator> ClockedBench<A> {
 
     // Sends ones and zeros, cycle by cycle.
     fn lead_now(&mut self, ones: u32, undriven: u32, switch: bool, zeros: u32)
-        requires leads { PortMayLead (clocked_bench_port self.old).link.due ones switch zeros }
-        requires releases { MayRelease (clocked_bench_port self.old).link.due ones undriven }
-        ensures now { PortLeadsNow (clocked_bench_port self.old) ones (clocked_bench_port self.new) }
-        ensures exact { clocked_bench_simulation self.new
-            ≡ simulation_led ones (clocked_bench_link self.old) (clocked_bench_simulation self.old) }
+        requires leads { PortMayLead (clocked_bench_port D.bus self.old).link.due ones switch zeros }
+        requires releases { MayRelease (clocked_bench_port D.bus self.old).link.due ones undriven }
+        ensures now { PortLeadsNow (clocked_bench_port D.bus self.old) ones (clocked_bench_port D.bus self.new) }
+        ensures exact { clocked_bench_simulation D.bus self.new
+            ≡ simulation_led ones (clocked_bench_link self.old) (clocked_bench_simulation D.bus self.old) }
         ensures plan { clocked_bench_plan self.new ≡ clocked_bench_plan self.old }
         ensures cycles { clocked_bench_cycles self.new
             ≡ cycles_counted (lead_cycles ones switch zeros) (clocked_bench_cycles self.old) }
@@ -125,17 +133,17 @@ impl<A: Allocator> ClockedBench<A> {
 
     // Performs a request under the next mark.
     fn ask_now(&mut self, request: Request) -> u8
-        requires { (clocked_bench_port self.old).link.due ≡ Nothing }
+        requires { (clocked_bench_port D.bus self.old).link.due ≡ Nothing }
         ensures range { result < 8 }
-        ensures step { PortAsks (clocked_bench_port self.old) request result (clocked_bench_port self.new) }
+        ensures step { PortAsks (clocked_bench_port D.bus self.old) request result (clocked_bench_port D.bus self.new) }
         ensures sees { result ≡ simulation_seen_at_cue (clocked_bench_next_mark self.old) (Ask request)
-            (clocked_bench_link self.old) (clocked_bench_simulation self.old) }
-        ensures exact { clocked_bench_simulation self.new
+            (clocked_bench_link self.old) (clocked_bench_simulation D.bus self.old) }
+        ensures exact { clocked_bench_simulation D.bus self.new
             ≡ simulation_after_cue (clocked_bench_next_mark self.old) (Ask request) (clocked_bench_link self.old)
-            (clocked_bench_simulation self.old) }
+            (clocked_bench_simulation D.bus self.old) }
         ensures link { clocked_bench_link self.new
             ≡ simulation_link_at_cue (clocked_bench_next_mark self.old) (Ask request) (clocked_bench_link self.old)
-            (clocked_bench_simulation self.old) }
+            (clocked_bench_simulation D.bus self.old) }
         ensures tally { clocked_bench_tally self.new
             ≡ port_tally_after (clocked_bench_next_mark self.old) (clocked_bench_tally self.old) }
         ensures plan { clocked_bench_plan self.new ≡ clocked_bench_plan self.old }
@@ -148,10 +156,10 @@ impl<A: Allocator> ClockedBench<A> {
 
     // Returns the data phase of a read.
     fn take_now(&mut self) -> u64
-        requires { (clocked_bench_port self.old).link.due ≡ Take }
+        requires { (clocked_bench_port D.bus self.old).link.due ≡ Take }
         ensures range { result < 2 ^ 33 }
-        ensures now { PortTakesNow (clocked_bench_port self.old) result (clocked_bench_port self.new) }
-        ensures exact { clocked_bench_simulation self.new ≡ clocked_bench_simulation self.old }
+        ensures now { PortTakesNow (clocked_bench_port D.bus self.old) result (clocked_bench_port D.bus self.new) }
+        ensures exact { clocked_bench_simulation D.bus self.new ≡ clocked_bench_simulation D.bus self.old }
         ensures plan { clocked_bench_plan self.new ≡ clocked_bench_plan self.old }
         ensures cycles { clocked_bench_cycles self.new ≡ cycles_counted 34 (clocked_bench_cycles self.old) }
     {
@@ -162,13 +170,13 @@ impl<A: Allocator> ClockedBench<A> {
 
     // Sends the data phase of a write.
     fn give_now(&mut self, bits: u64)
-        requires due { (clocked_bench_port self.old).link.due ≡ Give }
+        requires due { (clocked_bench_port D.bus self.old).link.due ≡ Give }
         requires range { bits < 2 ^ 33 }
-        ensures step { PortGives (clocked_bench_port self.old) bits (clocked_bench_port self.new) }
+        ensures step { PortGives (clocked_bench_port D.bus self.old) bits (clocked_bench_port D.bus self.new) }
         ensures link { clocked_bench_link self.new ≡ port_idle_link }
         ensures tally { clocked_bench_tally self.new ≡ clocked_bench_tally self.old }
-        ensures exact { clocked_bench_simulation self.new
-            ≡ simulation_given bits (clocked_bench_link self.old) (clocked_bench_simulation self.old) }
+        ensures exact { clocked_bench_simulation D.bus self.new
+            ≡ simulation_given bits (clocked_bench_link self.old) (clocked_bench_simulation D.bus self.old) }
         ensures plan { clocked_bench_plan self.new ≡ clocked_bench_plan self.old }
         ensures cycles { clocked_bench_cycles self.new ≡ cycles_counted 34 (clocked_bench_cycles self.old) }
     {
@@ -178,9 +186,9 @@ impl<A: Allocator> ClockedBench<A> {
 
     // Passes the turnaround after WAIT or FAULT.
     fn pass_now(&mut self)
-        requires { (clocked_bench_port self.old).link.due ≡ Pass }
-        ensures now { PortPassesNow (clocked_bench_port self.old) (clocked_bench_port self.new) }
-        ensures exact { clocked_bench_simulation self.new ≡ clocked_bench_simulation self.old }
+        requires { (clocked_bench_port D.bus self.old).link.due ≡ Pass }
+        ensures now { PortPassesNow (clocked_bench_port D.bus self.old) (clocked_bench_port D.bus self.new) }
+        ensures exact { clocked_bench_simulation D.bus self.new ≡ clocked_bench_simulation D.bus self.old }
         ensures plan { clocked_bench_plan self.new ≡ clocked_bench_plan self.old }
         ensures cycles { clocked_bench_cycles self.new ≡ cycles_counted 1 (clocked_bench_cycles self.old) }
     {
@@ -189,12 +197,23 @@ impl<A: Allocator> ClockedBench<A> {
     }
 }
 
-impl<A: Allocator> Wire for ClockedBench<A> {
+impl<M: Allocator, A: Allocator> ClockedBench<Memory<M>, A> {
+    ghost use Rattle.swd_clocked.specs.ClockedBenches.{clocked_bench_port};
+
+    /// Returns the memory behind the access port.
+    pub fn memory(&self) -> &Memory<M>
+        ensures { (clocked_bench_port bus_of self.now).target.memory ≡ bus_of result.now }
+    {
+        self.device()
+    }
+}
+
+impl<D: Device, A: Allocator> Wire for ClockedBench<D, A> {
     ghost use Rattle.swd_clocked.specs.ClockedBenches.{clocked_bench_port, clocked_bench_link, clocked_bench_tally};
     ghost use Rattle.swd_clocked.specs.ClockedBenches.{clocked_bench_simulation, clocked_bench_plan};
     ghost use Rattle.swd_clocked.specs.ClockedBenches.{clocked_bench_next_mark, clocked_bench_cycles, cycles_of_cue};
 
-    ghost port = { clocked_bench_port };
+    ghost port = { clocked_bench_port D.bus };
 
     ghost plan = { clocked_bench_plan };
 
@@ -205,18 +224,19 @@ impl<A: Allocator> Wire for ClockedBench<A> {
     /// Performs the cue. The n-th request uses the n-th mark of the plan, or `Clean` after its end.
     #[inline(always)]
     fn step(&mut self, cue: Cue) -> u64
-        requires { PortMayStep (clocked_bench_port self.old).link.due cue }
+        requires { PortMayStep (clocked_bench_port D.bus self.old).link.due cue }
         ensures seen { IsPortSeen cue result }
-        ensures step { IsPortStep cue result (clocked_bench_port self.old) (clocked_bench_port self.new) }
-        ensures alone { TargetStepsAlone cue result (clocked_bench_port self.old) (clocked_bench_port self.new) }
+        ensures step { IsPortStep cue result (clocked_bench_port D.bus self.old) (clocked_bench_port D.bus self.new) }
+        ensures alone { TargetStepsAlone cue result (clocked_bench_port D.bus self.old)
+            (clocked_bench_port D.bus self.new) }
         ensures sees { result ≡ simulation_seen_at_cue (clocked_bench_next_mark self.old) cue
-            (clocked_bench_link self.old) (clocked_bench_simulation self.old) }
-        ensures exact { clocked_bench_simulation self.new
+            (clocked_bench_link self.old) (clocked_bench_simulation D.bus self.old) }
+        ensures exact { clocked_bench_simulation D.bus self.new
             ≡ simulation_after_cue (clocked_bench_next_mark self.old) cue (clocked_bench_link self.old)
-            (clocked_bench_simulation self.old) }
+            (clocked_bench_simulation D.bus self.old) }
         ensures link { clocked_bench_link self.new
             ≡ simulation_link_at_cue (clocked_bench_next_mark self.old) cue (clocked_bench_link self.old)
-            (clocked_bench_simulation self.old) }
+            (clocked_bench_simulation D.bus self.old) }
         ensures tally { clocked_bench_tally self.new
             ≡ simulation_tally_at_cue (clocked_bench_next_mark self.old) cue (clocked_bench_tally self.old) }
         ensures plan { clocked_bench_plan self.new ≡ clocked_bench_plan self.old }

@@ -2,7 +2,7 @@
 ghost use Rattle.std.specs.Prelude.{◌≡◌, ◌<◌, ◌^◌, IfSome, IsSome};
 ghost use Rattle.swd_port.specs.Moving.{port_bits_driven};
 ghost use Rattle.swd_clocked.specs.declared.clocked.Clocked.{Clocked as ClockedType};
-ghost use Rattle.swd_clocked.specs.Clocks.{clocked_memory};
+ghost use Rattle.swd_clocked.specs.Clocks.{clocked_device};
 ghost use Rattle.swd_clocked.specs.Fields.{clocked_fields, frame_fields, clocked_line_fields, clocked_line_with};
 ghost use Rattle.swd_clocked.specs.Fields.{plain_frame, clocked_register_number, clocked_reply_number};
 ghost use Rattle.swd_clocked.specs.Fields.{restored_clocked, restored_frame, restored_clocked_line};
@@ -11,12 +11,11 @@ ghost use Rattle.swd_clocked.specs.Frames.{frame_bits, frame_limit, frame_place}
 
 use crate::clocked::Clocked;
 use crate::frame::Frame;
-use std::alloc::Allocator;
 use swd_port::{AfterAck, Count, Register, Reply};
-use swd_target::{Memory, TargetFields};
+use swd_target::TargetFields;
 
-/// The state of a clocked target without its memory, as integers laid out as in C. [`Clocked::fields`] returns it, and
-/// [`clocked`](ClockedFields::clocked) restores a target over a memory. Any values are safe: `clocked` rejects those of
+/// The state of a clocked target without its device, as integers laid out as in C. [`Clocked::fields`] returns it, and
+/// [`clocked`](ClockedFields::clocked) restores a target over a device. Any values are safe: `clocked` rejects those of
 /// no target, such as zeros.
 ///
 /// `cycles` is the number of cycles so far. The meaning of the other fields is private to this crate.
@@ -249,12 +248,12 @@ fn as_many(cycles: u64) -> u64
 }
 
 impl ClockedFields {
-    /// Returns a clocked target with these fields over a memory, or `None` if no target has them.
-    pub fn clocked<A: Allocator>(&self, memory: Memory<A>) -> Option<Clocked<A>>
-        ensures found { (c : ClockedType A) → clocked_fields c ≡ self.now → IsSome result }
-        ensures same { IfSome result (λ c. (clocked_fields c ≡ self.now) × (clocked_memory c ≡ memory)) }
+    /// Returns a clocked target with these fields over a device, or `None` if no target has them.
+    pub fn clocked<D: Drop>(&self, device: D) -> Option<Clocked<D>>
+        ensures found { (c : ClockedType D) → clocked_fields c ≡ self.now → IsSome result }
+        ensures same { IfSome result (λ c. (clocked_fields c ≡ self.now) × (clocked_device c ≡ device)) }
     {
-        let clocked = self.read(memory);
+        let clocked = self.read(device);
         if clocked.fields() == *self {
             Some(clocked)
         } else {
@@ -262,12 +261,12 @@ impl ClockedFields {
         }
     }
 
-    fn read<A: Allocator>(&self, memory: Memory<A>) -> Clocked<A>
+    fn read<D>(&self, device: D) -> Clocked<D>
         ensures numbers { clocked_fields result ≡ restored_clocked self.now }
-        ensures memory { clocked_memory result ≡ memory }
+        ensures device { clocked_device result ≡ device }
     {
         Clocked {
-            target: self.target.target(memory),
+            target: self.target.target(device),
             frame: self.frame.frame(),
             waits: self.waits == 1,
             cycles: as_many(self.cycles),
@@ -276,8 +275,8 @@ impl ClockedFields {
     }
 }
 
-impl<A: Allocator> Clocked<A> {
-    /// Returns the fields of the target, without its memory.
+impl<D> Clocked<D> {
+    /// Returns the fields of the target, without its device.
     pub fn fields(&self) -> ClockedFields
         ensures { result ≡ clocked_fields self.now }
     {

@@ -9,39 +9,41 @@ ghost use Rattle.swd_clocked.specs.Spelled.{RequestsSpell, OnesReset};
 use crate::clocked_bench::ClockedBench;
 use std::alloc::Allocator;
 use swd_port::Wire;
+use swd_target::Device;
 
 /// States that a bench counts disturbed and lost requests by the marks that it used. So each count is at most that of
 /// its whole plan.
-pub fn marks_used<A: Allocator>()
-    ensures disturbed { (b : ClockedBench A)
-        → (clocked_bench_port b).tally.disturbed ≡ port_disturbed_among (clocked_bench_marks b) }
-    ensures lost { (b : ClockedBench A) → (clocked_bench_port b).tally.lost ≡ port_lost_among (clocked_bench_marks b) }
-    ensures disturbed_most { (b : ClockedBench A)
-        → (clocked_bench_port b).tally.disturbed ≤ port_disturbed_among (clocked_bench_plan b) }
-    ensures lost_most { (b : ClockedBench A)
-        → (clocked_bench_port b).tally.lost ≤ port_lost_among (clocked_bench_plan b) }
+pub fn marks_used<D: Device, A: Allocator>()
+    ensures disturbed { (b : ClockedBench D A)
+        → (clocked_bench_port D.bus b).tally.disturbed ≡ port_disturbed_among (clocked_bench_marks b) }
+    ensures lost { (b : ClockedBench D A)
+        → (clocked_bench_port D.bus b).tally.lost ≡ port_lost_among (clocked_bench_marks b) }
+    ensures disturbed_most { (b : ClockedBench D A)
+        → (clocked_bench_port D.bus b).tally.disturbed ≤ port_disturbed_among (clocked_bench_plan b) }
+    ensures lost_most { (b : ClockedBench D A)
+        → (clocked_bench_port D.bus b).tally.lost ≤ port_lost_among (clocked_bench_plan b) }
 {}
 
 /// States that a bench never drives the line as host where it should release it, after any calls and under any plan. So
 /// host and target never drive it in the same cycle, and nobody drives it in a turnaround.
-pub fn never_contended<A: Allocator>()
-    ensures { (b : ClockedBench A) → clocked_bench_contended b ≡ 0 }
+pub fn never_contended<D: Device, A: Allocator>()
+    ensures { (b : ClockedBench D A) → clocked_bench_contended b ≡ 0 }
 {}
 
 /// States that a request sent between transactions and the cycles after it spell one transaction on the line (IHI 0031,
 /// B4). It has the request, the acknowledgement that the port model replies, and the data phase. In the cycles after
 /// the request the host drives nothing but a write's data.
-pub fn requests_spell<A: Allocator>()
-    ensures { RequestsSpell A }
+pub fn requests_spell<D: Device>()
+    ensures { RequestsSpell D.bus }
 {}
 
 /// States that fifty ones, driven or not, are a line reset, between transactions and where the target awaits one.
-pub fn ones_reset<A: Allocator>()
-    ensures { OnesReset A }
+pub fn ones_reset<D: Device>()
+    ensures { OnesReset D.bus }
 {}
 
 /// States that a bench is always lawful. So the contracts of a run that assume `lawful` hold over a bench
 /// unconditionally.
-pub fn always_lawful<A: Allocator>()
-    ensures { (b : ClockedBench A) → ⟦<ClockedBench<A> as Wire>⟧.lawful b }
+pub fn always_lawful<D: Device, A: Allocator>()
+    ensures { (b : ClockedBench D A) → ⟦<ClockedBench<D, A> as Wire>⟧.lawful b }
 {}

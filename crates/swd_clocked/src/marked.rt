@@ -17,7 +17,7 @@ use std::alloc::{Allocator, Global};
 use swd_bits::Request;
 use swd_port::Mark;
 use swd_target::port::Plan;
-use swd_target::{Memory, Quirks};
+use swd_target::{Device, Memory, Quirks};
 
 // The cycles of a turnaround and an acknowledgement.
 const UNSEEN: u8 = 4;
@@ -29,7 +29,7 @@ const UNSEEN: u8 = 4;
 /// cycles.
 ///
 /// ```ignore
-/// let mut target = FaultyClocked::new(memory, quirks, plan);
+/// let mut target = FaultyClocked::new(device, quirks, plan);
 /// for _ in 0..50 {
 ///     target.cycle(Some(true)); // a line reset
 /// }
@@ -37,8 +37,8 @@ const UNSEEN: u8 = 4;
 /// // then DPIDR's request, bit by bit, and the acknowledgement with None
 /// ```
 #[derive(Debug, Drop)]
-pub struct FaultyClocked<A: Allocator = Global> {
-    pub(crate) clocked: Clocked<A>,
+pub struct FaultyClocked<D, A: Allocator = Global> {
+    pub(crate) clocked: Clocked<D>,
     pub(crate) plan: Plan<A>,
     // The mark of the last request.
     pub(crate) mark: Mark,
@@ -71,20 +71,21 @@ fn turned(change: bool, bit: bool) -> bool
     if change { !bit } else { bit }
 }
 
-impl<A: Allocator> FaultyClocked<A> {
+impl<D: Device, A: Allocator> FaultyClocked<D, A> {
     ghost use Rattle.swd_clocked.specs.Clocks.{ClockedSettles};
     ghost use Rattle.swd_clocked.specs.Marked.{marked_clocked_state, marked_clocked_simulation, marked_clocked_frame};
     ghost use Rattle.swd_clocked.specs.Marked.{marked_clocked_mark, marked_clocked_unseen, marked_clocked_plan};
     ghost use Rattle.swd_clocked.specs.Marked.{marked_clocked_tally, marked_clocked_cycles, marked_clocked_contended};
     ghost use Rattle.swd_clocked.specs.Marked.{MarkedCycles, CycleMeetsMark, CycleMisses, CycleReaches, CycleUsesMark};
-    ghost use Rattle.swd_clocked.specs.Marked.{CycleKeepsPlan};
+    ghost use Rattle.swd_clocked.specs.Marked.{CycleKeepsPlan, marked_clocked_device};
 
-    /// Creates a target before its first line reset, with this memory behind its access port and this plan of marks.
+    /// Creates a target before its first line reset, with this device behind its access port and this plan of marks.
     /// DPIDR reads 2ba01477.
-    pub fn new(memory: Memory<A>, quirks: Quirks, plan: Vec<Mark, A>) -> FaultyClocked<A>
+    pub fn new(device: D, quirks: Quirks, plan: Vec<Mark, A>) -> FaultyClocked<D, A>
         requires { IsLegalPlan plan.items }
-        ensures state { marked_clocked_state result ≡ port_made_target 0x2ba0_1477 (bus_of memory) }
-        ensures exact { marked_clocked_simulation result ≡ simulation_made_with quirks memory }
+        ensures state { marked_clocked_state D.bus result ≡ port_made_target 0x2ba0_1477 (D.bus device) }
+        ensures exact { marked_clocked_simulation D.bus result ≡ simulation_made_with quirks (D.bus device) }
+        ensures device { marked_clocked_device result ≡ device }
         ensures frame { marked_clocked_frame result ≡ idle_frame }
         ensures mark { marked_clocked_mark result ≡ Clean }
         ensures unseen { marked_clocked_unseen result ≡ 0 }
@@ -94,7 +95,7 @@ impl<A: Allocator> FaultyClocked<A> {
         ensures contended { marked_clocked_contended result ≡ 0 }
     {
         FaultyClocked {
-            clocked: Clocked::new(memory, quirks),
+            clocked: Clocked::new(device, quirks),
             plan: Plan::new(plan),
             mark: Mark::Clean,
             unseen: 0,
@@ -102,19 +103,26 @@ impl<A: Allocator> FaultyClocked<A> {
         }
     }
 
-    // Consumes the target, and returns its memory and all its marks.
-    pub(crate) fn into_parts(self) -> (Memory<A>, Vec<Mark, A>)
-        ensures memory { (marked_clocked_state self).memory ≡ bus_of result.0 }
+    // Consumes the target, and returns its device and all its marks.
+    pub(crate) fn into_parts(self) -> (D, Vec<Mark, A>)
+        ensures device { result.0 ≡ marked_clocked_device self }
         ensures plan { result.1.items ≡ marked_clocked_plan self }
     {
-        (self.clocked.into_memory(), self.plan.into_marks())
+        (self.clocked.into_device(), self.plan.into_marks())
     }
 
-    /// Returns the memory behind the access port.
-    pub fn memory(&self) -> &Memory<A>
-        ensures { (marked_clocked_state self.now).memory ≡ bus_of result.now }
+    /// Returns the device behind the access port.
+    pub fn device(&self) -> &D
+        ensures { result.now ≡ marked_clocked_device self.now }
     {
-        self.clocked.memory()
+        self.clocked.device()
+    }
+
+    /// Consumes the target, and returns the device behind the access port.
+    pub fn into_device(self) -> D
+        ensures { result ≡ marked_clocked_device self }
+    {
+        self.clocked.into_device()
     }
 
     /// Returns the number of cycles so far, saturating at `u64::MAX`.
@@ -135,7 +143,7 @@ impl<A: Allocator> FaultyClocked<A> {
     /// where it drives, changed if the mark says so; else the host's own, and 1 where nobody drives.
     #[inline(always)]
     pub fn cycle(&mut self, drive: Option<bool>) -> bool
-        ensures cycles { MarkedCycles drive result self.old self.new }
+        ensures cycles { MarkedCycles D.bus drive result self.old self.new }
         ensures count { marked_clocked_cycles self.new ≡ cycles_counted 1 (marked_clocked_cycles self.old) }
         ensures contended { marked_clocked_contended self.new ≡ marked_clocked_contended self.old
             + contended_cycle (marked_clocked_frame self.old) (is_some drive) }
@@ -164,7 +172,7 @@ impl<A: Allocator> FaultyClocked<A> {
     #[inline(never)]
     fn last_bit(&mut self, drive: Option<bool>) -> bool
         requires { self.old.unseen ≡ 0 }
-        ensures meets { CycleMeetsMark drive result self.old self.new }
+        ensures meets { CycleMeetsMark D.bus drive result self.old self.new }
         ensures count { marked_clocked_cycles self.new ≡ cycles_counted 1 (marked_clocked_cycles self.old) }
         ensures contended { marked_clocked_contended self.new ≡ marked_clocked_contended self.old
             + contended_cycle (marked_clocked_frame self.old) (is_some drive) }
@@ -204,7 +212,7 @@ impl<A: Allocator> FaultyClocked<A> {
     #[inline(always)]
     fn reach(&mut self, drive: Option<bool>) -> bool
         requires { self.old.unseen ≡ 0 }
-        ensures reaches { CycleReaches self.old.mark self.old.clocked.waits drive result self.old self.new }
+        ensures reaches { CycleReaches D.bus self.old.mark self.old.clocked.waits drive result self.old self.new }
         ensures keeps { CycleKeepsPlan self.old self.new }
         ensures count { marked_clocked_cycles self.new ≡ cycles_counted 1 (marked_clocked_cycles self.old) }
         ensures contended { marked_clocked_contended self.new ≡ marked_clocked_contended self.old
@@ -229,12 +237,23 @@ impl<A: Allocator> FaultyClocked<A> {
 
     /// Completes the pending DRW transfer, if any. Without the quirk `late` no transfer is ever pending.
     pub fn settle(&mut self)
-        ensures settles { ClockedSettles self.old.clocked self.new.clocked }
+        ensures settles { ClockedSettles D.bus self.old.clocked self.new.clocked }
         ensures keeps { CycleKeepsPlan self.old self.new }
         ensures unseen { marked_clocked_unseen self.new ≡ marked_clocked_unseen self.old }
         ensures cycles { marked_clocked_cycles self.new ≡ marked_clocked_cycles self.old }
         ensures contended { marked_clocked_contended self.new ≡ marked_clocked_contended self.old }
     {
         self.clocked.settle();
+    }
+}
+
+impl<M: Allocator, A: Allocator> FaultyClocked<Memory<M>, A> {
+    ghost use Rattle.swd_clocked.specs.Marked.{marked_clocked_state};
+
+    /// Returns the memory behind the access port.
+    pub fn memory(&self) -> &Memory<M>
+        ensures { (marked_clocked_state bus_of self.now).memory ≡ bus_of result.now }
+    {
+        self.device()
     }
 }

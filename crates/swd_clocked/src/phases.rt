@@ -7,8 +7,9 @@ use crate::frame::Frame;
 use crate::marked::FaultyClocked;
 use std::alloc::Allocator;
 use swd_bits::{Request, SWITCH, SWITCH_BITS};
+use swd_target::Device;
 
-impl<A: Allocator> FaultyClocked<A> {
+impl<D: Device, A: Allocator> FaultyClocked<D, A> {
     ghost use Rattle.swd_clocked.specs.Clocks.{CountsCycles};
     ghost use Rattle.swd_clocked.specs.Frames.{idle_frame, frame_bits, frame_register, reset_cycles};
     ghost use Rattle.swd_clocked.specs.Frames.{IsRisingFrame, rising_frame_ones, IsFallingFrame, falling_frame_zeros};
@@ -20,7 +21,7 @@ impl<A: Allocator> FaultyClocked<A> {
     fn send_request(&mut self, request: Request)
         requires frame { marked_clocked_frame self.old ≡ idle_frame }
         requires heard { marked_clocked_unseen self.old ≡ 0 }
-        ensures sent { CyclesSendRequest request self.old self.new }
+        ensures sent { CyclesSendRequest D.bus request self.old self.new }
         ensures clocks { CountsCycles 8 self.old.clocked self.new.clocked }
     {
         let bits = request.bits();
@@ -50,7 +51,7 @@ impl<A: Allocator> FaultyClocked<A> {
         requires frame { marked_clocked_frame self.old ≡ idle_frame }
         requires heard { marked_clocked_unseen self.old ≡ 0 }
         ensures range { result < 8 }
-        ensures asked { CyclesAskRequest request result self.old self.new }
+        ensures asked { CyclesAskRequest D.bus request result self.old self.new }
         ensures clocks { CountsCycles 12 self.old.clocked self.new.clocked }
     {
         self.send_request(request);
@@ -82,8 +83,8 @@ impl<A: Allocator> FaultyClocked<A> {
             ≡ Frame.Awaits (frame_register (marked_clocked_frame self.old)) port_undriven 0 }
         requires heard { marked_clocked_unseen self.old ≡ 0 }
         requires bits { bits < 2 ^ 33 }
-        ensures brings { CyclesBringData (port_flipped (port_flip_of (marked_clocked_mark self.old)) bits) self.old
-            self.new }
+        ensures brings { CyclesBringData D.bus (port_flipped (port_flip_of (marked_clocked_mark self.old)) bits)
+            self.old self.new }
         ensures clocks { CountsCycles 34 self.old.clocked self.new.clocked }
     {
         let mut rest = bits;
@@ -115,7 +116,7 @@ impl<A: Allocator> FaultyClocked<A> {
         requires some { 0 < rising_frame_ones (marked_clocked_frame self.old) }
         requires least { 50 ≤ ones }
         ensures frame { marked_clocked_frame self.new ≡ Frame.High }
-        ensures leads { CyclesLeadToReset self.old self.new }
+        ensures leads { CyclesLeadToReset D.bus self.old self.new }
         ensures clocks { CountsCycles (reset_cycles ones switch) self.old.clocked self.new.clocked }
     {
         self.send_ones(ones, undriven);
@@ -132,7 +133,7 @@ impl<A: Allocator> FaultyClocked<A> {
         requires enough { rising_frame_ones (marked_clocked_frame self.old) ≤ count }
         requires quiet { rising_frame_ones (marked_clocked_frame self.old) ≤ 50 + undriven }
         ensures frame { marked_clocked_frame self.new ≡ Frame.High }
-        ensures leads { CyclesLeadToReset self.old self.new }
+        ensures leads { CyclesLeadToReset D.bus self.old self.new }
         ensures clocks { CountsCycles count self.old.clocked self.new.clocked }
     {
         for place in 0..count {
@@ -149,7 +150,7 @@ impl<A: Allocator> FaultyClocked<A> {
         ensures frame { IsRisingFrame (marked_clocked_frame self.new) }
         ensures rise { rising_frame_ones (marked_clocked_frame self.new)
             ≡ rising_frame_ones (marked_clocked_frame self.old) - 1 }
-        ensures leads { CyclesLeadToReset self.old self.new }
+        ensures leads { CyclesLeadToReset D.bus self.old self.new }
         ensures clocks { CountsCycles 1 self.old.clocked self.new.clocked }
     {
         let _ = self.cycle(drive);

@@ -4,7 +4,7 @@ use Rattle.std.specs.Prelude.{Option, None, Result, Ok, Err}
 use Rattle.swd_io.specs.Pieces.{IsReaderText}
 use Rattle.swd_port.specs.declared.mark.Mark.{Mark}
 use Rattle.swd_port.specs.PlainMemory.{PlainMemory}
-use Rattle.swd_port.specs.Bus.{plain_of}
+use Rattle.swd_port.specs.Bus.{bus_of, plain_of}
 use Rattle.swd_target.specs.Marks.{IsLegalPlan}
 use Rattle.swd_target.specs.MemoryWords.{target_words_from}
 use Rattle.swd_clocked.specs.Marked.{marked_clocked_state}
@@ -28,7 +28,7 @@ target_command_room words = min (16 * words + 65536) (2 ^ 32 - 1 - words)
 -- The pins before the host moved any. Their target has the marks of a plan and the words of these bytes from an address
 -- on, no other word, and the room of a session.
 pub record TargetCommandHasBytes {A : Type 0} (base : ℕ) (bytes : List ℕ) (marks : List Mark) (trace : Trace A)
-    (pins : Pins A) : Type 0 where
+    (pins : Pins PlainMemory A) : Type 0 where
   pub memory : PlainMemory
   pub words : memory.words ≡ target_words_from base (image_end_words_in bytes)
   pub room : ImageEndHasRoom (length bytes / 4) (target_command_room (length bytes / 4)) memory
@@ -42,13 +42,14 @@ IsTargetCommandStatus served Whole (Err error) status = status ≡ error
 
 -- A host was served at these pins. Then `count` bytes of the target's memory were written to its file, whatever ended
 -- the session.
-pub record TargetCommandServes {A : Type 0} (s : Pins A) (base count status : ℕ)
+pub record TargetCommandServes {A : Type 0} (s : Pins PlainMemory A) (base count status : ℕ)
     (text left old new file_old file_new : Option (List ℕ)) : Type 0 where
   pub served : Served
-  pub after : Pins A
-  pub session : BitbangServes served text left old new s after
+  pub after : Pins PlainMemory A
+  pub session : BitbangServes bus_of served text left old new s after
   pub wrote : Result (Unit {0}) ℕ
-  pub written : CommandWritesBack (plain_of (marked_clocked_state after.target).memory) base count wrote file_old file_new
+  pub written : CommandWritesBack (plain_of (marked_clocked_state bus_of after.target).memory) base count wrote file_old
+      file_new
   pub is : IsTargetCommandStatus served (is_pins_trace_cut_off after.trace ≡ false) wrote status
 
 module _ (A : Type 0) (status : ℕ) (text left old new : Option (List ℕ)) where
@@ -57,7 +58,7 @@ module _ (A : Type 0) (status : ℕ) (text left old new : Option (List ℕ)) whe
   abbrev pub ServesBytes : ℕ → List ℕ → List Mark → Type 0
   ServesBytes base bytes marks =
       CommandNotOpened status old new
-      ⊎ ((s : Pins A) × (trace : Trace A) × TargetCommandHasBytes base bytes marks trace s
+      ⊎ ((s : Pins PlainMemory A) × (trace : Trace A) × TargetCommandHasBytes base bytes marks trace s
       × (file_old : Option (List ℕ))
       × (file_new : Option (List ℕ)) × TargetCommandServes s base (length bytes) status text left old new file_old
       file_new)

@@ -5,7 +5,7 @@ use Rattle.std.specs.Io.KnownBytes.{Appends}
 use Rattle.swd_io.specs.Pieces.{IsReaderText}
 use Rattle.swd_port.specs.declared.mark.Mark.{Mark}
 use Rattle.swd_port.specs.PlainMemory.{PlainMemory}
-use Rattle.swd_port.specs.Bus.{plain_of}
+use Rattle.swd_port.specs.Bus.{bus_of, plain_of}
 use Rattle.swd_target.specs.declared.bench.Bench.{Bench}
 use Rattle.swd_target.specs.Benches.{bench_plan, bench_port}
 use Rattle.swd_target.specs.MemoryWords.{target_words_from}
@@ -28,11 +28,11 @@ use Rattle.swd_commands.specs.Images.{AreCommandPieces, IsCommandDumped, command
 use Rattle.swd_commands.specs.Images.{command_status_of_image, command_status_loaded, command_status_verified}
 
 -- a target at rest with this plan, whose memory has the words of these bytes from an address on, and no other word
-pub record SimulatesCommandTarget {A : Type 0} (base : ℕ) (bytes : List ℕ) (marks : List Mark) (s : Bench A) : Type 0
-  where
-    pub words : (plain_of (bench_port s).target.memory).words ≡ target_words_from base (image_end_words_in bytes)
-    pub rests : IsAtRest (bench_port s)
-    pub plan : bench_plan s ≡ marks
+pub record SimulatesCommandTarget {A : Type 0} (base : ℕ) (bytes : List ℕ) (marks : List Mark)
+    (s : Bench PlainMemory A) : Type 0 where
+  pub words : (plain_of (bench_port bus_of s).target.memory).words ≡ target_words_from base (image_end_words_in bytes)
+  pub rests : IsAtRest (bench_port bus_of s)
+  pub plan : bench_plan s ≡ marks
 
 -- `count` bytes of a memory were written to its file, or only the first of them with the status 2
 abbrev pub CommandWritesBack : PlainMemory → ℕ → ℕ → Result (Unit {0}) ℕ → Option (List ℕ) → Option (List ℕ) → Type 0
@@ -47,51 +47,64 @@ IsSimulatedCommandStatus status (Err error) own = own ≡ error
 
 -- The pieces were loaded at a target s, or not all of them. Its memory after that was written to its file, whatever the
 -- answer is. If a file is named for the reports of the calls, it had the contents `blank` and has `filled` now.
-pub record LoadCommandSimulated {A : Type 0} (image : ImageLine) (pieces : List ImageFileBytes) (s : Bench A)
+pub record LoadCommandSimulated {A : Type 0} (image : ImageLine) (pieces : List ImageFileBytes)
+    (s : Bench PlainMemory A)
     (base count status : ℕ) (old new : Option (List ℕ)) : Type 0 where
   pub answer : Result (Unit {0}) ImageFault
-  pub after : Bench A
-  pub memory : OnOk answer (LoadsSimulatedMemory pieces (plain_of (bench_port s).target.memory) (plain_of (bench_port after).target.memory))
-  pub calls : OnOk answer (LoadsAll bench_port bench_plan AnyImageWire image.tries image.resumes pieces s after)
-  pub fault : IfErr answer (LoadFailsAt bench_port bench_plan AnyImageWire image.tries image.resumes pieces s after)
-  pub blank : Option (Option (List ℕ))
-  pub filled : Option (Option (List ℕ))
-  pub named : is_some blank ≡ is_some image.report
-  pub report : LoadsReported bench_port bench_plan AnyImageWire image.tries image.resumes pieces (image_fault_of answer)
-      s after blank filled
-  pub wrote : Result (Unit {0}) ℕ
-  pub written : CommandWritesBack (plain_of (bench_port after).target.memory) base count wrote old new
-  pub is : IsSimulatedCommandStatus (command_status_of_image command_status_loaded None answer) wrote status
-
--- the memory of a target s was compared with the pieces, or a call failed
-pub record VerifyCommandSimulated {A : Type 0} (image : ImageLine) (pieces : List ImageFileBytes) (s : Bench A)
-    (status : ℕ) : Type 0 where
-  pub answer : Result (Option ByteDifference) ImageFault
-  pub after : Bench A
-  pub memory : IfOk answer (λ difference. VerifiesSimulatedMemory pieces difference (plain_of (bench_port s).target.memory)
-      (plain_of (bench_port after).target.memory))
-  pub calls : IfOk answer (λ difference. VerifiesAll bench_port bench_plan AnyImageWire image.tries image.resumes pieces
-      difference s after)
-  pub fault : IfErr answer (VerifyFailsAt bench_port bench_plan AnyImageWire image.tries image.resumes pieces s after)
-  pub blank : Option (Option (List ℕ))
-  pub filled : Option (Option (List ℕ))
-  pub named : is_some blank ≡ is_some image.report
-  pub report : VerifiesReported bench_port bench_plan AnyImageWire image.tries image.resumes pieces answer s after blank
-      filled
-  pub is : status ≡ command_status_of_image command_status_verified None answer
-
--- `count` bytes of the memory of a target s were read and written to a file, or a call failed
-pub record DumpCommandSimulated {A : Type 0} (image : ImageLine) (count : ℕ) (s : Bench A) (status : ℕ) : Type 0 where
-  pub answer : Result (List ℕ) ImageFault
-  pub after : Bench A
-  pub memory : IfOk answer (λ bytes. DumpsSimulatedMemory image.addr count bytes (plain_of (bench_port s).target.memory)
-      (plain_of (bench_port after).target.memory))
-  pub fault : IfErr answer (DumpFails bench_port bench_plan AnyImageWire image.tries image.resumes image.addr count s
+  pub after : Bench PlainMemory A
+  pub memory : OnOk answer (LoadsSimulatedMemory pieces (plain_of (bench_port bus_of s).target.memory)
+      (plain_of (bench_port bus_of after).target.memory))
+  pub calls : OnOk answer (LoadsAll (bench_port bus_of) bench_plan AnyImageWire image.tries image.resumes pieces s
+      after)
+  pub fault : IfErr answer (LoadFailsAt (bench_port bus_of) bench_plan AnyImageWire image.tries image.resumes pieces s
       after)
   pub blank : Option (Option (List ℕ))
   pub filled : Option (Option (List ℕ))
   pub named : is_some blank ≡ is_some image.report
-  pub report : DumpReports bench_port bench_plan AnyImageWire image.tries image.resumes image.addr count
+  pub report : LoadsReported (bench_port bus_of) bench_plan AnyImageWire image.tries image.resumes pieces
+      (image_fault_of answer)
+      s after blank filled
+  pub wrote : Result (Unit {0}) ℕ
+  pub written : CommandWritesBack (plain_of (bench_port bus_of after).target.memory) base count wrote old new
+  pub is : IsSimulatedCommandStatus (command_status_of_image command_status_loaded None answer) wrote status
+
+-- the memory of a target s was compared with the pieces, or a call failed
+pub record VerifyCommandSimulated {A : Type 0} (image : ImageLine) (pieces : List ImageFileBytes)
+    (s : Bench PlainMemory A)
+    (status : ℕ) : Type 0 where
+  pub answer : Result (Option ByteDifference) ImageFault
+  pub after : Bench PlainMemory A
+  pub memory : IfOk answer (λ difference. VerifiesSimulatedMemory pieces difference
+      (plain_of (bench_port bus_of s).target.memory)
+      (plain_of (bench_port bus_of after).target.memory))
+  pub calls : IfOk answer (λ difference. VerifiesAll (bench_port bus_of) bench_plan AnyImageWire image.tries
+      image.resumes pieces
+      difference s after)
+  pub fault : IfErr answer (VerifyFailsAt (bench_port bus_of) bench_plan AnyImageWire image.tries image.resumes pieces s
+      after)
+  pub blank : Option (Option (List ℕ))
+  pub filled : Option (Option (List ℕ))
+  pub named : is_some blank ≡ is_some image.report
+  pub report : VerifiesReported (bench_port bus_of) bench_plan AnyImageWire image.tries image.resumes pieces answer s
+      after blank
+      filled
+  pub is : status ≡ command_status_of_image command_status_verified None answer
+
+-- `count` bytes of the memory of a target s were read and written to a file, or a call failed
+pub record DumpCommandSimulated {A : Type 0} (image : ImageLine) (count : ℕ) (s : Bench PlainMemory A)
+    (status : ℕ) : Type 0 where
+  pub answer : Result (List ℕ) ImageFault
+  pub after : Bench PlainMemory A
+  pub memory : IfOk answer (λ bytes. DumpsSimulatedMemory image.addr count bytes
+      (plain_of (bench_port bus_of s).target.memory)
+      (plain_of (bench_port bus_of after).target.memory))
+  pub fault : IfErr answer (DumpFails (bench_port bus_of) bench_plan AnyImageWire image.tries image.resumes image.addr
+      count s
+      after)
+  pub blank : Option (Option (List ℕ))
+  pub filled : Option (Option (List ℕ))
+  pub named : is_some blank ≡ is_some image.report
+  pub report : DumpReports (bench_port bus_of) bench_plan AnyImageWire image.tries image.resumes image.addr count
       (image_fault_of answer) s after blank filled
   pub dumped : IsCommandDumped image.format image.addr (command_result_reached None answer) status
 
@@ -102,7 +115,7 @@ module _ (A : Type 0) (image : ImageLine) where
     abbrev pub SimulatesLoad : Type 0
     SimulatesLoad =
         (status ≡ 2)
-        ⊎ ((s : Bench A) × SimulatesCommandTarget base bytes marks s × (pieces : List ImageFileBytes)
+        ⊎ ((s : Bench PlainMemory A) × SimulatesCommandTarget base bytes marks s × (pieces : List ImageFileBytes)
         × AreCommandPieces image pieces
         × (old : Option (List ℕ)) × (new : Option (List ℕ))
         × LoadCommandSimulated image pieces s base (length bytes) status old new)
@@ -111,14 +124,14 @@ module _ (A : Type 0) (image : ImageLine) where
     abbrev pub SimulatesVerify : Type 0
     SimulatesVerify =
         (status ≡ 2)
-        ⊎ ((s : Bench A) × SimulatesCommandTarget base bytes marks s × (pieces : List ImageFileBytes)
+        ⊎ ((s : Bench PlainMemory A) × SimulatesCommandTarget base bytes marks s × (pieces : List ImageFileBytes)
         × AreCommandPieces image pieces
         × VerifyCommandSimulated image pieces s status)
 
   -- `count` bytes of the memory were written to a file
   abbrev pub SimulatesDump : ℕ → ℕ → List ℕ → List Mark → ℕ → Type 0
   SimulatesDump count base bytes marks status =
-      (status ≡ 2) ⊎ ((s : Bench A) × SimulatesCommandTarget base bytes marks s
+      (status ≡ 2) ⊎ ((s : Bench PlainMemory A) × SimulatesCommandTarget base bytes marks s
       × DumpCommandSimulated image count s status)
 
   -- what the arguments ask for

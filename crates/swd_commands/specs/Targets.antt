@@ -3,6 +3,8 @@ use Rattle.std.specs.Prelude.{ℕ, ◌≡◌, ◌⊎◌, false, List, Option}
 use Rattle.swd_bitbang.specs.declared.serving.Served.{Served}
 use Rattle.swd_bitbang.specs.declared.serving.Served.TheVariants.{Quit, Ended}
 use Rattle.swd_bitbang.specs.declared.trace.Trace.{Trace}
+use Rattle.swd_port.specs.PlainMemory.{PlainMemory}
+use Rattle.swd_port.specs.Bus.{bus_of}
 use Rattle.swd_bitbang.specs.declared.pins.Pins.{Pins}
 use Rattle.swd_bitbang.specs.Sessions.{BitbangServes}
 use Rattle.swd_bitbang.specs.Traces.{is_pins_trace_cut_off}
@@ -20,6 +22,7 @@ abbrev pub TargetCommandServesHost : (A : Type 0) → ℕ → Option (List ℕ) 
     → Option (List ℕ) → Option (List ℕ) → Option (List ℕ) → Type 0
 TargetCommandServesHost A status script plan text left old new =
     CommandNotOpened status old new
-    ⊎ ((served : Served) × (trace : Trace A) × (s : Pins A) × (t : Pins A) × SimulatesTargetEnd script plan trace s
-    × BitbangServes served text left old new s t
+    ⊎ ((served : Served) × (trace : Trace A) × (s : Pins PlainMemory A) × (t : Pins PlainMemory A) × SimulatesTargetEnd
+    script plan trace s
+    × BitbangServes bus_of served text left old new s t
     × IsServedCommandStatus served (is_pins_trace_cut_off t.trace ≡ false) status)

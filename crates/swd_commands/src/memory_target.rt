@@ -191,7 +191,7 @@ fn serve_over<I: Read + KeepsError, F: Files, O: Write + KeepsError, E: Write, A
     alloc: A,
     target: &TargetLine,
     memory: &MemoryLine,
-    pins: Pins<A>,
+    pins: Pins<Memory<A>, A>,
     count: u64,
     records: (Option<Watched<F::Made>>, Option<Watched<F::Made>>),
     input: &mut I,

@@ -1,6 +1,7 @@
 //! Performs `swd load`, `swd verify` and `swd dump` at a simulated target, whose memory is in a file.
 ghost use Rattle.std.specs.Prelude.{◌≡◌, ◌+◌, ◌≤◌, ◌^◌, [], ℕ, IfErr, IfOk, List, None, Option, is_some};
 ghost use Rattle.swd_host.specs.Reports.{IsAtRest};
+ghost use Rattle.swd_port.specs.Bus.{bus_of};
 ghost use Rattle.swd_target.specs.Benches.{bench_port};
 ghost use Rattle.swd_target.specs.Marks.{IsLegalPlan};
 ghost use Rattle.swd_image_ends.specs.Memories.{AreImageEndWholeWords};
@@ -26,7 +27,7 @@ use std::io::{Read, Write};
 use swd_image_ends::{dump_simulated, load_simulated, simulated_target, verify_simulated};
 use swd_image_files::Image;
 use swd_port::Mark;
-use swd_target::Bench;
+use swd_target::{Bench, Memory};
 use swd_words::{ImageAction, ImageLine, MemoryLine};
 
 /// Opens the memory's file, and performs a command over an image at the simulated target that has it. Returns the
@@ -157,7 +158,7 @@ fn target_of<E: Write, A: Allocator + Copy>(
     spare: u32,
     marks: Vec<Mark, A>,
     errors: &mut E,
-) -> Result<Bench<A>, u8>
+) -> Result<Bench<Memory<A>, A>, u8>
     requires whole { AreImageEndWholeWords memory.now.base bytes.now }
     requires plan { IsLegalPlan marks.items }
     ensures target { IfOk result (SimulatesCommandTarget memory.now.base bytes.now marks.items) }
@@ -241,14 +242,14 @@ fn load_over<F: Files, E: Write, A: Allocator + Copy>(
     image: &ImageLine,
     memory: &MemoryLine,
     whole: &Image<A>,
-    mut bench: Bench<A>,
+    mut bench: Bench<Memory<A>, A>,
     count: u64,
     files: &F,
     file: &mut F::Made,
     opened: Option<Option<F::Made>>,
     errors: &mut E,
 ) -> u8
-    requires rests { IsAtRest (bench_port bench) }
+    requires rests { IsAtRest (bench_port bus_of bench) }
     requires fits { memory.now.base + count ≤ 2 ^ 32 }
     requires named { is_some opened ≡ is_some image.now.report }
     ensures { LoadCommandSimulated image.now (pieces_to_load whole.now) bench memory.now.base count result
@@ -302,11 +303,11 @@ fn verify_over<M: Write + Drop, E: Write, A: Allocator + Copy>(
     alloc: A,
     image: &ImageLine,
     whole: &Image<A>,
-    mut bench: Bench<A>,
+    mut bench: Bench<Memory<A>, A>,
     opened: Option<Option<M>>,
     errors: &mut E,
 ) -> u8
-    requires rests { IsAtRest (bench_port bench) }
+    requires rests { IsAtRest (bench_port bus_of bench) }
     requires named { is_some opened ≡ is_some image.now.report }
     ensures { VerifyCommandSimulated image.now (pieces_to_load whole.now) bench result }
 {
@@ -355,13 +356,13 @@ fn dump_over<F: Files, E: Write, A: Allocator + Copy>(
     alloc: A,
     image: &ImageLine,
     count: u32,
-    mut bench: Bench<A>,
+    mut bench: Bench<Memory<A>, A>,
     files: &F,
     file: &mut F::Made,
     opened: Option<Option<F::Made>>,
     errors: &mut E,
 ) -> u8
-    requires rests { IsAtRest (bench_port bench) }
+    requires rests { IsAtRest (bench_port bus_of bench) }
     requires named { is_some opened ≡ is_some image.now.report }
     ensures { DumpCommandSimulated image.now count bench result }
 {

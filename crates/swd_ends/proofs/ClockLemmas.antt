@@ -4,6 +4,7 @@ use Rattle.std.proofs.Common.{◌∷◌, ◌++◌, length, take, map, Option, So
 use Rattle.std.specs.Prelude.{◌==◌, replicate}
 use Rattle.std.proofs.lemmas.Nat.{one_shl}
 use Rattle.std.proofs.lemmas.List.{length-append, take-append-le, take_all}
+use Rattle.swd_port.specs.Bus.{Bus}
 use Rattle.swd_bits.specs.Bits.{low_bits, bit}
 use Rattle.swd_bits.proofs.BitsLemmas.{low_bits-cat, length-low_bits}
 use Rattle.swd_clocked.specs.declared.marked.FaultyClocked.{FaultyClocked}
@@ -54,17 +55,19 @@ clocked_probe_all_alike count drive =
     ap (λ k. replicate k drive) e
 
 -- a clock, and those behind it
-pub clocked_probe_one_cycle : {A : Type 0} (all left : List (Option Bool)) (drive : Option Bool) (level : Bool)
-    (seen : List Bool) (s m t : FaultyClocked A)
-    → all ≡ drive ∷ left → ClockedProbeCycle drive level s m → ClockedProbeCycles left seen m t
-    → ClockedProbeCycles all (level ∷ seen) s t
-clocked_probe_one_cycle all left drive level seen s m t e one more =
-    subst (λ x. ClockedProbeCycles x (level ∷ seen) s t) (sym e) (m, one, more)
+pub clocked_probe_one_cycle : {D A : Type 0} (bus : D → Bus) (all left : List (Option Bool)) (drive : Option Bool)
+    (level : Bool)
+    (seen : List Bool) (s m t : FaultyClocked D A)
+    → all ≡ drive ∷ left → ClockedProbeCycle bus drive level s m → ClockedProbeCycles bus left seen m t
+    → ClockedProbeCycles bus all (level ∷ seen) s t
+clocked_probe_one_cycle bus all left drive level seen s m t e one more =
+    subst (λ x. ClockedProbeCycles bus x (level ∷ seen) s t) (sym e) (m, one, more)
 
 -- without a clock nothing changes
-pub clocked_probe_no_cycle : {A : Type 0} (all : List (Option Bool)) (s : FaultyClocked A) → all ≡ []
-    → ClockedProbeCycles all [] s s
-clocked_probe_no_cycle all s e = subst (λ x. ClockedProbeCycles x [] s s) (sym e) refl
+pub clocked_probe_no_cycle : {D A : Type 0} (bus : D → Bus) (all : List (Option Bool)) (s : FaultyClocked D A) → all ≡
+    []
+    → ClockedProbeCycles bus all [] s s
+clocked_probe_no_cycle bus all s e = subst (λ x. ClockedProbeCycles bus x [] s s) (sym e) refl
 
 -- one level more above those that wait
 level_above : (n levels : ℕ) (b : Bool) → n < 64 → levels < 2 ^ n

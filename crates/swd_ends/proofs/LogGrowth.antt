@@ -19,6 +19,7 @@ use Rattle.swd_port.specs.declared.state.AfterAck.TheVariants as lines
 use Rattle.swd_port.specs.declared.state.Reply.{Reply}
 use Rattle.swd_port.specs.declared.state.Reply.TheVariants.{Okay, Waits, Faults, Silent}
 use Rattle.swd_port.specs.declared.mark.Mark.TheVariants.{Clean, Wait}
+use Rattle.swd_port.specs.PlainMemory.{PlainMemory}
 use Rattle.swd_port.specs.Bus.{Bus, bus_of, bus_succeeds, bus_transfer_of}
 use Rattle.swd_port.specs.Port.{Port, Target as State, PortTally, port_idle_link}
 use Rattle.swd_port.specs.Choices.{Choice, IsPortMark, is_port_deaf, is_port_wait}
@@ -141,8 +142,9 @@ mark_for : (w : Bool) → (mark : Mark) × IsPortMark mark × (is_port_deaf mark
 mark_for true = (Wait, tt, refl, refl)
 mark_for false = (Clean, tt, refl, refl)
 
-answers_grow : {A : Type 0} (w : Bool) (q : Request) (s : Target A) (reply : Reply) (phase : AfterAck) (t : Target A)
-    → TargetAnswers w q s reply phase t → LiveLogGrows s.memory.log t.memory.log
+answers_grow : (w : Bool) (q : Request) (s : Target PlainMemory) (reply : Reply) (phase : AfterAck)
+    (t : Target PlainMemory)
+    → TargetAnswers bus_of w q s reply phase t → LiveLogGrows s.device.log t.device.log
 answers_grow w q s reply phase t h =
     let m = mark_for w in
     let none : PortTally = record { asked = 0; disturbed = 0; lost = 0 } in
@@ -156,24 +158,26 @@ answers_grow w q s reply phase t h =
     live_log_grows_further _ a.target.memory.log _ before
     (live_log_grows_further _ b.target.memory.log _ (grows_same _ _ now) after)
 
-data_grows : {A : Type 0} (a : PortArrival) (s t : Target A) → DataComes a s t → LiveLogGrows s.memory.log t.memory.log
+data_grows : (a : PortArrival) (s t : Target PlainMemory) → DataComes bus_of a s t → LiveLogGrows s.device.log
+    t.device.log
 data_grows a s t h = elim h.later [
   | inl e ↦ grows_same _ _ (ap (λ (x : State). x.memory.log) e)
-  | inr f ↦ subst (λ (l : List Transfer). LiveLogGrows s.memory.log l) (sym (ap (λ (x : State). x.memory.log) f.2))
-      (memory_grows _ _ (bus_of s.memory))
+  | inr f ↦ subst (λ (l : List Transfer). LiveLogGrows s.device.log l) (sym (ap (λ (x : State). x.memory.log) f.2))
+      (memory_grows _ _ (bus_of s.device))
 ]
 
 -- A CYCLE
 
 -- the log grew, and the frame is one that cycles lead to
-record After {A : Type 0} (s : Target A) (t : Clocked A) : Type 0 where
-  grows : LiveLogGrows s.memory.log t.target.memory.log
+record After (s : Target PlainMemory) (t : Clocked PlainMemory) : Type 0 where
+  grows : LiveLogGrows s.device.log t.target.device.log
   sound : IsLiveFrameSound t.frame
 
-moved : {A : Type 0} (f : Frame) (s : Target A) (w : Bool) (t : Clocked A) → IsLiveFrameSound f → FrameMoved f s w t
+moved : (f : Frame) (s : Target PlainMemory) (w : Bool) (t : Clocked PlainMemory) → IsLiveFrameSound f → FrameMoved f s
+    w t
     → After s t
 moved f s w t sound h = record {
-  grows = grows_same _ _ (ap (λ (x : Target _). x.memory.log) h.target);
+  grows = grows_same _ _ (ap (λ (x : Target _). x.device.log) h.target);
   sound = subst IsLiveFrameSound (sym h.frame) sound;
 }
 
@@ -197,7 +201,8 @@ sound_switched : (last : Bool) (place : ℕ) → IsLiveFrameSound (if last then 
 sound_switched true place = tt
 sound_switched false place = λ e. absurd (omega arith)
 
-byte_grows : {A : Type 0} (byte : ℕ) (s : Target A) (w : Bool) (t : Clocked A) → ClockedByteCame byte s w t → After s t
+byte_grows : (byte : ℕ) (s : Target PlainMemory) (w : Bool) (t : Clocked PlainMemory) → ClockedByteCame bus_of byte s w
+    t → After s t
 byte_grows byte s w t h = elim (request_or_none (low_bits 8 byte))
     as (λ (_ : ((q : Request) × (bits_of_request q ≡ low_bits 8 byte))
     ⊎ ((q : Request) → bits_of_request q ≢ low_bits 8 byte)). After s t) [
@@ -208,21 +213,21 @@ byte_grows byte s w t h = elim (request_or_none (low_bits 8 byte))
       | inr n ↦ moved _ s w t tt (h.broken n)
     ]
 
-asks_on : {A : Type 0} (bits count : ℕ) (b : Bool) (s : Target A) (w : Bool) (t : Clocked A) → count < 8
-    → (count ≡ 0 → b ≡ true) → AsksCycle bits count b s w t → After s t
+asks_on : (bits count : ℕ) (b : Bool) (s : Target PlainMemory) (w : Bool) (t : Clocked PlainMemory) → count < 8
+    → (count ≡ 0 → b ≡ true) → AsksCycle bus_of bits count b s w t → After s t
 asks_on bits count b s w t l first h = elim (cases_lt count 7) as (λ (_ : (count < 7) ⊎ (7 ≤ count)). After s t) [
   | inl m ↦ moved _ s w t tt (h.more m first)
   | inr g ↦ byte_grows _ s w t (h.whole (omega arith))
 ]
 
-asks_grow : {A : Type 0} (bits count : ℕ) (b : Bool) (s : Target A) (w : Bool) (t : Clocked A) → count < 8
-    → AsksCycle bits count b s w t → After s t
+asks_grow : (bits count : ℕ) (b : Bool) (s : Target PlainMemory) (w : Bool) (t : Clocked PlainMemory) → count < 8
+    → AsksCycle bus_of bits count b s w t → After s t
 asks_grow bits count true s w t l h = asks_on bits count true s w t l (λ e. refl) h
 asks_grow bits zero false s w t l h = moved idle_frame s w t tt (h.quiet refl refl)
 asks_grow bits (suc n) false s w t l h = asks_on bits (suc n) false s w t l (λ e. absurd (omega arith)) h
 
-lost_grow : {A : Type 0} (ones : ℕ) (b : Bool) (s : Target A) (w : Bool) (t : Clocked A) → ones < 50
-    → LostCycle ones b s w t → After s t
+lost_grow : (ones : ℕ) (b : Bool) (s : Target PlainMemory) (w : Bool) (t : Clocked PlainMemory) → ones < 50
+    → LostCycle bus_of ones b s w t → After s t
 lost_grow ones false s w t l h = moved _ s w t tt (h.low refl)
 lost_grow ones true s w t l h = elim (cases_lt ones 49) as (λ (_ : (ones < 49) ⊎ (49 ≤ ones)). After s t) [
   | inl m ↦ moved _ s w t tt (h.more m refl)
@@ -238,8 +243,8 @@ IsHeard (Asks bits count) = count < 8
 IsHeard (Lost ones) = ones < 50
 IsHeard frame = ⊥
 
-heard_grow : {A : Type 0} (f : Frame) (b : Bool) (s : Target A) (w : Bool) (t : Clocked A) → IsHeard f
-    → HeardCycle f b s w t → After s t
+heard_grow : (f : Frame) (b : Bool) (s : Target PlainMemory) (w : Bool) (t : Clocked PlainMemory) → IsHeard f
+    → HeardCycle bus_of f b s w t → After s t
 heard_grow (Asks bits count) b s w t l h = asks_grow bits count b s w t l h
 heard_grow (Lost ones) b s w t l h = lost_grow ones b s w t l h
 heard_grow High b s w t l h = absurd l
@@ -261,10 +266,13 @@ unswitched_heard (suc (suc (suc (suc (suc zero))))) l n = omega arith
 unswitched_heard (suc (suc (suc (suc (suc (suc zero)))))) l n = omega arith
 unswitched_heard (suc (suc (suc (suc (suc (suc (suc zero))))))) l n = omega arith
 unswitched_heard (suc (suc (suc (suc (suc (suc (suc (suc zero)))))))) l n = omega arith
-unswitched_heard (suc (suc (suc (suc (suc (suc (suc (suc (suc zero))))))))) l n = let two : clocked_ones_at_end 207 ≡ 2 = refl in omega arith
-unswitched_heard (suc (suc (suc (suc (suc (suc (suc (suc (suc (suc zero)))))))))) l n = let two : clocked_ones_at_end 207 ≡ 2
+unswitched_heard (suc (suc (suc (suc (suc (suc (suc (suc (suc zero))))))))) l n = let two : clocked_ones_at_end 207 ≡ 2
     = refl in omega arith
-unswitched_heard (suc (suc (suc (suc (suc (suc (suc (suc (suc (suc (suc zero))))))))))) l n = let two : clocked_ones_at_end
+unswitched_heard (suc (suc (suc (suc (suc (suc (suc (suc (suc (suc zero)))))))))) l n = let two : clocked_ones_at_end
+    207 ≡ 2
+    = refl in omega arith
+unswitched_heard (suc (suc (suc (suc (suc (suc (suc (suc (suc (suc (suc zero))))))))))) l n = let two :
+    clocked_ones_at_end
     207 ≡ 2 = refl in omega arith
 unswitched_heard (suc (suc (suc (suc (suc (suc (suc (suc (suc (suc (suc (suc zero)))))))))))) l n = omega arith
 unswitched_heard (suc (suc (suc (suc (suc (suc (suc (suc (suc (suc (suc (suc (suc zero))))))))))))) l n = omega arith
@@ -275,16 +283,16 @@ unswitched_heard (suc (suc (suc (suc (suc (suc (suc (suc (suc (suc (suc (suc (su
 unswitched_heard (suc (suc (suc (suc (suc (suc (suc (suc (suc (suc (suc (suc (suc (suc (suc (suc n)))))))))))))))) l
     e = absurd (omega arith)
 
-switches_grow : {A : Type 0} (place : ℕ) (b : Bool) (s : Target A) (w : Bool) (t : Clocked A) → place < 16
-    → (place ≡ 0 → ⊥) → SwitchCycle place b s w t → After s t
+switches_grow : (place : ℕ) (b : Bool) (s : Target PlainMemory) (w : Bool) (t : Clocked PlainMemory) → place < 16
+    → (place ≡ 0 → ⊥) → SwitchCycle bus_of place b s w t → After s t
 switches_grow place b s w t l sound h = elim (bool_same b (switch_cycle_bit place))
     as (λ (_ : (b ≡ switch_cycle_bit place) ⊎ (b ≢ switch_cycle_bit place)). After s t) [
       | inl e ↦ moved _ s w t (sound_switched (place == 15) place) (h.fits e)
       | inr n ↦ heard_grow (unswitched_frame place) b s w t (unswitched_heard place l sound) (h.differs n)
     ]
 
-awaits_grow : {A : Type 0} (r : Register) (bits place : ℕ) (b : Bool) (s : Target A) (w : Bool) (t : Clocked A)
-    → place < 34 → AwaitsCycle r bits place b s w t → After s t
+awaits_grow : (r : Register) (bits place : ℕ) (b : Bool) (s : Target PlainMemory) (w : Bool) (t : Clocked PlainMemory)
+    → place < 34 → AwaitsCycle bus_of r bits place b s w t → After s t
 awaits_grow r bits zero b s w t l h = moved _ s w t tt (h.turn refl)
 awaits_grow r bits (suc n) b s w t l h = elim (cases_lt (suc n) 33)
     as (λ (_ : (suc n < 33) ⊎ (33 ≤ suc n)). After s t) [
@@ -295,7 +303,7 @@ awaits_grow r bits (suc n) b s w t l h = elim (cases_lt (suc n) 33)
       })
     ]
 
-drives_grow : {A : Type 0} (bits left : ℕ) (b answer : Bool) (s : Target A) (w : Bool) (t : Clocked A)
+drives_grow : (bits left : ℕ) (b answer : Bool) (s : Target PlainMemory) (w : Bool) (t : Clocked PlainMemory)
     → DrivesCycle bits left b answer s w t → After s t
 drives_grow bits zero b answer s w t h = moved _ s w t tt (h.turn refl).1
 drives_grow bits (suc n) b answer s w t h = moved _ s w t tt (h.more (λ e. absurd (omega arith)))
@@ -304,8 +312,8 @@ if_high : (b : Bool) → IsLiveFrameSound (if b then High else Switches 1)
 if_high true = tt
 if_high false = λ e. absurd (omega arith)
 
-cycle_grows : {A : Type 0} (f : Frame) (b answer : Bool) (s : Target A) (w : Bool) (t : Clocked A)
-    → frame_place f < frame_limit f → IsLiveFrameSound f → Cycles f b answer s w t → After s t
+cycle_grows : (f : Frame) (b answer : Bool) (s : Target PlainMemory) (w : Bool) (t : Clocked PlainMemory)
+    → frame_place f < frame_limit f → IsLiveFrameSound f → Cycles bus_of f b answer s w t → After s t
 cycle_grows (Asks bits count) b answer s w t l sound h = asks_grow bits count b s w t l h.1
 cycle_grows (Lost ones) b answer s w t l sound h = lost_grow ones b s w t l h.1
 cycle_grows High b answer s w t l sound h = moved _ s w t (if_high b) h.1
@@ -346,23 +354,25 @@ last_or_not (Drives bits left) b = inr (λ q l. l)
 last_or_not (Awaits r bits place) b = inr (λ q l. l)
 last_or_not Passes b = inr (λ q l. l)
 
-reached : {A : Type 0} (m : Mark) (w : Bool) (drive : Option Bool) (answer : Bool) (s t : FaultyClocked A)
-    → IsLiveFrameSound s.clocked.frame → marked.CycleReaches m w drive answer s t → After s.clocked.target t.clocked
+reached : {A : Type 0} (m : Mark) (w : Bool) (drive : Option Bool) (answer : Bool) (s t : FaultyClocked PlainMemory A)
+    → IsLiveFrameSound s.clocked.frame → marked.CycleReaches bus_of m w drive answer s t → After s.clocked.target
+    t.clocked
 reached m w drive answer s t sound h =
     cycle_grows s.clocked.frame _ h.bit s.clocked.target w t.clocked s.clocked.place sound h.cycles
 
-missed : {A : Type 0} (more : ℕ) (drive : Option Bool) (answer : Bool) (s t : FaultyClocked A)
+missed : {A : Type 0} (more : ℕ) (drive : Option Bool) (answer : Bool) (s t : FaultyClocked PlainMemory A)
     → marked.CycleMisses more drive answer s t → After s.clocked.target t.clocked
 missed more drive answer s t h = moved idle_frame s.clocked.target s.clocked.waits t.clocked tt h.moved
 
-met : {A : Type 0} (deaf : Bool) (drive : Option Bool) (answer : Bool) (s t : FaultyClocked A)
+met : {A : Type 0} (deaf : Bool) (drive : Option Bool) (answer : Bool) (s t : FaultyClocked PlainMemory A)
     → is_port_deaf t.mark ≡ deaf
-    → IsLiveFrameSound s.clocked.frame → marked.CycleMeetsMark drive answer s t → After s.clocked.target t.clocked
+    → IsLiveFrameSound s.clocked.frame → marked.CycleMeetsMark bus_of drive answer s t → After s.clocked.target
+    t.clocked
 met true drive answer s t e sound h = missed 4 drive answer s t (h.deaf e)
 met false drive answer s t e sound h = reached t.mark (is_port_wait t.mark) drive answer s t sound (h.hears e)
 
-marked_grows : {A : Type 0} (drive : Option Bool) (answer : Bool) (s t : FaultyClocked A)
-    → IsLiveFrameSound s.clocked.frame → marked.MarkedCycles drive answer s t → After s.clocked.target t.clocked
+marked_grows : {A : Type 0} (drive : Option Bool) (answer : Bool) (s t : FaultyClocked PlainMemory A)
+    → IsLiveFrameSound s.clocked.frame → marked.MarkedCycles bus_of drive answer s t → After s.clocked.target t.clocked
 marked_grows drive answer s t sound h = elim (cases_lt 0 s.unseen)
     as (λ (_ : (0 < s.unseen) ⊎ (s.unseen ≤ 0)). After s.clocked.target t.clocked) [
       | inl m ↦ missed _ drive answer s t (h.missed (λ e. absurd (omega arith))).0
@@ -378,16 +388,17 @@ marked_grows drive answer s t sound h = elim (cases_lt 0 s.unseen)
 -- THE PINS
 
 -- the log and the trace at later pins, and their frame
-pub record LivePinsGrew {A : Type 0} (s t : Pins A) : Type 0 where
+pub record LivePinsGrew {A : Type 0} (s t : Pins PlainMemory A) : Type 0 where
   pub log : LiveLogGrows (live_transfers_at s) (live_transfers_at t)
   pub trace : LiveLogGrows (live_trace_at s) (live_trace_at t)
   pub sound : live_pins_sound t
 
-unchanged : {A : Type 0} (s t : Pins A) → live_pins_sound s → t.target ≡ s.target → t.trace ≡ s.trace → LivePinsGrew s t
+unchanged : {A : Type 0} (s t : Pins PlainMemory A) → live_pins_sound s → t.target ≡ s.target → t.trace ≡ s.trace
+    → LivePinsGrew s t
 unchanged s t sound e f = record {
-  log = grows_same _ _ (ap (λ (x : FaultyClocked _). x.clocked.target.memory.log) e);
+  log = grows_same _ _ (ap (λ (x : FaultyClocked _ _). x.clocked.target.device.log) e);
   trace = grows_same _ _ (ap (λ (x : Trace _). traces.pins_kept_trace x) f);
-  sound = subst (λ (x : FaultyClocked _). IsLiveFrameSound x.clocked.frame) (sym e) sound;
+  sound = subst (λ (x : FaultyClocked _ _). IsLiveFrameSound x.clocked.frame) (sym e) sound;
 }
 
 trace_on : {A : Type 0} (wanted cut : Bool) (bit : Bool) (s t : Trace A) → s.wanted ≡ wanted → s.cut ≡ cut
@@ -399,10 +410,11 @@ trace_on true false bit s t e f h = elim (h.more e f) [
   | inr k ↦ grows_same _ _ k.0
 ]
 
-shown : {A : Type 0} (seen : Option Bool) (bit : Bool) (s t : Pins A) → live_pins_sound s → PinsShowBy seen bit s t
+shown : {A : Type 0} (seen : Option Bool) (bit : Bool) (s t : Pins PlainMemory A) → live_pins_sound s → PinsShowBy
+    bus_of seen bit s t
     → LivePinsGrew s t
 shown (Some b) bit s t sound h =
-    unchanged s t sound (ap (λ (x : Pins _). x.target) h.1) (ap (λ (x : Pins _). x.trace) h.1)
+    unchanged s t sound (ap (λ (x : Pins _ _). x.target) h.1) (ap (λ (x : Pins _ _). x.trace) h.1)
 shown None bit s t sound h =
     let after = marked_grows (pins_driven s) bit s.target t.target sound h.cycle in
     record {
@@ -411,33 +423,35 @@ shown None bit s t sound h =
       sound = after.sound;
     }
 
-sees : {A : Type 0} (drives : Bool) (bit : Bool) (s t : Pins A) → live_pins_sound s → PinsSeenBy drives bit s t
+sees : {A : Type 0} (drives : Bool) (bit : Bool) (s t : Pins PlainMemory A) → live_pins_sound s → PinsSeenBy bus_of
+    drives bit s t
     → LivePinsGrew s t
 sees true bit s t sound h =
-    unchanged s t sound (ap (λ (x : Pins _). x.target) h.1) (ap (λ (x : Pins _). x.trace) h.1)
+    unchanged s t sound (ap (λ (x : Pins _ _). x.target) h.1) (ap (λ (x : Pins _ _). x.trace) h.1)
 sees false bit s t sound h = shown s.seen bit s t sound h
 
-stepped : {A : Type 0} (found : Option Character) (sign : PinReply) (s t : Pins A) → live_pins_sound s
-    → PinsStep found s sign t → LivePinsGrew s t
+stepped : {A : Type 0} (found : Option Character) (sign : PinReply) (s t : Pins PlainMemory A) → live_pins_sound s
+    → PinsStep bus_of found s sign t → LivePinsGrew s t
 stepped (Some (Moves false level)) sign s t sound h =
-    unchanged s t sound (ap (λ (x : Pins _). x.target) h.1) (ap (λ (x : Pins _). x.trace) h.1)
+    unchanged s t sound (ap (λ (x : Pins _ _). x.target) h.1) (ap (λ (x : Pins _ _). x.trace) h.1)
 stepped (Some (Moves true level)) sign s t sound h =
     let g = shown s.seen h.1.0 (record s { clock = true; level = level }) t sound h.1.1 in
     record { log = g.log; trace = g.trace; sound = g.sound }
 stepped (Some Looks) sign s t sound h = sees s.drives h.0 s t sound h.2
 stepped (Some (Turns drives)) sign s t sound h =
-    unchanged s t sound (ap (λ (x : Pins _). x.target) h.1) (ap (λ (x : Pins _). x.trace) h.1)
+    unchanged s t sound (ap (λ (x : Pins _ _). x.target) h.1) (ap (λ (x : Pins _ _). x.trace) h.1)
 stepped (Some Quits) sign s t sound h =
-    unchanged s t sound (ap (λ (x : Pins _). x.target) h.1) (ap (λ (x : Pins _). x.trace) h.1)
+    unchanged s t sound (ap (λ (x : Pins _ _). x.target) h.1) (ap (λ (x : Pins _ _). x.trace) h.1)
 stepped (Some character) sign s t sound h =
-    unchanged s t sound (ap (λ (x : Pins _). x.target) h.1) (ap (λ (x : Pins _). x.trace) h.1)
+    unchanged s t sound (ap (λ (x : Pins _ _). x.target) h.1) (ap (λ (x : Pins _ _). x.trace) h.1)
 stepped None sign s t sound h =
-    unchanged s t sound (ap (λ (x : Pins _). x.target) h.1) (ap (λ (x : Pins _). x.trace) h.1)
+    unchanged s t sound (ap (λ (x : Pins _ _). x.target) h.1) (ap (λ (x : Pins _ _). x.trace) h.1)
 
-session_grows : {A : Type 0} (text levels : List ℕ) (s t : Pins A) → live_pins_sound s → PinsSession text levels s t
+session_grows : {A : Type 0} (text levels : List ℕ) (s t : Pins PlainMemory A) → live_pins_sound s → PinsSession bus_of
+    text levels s t
     → LivePinsGrew s t
 session_grows [] levels s t sound h =
-    unchanged s t sound (ap (λ (x : Pins _). x.target) h.1) (ap (λ (x : Pins _). x.trace) h.1)
+    unchanged s t sound (ap (λ (x : Pins _ _). x.target) h.1) (ap (λ (x : Pins _ _). x.trace) h.1)
 session_grows (byte ∷ text) levels s t sound h =
     let first = stepped _ h.3.sign s h.0 sound h.3.steps in
     let rest = session_grows text h.2 h.0 t first.sound h.4 in
@@ -448,5 +462,6 @@ session_grows (byte ∷ text) levels s t sound h =
     }
 
 -- at pins that were reached, log and trace have what they had before, and maybe more
-pub live_pins_reached_grow : {A : Type 0} (s t : Pins A) → live_pins_sound s → PinsReach s t → LivePinsGrew s t
+pub live_pins_reached_grow : {A : Type 0} (s t : Pins PlainMemory A) → live_pins_sound s → PinsReach bus_of s t
+    → LivePinsGrew s t
 live_pins_reached_grow s t sound h = session_grows h.0 h.1 s t sound h.2

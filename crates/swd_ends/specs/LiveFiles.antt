@@ -6,6 +6,8 @@ use Rattle.std.proofs.Common.{◌∙◌, refl}
 use Rattle.std.specs.Io.KnownBytes.{Appends}
 use Rattle.swd_io.specs.Blocks.{OutputStopped}
 use Rattle.swd_port.specs.declared.access.Transfer.{Transfer}
+use Rattle.swd_port.specs.PlainMemory.{PlainMemory}
+use Rattle.swd_port.specs.Bus.{bus_of}
 use Rattle.swd_clocked.specs.declared.frame.Frame.{Frame}
 use Rattle.swd_clocked.specs.declared.frame.Frame.TheVariants.{Switches}
 use Rattle.swd_clocked.specs.Marked.{marked_clocked_state, marked_clocked_frame}
@@ -40,20 +42,20 @@ abbrev pub IsLiveFileCurrent : {M : Type 0} → ℕ → LiveFile M → Type 0
 IsLiveFileCurrent size file = file.failed ≡ false → file.done ≡ size
 
 -- the transfers of the target at these pins; those behind so many first ones; and the characters of the pins' trace
-abbrev pub live_transfers_at : {A : Type 0} → Pins A → List Transfer
-live_transfers_at pins = (marked_clocked_state pins.target).memory.log
+abbrev pub live_transfers_at : {A : Type 0} → Pins PlainMemory A → List Transfer
+live_transfers_at pins = (marked_clocked_state bus_of pins.target).memory.log
 
-abbrev pub live_log_at : {A : Type 0} → ℕ → Pins A → List Transfer
+abbrev pub live_log_at : {A : Type 0} → ℕ → Pins PlainMemory A → List Transfer
 live_log_at skipped pins = drop skipped (live_transfers_at pins)
 
-abbrev pub live_trace_at : {A : Type 0} → Pins A → List ℕ
+abbrev pub live_trace_at : {A : Type 0} → Pins PlainMemory A → List ℕ
 live_trace_at pins = pins_kept_trace pins.trace
 
 -- the text of the first transfers, and of the first characters
-abbrev pub live_log_first : {A : Type 0} → ℕ → Pins A → ℕ → List ℕ
+abbrev pub live_log_first : {A : Type 0} → ℕ → Pins PlainMemory A → ℕ → List ℕ
 live_log_first skipped pins n = live_log_lines (take n (live_log_at skipped pins))
 
-abbrev pub live_trace_first : {A : Type 0} → Pins A → ℕ → List ℕ
+abbrev pub live_trace_first : {A : Type 0} → Pins PlainMemory A → ℕ → List ℕ
 live_trace_first pins n = take n (live_trace_at pins)
 
 -- a list, and maybe more after it
@@ -65,7 +67,7 @@ abbrev pub IsLiveFrameSound : Frame → Type 0
 IsLiveFrameSound (Switches place) = place ≡ 0 → ⊥
 IsLiveFrameSound frame = Unit {0}
 
-abbrev pub live_pins_sound : {A : Type 0} → Pins A → Type 0
+abbrev pub live_pins_sound : {A : Type 0} → Pins PlainMemory A → Type 0
 live_pins_sound pins = IsLiveFrameSound (marked_clocked_frame pins.target)
 
 -- A file that has the first entries of something has those of what it grew to, and all of them if it had all.
@@ -83,18 +85,18 @@ LiveFileKeepsIf contents text later size later_size (Some old) (Some new) =
 LiveFileKeepsIf contents text later size later_size old new = ⊥
 
 -- At later pins of a session each file has the beginning of the log or the trace that belongs to these pins.
-pub record LiveFilesFollowed {A M : Type 0} (contents : M → Option (List ℕ)) (before after : LiveFiles M × Pins A) :
-    Type 0
-  where
-    pub sound : live_pins_sound after.1
-    pub skipped : after.0.skipped ≡ before.0.skipped
-    pub log : LiveFileKeepsIf contents (live_log_first before.0.skipped before.1)
-        (live_log_first after.0.skipped after.1) (length (live_log_at before.0.skipped before.1))
-        (length (live_log_at after.0.skipped after.1)) before.0.log after.0.log
-    pub trace : LiveFileKeepsIf contents (live_trace_first before.1) (live_trace_first after.1)
-        (length (live_trace_at before.1)) (length (live_trace_at after.1)) before.0.trace after.0.trace
+pub record LiveFilesFollowed {A M : Type 0} (contents : M → Option (List ℕ))
+    (before after : LiveFiles M × Pins PlainMemory A) : Type 0 where
+  pub sound : live_pins_sound after.1
+  pub skipped : after.0.skipped ≡ before.0.skipped
+  pub log : LiveFileKeepsIf contents (live_log_first before.0.skipped before.1)
+      (live_log_first after.0.skipped after.1) (length (live_log_at before.0.skipped before.1))
+      (length (live_log_at after.0.skipped after.1)) before.0.log after.0.log
+  pub trace : LiveFileKeepsIf contents (live_trace_first before.1) (live_trace_first after.1)
+      (length (live_trace_at before.1)) (length (live_trace_at after.1)) before.0.trace after.0.trace
 
-abbrev pub LiveFilesFollow : {A M : Type 0} → (M → Option (List ℕ)) → LiveFiles M × Pins A → LiveFiles M × Pins A
+abbrev pub LiveFilesFollow : {A M : Type 0} → (M → Option (List ℕ)) → LiveFiles M × Pins PlainMemory A → LiveFiles M
+    × Pins PlainMemory A
     → Type 0
 LiveFilesFollow contents before after = live_pins_sound before.1 → LiveFilesFollowed contents before after
 
@@ -119,10 +121,10 @@ LiveFileAddsIf contents more (Some old) (Some new) = LiveFileAdds contents more 
 LiveFileAddsIf contents more old new = ⊥
 
 -- the whole log behind so many transfers, and the whole trace, which ends with a line feed
-abbrev pub live_log_whole : {A : Type 0} → ℕ → Pins A → List ℕ
+abbrev pub live_log_whole : {A : Type 0} → ℕ → Pins PlainMemory A → List ℕ
 live_log_whole skipped pins = live_log_from skipped pins.target
 
-abbrev pub live_trace_whole : {A : Type 0} → Pins A → List ℕ
+abbrev pub live_trace_whole : {A : Type 0} → Pins PlainMemory A → List ℕ
 live_trace_whole pins = live_trace_at pins ++ 10 ∷ []
 
 -- a file, if there is one, that had the first entries of a text has the whole of it, as far as its writer took it
@@ -179,7 +181,7 @@ keeps_on contents text later last size next end (Some a) None c f g = absurd f
 keeps_on contents text later last size next end (Some a) (Some b) None f g = absurd g
 
 -- without a character nothing changes
-pub live_files_follow_nowhere : {A M : Type 0} (contents : M → Option (List ℕ)) (a : LiveFiles M × Pins A)
+pub live_files_follow_nowhere : {A M : Type 0} (contents : M → Option (List ℕ)) (a : LiveFiles M × Pins PlainMemory A)
     → LiveFilesFollow contents a a
 live_files_follow_nowhere contents a = λ sound. record {
   sound = sound;
@@ -189,7 +191,8 @@ live_files_follow_nowhere contents a = λ sound. record {
 }
 
 -- some characters and then more
-pub live_files_follow_further : {A M : Type 0} (contents : M → Option (List ℕ)) (a b c : LiveFiles M × Pins A)
+pub live_files_follow_further : {A M : Type 0} (contents : M → Option (List ℕ))
+    (a b c : LiveFiles M × Pins PlainMemory A)
     → LiveFilesFollow contents a b → LiveFilesFollow contents b c → LiveFilesFollow contents a c
 live_files_follow_further contents a b c f g = λ sound.
     let first = f sound in

@@ -17,19 +17,19 @@ use Rattle.swd_ends.specs.declared.serving.TargetFault.TheVariants.{Texts, Memor
 use Rattle.swd_run.specs.Running.{AreScriptAndPlan, AreRunTextsUnread, IsRunScriptInput, IsRunPlanInput, script_memory}
 
 -- a target before its first cycle, with this memory and the marks of a plan
-pub record IsTargetEndMade {A : Type 0} (memory : PlainMemory) (marks : List Mark) (target : FaultyClocked A) : Type 0
-  where
-    pub state : marked_clocked_state target ≡ port_made_target 0x2ba0_1477 (bus_of memory)
-    -- a transfer takes effect at once, TAR wraps at the end of a kilobyte, and a value that is unknown is 0
-    pub choices : (marked_clocked_simulation target).quirks ≡ record { wrap = true; late = false; filler = 0 }
-    pub frame : marked_clocked_frame target ≡ idle_frame
-    pub unseen : marked_clocked_unseen target ≡ 0
-    pub plan : marked_clocked_plan target ≡ marks
-    pub asked : (marked_clocked_tally target).asked ≡ 0
-    pub cycles : marked_clocked_cycles target ≡ 0
+pub record IsTargetEndMade {A : Type 0} (memory : PlainMemory) (marks : List Mark)
+    (target : FaultyClocked PlainMemory A) : Type 0 where
+  pub state : marked_clocked_state bus_of target ≡ port_made_target 0x2ba0_1477 (bus_of memory)
+  -- a transfer takes effect at once, TAR wraps at the end of a kilobyte, and a value that is unknown is 0
+  pub choices : (marked_clocked_simulation bus_of target).quirks ≡ record { wrap = true; late = false; filler = 0 }
+  pub frame : marked_clocked_frame target ≡ idle_frame
+  pub unseen : marked_clocked_unseen target ≡ 0
+  pub plan : marked_clocked_plan target ≡ marks
+  pub asked : (marked_clocked_tally target).asked ≡ 0
+  pub cycles : marked_clocked_cycles target ≡ 0
 
 -- the pins before the host moved any
-pub record AreTargetEndPinsAtRest {A : Type 0} (trace : Trace A) (pins : Pins A) : Type 0 where
+pub record AreTargetEndPinsAtRest {A : Type 0} (trace : Trace A) (pins : Pins PlainMemory A) : Type 0 where
   pub clock : pins.clock ≡ false
   pub level : pins.level ≡ true
   pub drives : pins.drives ≡ true
@@ -43,14 +43,14 @@ IsTargetEndScript (batch ∷ []) = batch.accesses ≡ []
 IsTargetEndScript (batch ∷ next ∷ batches) = ⊥
 
 -- the inputs are a script without accesses and a plan, and the pins have their target
-pub record SimulatesTargetEnd {A : Type 0} (script plan : Option (List ℕ)) (trace : Trace A) (pins : Pins A) : Type 0
-  where
-    pub meaning : ScriptMeaning
-    pub marks : List Mark
-    pub read : AreScriptAndPlan script plan meaning marks
-    pub no_access : IsTargetEndScript meaning.batches
-    pub made : IsTargetEndMade (script_memory meaning) marks pins.target
-    pub rests : AreTargetEndPinsAtRest trace pins
+pub record SimulatesTargetEnd {A : Type 0} (script plan : Option (List ℕ)) (trace : Trace A)
+    (pins : Pins PlainMemory A) : Type 0 where
+  pub meaning : ScriptMeaning
+  pub marks : List Mark
+  pub read : AreScriptAndPlan script plan meaning marks
+  pub no_access : IsTargetEndScript meaning.batches
+  pub made : IsTargetEndMade (script_memory meaning) marks pins.target
+  pub rests : AreTargetEndPinsAtRest trace pins
 
 -- the script has an access or further calls
 pub record TargetEndHasAccesses (script plan : Option (List ℕ)) : Type 0 where

@@ -6,6 +6,7 @@ use std::alloc::{Allocator, Global};
 use swd_clocked::FaultyClocked;
 use swd_port::Disconnected;
 use swd_remote::{Probe, Sequence};
+use swd_target::Device;
 
 // The most levels that are kept for an exchange.
 const MOST: u8 = 64;
@@ -13,8 +14,8 @@ const MOST: u8 = 64;
 /// A probe over the clocks of a simulated target. It performs each sequence at once, and keeps the sampled levels until
 /// the next exchange. Of more than 64 levels since the last exchange it keeps the first 64.
 #[derive(Drop)]
-pub struct ClockedProbe<A: Allocator = Global> {
-    pub(crate) target: FaultyClocked<A>,
+pub struct ClockedProbe<D, A: Allocator = Global> {
+    pub(crate) target: FaultyClocked<D, A>,
     // The levels since the last exchange, the first one least significant, and their number.
     pub(crate) levels: u64,
     pub(crate) sampled: u8,
@@ -22,12 +23,12 @@ pub struct ClockedProbe<A: Allocator = Global> {
     ghost range: { levels < 2 ^ sampled },
 }
 
-impl<A: Allocator> ClockedProbe<A> {
+impl<D: Device, A: Allocator> ClockedProbe<D, A> {
     ghost use Rattle.swd_ends.specs.ClockedProbes.{clocked_probe_target, clocked_probe_waiting, ClockedProbeCycles};
     ghost use Rattle.swd_ends.specs.ClockedProbes.{ClockedProbePasses, ClockedProbeSequence};
 
     /// Returns a probe over this target, without levels.
-    pub fn new(target: FaultyClocked<A>) -> ClockedProbe<A>
+    pub fn new(target: FaultyClocked<D, A>) -> ClockedProbe<D, A>
         ensures target { clocked_probe_target result ≡ target }
         ensures waits { clocked_probe_waiting result ≡ [] }
     {
@@ -39,7 +40,7 @@ impl<A: Allocator> ClockedProbe<A> {
     }
 
     /// Consumes the probe, and returns the target.
-    pub fn into_target(self) -> FaultyClocked<A>
+    pub fn into_target(self) -> FaultyClocked<D, A>
         ensures { result ≡ clocked_probe_target self }
     {
         let ClockedProbe { target, .. } = self;
@@ -47,7 +48,7 @@ impl<A: Allocator> ClockedProbe<A> {
     }
 
     fn drive(&mut self, bits: u64, count: u8)
-        ensures { ClockedProbePasses (map Some (low_bits count bits)) self.old self.new }
+        ensures { ClockedProbePasses D.bus (map Some (low_bits count bits)) self.old self.new }
     {
         let mut rest = bits;
         for place in 0..count {
@@ -57,7 +58,7 @@ impl<A: Allocator> ClockedProbe<A> {
     }
 
     fn hold(&mut self, drive: Option<bool>, count: u32)
-        ensures { ClockedProbePasses (replicate count drive) self.old self.new }
+        ensures { ClockedProbePasses D.bus (replicate count drive) self.old self.new }
     {
         for place in 0..count {
             let _ = self.target.cycle(drive);
@@ -65,7 +66,7 @@ impl<A: Allocator> ClockedProbe<A> {
     }
 
     fn sample(&mut self, count: u8)
-        ensures { ClockedProbeSequence (Sequence.Sample count) self.old self.new }
+        ensures { ClockedProbeSequence D.bus (Sequence.Sample count) self.old self.new }
     {
         for place in 0..count {
             let level = self.target.cycle(None);
@@ -85,10 +86,10 @@ impl<A: Allocator> ClockedProbe<A> {
     }
 }
 
-impl<A: Allocator> Probe for ClockedProbe<A> {
+impl<D: Device, A: Allocator> Probe for ClockedProbe<D, A> {
     ghost use Rattle.swd_ends.specs.ClockedProbes.{ClockedProbeSequence, ClockedProbeHandsOut};
 
-    ghost queues = { λ sequence s t. ClockedProbeSequence sequence s t };
+    ghost queues = { λ sequence s t. ClockedProbeSequence D.bus sequence s t };
 
     ghost exchanges = { λ result s t. ClockedProbeHandsOut result s t };
 

@@ -1,5 +1,6 @@
 //! Serves a host at a target, and writes the target's log and trace while the session goes on.
 ghost use Rattle.std.specs.Prelude.{◌≡◌, ◌≤◌, ◌↔◌, ◌∷◌, ◌++◌, [], drop, false, length, true};
+ghost use Rattle.swd_port.specs.Bus.{bus_of};
 ghost use Rattle.swd_bitbang.specs.Sessions.{BitbangServes};
 ghost use Rattle.swd_ends.specs.TargetLogs.{live_log_lines};
 ghost use Rattle.swd_ends.specs.LiveFiles.{LiveFileAddsIf, LiveFileAddsRestIf, LiveFileFinishesIf, LiveFilesFollow};
@@ -14,6 +15,7 @@ use std::alloc::Allocator;
 use std::io::{Read, Write};
 use swd_bitbang::{Pins, Served, Watch, serve_watched};
 use swd_port::Transfer;
+use swd_target::Memory;
 
 /// The files of a session: the log of its target, and the trace of its pins, each if it is wanted.
 #[derive(Debug, Drop)]
@@ -111,11 +113,11 @@ impl<M> LiveFiles<M> {
     }
 }
 
-impl<A: Allocator, M: Write> Watch<A> for LiveFiles<M> {
+impl<A: Allocator, M: Write> Watch<Memory<A>, A> for LiveFiles<M> {
     ghost follows = { LiveFilesFollow M.contents };
 
     // Writes what isn't written yet.
-    fn see(&mut self, pins: &Pins<A>) {
+    fn see(&mut self, pins: &Pins<Memory<A>, A>) {
         log_on(
             &mut self.log,
             transfers_since(pins.target().memory().log(), self.skipped),
@@ -130,7 +132,7 @@ impl<A: Allocator, M: Write> Watch<A> for LiveFiles<M> {
 
 impl<M: Write> LiveFiles<M> {
     // Writes what isn't written yet, and the last lines.
-    fn finish<A: Allocator>(&mut self, pins: &Pins<A>)
+    fn finish<A: Allocator>(&mut self, pins: &Pins<Memory<A>, A>)
         ensures log { LiveFileFinishesIf M.contents (live_log_first self.old.skipped pins.now)
             (length (live_log_at self.old.skipped pins.now)) (live_log_whole self.old.skipped pins.now) self.old.log self.new.log }
         ensures trace { LiveFileFinishesIf M.contents (live_trace_first pins.now) (length (live_trace_at pins.now))
@@ -157,11 +159,11 @@ impl<M: Write> LiveFiles<M> {
 pub fn serve_logged<R: Read, W: Write, M: Write, A: Allocator>(
     reader: &mut R,
     writer: &mut W,
-    pins: Pins<A>,
+    pins: Pins<Memory<A>, A>,
     log: Option<M>,
     trace: Option<M>,
-) -> (Served, Pins<A>, LiveFiles<M>)
-    ensures session { BitbangServes result.0 (R.remaining reader.old) (R.remaining reader.new)
+) -> (Served, Pins<Memory<A>, A>, LiveFiles<M>)
+    ensures session { BitbangServes bus_of result.0 (R.remaining reader.old) (R.remaining reader.new)
         (W.contents writer.old) (W.contents writer.new) pins result.1 }
     ensures log { live_pins_sound pins → IsLiveFileGiven M.contents
         (live_log_whole (length (live_transfers_at pins)) result.1) log result.2.log }

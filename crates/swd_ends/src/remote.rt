@@ -93,10 +93,12 @@ pub fn run_remote<
 /// and the files for which `records` has a writer. Then sends `Q`. The script's memory and log capacity are ignored.
 /// Returns the connection too, with the error that ended it, if any.
 ///
-/// Whatever comes back, the run ends unless the connection blocks, and its report matches the calls that were made. For
-/// every story with which the replies are consistent, the report is as `run_batches` promises. Up to the first I/O
-/// error, exactly the characters of these calls and `Q` are sent, and exactly the levels that they ask for are read.
-/// Nothing is sent after that error.
+/// Whatever comes back, the run ends unless the connection blocks, and each report has at most as many requests as its
+/// tries allow. For every story that starts at rest and with which the replies are consistent, the reports are as
+/// `run_batches` promises. If the target conforms to the model, one of these stories is its own. Up to the first I/O
+/// error, exactly the characters of some calls of a wire and `Q` are sent, and exactly the levels that these calls ask
+/// for are read. Nothing is sent after that error. Without such a story it isn't stated that the reports count all
+/// these calls.
 ///
 /// # Errors
 ///

@@ -27,7 +27,11 @@ pub enum TargetFault {
 
 /// Returns the pins of a simulated target with this memory and a plan of these marks, before the host moved any. The
 /// target's choices are those of `swd run`. The pins record in `trace`.
-pub fn target_pins<A: Allocator>(memory: Memory<A>, plan: Vec<Mark, A>, trace: Trace<A>) -> Pins<A>
+pub fn target_pins<A: Allocator>(
+    memory: Memory<A>,
+    plan: Vec<Mark, A>,
+    trace: Trace<A>,
+) -> Pins<Memory<A>, A>
     requires { IsLegalPlan plan.items }
     ensures made { IsTargetEndMade memory plan.items result.target }
     ensures rests { AreTargetEndPinsAtRest trace result }
@@ -48,7 +52,7 @@ pub fn read_target<S: Read, P: Read, A: Allocator + Copy>(
     script: &mut S,
     plan: &mut P,
     trace: Trace<A>,
-) -> Result<Pins<A>, TargetFault>
+) -> Result<Pins<Memory<A>, A>, TargetFault>
     ensures made { IfOk result (λ pins. SimulatesTargetEnd (S.remaining script.old) (P.remaining plan.old) trace pins) }
     ensures fault { IfErr result (λ fault. IsTargetEndFault fault (S.remaining script.old) (P.remaining plan.old)) }
 {

@@ -44,12 +44,12 @@ fn bytes_of<A: Allocator>(
     Ok(bytes)
 }
 
-/// Reads `count` bytes from `addr` on, over a wire on which nothing is due. It reads each word of the range once, in
-/// blocks of at most 65,536 words. Each access may meet `tries` events. Each block is resumed up to `resumes` times
-/// after a lost acknowledgement.
+/// Reads `count` bytes from `addr` on, over a wire on which nothing is due. The calls have one read for each word of
+/// the range, in blocks of at most 65,536 words. Each access may meet `tries` events. Each block is resumed up to
+/// `resumes` times after a lost acknowledgement; the reads in flight are then made again.
 ///
-/// Over a target that conforms to the model and was at rest, the result is the bytes of its memory. No word of the
-/// memory changed then.
+/// Over a target that conforms to the model and was at rest, with a plain memory, the result is the bytes of this
+/// memory. No word of it changed then.
 ///
 /// # Errors
 ///

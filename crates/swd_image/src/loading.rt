@@ -87,12 +87,12 @@ fn read_edges<W: Wire, O: Write, A: Allocator + Copy>(
 /// Loads an image: writes `bytes` from `addr` on, over a wire on which nothing is due.
 ///
 /// The image may cover its first or last word only in part. Such a word is read first, and its other bytes are written
-/// as they were read. Each word of the range is written once. Each call has at most 65,536 accesses, each of which may
-/// meet `tries` events. A call is resumed up to `resumes` times after a lost acknowledgement. An empty image makes no
-/// call.
+/// as they were read. The calls have one write for each word of the range. Each call has at most 65,536 accesses, each
+/// of which may meet `tries` events. A call is resumed up to `resumes` times after a lost acknowledgement; an access in
+/// flight is then made again. An empty image makes no call.
 ///
-/// Over a target that conforms to the model and was at rest, the range contains the image after a load that succeeds.
-/// All other memory is unchanged then.
+/// Over a target that conforms to the model and was at rest, with a plain memory, the range contains the image after a
+/// load that succeeds. All other memory is unchanged then.
 ///
 /// # Errors
 ///

@@ -44,7 +44,8 @@ fn first_difference(addr: u32, bytes: &[u8], found: &[u8]) -> Option<ByteDiffere
 /// Reads the range of an image, as [`dump`](crate::dump) does, and compares it with the image: `bytes` at `addr`.
 /// Returns the first byte that differs, or `None` if they are equal.
 ///
-/// Over a target that conforms to the model and was at rest, the result holds for the bytes of its memory.
+/// Over a target that conforms to the model and was at rest, with a plain memory, the result holds for the bytes of
+/// this memory.
 ///
 /// # Errors
 ///

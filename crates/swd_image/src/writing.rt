@@ -94,7 +94,7 @@ fn writes_at<A: Allocator + Copy>(
     })
 }
 
-/// Writes `count` words of the image from `first` on, each word once, in calls of at most 65,536 writes.
+/// Writes `count` words of the image from `first` on, by one write for each word, in calls of at most 65,536 writes.
 /// Writes the reports of the calls meanwhile, if there is a writer for them.
 pub(crate) fn write_words<W: Wire, O: Write, A: Allocator + Copy>(
     alloc: A,

@@ -1,5 +1,5 @@
 //! The memory of a simulated target as bytes.
-ghost use Rattle.swd_port.specs.Bus.{plain_of};
+ghost use Rattle.swd_port.specs.Bus.{bus_of, plain_of};
 ghost use Rattle.std.specs.Prelude.{◌≡◌, ◌+◌, ◌/◌, ◌%◌, ◌<◌, ◌≤◌, ◌^◌, IfSome, Some, length};
 ghost use Rattle.std.specs.FinMap.{get, insert};
 ghost use Rattle.swd_host.specs.Reports.{IsAtRest};
@@ -68,14 +68,14 @@ pub fn simulated_target<A: Allocator + Copy>(
     bytes: &[u8],
     spare: u32,
     plan: Vec<Mark, A>,
-) -> Option<Bench<A>>
+) -> Option<Bench<Memory<A>, A>>
     requires aligned { base % 4 ≡ 0 }
     requires whole { length bytes.now % 4 ≡ 0 }
     requires fits { base + length bytes.now ≤ 2 ^ 32 }
     requires plan { IsLegalPlan plan.items }
-    ensures words { IfSome result (λ bench. (plain_of (bench_port bench).target.memory).words
+    ensures words { IfSome result (λ bench. (plain_of (bench_port bus_of bench).target.memory).words
         ≡ target_words_from base (image_end_words_in bytes.now)) }
-    ensures rests { IfSome result (λ bench. IsAtRest (bench_port bench)) }
+    ensures rests { IfSome result (λ bench. IsAtRest (bench_port bus_of bench)) }
     ensures plan { IfSome result (λ bench. bench_plan bench ≡ plan.items) }
 {
     let memory = memory_with(alloc, base, bytes, spare)?;

@@ -14,9 +14,9 @@ use swd_port::Wire;
 
 /// Loads the pieces of an image in their order, each by `swd_image::load_reporting`, over a wire on which nothing is due.
 ///
-/// Over a target that conforms to the model and was at rest, the memory contains each piece after a load that succeeds.
-/// If two pieces have an address, it contains the later one's byte. All other memory is unchanged then. The writer
-/// `report`, if there is one, gets the reports of the calls while they go on.
+/// Over a target that conforms to the model and was at rest, with a plain memory, this memory contains each piece after
+/// a load that succeeds. If two pieces have an address, it contains the later one's byte. All other memory is unchanged
+/// then. The writer `report`, if there is one, gets the reports of the calls while they go on.
 ///
 /// # Errors
 ///
@@ -51,7 +51,8 @@ pub fn load_pieces<W: Wire, O: Write, A: Allocator + Copy>(
 /// one that differs. Returns the first byte of it that differs, or `None` if all are equal. The writer `report`, if there
 /// is one, gets the reports of the calls while they go on.
 ///
-/// Over a target that conforms to the model and was at rest, the result holds for the bytes of its memory.
+/// Over a target that conforms to the model and was at rest, with a plain memory, the result holds for the bytes of
+/// this memory.
 ///
 /// # Errors
 ///

@@ -16,11 +16,11 @@ use swd_remote::{InitialStreams, RemoteStreams, RemoteTransport};
 /// Loads an image by `swd_image::load_reporting` at the target behind a remote_bitbang server, and then sends `Q`. Returns
 /// the connection too, with the error that ended it, if any.
 ///
-/// Whatever comes back, the load ends unless the connection blocks, and its result matches the calls that were made. For
-/// every story with which the replies are consistent, the memory contains the image if the result is `Ok`. Up to the
-/// first I/O error, exactly the characters of these calls and `Q` are sent, and exactly the levels that they ask for are
-/// read. Nothing is sent after that error. The writer `report`, if there is one, gets the reports of the calls while they
-/// go on.
+/// Whatever comes back, the load ends unless the connection blocks. For every story that starts at rest over a plain
+/// memory and with which the replies are consistent, its memory contains the image if the result is `Ok`. If the target
+/// conforms to the model, one of these stories is its own. Up to the first I/O error, exactly the characters of some
+/// calls of a wire and `Q` are sent, and exactly the levels that these calls ask for are read. Nothing is sent after
+/// that error. The writer `report`, if there is one, gets the reports of the calls while they go on.
 ///
 /// # Errors
 ///
@@ -72,9 +72,8 @@ fn load_begun<P: Story, B: InitialStreams, R: Read, W: Write, O: Write, A: Alloc
 /// Reads `count` bytes from `addr` on by `swd_image::dump_reporting` at the target behind a remote_bitbang server, and then
 /// sends `Q`. Returns the connection too, with the error that ended it, if any.
 ///
-/// Whatever comes back, the dump ends unless the connection blocks, and its result matches the calls that were made. For
-/// every story with which the replies are consistent, the bytes are the memory's. What is sent, read and written to
-/// `report` is as for [`load_remote`].
+/// Whatever comes back, the dump ends unless the connection blocks. For every story as for [`load_remote`], the bytes
+/// are those of its memory. What is sent, read and written to `report` is as for [`load_remote`].
 ///
 /// # Errors
 ///
@@ -128,9 +127,8 @@ fn dump_begun<P: Story, B: InitialStreams, R: Read, W: Write, O: Write, A: Alloc
 /// sends `Q`. Returns the first byte that differs from the image, if any, and the connection with the error that ended it,
 /// if any.
 ///
-/// Whatever comes back, the verification ends unless the connection blocks, and its result matches the calls that were
-/// made. For every story with which the replies are consistent, it holds for the bytes of the memory. What is sent,
-/// read and written to `report` is as for [`load_remote`].
+/// Whatever comes back, the verification ends unless the connection blocks. For every story as for [`load_remote`], the
+/// result holds for the bytes of its memory. What is sent, read and written to `report` is as for [`load_remote`].
 ///
 /// # Errors
 ///

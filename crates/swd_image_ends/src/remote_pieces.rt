@@ -20,10 +20,9 @@ use swd_remote::{InitialStreams, RemoteStreams, RemoteTransport};
 /// Loads the pieces of an image by [`load_pieces`] at the target behind a remote_bitbang server, over one connection, and
 /// then sends `Q`. Returns the connection too, with the error that ended it, if any.
 ///
-/// Whatever comes back, the load ends unless the connection blocks, and its result matches the calls that were made. For
-/// every story with which the replies are consistent, the memory contains the image if the result is `Ok`. What is sent
-/// and read is as for [`load_remote`](crate::load_remote). The writer `report`, if there is one, gets the reports of the
-/// calls while they go on.
+/// Whatever comes back, the load ends unless the connection blocks. For every story as for
+/// [`load_remote`](crate::load_remote), its memory contains the image if the result is `Ok`. What is sent and read is
+/// as for `load_remote`. The writer `report`, if there is one, gets the reports of the calls while they go on.
 ///
 /// # Errors
 ///
@@ -74,10 +73,9 @@ fn load_begun<P: Story, B: InitialStreams, R: Read, W: Write, O: Write, A: Alloc
 /// one connection, and then sends `Q`. Returns the first byte that differs, if any, and the connection with the error that
 /// ended it, if any.
 ///
-/// Whatever comes back, the verification ends unless the connection blocks, and its result matches the calls that were
-/// made. For every story with which the replies are consistent, it holds for the bytes of the memory. What is sent and
-/// read is as for [`load_remote`](crate::load_remote). The writer `report`, if there is one, gets the reports of the calls
-/// while they go on.
+/// Whatever comes back, the verification ends unless the connection blocks. For every story as for
+/// [`load_remote`](crate::load_remote), the result holds for the bytes of its memory. What is sent and read is as for
+/// `load_remote`. The writer `report`, if there is one, gets the reports of the calls while they go on.
 ///
 /// # Errors
 ///

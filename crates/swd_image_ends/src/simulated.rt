@@ -1,6 +1,6 @@
 //! Loads, verifies and dumps images at a simulated target.
 ghost use Rattle.std.specs.Prelude.{◌≡◌, ◌+◌, IfErr, IfOk, OnOk};
-ghost use Rattle.swd_port.specs.Bus.{plain_of};
+ghost use Rattle.swd_port.specs.Bus.{bus_of, plain_of};
 ghost use Rattle.swd_host.specs.Reports.{IsAtRest};
 ghost use Rattle.swd_run.specs.Records.{run_file_held};
 ghost use Rattle.swd_image.specs.Reports.{DumpReports, image_fault_of};
@@ -16,7 +16,7 @@ use std::alloc::Allocator;
 use std::io::Write;
 use swd_image::{ByteDifference, ImageFault, dump_reporting};
 use swd_image_files::Image;
-use swd_target::Bench;
+use swd_target::{Bench, Memory};
 
 /// Loads the pieces of an image by [`load_pieces`](crate::load_pieces) at a simulated target at rest.
 ///
@@ -28,22 +28,24 @@ use swd_target::Bench;
 /// Returns the errors of [`load_pieces`](crate::load_pieces).
 pub fn load_simulated<O: Write, A: Allocator + Copy>(
     alloc: A,
-    bench: &mut Bench<A>,
+    bench: &mut Bench<Memory<A>, A>,
     image: &Image<A>,
     tries: u32,
     resumes: u32,
     report: &mut Option<O>,
 ) -> Result<(), ImageFault>
-    requires { IsAtRest (bench_port bench.old) }
-    ensures memory { OnOk result (LoadsSimulatedMemory (pieces_to_load image.now) (plain_of (bench_port bench.old).target.memory)
-        (plain_of (bench_port bench.new).target.memory)) }
-    ensures calls { OnOk result (LoadsAll bench_port bench_plan AnyImageWire tries resumes (pieces_to_load image.now)
+    requires { IsAtRest (bench_port bus_of bench.old) }
+    ensures memory { OnOk result (LoadsSimulatedMemory (pieces_to_load image.now)
+        (plain_of (bench_port bus_of bench.old).target.memory)
+        (plain_of (bench_port bus_of bench.new).target.memory)) }
+    ensures calls { OnOk result (LoadsAll (bench_port bus_of) bench_plan AnyImageWire tries resumes
+        (pieces_to_load image.now)
         bench.old
         bench.new) }
-    ensures fault { IfErr result (LoadFailsAt bench_port bench_plan AnyImageWire tries resumes
+    ensures fault { IfErr result (LoadFailsAt (bench_port bus_of) bench_plan AnyImageWire tries resumes
         (pieces_to_load image.now) bench.old
         bench.new) }
-    ensures report { LoadsReported bench_port bench_plan AnyImageWire tries resumes (pieces_to_load image.now)
+    ensures report { LoadsReported (bench_port bus_of) bench_plan AnyImageWire tries resumes (pieces_to_load image.now)
         (image_fault_of result)
         bench.old bench.new (run_file_held O.contents report.old) (run_file_held O.contents report.new) }
     ensures plan { bench_plan bench.new ≡ bench_plan bench.old }
@@ -52,31 +54,31 @@ pub fn load_simulated<O: Write, A: Allocator + Copy>(
 }
 
 /// Compares the memory with the pieces of an image by [`verify_pieces`](crate::verify_pieces) at a simulated target at
-/// rest. Returns the first byte that differs, or `None` if the memory has all bytes of the image.
-///
-/// No word of the memory changes.
+/// rest. Returns the first byte that differs, or `None` if the memory has all bytes of the image. In both cases no word
+/// of the memory changed.
 ///
 /// # Errors
 ///
 /// Returns the errors of [`verify_pieces`](crate::verify_pieces).
 pub fn verify_simulated<O: Write, A: Allocator + Copy>(
     alloc: A,
-    bench: &mut Bench<A>,
+    bench: &mut Bench<Memory<A>, A>,
     image: &Image<A>,
     tries: u32,
     resumes: u32,
     report: &mut Option<O>,
 ) -> Result<Option<ByteDifference>, ImageFault>
-    requires { IsAtRest (bench_port bench.old) }
+    requires { IsAtRest (bench_port bus_of bench.old) }
     ensures memory { IfOk result (λ difference. VerifiesSimulatedMemory (pieces_to_load image.now) difference
-        (plain_of (bench_port bench.old).target.memory) (plain_of (bench_port bench.new).target.memory)) }
-    ensures calls { IfOk result (λ difference. VerifiesAll bench_port bench_plan AnyImageWire tries resumes
+        (plain_of (bench_port bus_of bench.old).target.memory) (plain_of (bench_port bus_of bench.new).target.memory)) }
+    ensures calls { IfOk result (λ difference. VerifiesAll (bench_port bus_of) bench_plan AnyImageWire tries resumes
         (pieces_to_load image.now)
         difference bench.old bench.new) }
-    ensures fault { IfErr result (VerifyFailsAt bench_port bench_plan AnyImageWire tries resumes
+    ensures fault { IfErr result (VerifyFailsAt (bench_port bus_of) bench_plan AnyImageWire tries resumes
         (pieces_to_load image.now) bench.old
         bench.new) }
-    ensures report { VerifiesReported bench_port bench_plan AnyImageWire tries resumes (pieces_to_load image.now) result
+    ensures report { VerifiesReported (bench_port bus_of) bench_plan AnyImageWire tries resumes
+        (pieces_to_load image.now) result
         bench.old
         bench.new (run_file_held O.contents report.old) (run_file_held O.contents report.new) }
     ensures plan { bench_plan bench.new ≡ bench_plan bench.old }
@@ -86,30 +88,33 @@ pub fn verify_simulated<O: Write, A: Allocator + Copy>(
 
 /// Reads `count` bytes from `addr` on by `swd_image::dump_reporting` at a simulated target at rest.
 ///
-/// The result is the bytes of the memory, and no word of it changes.
+/// If it succeeds, the result is the bytes of the memory, and no word of it changed.
 ///
 /// # Errors
 ///
 /// Returns the errors of `swd_image::dump_reporting`.
 pub fn dump_simulated<O: Write, A: Allocator + Copy>(
     alloc: A,
-    bench: &mut Bench<A>,
+    bench: &mut Bench<Memory<A>, A>,
     addr: u32,
     count: u64,
     tries: u32,
     resumes: u32,
     report: &mut Option<O>,
 ) -> Result<Vec<u8, A>, ImageFault>
-    requires { IsAtRest (bench_port bench.old) }
+    requires { IsAtRest (bench_port bus_of bench.old) }
     ensures memory { IfOk result (λ bytes. DumpsSimulatedMemory addr count bytes.items
-        (plain_of (bench_port bench.old).target.memory)
-        (plain_of (bench_port bench.new).target.memory)) }
-    ensures calls { IfOk result (λ bytes. Dumps bench_port bench_plan AnyImageWire tries resumes addr count bytes.items
+        (plain_of (bench_port bus_of bench.old).target.memory)
+        (plain_of (bench_port bus_of bench.new).target.memory)) }
+    ensures calls { IfOk result (λ bytes. Dumps (bench_port bus_of) bench_plan AnyImageWire tries resumes addr count
+        bytes.items
         bench.old
         bench.new) }
-    ensures fault { IfErr result (DumpFails bench_port bench_plan AnyImageWire tries resumes addr count bench.old
+    ensures fault { IfErr result (DumpFails (bench_port bus_of) bench_plan AnyImageWire tries resumes addr count
+        bench.old
         bench.new) }
-    ensures report { DumpReports bench_port bench_plan AnyImageWire tries resumes addr count (image_fault_of result)
+    ensures report { DumpReports (bench_port bus_of) bench_plan AnyImageWire tries resumes addr count
+        (image_fault_of result)
         bench.old bench.new
         (run_file_held O.contents report.old) (run_file_held O.contents report.new) }
     ensures plan { bench_plan bench.new ≡ bench_plan bench.old }

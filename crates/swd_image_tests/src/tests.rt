@@ -68,7 +68,7 @@ fn target_of(
     words: &[u32],
     room: u32,
     marks: &[(usize, Mark)],
-) -> Result<Option<Bench>, Fail> {
+) -> Result<Option<Bench<Memory>>, Fail> {
     let plan = plan_of(alloc, marks)?;
     if !are_legal(&plan) {
         return Ok(None);

@@ -19,7 +19,7 @@ const QUIRKS: Quirks = Quirks {
 /// The pins SWCLK and SWDIO. Here they drive a simulated target; on a board they are registers.
 #[derive(Drop)]
 pub struct Pins {
-    target: Clocked,
+    target: Clocked<Memory>,
 }
 
 impl Pins {

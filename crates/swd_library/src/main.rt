@@ -1,10 +1,11 @@
 //! Ways to use the host: by `run` and `run_block` over a wire, by `resume` after a lost acknowledgement, by
-//! `run_over_transport` over a probe, by `run_over_line` over a connection, by the engine alone over two pins, and by `run` over
-//! a wire that is recorded, whose trace shows the accesses.
+//! `run_over_transport` over a probe, by `run_over_line` over a connection, by the engine alone over two pins, by `run` over
+//! a wire that is recorded, whose trace shows the accesses, and by `run` over registers in place of a memory.
 #![tactic(auto)]
 
 mod by_hand;
 mod outside;
+mod registers;
 mod resumed;
 mod traced;
 mod whole;
@@ -19,6 +20,7 @@ fn main(rt: HostRuntime) -> io::Result<ExitCode> {
     let probed = outside::load(rt.alloc());
     let lined = outside::write_over_line(rt.alloc());
     let traced = traced::load(rt.alloc());
+    let once = registers::once(rt.alloc());
     for (name, failed) in [
         ("run", loaded.err()),
         ("resume", resumed.err()),
@@ -26,6 +28,7 @@ fn main(rt: HostRuntime) -> io::Result<ExitCode> {
         ("over a probe", probed.err()),
         ("over a line", lined.err()),
         ("in a trace", traced.err()),
+        ("at registers", once.err()),
     ] {
         match failed {
             None => println!(rt; "{name}: the words are there")?,

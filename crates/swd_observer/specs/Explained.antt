@@ -22,7 +22,7 @@ ObservedByHow May t rest log = ObservedTakenFrom t rest log ⊎ rest log
 ObservedByHow Not t rest log = rest log
 
 -- The log is what is reported, in order: one transfer for each access that took effect, one or no transfer
--- for each that may have, and no transfer for each that had no effect.
+-- for each that may have, and no transfer for each that is reported as `Not`.
 abbrev pub ObservedLog : List ObservedAccess → List Transfer → Type 0
 ObservedLog [] log = log ≡ []
 ObservedLog (t ∷ told) log = ObservedByHow t.how t (λ xs. ObservedLog told xs) log

@@ -167,7 +167,7 @@ observed_begun how got tar (Some b) =
 abbrev pub observed_flight_access : How → Option ℕ → Observer → Option ObservedAccess
 observed_flight_access how got o = observed_begun how got (observer_arrival o).tar (observer_arrival o).begun
 
--- what is reported of the transfer in flight if no later request shows it: FAULT showed that it had no effect
+-- what is reported of the transfer in flight if no later request shows it: FAULT showed that it did not succeed
 abbrev pub observed_doubt_how : Observer → How
 observed_doubt_how o = if o.refused then Not else May
 

@@ -12,7 +12,7 @@ pub fn completion()
     ensures { ObserverAtCompletion }
 {}
 
-/// States that WAIT shows nothing, and that FAULT shows that the transfer in flight had no effect.
+/// States that WAIT shows nothing, and that FAULT shows that the transfer in flight didn't succeed.
 pub fn refusals()
     ensures wait { ObserverAtWait }
     ensures fault { ObserverAtFault }

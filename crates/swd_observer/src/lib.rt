@@ -1,6 +1,6 @@
 //! Reconstructs what a debugger did to a target's memory from the wire alone. An observer takes the items of
 //! a trace. For each memory access it reports whether the access took effect, at which address, and with
-//! which word.
+//! which word, each of which may be unknown.
 //!
 //! It knows nothing about the host. OK to a write doesn't show yet whether the write takes effect: a later
 //! request shows it. If no later request does, the observer says so. `laws` has what is proved: for runs of

@@ -79,7 +79,7 @@ pub struct Older {
 /// OK to a request that can be refused shows that no sticky error is set and nothing is pending (IHI 0031,
 /// B4, "FAULT response to read or write operation request"). So the write before it arrived intact, and the
 /// transfer in flight took effect. An access is therefore reported at a later request. WAIT shows nothing.
-/// FAULT, and CTRL/STAT with a flag set, show that the transfer had no effect.
+/// FAULT, and CTRL/STAT with a flag set, show that the transfer didn't succeed.
 ///
 /// It reports nothing that the wire doesn't show. These are unknown:
 /// - TAR after an increment across a boundary of 1 KB;
@@ -100,7 +100,7 @@ pub struct Observer {
     pub sent: Option<SentWrite>,
     pub begun: Option<StartedTransfer>,
     /// Whether FAULT was answered, and the sticky error that it shows is still set, so that the transfer in
-    /// flight had no effect.
+    /// flight didn't succeed.
     pub refused: bool,
     pub older: Option<Older>,
 }

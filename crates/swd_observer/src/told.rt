@@ -7,7 +7,8 @@ pub enum How {
     Took,
     /// It took effect once, or not at all: the wire doesn't show which.
     May,
-    /// It had no effect: it met a bus error, or its data was corrupted on the wire.
+    /// It isn't in the target's log: it met a bus error, which a plain memory isn't changed by, or its data was
+    /// corrupted on the wire, and it was never made.
     Not,
 }
 

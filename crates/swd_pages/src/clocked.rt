@@ -2,9 +2,10 @@
 ghost use Rattle.std.specs.Prelude.{◌≤◌};
 
 use swd_clocked::Clocked;
+use swd_target::Memory;
 
 /// Drives `count` bits of a number, the first in time least significant.
-pub fn send(target: &mut Clocked, bits: u64, count: u32)
+pub fn send(target: &mut Clocked<Memory>, bits: u64, count: u32)
     requires { count ≤ 64 }
 {
     for place in 0..count {
@@ -13,7 +14,7 @@ pub fn send(target: &mut Clocked, bits: u64, count: u32)
 }
 
 /// Releases the line for `count` clocks, and returns their bits, the first in time least significant.
-pub fn sample(target: &mut Clocked, count: u32) -> u64
+pub fn sample(target: &mut Clocked<Memory>, count: u32) -> u64
     requires { count ≤ 64 }
 {
     let mut bits = 0;
@@ -25,7 +26,7 @@ pub fn sample(target: &mut Clocked, count: u32) -> u64
 
 /// Reads a target's identification, from a line reset on. Returns the three bits of the acknowledgement, and the 33 bits
 /// of the data phase.
-pub fn identification(target: &mut Clocked) -> (u64, u64) {
+pub fn identification(target: &mut Clocked<Memory>) -> (u64, u64) {
     send(target, u64::MAX, 56);
     send(target, 0, 2);
     send(target, 0xa5, 8);

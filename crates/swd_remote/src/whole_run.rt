@@ -12,8 +12,8 @@ use swd_port::{Access, Story, Tied, TransportWire};
 /// Performs the accesses in order over a remote_bitbang connection, and then sends `Q`.
 ///
 /// Whatever is received, the run ends within a bounded number of requests, unless a read or write blocks, and its
-/// report matches the calls that were made. If the target conforms to the port model, the report is correct, as that of
-/// `swd_host::run`. What was received can refute that it conforms, and never show it.
+/// report matches the calls that were made. If the target conforms to the port model and was at rest, the report is
+/// correct, as that of `swd_host::run`. What was received can refute that it conforms, and never show it.
 ///
 /// Up to the first error, exactly the characters of the calls that the report is of are written, and then
 /// `Q`. Up to that error, exactly as many bytes are read as levels were asked for.

@@ -253,8 +253,9 @@ fn run_recorded<B: Origin, W: Wire, O: Write, T: Write + Drop, A: Allocator + Co
 /// Returns `Write` if the report's writer failed or took no bytes. Exactly the first `written` bytes of the reports
 /// were written then, including all reports of the calls before. No call was made after that.
 ///
-/// In both cases the trace has the items so far, or exactly the first bytes of their lines if its writer failed, and
-/// nothing of the accesses was written.
+/// In both cases the trace has items that its bits decode to, or exactly the first bytes of their lines if its writer
+/// failed, and nothing of the accesses was written. At `Write` it has at most one transaction for each request, if the
+/// target conforms to the model and was at rest. That these items are all so far is only tested.
 ///
 /// Returns `Write` too if the trace's writer failed: the reports are complete, exactly the first `written` bytes of
 /// the trace were written, and nothing of the accesses. Returns `WriteAccesses` if the accesses' writer failed: the

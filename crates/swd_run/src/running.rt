@@ -70,15 +70,15 @@ fn target_of<A: Allocator + Copy>(
     alloc: A,
     script: &Script<A>,
     plan: Vec<Mark, A>,
-) -> Option<Bench<A>>
+) -> Option<Bench<Memory<A>, A>>
     requires script { IsScriptRunnable (read_script_meaning script.now) }
     requires plan { IsLegalPlan plan.items }
-    ensures port { IfSome result (λ bench. bench_port bench
+    ensures port { IfSome result (λ bench. bench_port bus_of bench
         ≡ port_made 0x2ba0_1477 (script_bus (read_script_meaning script.now))) }
     ensures plan { IfSome result (λ bench. bench_plan bench ≡ plan.items) }
     // A transfer takes effect at once, TAR wraps at the end of a kilobyte, and a value that is unknown is 0.
     ensures choices { IfSome result (λ bench.
-        (bench_simulation bench).quirks ≡ record { wrap = true; late = false; filler = 0 }) }
+        (bench_simulation bus_of bench).quirks ≡ record { wrap = true; late = false; filler = 0 }) }
 {
     let memory = zero_memory(alloc, script)?;
     Some(Bench::new(memory, QUIRKS, plan))
@@ -111,7 +111,7 @@ pub fn run_script<W: Write, T: Write + Drop, A: Allocator + Copy>(
         return Err(EngineFault::Memory);
     };
     // The marks that a run uses are among those of the plan.
-    marks_used::<A>();
+    marks_used::<Memory<A>, A>();
     let batches = script.batches.as_slice();
     let (answer, bench) = run_batches(alloc, bench, batches, tries, resumes, writer, records);
     with_full(answer, full_room(bench.memory(), script.room))

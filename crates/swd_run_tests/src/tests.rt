@@ -13,6 +13,7 @@ use swd_script::ScriptFault;
 mod accesses;
 mod expect;
 mod faults;
+mod flash;
 mod images;
 mod logged;
 mod long_texts;

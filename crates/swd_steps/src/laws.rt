@@ -4,7 +4,7 @@ ghost use Rattle.swd_steps.specs.Laws.{SteppedOpenFits, SteppedRunFits};
 ghost use Rattle.swd_steps.specs.Reached.{SteppedOpenReaches, SteppedResumeReaches, SteppedRunReaches};
 
 /// States what the report of a run that ended says. Whatever came back, it matches the list and the calls that were
-/// made for it. Where what came back is consistent with the port model, the report is that of the theorem of
+/// made for it. For each story with which what came back is consistent, the report is that of the theorem of
 /// `swd_host::run`. For a run over an open target it is that of the theorem of `swd_host::run_open`. For a run that
 /// resumes after an earlier report, it is that of the theorem of `swd_host::resume`.
 pub fn runs()
@@ -14,9 +14,10 @@ pub fn runs()
     ensures resumes { SteppedResumeFits }
 {}
 
-/// States which accesses reached the bus in a run that ended, where what came back is consistent with the port model:
-/// those that were answered, bus errors among them, and at most as many more as the report has as begun. Each reached it
-/// once, in the order of the list. In a run that resumes, the transfer that was still pending comes first.
+/// States which accesses reached the bus in a run that ended, in each story with which what came back is consistent and
+/// whose target is at first as the run's theorem requires: those that were answered, bus errors among them, and at most
+/// as many more as the report has as begun. Each reached it once, in the order of the list. In a run that resumes, the
+/// transfer that was still pending comes first.
 pub fn accesses()
     ensures runs { SteppedRunReaches }
     ensures opened { SteppedOpenReaches }

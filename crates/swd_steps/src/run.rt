@@ -116,7 +116,7 @@ impl Run {
     }
 
     /// Creates a run that resumes this one over the same list, from the first unanswered access on. Returns `None` if
-    /// this one didn't end `Lost` or `TriesOut`. Accesses in flight may take effect a second time. `requests` and
+    /// this one didn't end `Lost` or `TriesOut`. Accesses in flight may take effect again. `requests` and
     /// `begun` are those of the new run alone.
     pub fn again(&self, tries: u32) -> Option<Run>
         ensures again { IfSome result (λ run.

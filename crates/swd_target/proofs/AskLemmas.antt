@@ -4,6 +4,7 @@ use Rattle.std.proofs.Common.{◌≡◌, Bool, true, false, ℕ, ◌+◌, Option
 use Rattle.std.proofs.Common.{if◌then◌else◌}
 use Rattle.swd_bits.specs.declared.request.Request.{Request}
 use Rattle.swd_port.specs.Port.{Port, PortLink, port_idle_link, PortTally, Target as State, port_register}
+use Rattle.swd_port.specs.Bus.{Bus}
 use Rattle.swd_port.specs.declared.wire.Due.{Due}
 use Rattle.swd_port.specs.declared.mark.Mark.{Mark}
 use Rattle.swd_port.specs.declared.mark.Mark.TheVariants.{Deaf}
@@ -159,15 +160,18 @@ asks_exactly mark waits q s a b t r reply phase deaf wait named settles same rep
     subst (λ (x : Simulation). reply ≡ port_reply_under mark (port_register x.state.select q)
     (target_answer_at (port_register x.state.select q) q.ap x.state)) (sym S) there in
     let lines : target_line_under mark phase ≡ port_line_after reply
-    (port_phase_after q.read r (port_flip_of mark) (port_value_in (simulation_choice_at (is_port_wait mark) r a) r a.state)) Idle =
+    (port_phase_after q.read r (port_flip_of mark) (port_value_in (simulation_choice_at (is_port_wait mark) r a) r
+    a.state)) Idle =
     ap (target_line_under mark) phases
-    ∙ phase_idle reply q.read r (port_flip_of mark) (port_value_in (simulation_choice_at (is_port_wait mark) r a) r a.state) in
+    ∙ phase_idle reply q.read r (port_flip_of mark) (port_value_in (simulation_choice_at (is_port_wait mark) r a) r
+    a.state) in
     let lined : target_line_under mark phase ≡ port_line_after reply
     (port_phase_after q.read (port_register a.state.select q) (port_flip_of mark)
     (port_value_in (simulation_choice_at (is_port_wait mark) (port_register a.state.select q) a)
     (port_register a.state.select q) a.state)) Idle =
     subst (λ (x : Register). target_line_under mark phase ≡ port_line_after reply
-    (port_phase_after q.read x (port_flip_of mark) (port_value_in (simulation_choice_at (is_port_wait mark) x a) x a.state)) Idle)
+    (port_phase_after q.read x (port_flip_of mark) (port_value_in (simulation_choice_at (is_port_wait mark) x a) x
+    a.state)) Idle)
     (sym same) lines in
     let P = λ (x : Simulation) (y : Reply). target_line_under mark phase ≡ port_line_after y
     (port_phase_after q.read (port_register x.state.select q) (port_flip_of mark)
@@ -186,47 +190,54 @@ asks_exactly mark waits q s a b t r reply phase deaf wait named settles same rep
     }
 
 -- both, from the parts of a request: the target before it, at the reply, after the reply, and in the end
-pub simulated_answers_under : {A : Type 0} (mark : Mark) (waits : Bool) (q : Request) (s a b t : Target A)
+pub simulated_answers_under : {D : Type 0} (bus : D → Bus) (mark : Mark) (waits : Bool) (q : Request)
+    (s a b t : Target D)
     (r : Register) (reply : Reply) (phase : AfterAck)
     → IsPortMark mark → is_port_deaf mark ≡ false → is_port_wait mark ≡ waits → port_register s.select q ≡ r
     → port_register a.select q ≡ r
-    → TargetTransfers (target_state s) (target_state a)
-    → target_simulation a ≡ target_settled_when waits r q.ap (target_simulation s)
-    → reply ≡ target_reply_when waits r (target_answer_at r q.ap (target_state a)) → IsPendingSettled reply r a.pending
-    → IsPortWordRead reply q.read (port_value_in (target_choice_at waits r a) r (target_state a))
+    → TargetTransfers (target_state bus s) (target_state bus a)
+    → target_simulation bus a ≡ target_settled_when waits r q.ap (target_simulation bus s)
+    → reply ≡ target_reply_when waits r (target_answer_at r q.ap (target_state bus a))
+    → IsPendingSettled reply r a.pending
+    → IsPortWordRead reply q.read (port_value_in (target_choice_at waits r a) r (target_state bus a))
     → phase ≡ port_line_after reply (port_phase_after q.read r None
-    (port_value_in (target_choice_at waits r a) r (target_state a))) Idle
+    (port_value_in (target_choice_at waits r a) r (target_state bus a))) Idle
     → phase ≡ port_line_after reply (port_phase_after q.read r None
-    (port_value_in (simulation_choice_at waits r (target_simulation a)) r (target_simulation a).state)) Idle
-    → target_state b ≡ port_target_after (target_choice_at waits r a) reply r q.ap (target_state a)
-    → target_simulation b ≡ simulation_replied waits reply r q.ap (target_simulation a)
-    → TargetTransfers (target_state b) (target_state t)
-    → target_simulation t ≡ simulation_accepted_after reply (target_simulation b)
-    → TargetAnswersUnder mark q s reply (target_line_under mark phase) t
-simulated_answers_under mark waits q s a b t r reply phase legal deaf wait named same before settles replies
+    (port_value_in (simulation_choice_at waits r (target_simulation bus a)) r (target_simulation bus a).state)) Idle
+    → target_state bus b ≡ port_target_after (target_choice_at waits r a) reply r q.ap (target_state bus a)
+    → target_simulation bus b ≡ simulation_replied waits reply r q.ap (target_simulation bus a)
+    → TargetTransfers (target_state bus b) (target_state bus t)
+    → target_simulation bus t ≡ simulation_accepted_after reply (target_simulation bus b)
+    → TargetAnswersUnder bus mark q s reply (target_line_under mark phase) t
+simulated_answers_under bus mark waits q s a b t r reply phase legal deaf wait named same before settles replies
     simulation_settled word lawful exact after after' later last =
-    let law = λ (l : PortLink) (n : PortTally). asks_under l n (target_state s) (target_state a) (target_state b)
-    (target_state t) mark r reply (target_choice_at waits r a) q (target_line_under mark phase)
+    let law = λ (l : PortLink) (n : PortTally). asks_under l n (target_state bus s) (target_state bus a)
+    (target_state bus b)
+    (target_state bus t) mark r reply (target_choice_at waits r a) q (target_line_under mark phase)
     legal (target_choice_at_is_choice waits r a) (target_may_be_late mark waits r a wait) before same
-    (same_reply mark waits r (target_answer_at r q.ap (target_state a)) deaf wait ∙ sym replies) simulation_settled
+    (same_reply mark waits r (target_answer_at r q.ap (target_state bus a)) deaf wait ∙ sym replies) simulation_settled
     word (ap (λ (x : AfterAck). port_line_after reply (target_line_under mark x) l.line) lawful
     ∙ phase_under reply q.read r (port_flip_of mark)
-    (port_value_in (target_choice_at waits r a) r (target_state a)) l.line) after later in
-    let x = asks_exactly mark waits q (target_simulation s) (target_simulation a) (target_simulation b)
-    (target_simulation t) r reply phase deaf wait named settles same replies (exact ∙ ap (λ w. port_line_after reply
+    (port_value_in (target_choice_at waits r a) r (target_state bus a)) l.line) after later in
+    let x = asks_exactly mark waits q (target_simulation bus s) (target_simulation bus a) (target_simulation bus b)
+    (target_simulation bus t) r reply phase deaf wait named settles same replies (exact ∙ ap (λ w. port_line_after reply
     (port_phase_after q.read r None
-    (port_value_in (simulation_choice_at w r (target_simulation a)) r (target_simulation a).state)) Idle) (sym wait))
-    (after' ∙ ap (λ w. simulation_replied w reply r q.ap (target_simulation a)) (sym wait))
+    (port_value_in (simulation_choice_at w r (target_simulation bus a)) r (target_simulation bus a).state)) Idle)
+    (sym wait))
+    (after' ∙ ap (λ w. simulation_replied w reply r q.ap (target_simulation bus a)) (sym wait))
     last in
     record { step = law; replies = x.replies; phases = x.phases; exact = x.exact }
 
 -- a request that the target doesn't see
-pub simulated_answers_deaf : {A : Type 0} (q : Request) (s : Target A) → TargetAnswersUnder Deaf q s Silent Idle s
-simulated_answers_deaf q s =
+pub simulated_answers_deaf : {D : Type 0} (bus : D → Bus) (q : Request) (s : Target D)
+    → TargetAnswersUnder bus Deaf q s Silent Idle s
+simulated_answers_deaf bus q s =
     let r = port_register s.select q in
-    let law = λ (l : PortLink) (n : PortTally). asks_under l n (target_state s) (target_state s) (target_state s)
-    (target_state s) Deaf r Silent (target_choice_for r s) q Idle
-    tt (target_choice_is_choice r s) (λ e. (refl, system_on_time false s.debug_up refl)) (inl refl) refl refl tt tt refl refl (inl refl) in
+    let law = λ (l : PortLink) (n : PortTally). asks_under l n (target_state bus s) (target_state bus s)
+    (target_state bus s)
+    (target_state bus s) Deaf r Silent (target_choice_for r s) q Idle
+    tt (target_choice_is_choice r s) (λ e. (refl, system_on_time false s.debug_up refl)) (inl refl) refl refl tt tt
+    refl refl (inl refl) in
     record { step = law; replies = refl; phases = refl; exact = refl }
 
 -- a request keeps the law of the wire
@@ -235,28 +246,31 @@ pub simulated_asks_lawful : (mark : Mark) (s : Port) (q : Request) (seen : ℕ) 
 simulated_asks_lawful mark s q seen t (a, b, c, before, now, later) = (a, b, mark, c, before, now, later)
 
 -- the same for a bench, from what it has after the request
-pub bench_asks_lawful : {A : Type 0} (mark : Mark) (q : Request) (s t : Target A) (reply : Reply) (phase : AfterAck)
+pub bench_asks_lawful : {D : Type 0} (bus : D → Bus) (mark : Mark) (q : Request) (s t : Target D) (reply : Reply)
+    (phase : AfterAck)
     (l : PortLink) (n : PortTally) (due : Due) (line : AfterAck) (asked disturbed lost seen : ℕ)
-    → TargetAnswersUnder mark q s reply phase t → seen ≡ port_seen_at mark reply → due ≡ port_due_after q.read seen
+    → TargetAnswersUnder bus mark q s reply phase t → seen ≡ port_seen_at mark reply → due ≡ port_due_after q.read seen
     → line ≡ port_line_after reply phase l.line
     → asked ≡ n.asked + 1 → disturbed ≡ n.disturbed + port_disturbs mark → lost ≡ n.lost + port_loses mark
-    → TargetAsksUnder mark (target_port_at l n (target_state s)) q seen
+    → TargetAsksUnder mark (target_port_at l n (target_state bus s)) q seen
     (target_port_at (record { due = due; line = line }) (record { asked = asked; disturbed = disturbed; lost = lost })
-    (target_state t))
-bench_asks_lawful mark q s t reply phase l n due line asked disturbed lost seen answers sees dues lines a d o =
+    (target_state bus t))
+bench_asks_lawful bus mark q s t reply phase l n due line asked disturbed lost seen answers sees dues lines a d o =
     rw (lines, dues, a, d, o, sees) (answers.step l n)
 
 -- the data of a write keeps it
-pub simulated_gives_lawful : {A : Type 0} (a : PortArrival) (l : PortLink) (n : PortTally) (s t : Target A) (sent : ℕ)
-    → port_arrival l.line sent ≡ a → DataComes a s t
-    → PortGives (target_port_at l n (target_state s)) sent (target_port_at port_idle_link n (target_state t))
-simulated_gives_lawful a l n s t sent is comes =
-    let now = λ (x : PortArrival). PortGivesNow (target_port_at l n (target_state s)) sent
-    (target_port_at port_idle_link n (port_after_bits false x (target_state s))) in (
-      target_port_at l n (target_state s),
-      target_port_at port_idle_link n (port_after_bits false a (target_state s)),
+pub simulated_gives_lawful : {D : Type 0} (bus : D → Bus) (a : PortArrival) (l : PortLink) (n : PortTally)
+    (s t : Target D) (sent : ℕ)
+    → port_arrival l.line sent ≡ a → DataComes bus a s t
+    → PortGives (target_port_at l n (target_state bus s)) sent (target_port_at port_idle_link n (target_state bus t))
+simulated_gives_lawful bus a l n s t sent is comes =
+    let now = λ (x : PortArrival). PortGivesNow (target_port_at l n (target_state bus s)) sent
+    (target_port_at port_idle_link n (port_after_bits false x (target_state bus s))) in (
+      target_port_at l n (target_state bus s),
+      target_port_at port_idle_link n (port_after_bits false a (target_state bus s)),
       inl refl,
       subst now is
           (record { refuses = false; after = refl }),
-      simulated_target_completes port_idle_link n (port_after_bits false a (target_state s)) (target_state t) comes.later,
+      simulated_target_completes port_idle_link n (port_after_bits false a (target_state bus s)) (target_state bus t)
+          comes.later,
     )

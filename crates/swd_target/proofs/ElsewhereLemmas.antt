@@ -1,10 +1,8 @@
--- What a target does without a transfer, it does over every memory in which the pending one would succeed.
+-- What a target does without a transfer, it does over every bus on which the pending one would succeed.
 use Rattle.std.proofs.Common.{◌≡◌, ◌⊎◌, not, unwrap_or, inr, Bool, true, false, ℕ, Option, Some, None, List, ◌∷◌, []}
 use Rattle.std.proofs.Common.{◌++◌, refl, sym, ap, subst, ◌∙◌, inl, arith, if◌then◌else◌}
 use Rattle.swd_bits.specs.declared.request.Request.{Request}
-use Rattle.swd_port.specs.PlainMemory.{PlainMemory}
-use Rattle.swd_port.specs.Bus.{Bus, bus_of, bus_answer, bus_succeeds, bus_transfer_of, bus_word_at}
-use Rattle.swd_port.proofs.PlainLaws.{bus_of_after}
+use Rattle.swd_port.specs.Bus.{Bus, bus_answer, bus_succeeds, bus_transfer_of, bus_word_at}
 use Rattle.swd_port.specs.declared.access.Answer.{Answer}
 use Rattle.swd_port.specs.declared.access.Answer.TheVariants.{Value, Written, BusFault}
 use Rattle.swd_port.specs.declared.access.Access.TheVariants.{Read, Write}
@@ -41,7 +39,7 @@ use Rattle.swd_target.specs.Targets.{target_choice_at, simulation_tar_at}
 use Rattle.swd_target.specs.Targets.{target_reply_when, target_settled_when, target_simulation}
 use Rattle.swd_target.specs.Targets.{target_stand_in, target_state}
 use Rattle.swd_target.specs.Requests.{TargetAnswersUnder}
-use Rattle.swd_target.specs.Elsewhere.{IsTargetReady, IsTargetReadyIf, TargetStays, target_over_memory, plain_after_pending}
+use Rattle.swd_target.specs.Elsewhere.{IsTargetReady, IsTargetReadyIf, TargetStays, bus_itself, target_over_device}
 use Rattle.swd_target.proofs.AskLemmas.{simulated_answers_under}
 use Rattle.swd_target.proofs.TargetLemmas.{simulation_at_rest, target_settling_owed, simulation_settled_at_rest}
 
@@ -73,29 +71,29 @@ tar_is true word = refl
 tar_is false word = refl
 
 -- so where the log stays, none was pending
-none_pending : {A : Type 0} (s t : Target A) → TargetCompletes s t → IsTargetReady s.memory s
-    → t.memory.log ≡ s.memory.log → s.pending ≡ None
-none_pending s t steps ready same =
+none_pending : {D : Type 0} (bus : D → Bus) (s t : Target D) → TargetCompletes bus s t → IsTargetReady (bus s.device) s
+    → (bus t.device).log ≡ (bus s.device).log → s.pending ≡ None
+none_pending bus s t steps ready same =
     let at = unwrap_or (target_known_word s.tar) s.tar.word in
     let here : at ≡ s.tar.word = tar_is s.tar.known s.tar.word in
-    let after : bus_of t.memory ≡ memory_after_pending s.pending at (bus_of s.memory) =
+    let after : bus t.device ≡ memory_after_pending s.pending at (bus s.device) =
     ap (λ (x : State). x.memory) steps.state in
-    logs s.pending at (bus_of s.memory) (ap (λ n. pending_fails s.pending n (bus_of s.memory)) here ∙ ready)
+    logs s.pending at (bus s.device) (ap (λ n. pending_fails s.pending n (bus s.device)) here ∙ ready)
     (ap (λ (m : Bus). m.log) (sym after) ∙ same)
 
 -- with nothing pending no completion changes anything
-state_at_rest : {A : Type 0} (c : Choice) (t : Target A) → t.pending ≡ None
-    → port_completion c (target_state t) ≡ target_state t
-state_at_rest c t e = grind arith
+state_at_rest : {D : Type 0} (bus : D → Bus) (c : Choice) (t : Target D) → t.pending ≡ None
+    → port_completion c (target_state bus t) ≡ target_state bus t
+state_at_rest bus c t e = grind arith
 
 -- a completion that leaves the log unchanged, though the pending transfer would have succeeded, changes nothing
-pub target_stays_if_unlogged : {A : Type 0} (s t : Target A) → TargetCompletes s t
-    → IsTargetReady s.memory s → t.memory.log ≡ s.memory.log → TargetStays s t
-target_stays_if_unlogged s t steps ready same =
-    let none = none_pending s t steps ready same in
+pub target_stays_if_unlogged : {D : Type 0} (bus : D → Bus) (s t : Target D) → TargetCompletes bus s t
+    → IsTargetReady (bus s.device) s → (bus t.device).log ≡ (bus s.device).log → TargetStays bus s t
+target_stays_if_unlogged bus s t steps ready same =
+    let none = none_pending bus s t steps ready same in
     record {
-      state = steps.state ∙ state_at_rest (target_choice_for DrwRead s) s none;
-      exact = steps.exact ∙ simulation_at_rest s none;
+      state = steps.state ∙ state_at_rest bus (target_choice_for DrwRead s) s none;
+      exact = steps.exact ∙ simulation_at_rest bus s none;
     }
 
 true_or_false : (b : Bool) → (b ≡ true) ⊎ (b ≡ false)
@@ -109,12 +107,12 @@ decided_by : (exempt : Bool) (waits : Bool) (r : Register) (reset : Reset) (stic
     → IsPendingSettled (target_reply_when waits r (port_answer_by reset sticky write unpowered r)) r p → p ≡ None
 decided_by exempt waits r reset sticky write unpowered p x e h = grind arith
 
-decided : {A : Type 0} (waits : Bool) (r : Register) (ap_ : Bool) (t : Target A)
-    → is_target_settling waits r (target_answer_at r ap_ (target_state t)) false ≡ true
-    → IsPendingSettled (target_reply_when waits r (target_answer_at r ap_ (target_state t))) r t.pending
+decided : {D : Type 0} (bus : D → Bus) (waits : Bool) (r : Register) (ap_ : Bool) (t : Target D)
+    → is_target_settling waits r (target_answer_at r ap_ (target_state bus t)) false ≡ true
+    → IsPendingSettled (target_reply_when waits r (target_answer_at r ap_ (target_state bus t))) r t.pending
     → t.pending ≡ None
-decided waits r ap_ t e h = decided_by _ waits r t.reset t.sticky_error t.write_error
-    (is_port_unpowered ap_ (port_has_power (target_state t))) t.pending refl e h
+decided bus waits r ap_ t e h = decided_by _ waits r t.reset t.sticky_error t.write_error
+    (is_port_unpowered ap_ (port_has_power (target_state bus t))) t.pending refl e h
 
 -- whether it would fail tells where WAIT is asked for alone
 settling_alike : (waits : Bool) (r : Register) (a : Reply) (failing : Bool) → (waits ≡ true → failing ≡ false)
@@ -125,23 +123,24 @@ settling_alike false r Waits failing h = refl
 settling_alike false r Faults failing h = refl
 settling_alike false r Silent failing h = refl
 
--- so nothing settles over another memory either
-settles_over : {A : Type 0} (waits : Bool) (r : Register) (ap_ : Bool) (t : Target A) → IsTargetReadyIf waits t.memory t
-    → IsPendingSettled (target_reply_when waits r (target_answer_at r ap_ (target_state t))) r t.pending
-    → target_simulation t ≡ target_settled_when waits r ap_ (target_simulation t)
-settles_over waits r ap_ t ready settled =
-    let a = target_answer_at r ap_ (target_state t) in
+-- so nothing settles over another bus either
+settles_over : {D : Type 0} (bus : D → Bus) (waits : Bool) (r : Register) (ap_ : Bool) (t : Target D)
+    → IsTargetReadyIf waits (bus t.device) t
+    → IsPendingSettled (target_reply_when waits r (target_answer_at r ap_ (target_state bus t))) r t.pending
+    → target_simulation bus t ≡ target_settled_when waits r ap_ (target_simulation bus t)
+settles_over bus waits r ap_ t ready settled =
+    let a = target_answer_at r ap_ (target_state bus t) in
     let owes : simulation_is_owed r (target_reply_when waits r
-    (target_answer_at r ap_ (simulation_transferred (target_simulation t)).state)) ≡ is_target_settling waits r
-    a false = target_settling_owed waits r ap_ t ∙ settling_alike waits r a
-    (pending_fails t.pending t.tar.word (bus_of t.memory)) ready in
+    (target_answer_at r ap_ (simulation_transferred (target_simulation bus t)).state)) ≡ is_target_settling waits r
+    a false = target_settling_owed bus waits r ap_ t ∙ settling_alike waits r a
+    (pending_fails t.pending t.tar.word (bus t.device)) ready in
     elim (true_or_false (is_target_settling waits r a false)) [
-      | inl e ↦ simulation_settled_at_rest waits r ap_ t (decided waits r ap_ t e settled)
-      | inr e ↦ ap (λ b. if b then simulation_transferred (target_simulation t) else target_simulation t)
+      | inl e ↦ simulation_settled_at_rest bus waits r ap_ t (decided bus waits r ap_ t e settled)
+      | inr e ↦ ap (λ b. if b then simulation_transferred (target_simulation bus t) else target_simulation bus t)
           (sym (owes ∙ e))
     ]
 
--- a reply changes no memory, and looks at none
+-- a reply changes no bus, and looks at none
 state_over : (m : Bus) (c : Choice) (reply : Reply) (r : Register) (ap_ : Bool) (x : State)
     → record (port_target_after c reply r ap_ x) { memory = m } ≡ port_target_after c reply r ap_
     (record x { memory = m })
@@ -150,11 +149,11 @@ state_over m c Waits r ap_ x = refl
 state_over m c Faults r ap_ x = refl
 state_over m c Silent r ap_ x = refl
 
--- a simulated target over another memory
-abbrev pub simulation_placed : PlainMemory → Simulation → Simulation
-simulation_placed m s = record s { state = record s.state { memory = bus_of m } }
+-- a simulated target over another bus
+abbrev pub simulation_placed : Bus → Simulation → Simulation
+simulation_placed m s = record s { state = record s.state { memory = m } }
 
-exact_over : (m : PlainMemory) (waits : Bool) (reply : Reply) (r : Register) (ap_ : Bool) (s : Simulation)
+exact_over : (m : Bus) (waits : Bool) (reply : Reply) (r : Register) (ap_ : Bool) (s : Simulation)
     → simulation_placed m (simulation_replied waits reply r ap_ s)
     ≡ simulation_replied waits reply r ap_ (simulation_placed m s)
 exact_over m waits Okay r ap_ s = refl
@@ -163,7 +162,7 @@ exact_over m waits Faults r ap_ s = refl
 exact_over m waits Silent r ap_ s = refl
 
 -- nor does it change the quirks
-pub target_reply_keeps_memory : (c : Choice) (reply : Reply) (r : Register) (ap_ : Bool) (x : State)
+target_reply_keeps_memory : (c : Choice) (reply : Reply) (r : Register) (ap_ : Bool) (x : State)
     → (port_target_after c reply r ap_ x).memory ≡ x.memory
 target_reply_keeps_memory c Okay r ap_ x = refl
 target_reply_keeps_memory c Waits r ap_ x = refl
@@ -179,44 +178,45 @@ pub quirks_kept_by_accepting : (s : Simulation) → (simulation_accepted s).quir
 quirks_kept_by_accepting s = quirks_if s.quirks.late (simulation_transferred s) s refl
 
 -- a request doesn't change the quirks
-pub quirks_kept_by_request : {A : Type 0} (waits : Bool) (reply : Reply) (r : Register) (ap_ : Bool)
-    (s a b t : Target A) → target_simulation a ≡ target_settled_when waits r ap_ (target_simulation s)
-    → target_simulation b ≡ simulation_replied waits reply r ap_ (target_simulation a)
-    → target_simulation t ≡ simulation_accepted_after reply (target_simulation b) → t.quirks ≡ s.quirks
-quirks_kept_by_request waits reply r ap_ s a b t settles after accepts =
+pub quirks_kept_by_request : {D : Type 0} (bus : D → Bus) (waits : Bool) (reply : Reply) (r : Register) (ap_ : Bool)
+    (s a b t : Target D) → target_simulation bus a ≡ target_settled_when waits r ap_ (target_simulation bus s)
+    → target_simulation bus b ≡ simulation_replied waits reply r ap_ (target_simulation bus a)
+    → target_simulation bus t ≡ simulation_accepted_after reply (target_simulation bus b) → t.quirks ≡ s.quirks
+quirks_kept_by_request bus waits reply r ap_ s a b t settles after accepts =
     let first : a.quirks ≡ s.quirks = ap (λ (x : Simulation). x.quirks) settles
-    ∙ quirks_if _ (target_simulation s) (simulation_transferred (target_simulation s)) refl in
+    ∙ quirks_if _ (target_simulation bus s) (simulation_transferred (target_simulation bus s)) refl in
     let second : b.quirks ≡ a.quirks = ap (λ (x : Simulation). x.quirks) after in
     let third : t.quirks ≡ b.quirks = ap (λ (x : Simulation). x.quirks) accepts
-    ∙ quirks_if (is_port_okay reply) (target_simulation b) (simulation_accepted (target_simulation b))
-    (quirks_kept_by_accepting (target_simulation b)) in
+    ∙ quirks_if (is_port_okay reply) (target_simulation bus b) (simulation_accepted (target_simulation bus b))
+    (quirks_kept_by_accepting (target_simulation bus b)) in
     third ∙ (second ∙ first)
 
 -- up to its reply a request leaves the quirk `late` set
-pub late_quirk_kept : {A : Type 0} (waits : Bool) (reply : Reply) (r : Register) (ap_ : Bool) (s a b : Target A)
+pub late_quirk_kept : {D : Type 0} (bus : D → Bus) (waits : Bool) (reply : Reply) (r : Register) (ap_ : Bool)
+    (s a b : Target D)
     → s.quirks.late ≡ true
-    → target_simulation a ≡ target_settled_when waits r ap_ (target_simulation s)
-    → target_simulation b ≡ simulation_replied waits reply r ap_ (target_simulation a)
+    → target_simulation bus a ≡ target_settled_when waits r ap_ (target_simulation bus s)
+    → target_simulation bus b ≡ simulation_replied waits reply r ap_ (target_simulation bus a)
     → b.quirks.late ≡ true
-late_quirk_kept waits reply r ap_ s a b late settles after =
+late_quirk_kept bus waits reply r ap_ s a b late settles after =
     let first : a.quirks ≡ s.quirks = ap (λ (x : Simulation). x.quirks) settles
-    ∙ quirks_if _ (target_simulation s) (simulation_transferred (target_simulation s)) refl in
+    ∙ quirks_if _ (target_simulation bus s) (simulation_transferred (target_simulation bus s)) refl in
     let second : b.quirks ≡ a.quirks = ap (λ (x : Simulation). x.quirks) after in
     ap (λ (x : Quirks). x.late) (second ∙ first) ∙ late
 
 -- where a request left the log unchanged, and nothing took effect after the reply, it was unchanged before the reply
-pub target_log_before_reply : {A : Type 0} (waits : Bool) (reply : Reply) (r : Register) (ap_ : Bool)
-    (s a b t : Target A)
-    → target_state b ≡ port_target_after (target_choice_at waits r a) reply r ap_ (target_state a) → t ≡ b → t.memory.log ≡ s.memory.log
-    → a.memory.log ≡ s.memory.log
-target_log_before_reply waits reply r ap_ s a b t after last log =
-    let memory : bus_of b.memory ≡ bus_of a.memory = ap (λ (x : State). x.memory) after
-    ∙ target_reply_keeps_memory (target_choice_at waits r a) reply r ap_ (target_state a) in
-    ap (λ (m : Bus). m.log) (sym memory) ∙ (ap (λ (x : Target _). x.memory.log) (sym last) ∙ log)
+pub target_log_before_reply : {D : Type 0} (bus : D → Bus) (waits : Bool) (reply : Reply) (r : Register) (ap_ : Bool)
+    (s a b t : Target D)
+    → target_state bus b ≡ port_target_after (target_choice_at waits r a) reply r ap_ (target_state bus a)
+    → t ≡ b → (bus t.device).log ≡ (bus s.device).log → (bus a.device).log ≡ (bus s.device).log
+target_log_before_reply bus waits reply r ap_ s a b t after last log =
+    let memory : bus b.device ≡ bus a.device = ap (λ (x : State). x.memory) after
+    ∙ target_reply_keeps_memory (target_choice_at waits r a) reply r ap_ (target_state bus a) in
+    ap (λ (m : Bus). m.log) (sym memory) ∙ (ap (λ (x : Target _). (bus x.device).log) (sym last) ∙ log)
 
 -- the word that stands for an unknown one is the target's own
-stand_over : {A : Type 0} (m : PlainMemory) (r : Register) (t : Target A)
-    → target_stand_in r (target_over_memory m t) ≡ target_stand_in r t
+stand_over : {D : Type 0} (m : Bus) (r : Register) (t : Target D)
+    → target_stand_in r (target_over_device m t) ≡ target_stand_in r t
 stand_over m ResendRead t = refl
 stand_over m r t = refl
 
@@ -232,56 +232,64 @@ accepts_late Waits s e = refl
 accepts_late Faults s e = refl
 accepts_late Silent s e = refl
 
-pub target_state_placed : {A : Type 0} (m : PlainMemory) (s t : Target A) → target_state t ≡ target_state s
-    → target_state (target_over_memory m t) ≡ target_state (target_over_memory m s)
-target_state_placed m s t e = ap (λ (x : State). record x { memory = bus_of m }) e
+pub target_state_placed : {D : Type 0} (bus : D → Bus) (m : Bus) (s t : Target D) → target_state bus t
+    ≡ target_state bus s
+    → target_state bus_itself (target_over_device m t) ≡ target_state bus_itself (target_over_device m s)
+target_state_placed bus m s t e = ap (λ (x : State). record x { memory = m }) e
 
-pub simulation_same_placed : {A : Type 0} (m : PlainMemory) (s t : Target A) → target_simulation t ≡ target_simulation s
-    → target_simulation (target_over_memory m t) ≡ target_simulation (target_over_memory m s)
-simulation_same_placed m s t e = ap (simulation_placed m) e
+pub simulation_same_placed : {D : Type 0} (bus : D → Bus) (m : Bus) (s t : Target D) → target_simulation bus t
+    ≡ target_simulation bus s
+    → target_simulation bus_itself (target_over_device m t) ≡ target_simulation bus_itself (target_over_device m s)
+simulation_same_placed bus m s t e = ap (simulation_placed m) e
 
--- a request over another memory, from the parts that it has over its own
-pub target_answers_elsewhere : {A : Type 0} (m : PlainMemory) (mark : Mark) (waits : Bool) (q : Request)
-    (s a b : Target A) (r : Register) (reply : Reply) (phase : AfterAck)
+-- a request over another bus, from the parts that it has over its own
+pub target_answers_elsewhere : {D : Type 0} (bus : D → Bus) (m : Bus) (mark : Mark) (waits : Bool) (q : Request)
+    (s a b : Target D) (r : Register) (reply : Reply) (phase : AfterAck)
     → IsPortMark mark → is_port_deaf mark ≡ false → is_port_wait mark ≡ waits → port_register s.select q ≡ r
     → port_register a.select q ≡ r
-    → TargetStays s a → IsTargetReadyIf waits m s → s.quirks.late ≡ true
-    → reply ≡ target_reply_when waits r (target_answer_at r q.ap (target_state a)) → IsPendingSettled reply r a.pending
-    → IsPortWordRead reply q.read (port_value_in (target_choice_at waits r a) r (target_state a))
+    → TargetStays bus s a → IsTargetReadyIf waits m s → s.quirks.late ≡ true
+    → reply ≡ target_reply_when waits r (target_answer_at r q.ap (target_state bus a))
+    → IsPendingSettled reply r a.pending
+    → IsPortWordRead reply q.read (port_value_in (target_choice_at waits r a) r (target_state bus a))
     → phase ≡ port_line_after reply (port_phase_after q.read r None
-    (port_value_in (target_choice_at waits r a) r (target_state a))) Idle
+    (port_value_in (target_choice_at waits r a) r (target_state bus a))) Idle
     → phase ≡ port_line_after reply (port_phase_after q.read r None
-    (port_value_in (simulation_choice_at waits r (target_simulation a)) r (target_simulation a).state)) Idle
-    → target_state b ≡ port_target_after (target_choice_at waits r a) reply r q.ap (target_state a)
-    → target_simulation b ≡ simulation_replied waits reply r q.ap (target_simulation a)
-    → TargetAnswersUnder mark q (target_over_memory m s) reply (target_line_under mark phase) (target_over_memory m b)
-target_answers_elsewhere m mark waits q s a b r reply phase legal deaf wait named same kept ready late replies settled
+    (port_value_in (simulation_choice_at waits r (target_simulation bus a)) r (target_simulation bus a).state)) Idle
+    → target_state bus b ≡ port_target_after (target_choice_at waits r a) reply r q.ap (target_state bus a)
+    → target_simulation bus b ≡ simulation_replied waits reply r q.ap (target_simulation bus a)
+    → TargetAnswersUnder bus_itself mark q (target_over_device m s) reply (target_line_under mark phase)
+    (target_over_device m b)
+target_answers_elsewhere bus m mark waits q s a b r reply phase legal deaf wait named same kept ready late replies
+    settled
     word lawful exact after after' =
     let pending : a.pending ≡ s.pending = ap (λ (x : State). x.pending) kept.state in
-    let answers : target_answer_at r q.ap (target_state a) ≡ target_answer_at r q.ap (target_state s) =
+    let answers : target_answer_at r q.ap (target_state bus a) ≡ target_answer_at r q.ap (target_state bus s) =
     ap (target_answer_at r q.ap) kept.state in
-    let now : IsPendingSettled (target_reply_when waits r (target_answer_at r q.ap (target_state s))) r s.pending =
+    let now : IsPendingSettled (target_reply_when waits r (target_answer_at r q.ap (target_state bus s))) r s.pending =
     subst (λ (x : Reply). IsPendingSettled x r s.pending) (replies ∙ ap (target_reply_when waits r) answers)
     (subst (λ (p : Option Drw). IsPendingSettled reply r p) pending settled) in
     let quirks : b.quirks ≡ s.quirks = ap (λ (x : Simulation). x.quirks) after'
     ∙ ap (λ (x : Simulation). x.quirks) kept.exact in
-    let last : simulation_accepted_after reply (target_simulation (target_over_memory m b))
-    ≡ target_simulation (target_over_memory m b) = accepts_late reply
-    (target_simulation (target_over_memory m b)) (ap (λ (x : Quirks). x.late) quirks ∙ late) in
-    simulated_answers_under mark waits q (target_over_memory m s) (target_over_memory m a) (target_over_memory m b)
-    (target_over_memory m b) r reply phase legal deaf wait named same (inl (target_state_placed m s a kept.state))
-    (simulation_same_placed m s a kept.exact ∙ settles_over waits r q.ap (target_over_memory m s) ready now)
+    let last : simulation_accepted_after reply (target_simulation bus_itself (target_over_device m b))
+    ≡ target_simulation bus_itself (target_over_device m b) = accepts_late reply
+    (target_simulation bus_itself (target_over_device m b)) (ap (λ (x : Quirks). x.late) quirks ∙ late) in
+    simulated_answers_under bus_itself mark waits q (target_over_device m s) (target_over_device m a)
+    (target_over_device m b)
+    (target_over_device m b) r reply phase legal deaf wait named same (inl (target_state_placed bus m s a kept.state))
+    (simulation_same_placed bus m s a kept.exact ∙ settles_over bus_itself waits r q.ap (target_over_device m s) ready
+    now)
     replies settled (subst (λ f. IsPortWordRead reply q.read
-    (port_value_in (record (target_choice_at waits r a) { filler = f }) r (target_state (target_over_memory m a))))
+    (port_value_in (record (target_choice_at waits r a) { filler = f }) r
+    (target_state bus_itself (target_over_device m a))))
     (sym (stand_over m r a)) word) (lawful ∙ ap (λ f. port_line_after reply
     (port_phase_after q.read r None (port_value_in (record (target_choice_at waits r a) { filler = f }) r
-    (target_state (target_over_memory m a)))) Idle)
+    (target_state bus_itself (target_over_device m a)))) Idle)
     (sym (stand_over m r a))) exact
-    (ap (λ (x : State). record x { memory = bus_of m }) after
-    ∙ state_over (bus_of m) (target_choice_at waits r a) reply r q.ap (target_state a)
+    (ap (λ (x : State). record x { memory = m }) after
+    ∙ state_over m (target_choice_at waits r a) reply r q.ap (target_state bus a)
     ∙ ap (λ f. port_target_after (record (target_choice_at waits r a) { filler = f }) reply r q.ap
-    (target_state (target_over_memory m a))) (sym (stand_over m r a)))
-    (ap (simulation_placed m) after' ∙ exact_over m waits reply r q.ap (target_simulation a))
+    (target_state bus_itself (target_over_device m a))) (sym (stand_over m r a)))
+    (ap (simulation_placed m) after' ∙ exact_over m waits reply r q.ap (target_simulation bus a))
     (inl refl) (sym last)
 
 -- the pending transfer is answered alike by two buses
@@ -329,7 +337,7 @@ buffer_alike (Some Reads) false at m n buffer f e = ap Some
     (words_alike (bus_succeeds (Read at) m) (bus_succeeds (Read at) n) (bus_word_at at m) (bus_word_at at n) e f)
 buffer_alike (Some (Writes word)) failed at m n buffer f e = refl
 
--- so it does the same over both, but for the memory
+-- so it does the same over both, but for the bus
 completion_alike : (c : Choice) (x : State) (m : Bus)
     → IsTargetAnsweredAlike x.pending (unwrap_or x.tar c.address) m x.memory
     → record (port_completion c x) { memory = memory_after_pending x.pending (unwrap_or x.tar c.address) m }
@@ -343,38 +351,26 @@ completion_alike c x m e =
     buffer_alike x.pending (pending_fails x.pending at x.memory) at m x.memory x.buffer f e in
     rw (f, b) refl
 
-bus_after_pending : (p : Option Drw) (at : ℕ) (m : PlainMemory)
-    → bus_of (plain_after_pending p at m) ≡ memory_after_pending p at (bus_of m)
-bus_after_pending None at m = refl
-bus_after_pending (Some drw) at m = sym (bus_of_after (pending_access_at at drw) m)
-
--- a completion takes the same step over a memory that gives the pending transfer the same answer
-pub target_completes_elsewhere : {A : Type 0} (m : PlainMemory) (s t : Target A)
-    → IsTargetAnsweredAlike s.pending s.tar.word (bus_of m) (bus_of s.memory) → TargetCompletes s t
-    → TargetCompletes (target_over_memory m s)
-    (target_over_memory (plain_after_pending s.pending s.tar.word m) t)
-target_completes_elsewhere m s t e steps =
+-- a completion takes the same step over a bus that gives the pending transfer the same answer
+pub target_completes_elsewhere : {D : Type 0} (bus : D → Bus) (m : Bus) (s t : Target D)
+    → IsTargetAnsweredAlike s.pending s.tar.word m (bus s.device) → TargetCompletes bus s t
+    → TargetCompletes bus_itself (target_over_device m s)
+    (target_over_device (memory_after_pending s.pending s.tar.word m) t)
+target_completes_elsewhere bus m s t e steps =
     let here : unwrap_or (target_known_word s.tar) s.tar.word ≡ s.tar.word = tar_is s.tar.known s.tar.word in
-    let after = plain_after_pending s.pending s.tar.word m in
-    let is : bus_of after ≡ memory_after_pending s.pending s.tar.word (bus_of m) =
-    bus_after_pending s.pending s.tar.word m in
-    let at = simulated_tar_after s.pending (pending_fails s.pending s.tar.word (bus_of s.memory)) s.increments
-    s.quirks.wrap s.tar.word in
-    let there = completion_alike (target_choice_for DrwRead s) (target_state s) (bus_of m)
-    (subst (λ at. IsTargetAnsweredAlike s.pending at (bus_of m) (bus_of s.memory)) (sym here) e) in
+    let after = memory_after_pending s.pending s.tar.word m in
+    let there = completion_alike (target_choice_for DrwRead s) (target_state bus s) m
+    (subst (λ at. IsTargetAnsweredAlike s.pending at m (bus s.device)) (sym here) e) in
     record {
-      state = ap (λ (x : State). record x { memory = bus_of after }) steps.state
-          ∙ (ap (λ b. record (port_completion (target_choice_for DrwRead s) (target_state s)) { memory = b }) is
-          ∙ (ap (λ at. record (port_completion (target_choice_for DrwRead s) (target_state s))
-          { memory = memory_after_pending s.pending at (bus_of m) }) (sym here) ∙ there));
+      state = ap (λ (x : State). record x { memory = after }) steps.state
+          ∙ (ap (λ at. record (port_completion (target_choice_for DrwRead s) (target_state bus s))
+          { memory = memory_after_pending s.pending at m }) (sym here) ∙ there);
       exact = ap (simulation_placed after) steps.exact
-          ∙ (ap (λ b. simulation_tar_at at
-          (simulation_filled (target_simulation (target_over_memory m s))
-          (record (port_completion (simulation_choice (target_simulation s)) (target_simulation s).state)
-          { memory = b }))) is
-          ∙ (ap (λ z. simulation_tar_at at (simulation_filled (target_simulation (target_over_memory m s)) z))
-          (completion_alike (simulation_choice (target_simulation s)) (target_simulation s).state (bus_of m) e)
+          ∙ (ap (λ z. simulation_tar_at (simulated_tar_after s.pending
+          (pending_fails s.pending s.tar.word (bus s.device)) s.increments s.quirks.wrap s.tar.word)
+          (simulation_filled (target_simulation bus_itself (target_over_device m s)) z))
+          (completion_alike (simulation_choice (target_simulation bus s)) (target_simulation bus s).state m e)
           ∙ ap (λ f. simulation_tar_at (simulated_tar_after s.pending f s.increments s.quirks.wrap s.tar.word)
-          (simulation_stepped port_completion (target_simulation (target_over_memory m s))))
-          (sym (fails_alike s.pending s.tar.word (bus_of m) (bus_of s.memory) e))));
+          (simulation_stepped port_completion (target_simulation bus_itself (target_over_device m s))))
+          (sym (fails_alike s.pending s.tar.word m (bus s.device) e)));
     }

@@ -39,7 +39,7 @@ powers_read Seen Late = refl
 powers_read Seen Seen = refl
 
 -- the numbers of a target are read as themselves
-pub target_fields_restore : {A : Type 0} (t : Target A) → restored_target (target_fields t) ≡ target_fields t
+pub target_fields_restore : {D : Type 0} (t : Target D) → restored_target (target_fields t) ≡ target_fields t
 target_fields_restore t =
     rw (
       target_flag_restores t.tar.known,

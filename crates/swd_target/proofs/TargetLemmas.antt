@@ -4,7 +4,7 @@ use Rattle.std.proofs.Common.{arith}
 use Rattle.std.proofs.Common.{if◌then◌else◌}
 use Rattle.std.specs.Prelude.{is_some, nat_lt, ◌&&◌, ◌+◌, ◌%◌, Some}
 use Rattle.std.specs.Option.{option_and_then}
-use Rattle.swd_port.specs.Bus.{bus_of}
+use Rattle.swd_port.specs.Bus.{Bus}
 use Rattle.swd_port.specs.Port.{Target as State}
 use Rattle.swd_port.specs.declared.register.Register.{Register}
 use Rattle.swd_port.specs.declared.register.Register.TheVariants.{ResendRead, CswRead}
@@ -31,7 +31,7 @@ pub system_on_time : (waits : Bool) (up : PowerUp) → waits ≡ false → simul
 system_on_time waits Seen e = refl
 system_on_time waits up e = e
 
-stand_in-fits : {A : Type 0} (r : Register) (t : Target A) → target_stand_in r t < 2 ^ 32
+stand_in-fits : {D : Type 0} (r : Register) (t : Target D) → target_stand_in r t < 2 ^ 32
 stand_in-fits ResendRead t = t.last_returned.fits
 stand_in-fits r t = t.buffer.fits
 
@@ -40,7 +40,7 @@ others_fit CswRead upper = omega arith
 others_fit r upper = omega arith
 
 -- the address and the words that a target chooses are below 2^32
-pub target_choice_at_is_choice : {A : Type 0} (waits : Bool) (r : Register) (t : Target A)
+pub target_choice_at_is_choice : {D : Type 0} (waits : Bool) (r : Register) (t : Target D)
     → IsPortChoice (target_choice_at waits r t)
 target_choice_at_is_choice waits r t = record {
   address = t.tar.fits;
@@ -50,12 +50,12 @@ target_choice_at_is_choice waits r t = record {
 }
 
 -- and it finds power late where WAIT is asked for alone
-pub target_may_be_late : {A : Type 0} (mark : Mark) (waits : Bool) (r : Register) (t : Target A)
+pub target_may_be_late : {D : Type 0} (mark : Mark) (waits : Bool) (r : Register) (t : Target D)
     → is_port_wait mark ≡ waits → PortMayBeLate mark (target_choice_at waits r t)
 target_may_be_late mark waits r t is e = (sym is ∙ e, system_on_time waits t.debug_up (sym is ∙ e))
 
 -- so is the choice where no WAIT is asked for
-pub target_choice_is_choice : {A : Type 0} (r : Register) (t : Target A) → IsPortChoice (target_choice_for r t)
+pub target_choice_is_choice : {D : Type 0} (r : Register) (t : Target D) → IsPortChoice (target_choice_for r t)
 target_choice_is_choice r t = target_choice_at_is_choice false r t
 
 -- the next address inside a kilobyte
@@ -89,12 +89,13 @@ owed_by : (exempt : Bool) (waits : Bool) (r : Register) (reset : Reset) (sticky 
 owed_by exempt waits r reset sticky write unpowered failing x = grind arith
 
 -- the code's test holds exactly where the reply, once the pending transfer took effect, has to come after it
-pub target_settling_owed : {A : Type 0} (waits : Bool) (r : Register) (ap_ : Bool) (t : Target A)
+pub target_settling_owed : {D : Type 0} (bus : D → Bus) (waits : Bool) (r : Register) (ap_ : Bool) (t : Target D)
     → simulation_is_owed r (target_reply_when waits r
-    (target_answer_at r ap_ (simulation_transferred (target_simulation t)).state)) ≡ is_target_settling waits r
-    (target_answer_at r ap_ (target_state t)) (pending_fails t.pending t.tar.word (bus_of t.memory))
-target_settling_owed waits r ap_ t = owed_by _ waits r t.reset t.sticky_error t.write_error
-    (is_port_unpowered ap_ (port_has_power (target_state t))) (pending_fails t.pending t.tar.word (bus_of t.memory)) refl
+    (target_answer_at r ap_ (simulation_transferred (target_simulation bus t)).state)) ≡ is_target_settling waits r
+    (target_answer_at r ap_ (target_state bus t)) (pending_fails t.pending t.tar.word (bus t.device))
+target_settling_owed bus waits r ap_ t = owed_by _ waits r t.reset t.sticky_error t.write_error
+    (is_port_unpowered ap_ (port_has_power (target_state bus t))) (pending_fails t.pending t.tar.word (bus t.device))
+    refl
 
 -- where the code does not settle, it need not
 pub target_settled_unless : (waits : Bool) (r : Register) (a : Reply) (failing : Bool) (pending : Option Drw)
@@ -110,15 +111,16 @@ target_settled_if_none r Waits = tt
 target_settled_if_none r Silent = tt
 
 -- after a completion nothing is pending
-pub target_settled_after : {A : Type 0} (r : Register) (reply : Reply) (c : Choice) (s : State) (u : Target A)
-    → target_state u ≡ port_completion c s → IsPendingSettled reply r u.pending
-target_settled_after r reply c s u e = subst (λ (p : Option Drw). IsPendingSettled reply r p)
+pub target_settled_after : {D : Type 0} (bus : D → Bus) (r : Register) (reply : Reply) (c : Choice) (s : State)
+    (u : Target D)
+    → target_state bus u ≡ port_completion c s → IsPendingSettled reply r u.pending
+target_settled_after bus r reply c s u e = subst (λ (p : Option Drw). IsPendingSettled reply r p)
     (sym (ap (λ (s : State). s.pending) e)) (target_settled_if_none r reply)
 
 -- with nothing pending no completion changes anything
-pub simulation_at_rest : {A : Type 0} (t : Target A) → t.pending ≡ None
-    → simulation_transferred (target_simulation t) ≡ target_simulation t
-simulation_at_rest t e = grind arith
+pub simulation_at_rest : {D : Type 0} (bus : D → Bus) (t : Target D) → t.pending ≡ None
+    → simulation_transferred (target_simulation bus t) ≡ target_simulation bus t
+simulation_at_rest bus t e = grind arith
 
 unchanged : (b : Bool) (s t : Simulation) → t ≡ s → s ≡ (if b then t else s)
 unchanged true s t e = sym e
@@ -129,7 +131,8 @@ pub target_none_pending_test : (pending : Option Drw) → is_some pending ≡ fa
 target_none_pending_test pending e = grind arith
 
 -- so it doesn't matter whether the code settles then
-pub simulation_settled_at_rest : {A : Type 0} (waits : Bool) (r : Register) (ap_ : Bool) (t : Target A)
-    → t.pending ≡ None → target_simulation t ≡ target_settled_when waits r ap_ (target_simulation t)
-simulation_settled_at_rest waits r ap_ t e =
-    unchanged _ (target_simulation t) (simulation_transferred (target_simulation t)) (simulation_at_rest t e)
+pub simulation_settled_at_rest : {D : Type 0} (bus : D → Bus) (waits : Bool) (r : Register) (ap_ : Bool) (t : Target D)
+    → t.pending ≡ None → target_simulation bus t ≡ target_settled_when waits r ap_ (target_simulation bus t)
+simulation_settled_at_rest bus waits r ap_ t e =
+    unchanged _ (target_simulation bus t) (simulation_transferred (target_simulation bus t))
+    (simulation_at_rest bus t e)

@@ -1,4 +1,4 @@
--- A target without its memory, as integers. Each enum that isn't optional is numbered from 1 on, so no target has all
+-- A target without its device, as integers. Each enum that isn't optional is numbered from 1 on, so no target has all
 -- zeros. An unused field is 0.
 use Rattle.std.specs.Prelude.{ℕ, ◌==◌, Option, Some, None, if◌then◌else◌}
 use Rattle.swd_bits.specs.Bits.{bit}
@@ -40,7 +40,7 @@ target_powers_number Late Unseen = 8
 target_powers_number Late Seen = 9
 
 -- the fields of a target
-abbrev pub target_fields : {A : Type 0} → Target A → TargetFields
+abbrev pub target_fields : {D : Type 0} → Target D → TargetFields
 target_fields t = record {
   tar = target_content_fields t.tar;
   buffer = target_content_fields t.buffer;

@@ -8,6 +8,7 @@ pub mod Simulations
 pub mod Targets
 pub mod Fields
 pub mod Elsewhere
+pub mod Devices
 pub mod Requests
 pub mod Benches
 pub mod Stepping

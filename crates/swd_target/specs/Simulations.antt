@@ -15,8 +15,7 @@ use Rattle.swd_port.specs.declared.state.AfterAck.{AfterAck}
 use Rattle.swd_port.specs.declared.state.AfterAck.TheVariants.{Idle}
 use Rattle.swd_port.specs.declared.state.Reply.{Reply}
 use Rattle.swd_port.specs.declared.state.Reply.TheVariants.{Okay, Faults}
-use Rattle.swd_port.specs.PlainMemory.{PlainMemory}
-use Rattle.swd_port.specs.Bus.{bus_of}
+use Rattle.swd_port.specs.Bus.{Bus}
 use Rattle.swd_port.specs.Port.{PortLink, Target as State, port_made_target, port_register}
 use Rattle.swd_port.specs.Choices.{Choice, port_flip_of, is_port_wait}
 use Rattle.swd_port.specs.Answers.{is_exempt_register, is_port_okay, port_seen_at, port_due_after}
@@ -25,8 +24,8 @@ use Rattle.swd_port.specs.Asking.{port_reply, port_value_in, port_phase_after, p
 use Rattle.swd_port.specs.Moving.{PortArrival, Arrives, port_after_bits}
 use Rattle.swd_target.specs.declared.quirks.Quirks.{Quirks}
 
--- a simulated target: its quirks, bits [30:24] of CSW as last written, and a state in which TAR, the read buffer and the
--- last returned value are known
+-- a simulated target: its quirks, bits [30:24] of CSW as last written, and a state in which TAR, the read buffer and
+-- the last returned value are known
 pub record Simulation : Type 0 where
   pub quirks : Quirks
   pub csw_upper : ℕ
@@ -78,9 +77,9 @@ abbrev pub simulation_stepped : (Choice → State → State) → Simulation → 
 simulation_stepped f s = simulation_filled s (f (simulation_choice s) s.state)
 
 -- the simulated target before any call; DPIDR reads 2ba01477
-abbrev pub simulation_made_with : Quirks → PlainMemory → Simulation
-simulation_made_with quirks memory = simulation_stepped (λ c s. s)
-    (record { quirks = quirks; csw_upper = 0; state = port_made_target 0x2ba0_1477 (bus_of memory) })
+abbrev pub simulation_made_with : Quirks → Bus → Simulation
+simulation_made_with quirks bus = simulation_stepped (λ c s. s)
+    (record { quirks = quirks; csw_upper = 0; state = port_made_target 0x2ba0_1477 bus })
 
 -- the address plus 4; at the end of a kilobyte the low ten bits wrap to 0, or it carries, modulo 2^32
 abbrev pub simulated_next_address : Bool → ℕ → ℕ

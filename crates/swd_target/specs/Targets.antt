@@ -1,4 +1,4 @@
--- The target of the code as a state of the port model, and as a simulated target.
+-- The target of the code as a state of the port model, and as a simulated target. `bus` is the bus that its device is.
 use Rattle.std.specs.Prelude.{ℕ, ◌≡◌, ◌||◌, ◌&&◌, not, Bool, true, false, Some, None, if◌then◌else◌}
 use Rattle.std.specs.Option.{option_and_then}
 use Rattle.swd_port.specs.declared.register.Register.{Register}
@@ -9,7 +9,7 @@ use Rattle.swd_port.specs.declared.state.Reset.TheVariants.{Fresh}
 use Rattle.swd_port.specs.declared.state.Reply.{Reply}
 use Rattle.swd_port.specs.declared.state.Reply.TheVariants.{Okay, Waits, Silent}
 use Rattle.swd_port.specs.Registers.{register_bit}
-use Rattle.swd_port.specs.Bus.{bus_of}
+use Rattle.swd_port.specs.Bus.{Bus}
 use Rattle.swd_port.specs.Port.{Target as State}
 use Rattle.swd_port.specs.declared.state.PowerUp.TheVariants.{Unseen}
 use Rattle.swd_port.specs.Choices.{Choice}
@@ -24,8 +24,8 @@ use Rattle.swd_target.specs.Simulations.{simulated_choice, simulated_next_addres
 use Rattle.swd_target.specs.Simulations.{simulation_written}
 
 -- the state of the port model, in which a word may be unknown
-abbrev pub target_state : {A : Type 0} → Target A → State
-target_state t = record {
+abbrev pub target_state : {D : Type 0} → (D → Bus) → Target D → State
+target_state bus t = record {
   reset = t.reset;
   sticky_error = t.sticky_error;
   write_error = t.write_error;
@@ -41,15 +41,15 @@ target_state t = record {
   last_returned = target_known_word t.last_returned;
   pending = t.pending;
   identification = 0x2ba0_1477;
-  memory = bus_of t.memory;
+  memory = bus t.device;
 }
 
 -- the simulated target: the same state with each word known
-abbrev pub target_simulation : {A : Type 0} → Target A → Simulation
-target_simulation t = record {
+abbrev pub target_simulation : {D : Type 0} → (D → Bus) → Target D → Simulation
+target_simulation bus t = record {
   quirks = t.quirks;
   csw_upper = t.csw_upper;
-  state = record (target_state t) {
+  state = record (target_state bus t) {
     tar = Some t.tar.word;
     buffer = Some t.buffer.word;
     last_returned = Some t.last_returned.word;
@@ -57,16 +57,16 @@ target_simulation t = record {
 }
 
 -- the word that replaces the value of a read, where that is unknown
-abbrev pub target_stand_in : {A : Type 0} → Register → Target A → ℕ
+abbrev pub target_stand_in : {D : Type 0} → Register → Target D → ℕ
 target_stand_in ResendRead t = t.last_returned.word
 target_stand_in r t = t.buffer.word
 
 -- the choice of the target at a request, where WAIT is asked for or not: its own word replaces an unknown one
-abbrev pub target_choice_at : {A : Type 0} → Bool → Register → Target A → Choice
+abbrev pub target_choice_at : {D : Type 0} → Bool → Register → Target D → Choice
 target_choice_at waits r t = simulated_choice waits r t.csw_upper t.debug_up t.tar.word (target_stand_in r t)
 
 -- its choice in another step
-abbrev pub target_choice_for : {A : Type 0} → Register → Target A → Choice
+abbrev pub target_choice_for : {D : Type 0} → Register → Target D → Choice
 target_choice_for r t = target_choice_at false r t
 
 -- TAR after a transfer that succeeded
@@ -78,38 +78,42 @@ target_tar_incremented s = record s {
 abbrev pub simulation_tar_at : ℕ → Simulation → Simulation
 simulation_tar_at at s = record s { state = record s.state { tar = Some at } }
 
--- the target performs a step of the port model, and the same step as a simulated target
-pub record TargetSteps {A : Type 0} (f : Choice → State → State) (s t : Target A) : Type 0 where
-  pub state : target_state t ≡ f (target_choice_for DrwRead s) (target_state s)
-  pub exact : target_simulation t ≡ simulation_stepped f (target_simulation s)
+-- the target performs a step of the port model, and the same step as a simulated target, without its device
+pub record TargetSteps {D : Type 0} (bus : D → Bus) (f : Choice → State → State) (s t : Target D) : Type 0 where
+  pub state : target_state bus t ≡ f (target_choice_for DrwRead s) (target_state bus s)
+  pub exact : target_simulation bus t ≡ simulation_stepped f (target_simulation bus s)
+  pub device : t.device ≡ s.device
 
 -- the pending transfer, if any, takes effect, and TAR ends a kilobyte as the quirks say
-pub record TargetCompletes {A : Type 0} (s t : Target A) : Type 0 where
-  pub state : target_state t ≡ port_completion (target_choice_for DrwRead s) (target_state s)
-  pub exact : target_simulation t ≡ simulation_transferred (target_simulation s)
+pub record TargetCompletes {D : Type 0} (bus : D → Bus) (s t : Target D) : Type 0 where
+  pub state : target_state bus t ≡ port_completion (target_choice_for DrwRead s) (target_state bus s)
+  pub exact : target_simulation bus t ≡ simulation_transferred (target_simulation bus s)
 
--- the target has the effects of a reply, where WAIT was asked for or not
-pub record TargetReplies {A : Type 0} (waits : Bool) (reply : Reply) (r : Register) (ap : Bool) (s t : Target A) : Type 0
+-- the target has the effects of a reply, where WAIT was asked for or not; its device isn't touched
+pub record TargetReplies {D : Type 0} (bus : D → Bus) (waits : Bool) (reply : Reply) (r : Register) (ap : Bool)
+    (s t : Target D) : Type 0
   where
-    pub state : target_state t ≡ port_target_after (target_choice_at waits r s) reply r ap (target_state s)
-    pub exact : target_simulation t ≡ simulation_replied waits reply r ap (target_simulation s)
+    pub state : target_state bus t ≡ port_target_after (target_choice_at waits r s) reply r ap (target_state bus s)
+    pub exact : target_simulation bus t ≡ simulation_replied waits reply r ap (target_simulation bus s)
+    pub device : t.device ≡ s.device
 
--- the 33 bits of a write came
-pub record TargetWrites {A : Type 0} (a : PortArrival) (s t : Target A) : Type 0 where
-  pub state : target_state t ≡ port_after_bits false a (target_state s)
-  pub exact : target_simulation t ≡ simulation_written a (target_simulation s)
+-- the 33 bits of a write came; the device isn't touched
+pub record TargetWrites {D : Type 0} (bus : D → Bus) (a : PortArrival) (s t : Target D) : Type 0 where
+  pub state : target_state bus t ≡ port_after_bits false a (target_state bus s)
+  pub exact : target_simulation bus t ≡ simulation_written a (target_simulation bus s)
+  pub device : t.device ≡ s.device
 
 -- TAR is the next address after a transfer that succeeded, which may be unknown in the port model
-pub record TargetAdvances {A : Type 0} (s t : Target A) : Type 0 where
-  pub state : target_state t ≡ target_tar_incremented (target_state s)
-  pub exact : target_simulation t ≡ simulation_tar_at
-      (if s.increments then simulated_next_address s.quirks.wrap s.tar.word else s.tar.word) (target_simulation s)
+pub record TargetAdvances {D : Type 0} (bus : D → Bus) (s t : Target D) : Type 0 where
+  pub state : target_state bus t ≡ target_tar_incremented (target_state bus s)
+  pub exact : target_simulation bus t ≡ simulation_tar_at
+      (if s.increments then simulated_next_address s.quirks.wrap s.tar.word else s.tar.word) (target_simulation bus s)
 
 -- a bus error sets STICKYERR; TAR and the read buffer are unknown in the port model
-pub record TargetFails {A : Type 0} (s t : Target A) : Type 0 where
-  pub state : target_state t ≡ record (target_state s) { sticky_error = true; tar = None; buffer = None }
-  pub exact : target_simulation t ≡ simulation_stepped (λ c x. record x { sticky_error = true; buffer = None })
-      (target_simulation s)
+pub record TargetFails {D : Type 0} (bus : D → Bus) (s t : Target D) : Type 0 where
+  pub state : target_state bus t ≡ record (target_state bus s) { sticky_error = true; tar = None; buffer = None }
+  pub exact : target_simulation bus t ≡ simulation_stepped (λ c x. record x { sticky_error = true; buffer = None })
+      (target_simulation bus s)
 
 -- the answer in a state where no WAIT is asked for
 abbrev pub target_answer_at : Register → Bool → State → Reply
@@ -134,9 +138,9 @@ is_target_settling waits r Okay failing = not (is_exempt_register r) && (not wai
 is_target_settling waits r a failing = not (is_exempt_register r)
 
 -- the same test for a target
-abbrev pub target_settles_first : {A : Type 0} → Bool → Register → Bool → Target A → Bool
-target_settles_first waits r ap t = is_target_settling waits r (target_answer_at r ap (target_state t))
-    (pending_fails t.pending t.tar.word (bus_of t.memory))
+abbrev pub target_settles_first : {D : Type 0} → (D → Bus) → Bool → Register → Bool → Target D → Bool
+target_settles_first bus waits r ap t = is_target_settling waits r (target_answer_at r ap (target_state bus t))
+    (pending_fails t.pending t.tar.word (bus t.device))
 
 -- the data phase that follows a reply, by a choice
 abbrev pub target_phase_in : Choice → Reply → Bool → Register → State → AfterAck

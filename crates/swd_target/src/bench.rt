@@ -16,6 +16,7 @@ ghost use Rattle.swd_target.specs.Simulations.{simulation_made_with, simulation_
 ghost use Rattle.swd_port.specs.Choices.{IsPortChoice};
 
 use crate::acknowledgement::seen_under;
+use crate::device::Device;
 use crate::memory::Memory;
 use crate::phase::{bits_on, enter_phase, is_awaiting};
 use crate::plan::Plan;
@@ -40,8 +41,8 @@ use swd_port::{AfterAck, Cue, Due, Mark, Wire};
 /// word_of(bench.take()); // Some(0x2ba0_1477)
 /// ```
 #[derive(Debug, Drop)]
-pub struct Bench<A: Allocator = Global> {
-    target: Target<A>,
+pub struct Bench<D, A: Allocator = Global> {
+    target: Target<D>,
     due: Due,
     line: AfterAck,
     plan: Plan<A>,
@@ -49,21 +50,21 @@ pub struct Bench<A: Allocator = Global> {
     ghost flipped: { target_flip_place (target_awaited_flip line) < 33 },
 }
 
-impl<A: Allocator> Bench<A> {
+impl<D: Device, A: Allocator> Bench<D, A> {
     ghost use Rattle.swd_target.specs.Benches.{bench_port, bench_link, bench_tally, bench_simulation, bench_plan};
     ghost use Rattle.swd_target.specs.Benches.{bench_choice, bench_next_mark};
     ghost use Rattle.swd_target.specs.Stepping.{simulation_led, simulation_given, simulation_seen_at_cue};
     ghost use Rattle.swd_target.specs.Stepping.{simulation_after_cue, simulation_link_at_cue};
 
-    /// Creates a target before its first line reset, with this memory behind its access port.
-    pub fn new(memory: Memory<A>, quirks: Quirks, plan: Vec<Mark, A>) -> Bench<A>
+    /// Creates a target before its first line reset, with this device behind its access port, such as a [`Memory`].
+    pub fn new(device: D, quirks: Quirks, plan: Vec<Mark, A>) -> Bench<D, A>
         requires { IsLegalPlan plan.items }
-        ensures port { bench_port result ≡ port_made 0x2ba0_1477 (bus_of memory) }
-        ensures exact { bench_simulation result ≡ simulation_made_with quirks memory }
+        ensures port { bench_port D.bus result ≡ port_made 0x2ba0_1477 (D.bus device) }
+        ensures exact { bench_simulation D.bus result ≡ simulation_made_with quirks (D.bus device) }
         ensures plan { bench_plan result ≡ plan.items }
     {
         Bench {
-            target: Target::new(memory, quirks),
+            target: Target::new(device, quirks),
             due: Due::Nothing,
             line: AfterAck::Idle,
             plan: Plan::new(plan),
@@ -72,26 +73,26 @@ impl<A: Allocator> Bench<A> {
 
     /// Completes the pending DRW transfer, if any. Without the quirk `late` no transfer is ever pending.
     pub fn settle(&mut self)
-        ensures port { bench_port self.new ≡ port_completed (bench_choice self.old) (bench_port self.old) }
+        ensures port { bench_port D.bus self.new ≡ port_completed (bench_choice self.old) (bench_port D.bus self.old) }
         ensures choice { IsPortChoice (bench_choice self.old) }
-        ensures exact { bench_simulation self.new ≡ simulation_transferred (bench_simulation self.old) }
+        ensures exact { bench_simulation D.bus self.new ≡ simulation_transferred (bench_simulation D.bus self.old) }
         ensures plan { bench_plan self.new ≡ bench_plan self.old }
     {
         self.target.complete();
     }
 
-    /// Returns the memory behind the access port.
-    pub fn memory(&self) -> &Memory<A>
-        ensures { (bench_port self.now).target.memory ≡ bus_of result.now }
+    /// Returns the device behind the access port.
+    pub fn device(&self) -> &D
+        ensures { (bench_port D.bus self.now).target.memory ≡ D.bus result.now }
     {
-        &self.target.memory
+        self.target.device()
     }
 
     // Performs a line reset if there are ones. Neither the sixteen bits of the switch nor zeros change the target.
     fn lead_now(&mut self, ones: u32)
-        ensures now { PortLeadsNow (bench_port self.old) ones (bench_port self.new) }
-        ensures exact { bench_simulation self.new
-            ≡ simulation_led ones (bench_link self.old) (bench_simulation self.old) }
+        ensures now { PortLeadsNow (bench_port D.bus self.old) ones (bench_port D.bus self.new) }
+        ensures exact { bench_simulation D.bus self.new
+            ≡ simulation_led ones (bench_link self.old) (bench_simulation D.bus self.old) }
         ensures plan { bench_plan self.new ≡ bench_plan self.old }
     {
         self.due = Due::Nothing;
@@ -104,17 +105,17 @@ impl<A: Allocator> Bench<A> {
     // Performs a request under the next mark.
     #[inline(always)]
     fn ask_now(&mut self, request: Request) -> u8
-        requires { (bench_port self.old).link.due ≡ Nothing }
+        requires { (bench_port D.bus self.old).link.due ≡ Nothing }
         ensures range { result < 8 }
-        ensures step { PortAsks (bench_port self.old) request result (bench_port self.new) }
+        ensures step { PortAsks (bench_port D.bus self.old) request result (bench_port D.bus self.new) }
         ensures sees { result ≡ simulation_seen_at_cue (bench_next_mark self.old) (Ask request) (bench_link self.old)
-            (bench_simulation self.old) }
-        ensures exact { bench_simulation self.new
+            (bench_simulation D.bus self.old) }
+        ensures exact { bench_simulation D.bus self.new
             ≡ simulation_after_cue (bench_next_mark self.old) (Ask request) (bench_link self.old)
-            (bench_simulation self.old) }
+            (bench_simulation D.bus self.old) }
         ensures link { bench_link self.new
             ≡ simulation_link_at_cue (bench_next_mark self.old) (Ask request) (bench_link self.old)
-            (bench_simulation self.old) }
+            (bench_simulation D.bus self.old) }
         ensures tally { bench_tally self.new ≡ port_tally_after (bench_next_mark self.old) (bench_tally self.old) }
         ensures plan { bench_plan self.new ≡ bench_plan self.old }
     {
@@ -129,11 +130,11 @@ impl<A: Allocator> Bench<A> {
     // Returns the data phase of a read.
     #[inline(always)]
     fn take_now(&mut self) -> u64
-        requires { (bench_port self.old).link.due ≡ Take }
+        requires { (bench_port D.bus self.old).link.due ≡ Take }
         ensures range { result < 2 ^ 33 }
-        ensures step { PortTakes (bench_port self.old) result (bench_port self.new) }
-        ensures now { PortTakesNow (bench_port self.old) result (bench_port self.new) }
-        ensures exact { bench_simulation self.new ≡ bench_simulation self.old }
+        ensures step { PortTakes (bench_port D.bus self.old) result (bench_port D.bus self.new) }
+        ensures now { PortTakesNow (bench_port D.bus self.old) result (bench_port D.bus self.new) }
+        ensures exact { bench_simulation D.bus self.new ≡ bench_simulation D.bus self.old }
         ensures plan { bench_plan self.new ≡ bench_plan self.old }
     {
         let bits = bits_on(self.line);
@@ -145,13 +146,13 @@ impl<A: Allocator> Bench<A> {
     // Takes the data phase of a write.
     #[inline(always)]
     fn give_now(&mut self, bits: u64)
-        requires due { (bench_port self.old).link.due ≡ Give }
+        requires due { (bench_port D.bus self.old).link.due ≡ Give }
         requires range { bits < 2 ^ 33 }
-        ensures step { PortGives (bench_port self.old) bits (bench_port self.new) }
+        ensures step { PortGives (bench_port D.bus self.old) bits (bench_port D.bus self.new) }
         ensures link { bench_link self.new ≡ port_idle_link }
         ensures tally { bench_tally self.new ≡ bench_tally self.old }
-        ensures exact { bench_simulation self.new
-            ≡ simulation_given bits (bench_link self.old) (bench_simulation self.old) }
+        ensures exact { bench_simulation D.bus self.new
+            ≡ simulation_given bits (bench_link self.old) (bench_simulation D.bus self.old) }
         ensures plan { bench_plan self.new ≡ bench_plan self.old }
     {
         self.target.arrive_on(self.line, bits);
@@ -162,23 +163,34 @@ impl<A: Allocator> Bench<A> {
     // Passes the turnaround after WAIT or FAULT, which doesn't change the target.
     #[inline(always)]
     fn pass_now(&mut self)
-        requires { (bench_port self.old).link.due ≡ Pass }
-        ensures step { PortPasses (bench_port self.old) (bench_port self.new) }
-        ensures now { PortPassesNow (bench_port self.old) (bench_port self.new) }
-        ensures exact { bench_simulation self.new ≡ bench_simulation self.old }
+        requires { (bench_port D.bus self.old).link.due ≡ Pass }
+        ensures step { PortPasses (bench_port D.bus self.old) (bench_port D.bus self.new) }
+        ensures now { PortPassesNow (bench_port D.bus self.old) (bench_port D.bus self.new) }
+        ensures exact { bench_simulation D.bus self.new ≡ bench_simulation D.bus self.old }
         ensures plan { bench_plan self.new ≡ bench_plan self.old }
     {
         self.due = Due::Nothing;
     }
 }
 
-impl<A: Allocator> Wire for Bench<A> {
+impl<M: Allocator, A: Allocator> Bench<Memory<M>, A> {
+    ghost use Rattle.swd_target.specs.Benches.{bench_port};
+
+    /// Returns the memory behind the access port.
+    pub fn memory(&self) -> &Memory<M>
+        ensures { (bench_port bus_of self.now).target.memory ≡ bus_of result.now }
+    {
+        self.target.memory()
+    }
+}
+
+impl<D: Device, A: Allocator> Wire for Bench<D, A> {
     ghost use Rattle.swd_target.specs.Benches.{bench_port, bench_link, bench_tally, bench_simulation, bench_plan};
     ghost use Rattle.swd_target.specs.Benches.{bench_next_mark};
     ghost use Rattle.swd_target.specs.Stepping.{simulation_seen_at_cue, simulation_after_cue, simulation_link_at_cue};
     ghost use Rattle.swd_target.specs.Stepping.{simulation_tally_at_cue, TargetStepsAlone};
 
-    ghost port = { bench_port };
+    ghost port = { bench_port D.bus };
 
     ghost plan = { bench_plan };
 
@@ -189,16 +201,18 @@ impl<A: Allocator> Wire for Bench<A> {
     /// Performs the cue. The n-th request uses the n-th mark of the plan, or `Clean` after its end.
     #[inline(always)]
     fn step(&mut self, cue: Cue) -> u64
-        requires { PortMayStep (bench_port self.old).link.due cue }
+        requires { PortMayStep (bench_port D.bus self.old).link.due cue }
         ensures seen { IsPortSeen cue result }
-        ensures step { IsPortStep cue result (bench_port self.old) (bench_port self.new) }
-        ensures alone { TargetStepsAlone cue result (bench_port self.old) (bench_port self.new) }
+        ensures step { IsPortStep cue result (bench_port D.bus self.old) (bench_port D.bus self.new) }
+        ensures alone { TargetStepsAlone cue result (bench_port D.bus self.old) (bench_port D.bus self.new) }
         ensures sees { result ≡ simulation_seen_at_cue (bench_next_mark self.old) cue (bench_link self.old)
-            (bench_simulation self.old) }
-        ensures exact { bench_simulation self.new
-            ≡ simulation_after_cue (bench_next_mark self.old) cue (bench_link self.old) (bench_simulation self.old) }
+            (bench_simulation D.bus self.old) }
+        ensures exact { bench_simulation D.bus self.new
+            ≡ simulation_after_cue (bench_next_mark self.old) cue (bench_link self.old)
+            (bench_simulation D.bus self.old) }
         ensures link { bench_link self.new
-            ≡ simulation_link_at_cue (bench_next_mark self.old) cue (bench_link self.old) (bench_simulation self.old) }
+            ≡ simulation_link_at_cue (bench_next_mark self.old) cue (bench_link self.old)
+            (bench_simulation D.bus self.old) }
         ensures tally { bench_tally self.new
             ≡ simulation_tally_at_cue (bench_next_mark self.old) cue (bench_tally self.old) }
         ensures plan { bench_plan self.new ≡ bench_plan self.old }

@@ -2,16 +2,15 @@
 ghost use Rattle.std.specs.Prelude.{◌≡◌, ◌==◌};
 ghost use Rattle.swd_target.specs.Fields.{target_content_fields, target_pending_fields, target_powers_number};
 ghost use Rattle.swd_target.specs.Fields.{target_reset_number, restored_target_content, restored_target_pending};
-ghost use Rattle.swd_target.specs.Fields.{restored_target_powers, restored_target_reset, restored_target, target_fields};
+ghost use Rattle.swd_target.specs.Fields.{restored_target_powers, restored_target_reset, restored_target};
+ghost use Rattle.swd_target.specs.Fields.{target_fields};
 
 use crate::content::Content;
-use crate::memory::Memory;
 use crate::quirks::Quirks;
 use crate::target::Target;
-use std::alloc::Allocator;
 use swd_port::{Drw, PowerUp, Reset, Select};
 
-/// The state of a target without its memory, as integers laid out as in C. [`Target::fields`] returns it, and
+/// The state of a target without its device, as integers laid out as in C. [`Target::fields`] returns it, and
 /// [`target`](TargetFields::target) restores a target. No target has all zeros.
 ///
 /// The meaning of the fields is private to this crate.
@@ -151,11 +150,11 @@ fn powers_with(number: u8) -> (PowerUp, PowerUp)
 }
 
 impl TargetFields {
-    /// Creates a target with these fields and this memory. An invalid number is read as a valid one: compare the fields
+    /// Creates a target with these fields and this device. An invalid number is read as a valid one: compare the fields
     /// of the result to reject it.
-    pub fn target<A: Allocator>(&self, memory: Memory<A>) -> Target<A>
+    pub fn target<D>(&self, device: D) -> Target<D>
         ensures numbers { target_fields result ≡ restored_target self.now }
-        ensures memory { result.memory ≡ memory }
+        ensures device { result.device ≡ device }
     {
         let (debug_up, system_up) = powers_with(self.power_up);
         Target {
@@ -179,7 +178,7 @@ impl TargetFields {
             buffer: self.buffer.content(),
             last_returned: self.last_returned.content(),
             pending: self.pending.pending(),
-            memory,
+            device,
         }
     }
 
@@ -194,8 +193,8 @@ impl TargetFields {
     }
 }
 
-impl<A: Allocator> Target<A> {
-    /// Returns the fields of the target, without its memory.
+impl<D> Target<D> {
+    /// Returns the fields of the target, without its device.
     pub fn fields(&self) -> TargetFields
         ensures { result ≡ target_fields self.now }
     {

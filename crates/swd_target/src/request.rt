@@ -7,14 +7,14 @@ ghost use Rattle.swd_port.specs.Moving.{port_arrival, port_arrival_of, port_bits
 ghost use Rattle.swd_target.specs.Flips.{target_flip_place, target_awaited_flip};
 ghost use Rattle.swd_target.specs.Simulations.{simulation_accepted_after, simulation_choice_at};
 
+use crate::device::Device;
 use crate::phase::{flip_bit, flip_line, flip_under, phase_of};
 use crate::register::register_named;
 use crate::target::Target;
-use std::alloc::Allocator;
 use swd_bits::{Request, word_of};
 use swd_port::{AfterAck, Mark, Register, Reply};
 
-impl<A: Allocator> Target<A> {
+impl<D: Device> Target<D> {
     ghost use Rattle.swd_target.specs.Targets.{target_state, target_simulation, target_choice_at, target_phase_in};
     ghost use Rattle.swd_target.specs.Requests.{TargetAnswers, TargetAnswersUnder, DataComes, TargetTransfers};
 
@@ -23,10 +23,10 @@ impl<A: Allocator> Target<A> {
     /// before.
     #[inline(always)]
     pub fn request(&mut self, waits: bool, request: Request) -> (Reply, AfterAck)
-        ensures answers { TargetAnswers waits request self.old result.0 result.1 self.new }
-        ensures quirks { (target_simulation self.new).quirks ≡ (target_simulation self.old).quirks }
-        ensures quiet { (target_simulation self.old).quirks.late ≡ true → (target_state self.old).pending ≡ None
-            → self.new.memory ≡ self.old.memory }
+        ensures answers { TargetAnswers D.bus waits request self.old result.0 result.1 self.new }
+        ensures quirks { (target_simulation D.bus self.new).quirks ≡ (target_simulation D.bus self.old).quirks }
+        ensures quiet { (target_simulation D.bus self.old).quirks.late ≡ true
+            → (target_state D.bus self.old).pending ≡ None → self.new.device ≡ self.old.device }
         ensures driven { port_bits_driven result.1 < 2 ^ 33 }
     {
         let register = register_named(self.select, request);
@@ -39,8 +39,9 @@ impl<A: Allocator> Target<A> {
 
     // Lets a transfer that an OK accepted take effect as the quirks say.
     fn accept_after(&mut self, reply: Reply)
-        ensures effect { TargetTransfers (target_state self.old) (target_state self.new) }
-        ensures exact { target_simulation self.new ≡ simulation_accepted_after reply (target_simulation self.old) }
+        ensures effect { TargetTransfers (target_state D.bus self.old) (target_state D.bus self.new) }
+        ensures exact { target_simulation D.bus self.new
+            ≡ simulation_accepted_after reply (target_simulation D.bus self.old) }
         ensures late { self.old.quirks.late ≡ true → self.new ≡ self.old }
     {
         if let Reply::Okay = reply {
@@ -51,11 +52,12 @@ impl<A: Allocator> Target<A> {
     // Returns the data phase that follows a reply.
     fn phase(&self, waits: bool, reply: Reply, register: Register, read: bool) -> AfterAck
         ensures phase { result ≡ target_phase_in (target_choice_at waits register self.now) reply read register
-            (target_state self.now) }
-        ensures exact { result ≡ target_phase_in (simulation_choice_at waits register (target_simulation self.now))
-            reply read register (target_simulation self.now).state }
+            (target_state D.bus self.now) }
+        ensures exact { result
+            ≡ target_phase_in (simulation_choice_at waits register (target_simulation D.bus self.now)) reply read
+            register (target_simulation D.bus self.now).state }
         ensures word { IsPortWordRead reply read (port_value_in (target_choice_at waits register self.now) register
-            (target_state self.now)) }
+            (target_state D.bus self.now)) }
         ensures driven { port_bits_driven result < 2 ^ 33 }
     {
         match reply {
@@ -68,7 +70,7 @@ impl<A: Allocator> Target<A> {
     #[inline(always)]
     pub(crate) fn request_under(&mut self, mark: Mark, request: Request) -> (Reply, AfterAck)
         requires { IsPortMark mark }
-        ensures answers { TargetAnswersUnder mark request self.old result.0 result.1 self.new }
+        ensures answers { TargetAnswersUnder D.bus mark request self.old result.0 result.1 self.new }
         ensures driven { port_bits_driven result.1 < 2 ^ 33 }
         ensures flipped { target_flip_place (target_awaited_flip result.1) < 33 }
     {
@@ -84,7 +86,7 @@ impl<A: Allocator> Target<A> {
     fn request_heard(&mut self, mark: Mark, request: Request) -> (Reply, AfterAck)
         requires mark { IsPortMark mark }
         requires heard { is_port_deaf mark ≡ false }
-        ensures answers { TargetAnswersUnder mark request self.old result.0 result.1 self.new }
+        ensures answers { TargetAnswersUnder D.bus mark request self.old result.0 result.1 self.new }
         ensures driven { port_bits_driven result.1 < 2 ^ 33 }
         ensures flipped { target_flip_place (target_awaited_flip result.1) < 33 }
     {
@@ -97,7 +99,7 @@ impl<A: Allocator> Target<A> {
     fn request_disturbed(&mut self, mark: Mark, request: Request) -> (Reply, AfterAck)
         requires mark { IsPortMark mark }
         requires heard { is_port_deaf mark ≡ false }
-        ensures answers { TargetAnswersUnder mark request self.old result.0 result.1 self.new }
+        ensures answers { TargetAnswersUnder D.bus mark request self.old result.0 result.1 self.new }
         ensures driven { port_bits_driven result.1 < 2 ^ 33 }
         ensures flipped { target_flip_place (target_awaited_flip result.1) < 33 }
     {
@@ -108,10 +110,10 @@ impl<A: Allocator> Target<A> {
     /// otherwise WDATAERR is set.
     pub fn arrive(&mut self, register: Register, bits: u64)
         requires { bits < 2 ^ 33 }
-        ensures comes { DataComes (port_arrival_of register (data_phase_word bits)) self.old self.new }
-        ensures quirks { (target_simulation self.new).quirks ≡ (target_simulation self.old).quirks }
-        ensures quiet { (target_simulation self.old).quirks.late ≡ true
-            → self.new.memory ≡ self.old.memory }
+        ensures comes { DataComes D.bus (port_arrival_of register (data_phase_word bits)) self.old self.new }
+        ensures quirks { (target_simulation D.bus self.new).quirks ≡ (target_simulation D.bus self.old).quirks }
+        ensures quiet { (target_simulation D.bus self.old).quirks.late ≡ true
+            → self.new.device ≡ self.old.device }
     {
         match word_of(bits) {
             Some(word) => {
@@ -126,7 +128,7 @@ impl<A: Allocator> Target<A> {
     pub(crate) fn arrive_on(&mut self, line: AfterAck, bits: u64)
         requires range { bits < 2 ^ 33 }
         requires flip { target_flip_place (target_awaited_flip line) < 33 }
-        ensures { DataComes (port_arrival line bits) self.old self.new }
+        ensures { DataComes D.bus (port_arrival line bits) self.old self.new }
     {
         if let AfterAck::Awaits(register, flip) = line {
             self.arrive(register, flip_bit(flip, bits));

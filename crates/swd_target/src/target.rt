@@ -17,22 +17,21 @@ ghost use Rattle.swd_target.specs.Simulations.{simulation_made_with, simulation_
 ghost use Rattle.swd_target.specs.Simulations.{simulated_next_address, simulated_others, simulated_system_late};
 
 use crate::content::Content;
+use crate::device::Device;
 use crate::memory::Memory;
 use crate::quirks::Quirks;
 use crate::register::{is_access_port, is_access_port_write, is_exempt, is_posted};
 use bitflags::Flags;
-use std::alloc::{Allocator, Global};
-use swd_port::{
-    Abort, Access, Answer, Csw, CtrlStat, Drw, PowerUp, Register, Reply, Reset, Select,
-};
+use std::alloc::Allocator;
+use swd_port::{Abort, Access, Csw, CtrlStat, Drw, PowerUp, Register, Reply, Reset, Select};
 
 // The word that DPIDR reads.
 const IDENTIFICATION: u32 = 0x2ba0_1477;
 
-/// A debug port and its access port, behind any wire. Its quirks make the choices that the standard leaves to a target.
-/// A register that the port model has unknown keeps a word.
+/// A debug port and its access port with a [`Device`] behind it, behind any wire. Its quirks make the choices that the
+/// standard leaves to a target. A register that the port model has unknown keeps a word.
 #[derive(Debug, Drop)]
-pub struct Target<A: Allocator = Global> {
+pub struct Target<D> {
     pub(crate) quirks: Quirks,
     pub(crate) reset: Reset,
     pub(crate) sticky_error: bool,
@@ -49,10 +48,10 @@ pub struct Target<A: Allocator = Global> {
     pub(crate) buffer: Content,
     pub(crate) last_returned: Content,
     pub(crate) pending: Option<Drw>,
-    pub(crate) memory: Memory<A>,
+    pub(crate) device: D,
 }
 
-impl<A: Allocator> Target<A> {
+impl<D: Device> Target<D> {
     ghost use Rattle.swd_target.specs.Targets.{target_state, target_simulation, target_choice_at, target_answer_at};
     ghost use Rattle.swd_target.specs.Targets.{TargetAdvances, TargetCompletes, TargetReplies, TargetWrites};
     ghost use Rattle.swd_target.specs.Targets.{target_reply_when, target_settled_when};
@@ -61,10 +60,11 @@ impl<A: Allocator> Target<A> {
     ghost use Rattle.swd_target.specs.Requests.{TargetTransfers};
     ghost use Rattle.swd_target.specs.Elsewhere.{IsTargetReady, TargetStays};
 
-    /// Creates a target before its first line reset, with this memory behind its access port. DPIDR reads 2ba01477.
-    pub fn new(memory: Memory<A>, quirks: Quirks) -> Target<A>
-        ensures state { target_state result ≡ port_made_target 0x2ba0_1477 (bus_of memory) }
-        ensures exact { target_simulation result ≡ simulation_made_with quirks memory }
+    /// Creates a target before its first line reset, with this device behind its access port. DPIDR reads 2ba01477.
+    pub fn new(device: D, quirks: Quirks) -> Target<D>
+        ensures state { target_state D.bus result ≡ port_made_target 0x2ba0_1477 (D.bus device) }
+        ensures exact { target_simulation D.bus result ≡ simulation_made_with quirks (D.bus device) }
+        ensures device { result.device ≡ device }
     {
         Target {
             quirks,
@@ -87,28 +87,30 @@ impl<A: Allocator> Target<A> {
             buffer: Content::unknown(quirks.filler),
             last_returned: Content::unknown(quirks.filler),
             pending: None,
-            memory,
+            device,
         }
     }
 
-    /// Returns the memory behind the access port.
-    pub fn memory(&self) -> &Memory<A>
-        ensures { (target_state self.now).memory ≡ bus_of result.now }
+    /// Returns the device behind the access port.
+    pub fn device(&self) -> &D
+        ensures bus { (target_state D.bus self.now).memory ≡ D.bus result.now }
+        ensures device { result.now ≡ self.now.device }
     {
-        &self.memory
+        &self.device
     }
 
-    /// Consumes the target, and returns the memory behind the access port.
-    pub fn into_memory(self) -> Memory<A>
-        ensures { (target_state self).memory ≡ bus_of result }
+    /// Consumes the target, and returns the device behind the access port.
+    pub fn into_device(self) -> D
+        ensures bus { (target_state D.bus self).memory ≡ D.bus result }
+        ensures device { result ≡ self.device }
     {
-        self.memory
+        self.device
     }
 
     /// Completes the pending DRW transfer, if any.
     #[inline(always)]
     pub fn complete(&mut self)
-        ensures { TargetCompletes self.old self.new }
+        ensures { TargetCompletes D.bus self.old self.new }
     {
         match self.pending {
             Some(Drw::Reads) => self.complete_read(),
@@ -119,32 +121,33 @@ impl<A: Allocator> Target<A> {
 
     fn complete_read(&mut self)
         requires { self.old.pending ≡ Some Drw.Reads }
-        ensures { TargetCompletes self.old self.new }
+        ensures { TargetCompletes D.bus self.old self.new }
     {
         self.pending = None;
-        match self.memory.transfer(Access::Read(self.tar.word)) {
-            Answer::Value(word) => {
+        match self.device.read(self.tar.word) {
+            Some(word) => {
                 self.buffer = Content::known(word);
                 self.step_address();
             }
-            _ => self.bus_error(),
+            None => self.bus_error(),
         }
     }
 
     fn complete_write(&mut self, word: u32)
         requires { self.old.pending ≡ Some (Drw.Writes word) }
-        ensures { TargetCompletes self.old self.new }
+        ensures { TargetCompletes D.bus self.old self.new }
     {
         self.pending = None;
-        match self.memory.transfer(Access::Write(self.tar.word, word)) {
-            Answer::Written => self.step_address(),
-            _ => self.bus_error(),
+        if self.device.write(self.tar.word, word) {
+            self.step_address();
+        } else {
+            self.bus_error();
         }
     }
 
     // Increments TAR after a transfer that succeeded.
     fn step_address(&mut self)
-        ensures { TargetAdvances self.old self.new }
+        ensures { TargetAdvances D.bus self.old self.new }
     {
         if self.increments {
             self.tar = self.next_tar();
@@ -167,7 +170,7 @@ impl<A: Allocator> Target<A> {
 
     // Returns the answer to a request for which no WAIT is asked.
     fn answer(&self, register: Register, ap: bool) -> Reply
-        ensures { result ≡ target_answer_at register ap (target_state self.now) }
+        ensures { result ≡ target_answer_at register ap (target_state D.bus self.now) }
     {
         if !self.is_answering(register) {
             Reply::Silent
@@ -182,7 +185,7 @@ impl<A: Allocator> Target<A> {
 
     // Returns whether debug power is on.
     fn has_power(&self) -> bool
-        ensures { result ≡ port_has_power (target_state self.now) }
+        ensures { result ≡ port_has_power (target_state D.bus self.now) }
     {
         self.debug_power && !matches!(&self.debug_up, PowerUp::Late)
     }
@@ -199,7 +202,8 @@ impl<A: Allocator> Target<A> {
 
     // Returns the reply to a request in the current state; `waits` asks for WAIT.
     fn reply_now(&self, waits: bool, register: Register, ap: bool) -> Reply
-        ensures { result ≡ target_reply_when waits register (target_answer_at register ap (target_state self.now)) }
+        ensures { result
+            ≡ target_reply_when waits register (target_answer_at register ap (target_state D.bus self.now)) }
     {
         let answer = self.answer(register, ap);
         match answer {
@@ -211,14 +215,16 @@ impl<A: Allocator> Target<A> {
     // Settles the pending transfer if necessary, and returns the reply to a request; `waits` asks for WAIT.
     #[inline(always)]
     pub(crate) fn reply(&mut self, waits: bool, register: Register, ap: bool) -> Reply
-        ensures reply { result ≡ target_reply_when waits register (target_answer_at register ap (target_state self.new)) }
-        ensures settles { TargetTransfers (target_state self.old) (target_state self.new) }
+        ensures reply { result
+            ≡ target_reply_when waits register (target_answer_at register ap (target_state D.bus self.new)) }
+        ensures settles { TargetTransfers (target_state D.bus self.old) (target_state D.bus self.new) }
         ensures settled { IsPendingSettled result register self.new.pending }
         ensures select { self.new.select ≡ self.old.select }
-        ensures exact { target_simulation self.new
-            ≡ target_settled_when waits register ap (target_simulation self.old) }
-        ensures untouched { IsTargetReady self.old.memory self.old → self.new.memory.log ≡ self.old.memory.log
-            → TargetStays self.old self.new }
+        ensures exact { target_simulation D.bus self.new
+            ≡ target_settled_when waits register ap (target_simulation D.bus self.old) }
+        ensures untouched { IsTargetReady (D.bus self.old.device) self.old
+            → (D.bus self.new.device).log ≡ (D.bus self.old.device).log → TargetStays D.bus self.old self.new }
+        ensures rest { self.old.pending ≡ None → self.new ≡ self.old }
     {
         // Usually no transfer is pending, and testing whether it has to settle costs as much as the reply.
         if self.pending.is_some() {
@@ -229,15 +235,15 @@ impl<A: Allocator> Target<A> {
 
     // Completes the pending transfer if it has to take effect before the reply.
     fn settle(&mut self, waits: bool, register: Register, ap: bool)
-        ensures settles { TargetTransfers (target_state self.old) (target_state self.new) }
+        ensures settles { TargetTransfers (target_state D.bus self.old) (target_state D.bus self.new) }
         ensures settled { IsPendingSettled
-            (target_reply_when waits register (target_answer_at register ap (target_state self.new)))
+            (target_reply_when waits register (target_answer_at register ap (target_state D.bus self.new)))
             register self.new.pending }
         ensures select { self.new.select ≡ self.old.select }
-        ensures exact { target_simulation self.new
-            ≡ target_settled_when waits register ap (target_simulation self.old) }
-        ensures untouched { IsTargetReady self.old.memory self.old → self.new.memory.log ≡ self.old.memory.log
-            → TargetStays self.old self.new }
+        ensures exact { target_simulation D.bus self.new
+            ≡ target_settled_when waits register ap (target_simulation D.bus self.old) }
+        ensures untouched { IsTargetReady (D.bus self.old.device) self.old
+            → (D.bus self.new.device).log ≡ (D.bus self.old.device).log → TargetStays D.bus self.old self.new }
     {
         if self.settles_before(waits, register, ap) {
             self.complete();
@@ -246,7 +252,7 @@ impl<A: Allocator> Target<A> {
 
     // Applies the effects of a reply to the target; `waits`: WAIT was asked for.
     pub(crate) fn apply(&mut self, waits: bool, reply: Reply, register: Register, ap: bool)
-        ensures { TargetReplies waits reply register ap self.old self.new }
+        ensures { TargetReplies D.bus waits reply register ap self.old self.new }
     {
         match reply {
             Reply::Silent => {}
@@ -263,7 +269,7 @@ impl<A: Allocator> Target<A> {
 
     // Clears READOK where an AP read or RDBUFF read wasn't answered OK.
     fn refuse_read(&mut self, register: Register)
-        ensures { TargetSteps (λ c. port_after_wait register) self.old self.new }
+        ensures { TargetSteps D.bus (λ c. port_after_wait register) self.old self.new }
     {
         if is_posted(register) {
             self.read_ok = false;
@@ -271,7 +277,7 @@ impl<A: Allocator> Target<A> {
     }
 
     fn apply_okay(&mut self, waits: bool, register: Register)
-        ensures { TargetReplies waits Okay register false self.old self.new }
+        ensures { TargetReplies D.bus waits Okay register false self.old self.new }
     {
         let system_up = self.system_up_after(waits, register);
         self.debug_up = self.debug_up_after(waits, register);
@@ -322,9 +328,9 @@ impl<A: Allocator> Target<A> {
     // Returns the word that a read returns; `waits` asks for WAIT.
     pub(crate) fn value(&self, waits: bool, register: Register) -> u32
         ensures value { result ≡ port_value_in (target_choice_at waits register self.now) register
-            (target_state self.now) }
-        ensures exact { result ≡ port_value_in (simulation_choice_at waits register (target_simulation self.now))
-            register (target_simulation self.now).state }
+            (target_state D.bus self.now) }
+        ensures exact { result ≡ port_value_in (simulation_choice_at waits register (target_simulation D.bus self.now))
+            register (target_simulation D.bus self.now).state }
     {
         match register {
             Register::DpidrRead => IDENTIFICATION,
@@ -337,7 +343,8 @@ impl<A: Allocator> Target<A> {
 
     // Returns CTRL/STAT as it is read; `waits` asks for WAIT.
     fn status(&self, waits: bool) -> u32
-        ensures { result ≡ ctrl_stat_word_in (target_choice_at waits CtrlStatRead self.now) (target_state self.now) }
+        ensures { result
+            ≡ ctrl_stat_word_in (target_choice_at waits CtrlStatRead self.now) (target_state D.bus self.now) }
     {
         let debug_up = self.debug_up_after(waits, Register::CtrlStatRead);
         let system_up = self.system_up_after(waits, Register::CtrlStatRead);
@@ -368,7 +375,7 @@ impl<A: Allocator> Target<A> {
 
     // Performs a write whose data arrived with right parity.
     pub(crate) fn write(&mut self, register: Register, word: u32)
-        ensures { TargetWrites (Arrives register word) self.old self.new }
+        ensures { TargetWrites D.bus (Arrives register word) self.old self.new }
     {
         if is_access_port_write(register) {
             self.forget_values();
@@ -390,7 +397,7 @@ impl<A: Allocator> Target<A> {
 
     // Makes the read buffer and the last returned value unknown, as an AP write does.
     fn forget_values(&mut self)
-        ensures { TargetSteps (λ c s. record s { buffer = None; last_returned = None }) self.old self.new }
+        ensures { TargetSteps D.bus (λ c s. record s { buffer = None; last_returned = None }) self.old self.new }
     {
         let unknown = self.unknown();
         self.buffer = unknown;
@@ -399,7 +406,7 @@ impl<A: Allocator> Target<A> {
 
     // Performs a write of ABORT.
     fn clear_flags(&mut self, word: u32)
-        ensures { TargetSteps (λ c. target_flags_cleared word) self.old self.new }
+        ensures { TargetSteps D.bus (λ c. target_flags_cleared word) self.old self.new }
     {
         let abort = Abort::of(word);
         self.sticky_error &= !abort.contains(Abort::STKERRCLR);
@@ -408,7 +415,7 @@ impl<A: Allocator> Target<A> {
 
     // Performs a write of CTRL/STAT.
     fn set_power(&mut self, word: u32)
-        ensures { TargetSteps (λ c. target_power_set word) self.old self.new }
+        ensures { TargetSteps D.bus (λ c. target_power_set word) self.old self.new }
     {
         let control = CtrlStat::of(word);
         self.debug_power = control.contains(CtrlStat::CDBGPWRUPREQ);
@@ -419,7 +426,7 @@ impl<A: Allocator> Target<A> {
 
     // Sets WDATAERR for a write whose data arrived with wrong parity, which isn't done.
     pub(crate) fn refuse_write(&mut self)
-        ensures { TargetWrites Damaged self.old self.new }
+        ensures { TargetWrites D.bus Damaged self.old self.new }
     {
         self.write_error = true;
     }
@@ -427,7 +434,7 @@ impl<A: Allocator> Target<A> {
     /// Performs a line reset, which changes no register but WDATAERR: write data that was awaited (`awaiting`) is taken
     /// from its ones, whose parity is wrong.
     pub fn line_reset(&mut self, awaiting: bool)
-        ensures { TargetSteps (λ c. target_line_reset awaiting) self.old self.new }
+        ensures { TargetSteps D.bus (λ c. target_line_reset awaiting) self.old self.new }
     {
         if awaiting {
             self.write_error = true;
@@ -440,7 +447,7 @@ impl<A: Allocator> Target<A> {
 // its address. The quirks say whether a transfer takes effect once it is accepted or as late as allowed, and whether
 // TAR wraps or carries at the end of a kilobyte. WAIT is answered only where a mark asks for it, and not over a bus
 // error.
-impl<A: Allocator> Target<A> {
+impl<D: Device> Target<D> {
     ghost use Rattle.swd_target.specs.Targets.{target_state, target_simulation, TargetFails, target_settles_first};
     ghost use Rattle.swd_target.specs.Requests.{TargetTransfers};
 
@@ -454,7 +461,7 @@ impl<A: Allocator> Target<A> {
 
     // Sets STICKYERR. TAR keeps its word, but counts as unknown.
     fn bus_error(&mut self)
-        ensures { TargetFails self.old self.new }
+        ensures { TargetFails D.bus self.old self.new }
     {
         self.sticky_error = true;
         self.tar.known = false;
@@ -464,8 +471,8 @@ impl<A: Allocator> Target<A> {
     // Completes a transfer that was just accepted, unless transfers take effect late.
     #[inline(always)]
     pub(crate) fn accept(&mut self)
-        ensures effect { TargetTransfers (target_state self.old) (target_state self.new) }
-        ensures exact { target_simulation self.new ≡ simulation_accepted (target_simulation self.old) }
+        ensures effect { TargetTransfers (target_state D.bus self.old) (target_state D.bus self.new) }
+        ensures exact { target_simulation D.bus self.new ≡ simulation_accepted (target_simulation D.bus self.old) }
         ensures late { self.old.quirks.late ≡ true → self.new ≡ self.old }
     {
         if !self.quirks.late {
@@ -475,10 +482,13 @@ impl<A: Allocator> Target<A> {
 
     // Returns whether the pending transfer would be a bus error.
     fn is_failing(&self) -> bool
-        ensures { result ≡ pending_fails self.now.pending self.now.tar.word (bus_of self.now.memory) }
+        ensures { result ≡ pending_fails self.now.pending self.now.tar.word (D.bus self.now.device) }
     {
         match self.pending {
-            Some(_) => !self.memory.is_ready(self.tar.word),
+            Some(Drw::Reads) => !self.device.would_succeed(Access::Read(self.tar.word)),
+            Some(Drw::Writes(word)) => !self
+                .device
+                .would_succeed(Access::Write(self.tar.word, word)),
             None => false,
         }
     }
@@ -486,7 +496,7 @@ impl<A: Allocator> Target<A> {
     // Returns whether the pending transfer has to take effect before the reply: before OK or FAULT to a request that
     // may get WAIT. WAIT replaces only OK, and so not the FAULT of a bus error.
     fn settles_before(&self, waits: bool, register: Register, ap: bool) -> bool
-        ensures { result ≡ target_settles_first waits register ap self.now }
+        ensures { result ≡ target_settles_first D.bus waits register ap self.now }
     {
         if is_exempt(register) {
             return false;
@@ -496,6 +506,26 @@ impl<A: Allocator> Target<A> {
             Reply::Okay if waits => self.is_failing(),
             _ => true,
         }
+    }
+}
+
+impl<A: Allocator> Target<Memory<A>> {
+    ghost use Rattle.swd_target.specs.Targets.{target_state};
+
+    /// Returns the memory behind the access port.
+    pub fn memory(&self) -> &Memory<A>
+        ensures bus { (target_state bus_of self.now).memory ≡ bus_of result.now }
+        ensures device { result.now ≡ self.now.device }
+    {
+        &self.device
+    }
+
+    /// Consumes the target, and returns the memory behind the access port.
+    pub fn into_memory(self) -> Memory<A>
+        ensures bus { (target_state bus_of self).memory ≡ bus_of result }
+        ensures device { result ≡ self.device }
+    {
+        self.device
     }
 }
 

@@ -1,6 +1,7 @@
 //! Worked requests at a target, and worked cycles at a clocked target and at its bench.
 mod cycle_texts;
 mod cycles;
+mod devices;
 mod expect;
 mod faults;
 mod fields;

@@ -34,13 +34,13 @@ pub trait Simulated: Wire {
         ensures { (Self.Wire.port self.now).target.memory ≡ bus_of result.now };
 }
 
-impl Simulated for Bench {
+impl Simulated for Bench<Memory> {
     fn simulate(
         alloc: Global,
         memory: Memory,
         quirks: Quirks,
         plan: Vec<Mark>,
-    ) -> Result<Bench, AllocError> {
+    ) -> Result<Bench<Memory>, AllocError> {
         let _ = alloc;
         Ok(Bench::new(memory, quirks, plan))
     }
@@ -54,13 +54,13 @@ impl Simulated for Bench {
     }
 }
 
-impl Simulated for ClockedBench {
+impl Simulated for ClockedBench<Memory> {
     fn simulate(
         alloc: Global,
         memory: Memory,
         quirks: Quirks,
         plan: Vec<Mark>,
-    ) -> Result<ClockedBench, AllocError> {
+    ) -> Result<ClockedBench<Memory>, AllocError> {
         match ClockedBench::new(alloc, memory, quirks, plan) {
             Ok(bench) => Ok(bench),
             Err(_) => Err(AllocError),

@@ -39,7 +39,7 @@ With --accesses there is a line for each access of the target's memory, with the
 place of its request:
   @590 w 20000000 deadbeef      took effect, once
   @787 w 20000000 deadbeef may  took effect once or not at all: not shown
-  @925 r 30000000 ???????? not  had no effect: a bus error, or corrupted data
+  @925 r 30000000 ???????? not  met a bus error, or its data was corrupted
   @990 gap                      stray bits from here, which may hide accesses
 ????????: the trace doesn't show this address or word. Give --made if the trace
 begins with the target in its reset state; without it the state is unknown.

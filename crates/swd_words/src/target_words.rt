@@ -36,7 +36,8 @@ The log has a line for each transfer that took effect, and the numbers of cycles
 and requests. The trace has every bit on the line. Both are written during the
 session.
 
-Status: 0 if the debugger sent Q or closed its end, 2 at an error.";
+Status: 0 if the session ended by Q or by the end of the input, and each level
+that the debugger asked for was written, 2 at an error.";
 
 const NO_MEMORY: &str = "the memory is missing: give SCRIPT or --memory FILE";
 

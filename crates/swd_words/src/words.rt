@@ -59,7 +59,7 @@ const ONE_ABOUT: &str = "Decode a trace of exactly one transaction";
 
 const ENCODE_ABOUT: &str = "Encode a listing to a trace, one line an item";
 
-const RUN_ABOUT: &str = "Run a script's accesses at a target, each once";
+const RUN_ABOUT: &str = "Run a script's accesses at a target";
 
 const RUN_AFTER: &str = "\
 SCRIPT may be - for standard input. The plan, the trace and the accesses must be
@@ -107,13 +107,15 @@ The report of a call is written while it goes on, before the next one starts.
 It has one line per answer, in the script's order:
   r ADDR WORD        the word that was read. Of until only the last read has a
                      line, with the number of reads: r ADDR WORD reads N
-  w ADDR written     the word was written, once
-  r ADDR busfault    bus error: no memory at ADDR, or no room left, which a line
-                     on standard error says. There was no access
+  w ADDR written     the word was written: once, unless a line resume came while
+                     the access was in flight
+  r ADDR busfault    bus error. A simulated target has no memory at ADDR, or no
+                     room left, which a line on standard error says. Nothing is
+                     read or written then
   w ADDR busfault    the same of a write
   resume K begun B   no acknowledgement was seen after K answers, and --resume
                      continued the call. The accesses in flight, B at most, may
-                     have taken effect twice
+                     have taken effect, and are made again
 and then one line for the end of the call, after K answers. At most B of the
 accesses after these were in flight, and may have taken effect:
   end all K              every access was answered
@@ -135,7 +137,8 @@ line before, rounded down. --progress can't be combined with --report -.
 The trace has every bit on the line, one item per line: see swd decode. The
 accesses are those of the target's memory that the trace shows, one per line:
 what swd decode --accesses --made prints of the trace, with --remote without
---made. Both are written after the last call.
+--made. The trace is written while the run goes on, the accesses after the last
+call.
 
 Status: 0 if each call ended all, 1 if one ended otherwise, 2 at an error. A bus
 error is an answer, and fails the run only with --strict: status 1. The status

@@ -20,7 +20,7 @@ const QUIRKS: Quirks = Quirks {
 /// A host that drives a target cycle by cycle and sums up what stands on the line.
 #[derive(Drop)]
 struct Host {
-    target: Clocked,
+    target: Clocked<Memory>,
     sum: u64,
 }
 

@@ -1,5 +1,6 @@
 /*
- * What pins_gpiod.c calls of libgpiod 2, as its header declares it, for machines without it.
+ * What pins_gpiod.c calls of libgpiod 2, or with FAKE_GPIOD_1 of libgpiod 1.6, as their headers declare it, for machines
+ * without them.
  */
 #ifndef FAKE_GPIOD_H
 #define FAKE_GPIOD_H
@@ -7,6 +8,30 @@
 #include <stddef.h>
 
 struct gpiod_chip;
+
+#ifdef FAKE_GPIOD_1
+
+#define GPIOD_LINE_BULK_MAX_LINES 64
+
+struct gpiod_line;
+
+enum {
+	GPIOD_LINE_REQUEST_DIRECTION_AS_IS = 1,
+	GPIOD_LINE_REQUEST_DIRECTION_INPUT,
+	GPIOD_LINE_REQUEST_DIRECTION_OUTPUT
+};
+
+enum { GPIOD_LINE_REQUEST_FLAG_BIAS_PULL_UP = 1 << 5 };
+
+struct gpiod_chip *gpiod_chip_open(const char *path);
+struct gpiod_line *gpiod_chip_get_line(struct gpiod_chip *chip, unsigned int offset);
+int gpiod_line_request_output(struct gpiod_line *line, const char *consumer, int default_val);
+int gpiod_line_set_config(struct gpiod_line *line, int direction, int flags, int value);
+int gpiod_line_set_value(struct gpiod_line *line, int value);
+int gpiod_line_get_value(struct gpiod_line *line);
+
+#else
+
 struct gpiod_line_settings;
 struct gpiod_line_config;
 struct gpiod_request_config;
@@ -46,5 +71,7 @@ int gpiod_line_config_add_line_settings(struct gpiod_line_config *config, const 
 int gpiod_line_request_reconfigure_lines(struct gpiod_line_request *request, struct gpiod_line_config *config);
 int gpiod_line_request_set_value(struct gpiod_line_request *request, unsigned int offset, enum gpiod_line_value value);
 enum gpiod_line_value gpiod_line_request_get_value(struct gpiod_line_request *request, unsigned int offset);
+
+#endif
 
 #endif

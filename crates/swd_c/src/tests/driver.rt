@@ -1,7 +1,5 @@
 //! A host over any wire that uses only the exports.
-use crate::{
-    SwdAccess, SwdCue, swd_engine_cue, swd_engine_next, swd_engine_start, swd_run_cue, swd_run_next,
-};
+use crate::{SwdAccess, SwdCue, swd_run_cue, swd_run_next};
 use std::alloc::{AllocError, Global};
 use swd_bits::Request;
 use swd_host::{EngineFields, JobFields, OutcomeFields, StateFields, TarFields, TaskFields};
@@ -20,8 +18,6 @@ pub const PASS: u8 = 5;
 pub const REFUSED: u8 = 255;
 
 /// Kinds of outcomes.
-pub const OPENED: u8 = 1;
-
 pub const VALUE: u8 = 2;
 
 pub const WRITTEN: u8 = 3;
@@ -38,8 +34,7 @@ pub const WRONG_ID: u8 = 8;
 
 pub const CONFUSED: u8 = 9;
 
-/// Fields that are zero, as a caller's memory may be at first.
-pub const ZEROS: EngineFields = EngineFields {
+const ZEROS: EngineFields = EngineFields {
     requests: 0,
     state: StateFields {
         outcome: OutcomeFields { word: 0, kind: 0 },
@@ -67,7 +62,7 @@ pub const ZEROS: EngineFields = EngineFields {
     stray: 0,
 };
 
-/// A run's fields that are zero.
+/// Fields that are zero, as a caller's memory may be at first.
 pub const NO_RUN: RunFields = RunFields {
     requests: 0,
     engine: ZEROS,
@@ -151,55 +146,6 @@ pub fn reply<W: Wire>(wire: &mut W, cue: SwdCue) -> Option<u64> {
         }
         _ => None,
     }
-}
-
-/// Drives an engine to its next outcome, and returns that cue. Returns `None` if it takes too many calls, or the wire
-/// doesn't allow a cue.
-pub fn drive<W: Wire>(wire: &mut W, engine: &mut EngineFields) -> Option<SwdCue> {
-    let mut cue = swd_engine_cue(engine);
-    for _ in 0..10_000u32 {
-        if cue.kind == REST || cue.kind == REFUSED {
-            return Some(cue);
-        }
-        cue = swd_engine_next(engine, reply(wire, cue)?);
-    }
-    None
-}
-
-/// Performs the accesses from this index on with a new engine, and returns the result. If all are answered, it ends
-/// with the kind `ALL`.
-pub fn run_from<W: Wire>(
-    alloc: Global,
-    wire: &mut W,
-    engine: &mut EngineFields,
-    accesses: &[SwdAccess],
-    first: usize,
-) -> Result<Option<Told>, AllocError> {
-    let mut answers = Vec::new(alloc);
-    let mut cue = drive(wire, engine);
-    for index in first..accesses.len() {
-        if !swd_engine_start(engine, accesses, index) {
-            break;
-        }
-        cue = drive(wire, engine);
-        match cue {
-            Some(rest) if rest.outcome.kind <= BUS_FAULT => answers.push(rest.outcome)?,
-            _ => break,
-        }
-    }
-    let Some(last) = cue else {
-        return Ok(None);
-    };
-    Ok(Some(Told {
-        answers,
-        begun: last.begun,
-        requests: engine.requests,
-        ended: if last.outcome.kind <= BUS_FAULT {
-            ALL
-        } else {
-            last.outcome.kind
-        },
-    }))
 }
 
 /// Drives a run to its end over a wire, and returns the result. Returns `None` if it takes too many calls, or the wire

@@ -1,112 +1,43 @@
 //! What the exports refuse, with the caller's memory unchanged.
-use super::cues::opened;
-use super::driver::{ASK, NO_RUN, REFUSED, ZEROS, plain, read, write};
+use super::driver::{ASK, NO_RUN, REFUSED, plain, read, write};
 use super::expect::{expect_eq, expect_eq_at};
-use crate::{
-    SwdAccess, SwdCue, swd_engine_cue, swd_engine_new, swd_engine_next, swd_engine_start,
-    swd_run_again, swd_run_cue, swd_run_new, swd_run_next,
-};
+use crate::{SwdAccess, SwdCue, swd_run_again, swd_run_cue, swd_run_new, swd_run_next};
 use std::process::Abort;
-use swd_host::{EngineFields, OutcomeFields};
+use swd_host::OutcomeFields;
 use swd_steps::RunFields;
 
-fn is_refused<R: Abort>(rt: &R, fields: EngineFields) {
-    expect_eq(rt, &swd_engine_cue(&fields), &SwdCue::refusal());
+fn is_refused<R: Abort>(rt: &R, fields: RunFields) {
+    expect_eq(rt, &swd_run_cue(&fields), &SwdCue::refusal());
     expect_eq(rt, &SwdCue::refusal().kind, &REFUSED);
     let mut now = fields;
-    expect_eq(rt, &swd_engine_next(&mut now, 0), &SwdCue::refusal());
-    assert!(rt; !swd_engine_start(&mut now, [read(0x2000_0000)].as_slice(), 0));
+    let cue = swd_run_next(&mut now, [].as_slice(), [].as_mut_slice(), 0);
+    expect_eq(rt, &cue, &SwdCue::refusal());
+    assert!(rt; !swd_run_again(&mut now, 8));
     expect_eq(rt, &now, &fields);
 }
 
-fn new_engine() -> EngineFields {
-    let mut fields = ZEROS;
-    swd_engine_new(&mut fields, 8);
-    fields
-}
-
-// Each of these fields in turn is invalid.
+// Each of these fields of the engine in turn is invalid.
 #[test]
-fn fields_of_no_engine_are_refused(rt: HostRuntime) {
-    is_refused(&rt, ZEROS);
-    let mut fields = new_engine();
-    fields.state.kind = 4;
+fn fields_of_no_run_are_refused(rt: HostRuntime) {
+    is_refused(&rt, NO_RUN);
+    let mut fields = new_run();
+    fields.engine.state.kind = 4;
     is_refused(&rt, fields);
-    let mut fields = new_engine();
-    fields.state.phase = 1;
+    let mut fields = new_run();
+    fields.engine.state.phase = 1;
     is_refused(&rt, fields);
-    let mut fields = new_engine();
-    fields.state.job.place = 1;
+    let mut fields = new_run();
+    fields.engine.state.job.place = 1;
     is_refused(&rt, fields);
-    let mut fields = new_engine();
-    fields.state.outcome.word = 1;
+    let mut fields = new_run();
+    fields.engine.bursts = 3;
     is_refused(&rt, fields);
-    let mut fields = new_engine();
-    fields.task.kind = 5;
+    let mut fields = new_run();
+    fields.engine.ahead = 4;
     is_refused(&rt, fields);
-    let mut fields = new_engine();
-    fields.task.word = 1;
+    let mut fields = new_run();
+    fields.engine.stray = 255;
     is_refused(&rt, fields);
-    let mut fields = new_engine();
-    fields.tar.word = 1;
-    is_refused(&rt, fields);
-    let mut fields = new_engine();
-    fields.tar.known = 2;
-    is_refused(&rt, fields);
-    let mut fields = new_engine();
-    fields.aims = 2;
-    is_refused(&rt, fields);
-    let mut fields = new_engine();
-    fields.bursts = 3;
-    is_refused(&rt, fields);
-    let mut fields = new_engine();
-    fields.ahead = 4;
-    is_refused(&rt, fields);
-    let mut fields = new_engine();
-    fields.stray = 255;
-    is_refused(&rt, fields);
-}
-
-#[test]
-fn replies_that_no_bits_are_are_refused(rt: HostRuntime) {
-    let mut fields = new_engine();
-    let _ = swd_engine_next(&mut fields, u64::MAX);
-    let before = fields;
-    for reply in [8, 255, 256, u64::MAX] {
-        expect_eq(
-            &rt,
-            &swd_engine_next(&mut fields, reply),
-            &SwdCue::refusal(),
-        );
-        expect_eq(&rt, &fields, &before);
-    }
-    let _ = swd_engine_next(&mut fields, 1);
-    let before = fields;
-    for reply in [0x2_0000_0000, u64::MAX] {
-        expect_eq(
-            &rt,
-            &swd_engine_next(&mut fields, reply),
-            &SwdCue::refusal(),
-        );
-        expect_eq(&rt, &fields, &before);
-    }
-    expect_eq(&rt, &swd_engine_next(&mut fields, 0x1_ffff_ffff).kind, &2);
-}
-
-#[test]
-fn accesses_that_may_not_begin_are_refused(rt: HostRuntime) {
-    let accesses = [read(0x2000_0002), read(0x2000_0000)];
-    let mut fields = opened();
-    let before = fields;
-    assert!(rt; !swd_engine_start(&mut fields, accesses.as_slice(), 0));
-    assert!(rt; !swd_engine_start(&mut fields, accesses.as_slice(), 2));
-    assert!(rt; !swd_engine_start(&mut fields, accesses.as_slice(), usize::MAX));
-    expect_eq(&rt, &fields, &before);
-    assert!(rt; swd_engine_start(&mut fields, accesses.as_slice(), 1));
-    // The access is started.
-    let before = fields;
-    assert!(rt; !swd_engine_start(&mut fields, accesses.as_slice(), 1));
-    expect_eq(&rt, &fields, &before);
 }
 
 fn new_run() -> RunFields {

@@ -3,19 +3,15 @@ ghost use Rattle.std.specs.Prelude.{IsTrue};
 ghost use Rattle.swd_target.specs.Marks.{IsLegalPlan};
 
 use super::driver::{
-    ALL, BUS_FAULT, LOST, NO_RUN, TRIES_OUT, Told, WRITTEN, ZEROS, plain, read, run_from,
-    run_whole, value, write,
+    ALL, BUS_FAULT, LOST, NO_RUN, TRIES_OUT, Told, WRITTEN, plain, read, run_whole, value, write,
 };
 use super::expect::{expect_eq, expect_eq_at};
-use crate::{
-    SwdAccess, swd_engine_again, swd_engine_blocks, swd_engine_new, swd_run_again, swd_run_blocks,
-    swd_run_new,
-};
+use crate::{SwdAccess, swd_run_again, swd_run_blocks, swd_run_new};
 use std::alloc::Global;
 use std::process::Abort;
 use std::test::Fail;
 use swd_clocked::ClockedBench;
-use swd_host::{EngineFields, OutcomeFields};
+use swd_host::OutcomeFields;
 use swd_port::{Mark, Transfer};
 use swd_steps::RunFields;
 use swd_target::{Bench, Memory, Quirks};
@@ -104,38 +100,22 @@ fn is_told<R: Abort>(rt: &R, name: &str, told: Option<Told>, wanted: Wanted) {
     expect_eq_at(rt, &name, &told.answers.as_slice(), &wanted.answers);
 }
 
-// The same host as an engine, with the loop over the accesses in the test, and as a run.
-#[derive(Clone, Copy)]
-struct Host {
-    engine: EngineFields,
-    run: RunFields,
-}
-
 fn comes_to<R: Abort>(
     rt: &R,
     alloc: Global,
     name: &str,
-    host: Host,
+    host: RunFields,
     run: Run,
     wanted: Wanted,
 ) -> Result<(), Fail> {
     let plan = plan_of(alloc, run.marks)?;
-    let run_plan = plan_of(alloc, run.marks)?;
     let clocked_plan = plan_of(alloc, run.marks)?;
-    if !are_legal(&plan) || !are_legal(&run_plan) || !are_legal(&clocked_plan) {
+    if !are_legal(&plan) || !are_legal(&clocked_plan) {
         panic!(rt; "{name}: a mark isn't legal");
     }
     let memory = Memory::new(alloc, BASE, run.words, run.room)?;
     let mut bench = Bench::new(memory, run.quirks, plan);
-    let mut fields = host.engine;
-    let told = run_from(alloc, &mut bench, &mut fields, run.accesses, 0)?;
-    is_told(rt, name, told, wanted);
-    bench.settle();
-    expect_eq_at(rt, &name, &bench.memory().log(), &wanted.log);
-
-    let memory = Memory::new(alloc, BASE, run.words, run.room)?;
-    let mut bench = Bench::new(memory, run.quirks, run_plan);
-    let mut fields = host.run;
+    let mut fields = host;
     let told = run_whole(alloc, &mut bench, &mut fields, run.accesses)?;
     is_told(rt, name, told, wanted);
     bench.settle();
@@ -145,18 +125,12 @@ fn comes_to<R: Abort>(
     let Ok(mut clocked) = ClockedBench::new(alloc, memory, run.quirks, clocked_plan) else {
         panic!(rt; "{name}: no memory");
     };
-    let mut fields = host.engine;
-    let told = run_from(alloc, &mut clocked, &mut fields, run.accesses, 0)?;
+    let mut fields = host;
+    let told = run_whole(alloc, &mut clocked, &mut fields, run.accesses)?;
     is_told(rt, name, told, wanted);
     clocked.settle();
     expect_eq_at(rt, &name, &clocked.memory().log(), &wanted.log);
     Ok(())
-}
-
-fn new_engine(tries: u32) -> EngineFields {
-    let mut fields = ZEROS;
-    swd_engine_new(&mut fields, tries);
-    fields
 }
 
 fn new_run(tries: u32) -> RunFields {
@@ -165,22 +139,14 @@ fn new_run(tries: u32) -> RunFields {
     fields
 }
 
-fn new_host(tries: u32) -> Host {
-    Host {
-        engine: new_engine(tries),
-        run: new_run(tries),
-    }
-}
-
-fn block_host(tries: u32) -> Host {
-    let mut host = new_host(tries);
-    swd_engine_blocks(&mut host.engine, tries);
-    swd_run_blocks(&mut host.run, tries);
-    host
+fn block_run(tries: u32) -> RunFields {
+    let mut fields = NO_RUN;
+    swd_run_blocks(&mut fields, tries);
+    fields
 }
 
 fn runs<R: Abort>(rt: &R, alloc: Global, name: &str, run: Run, wanted: Wanted) -> Result<(), Fail> {
-    comes_to(rt, alloc, name, new_host(run.tries), run, wanted)
+    comes_to(rt, alloc, name, new_run(run.tries), run, wanted)
 }
 
 fn whole<'w, 'l>(
@@ -397,7 +363,7 @@ fn blocks_of_reads(rt: HostRuntime) -> Result<(), Fail> {
         &rt,
         rt.alloc(),
         "a block",
-        block_host(8),
+        block_run(8),
         run_of(&[], &accesses),
         whole(&answers, 15, &log),
     )?;
@@ -405,7 +371,7 @@ fn blocks_of_reads(rt: HostRuntime) -> Result<(), Fail> {
         &rt,
         rt.alloc(),
         "one by one",
-        new_host(8),
+        new_run(8),
         run_of(&[], &accesses),
         whole(&answers, 18, &log),
     )
@@ -427,7 +393,7 @@ fn bus_errors_in_a_block(rt: HostRuntime) -> Result<(), Fail> {
         let mut run = run_of(&flip[..marks], &accesses[..count]);
         run.words = 1;
         let wanted = whole(&answers[..count], requests, &log);
-        comes_to(&rt, rt.alloc(), name, block_host(8), run, wanted)?;
+        comes_to(&rt, rt.alloc(), name, block_run(8), run, wanted)?;
     }
     Ok(())
 }
@@ -453,21 +419,12 @@ fn going_on_after_a_lost_acknowledgement(rt: HostRuntime) -> Result<(), Fail> {
     ];
 
     let mut clocked = deaf_bench(&rt, rt.alloc())?;
-    let mut fields = new_engine(8);
-    let told = run_from(rt.alloc(), &mut clocked, &mut fields, &accesses, 0)?;
-    is_told(&rt, "lost, by the engine", told, lost);
-    swd_engine_again(&mut fields, 8);
-    let told = run_from(rt.alloc(), &mut clocked, &mut fields, &accesses, 1)?;
-    is_told(&rt, "again, by the engine", told, rest);
-    expect_eq(&rt, &clocked.memory().log(), &log.as_slice());
-
-    let mut clocked = deaf_bench(&rt, rt.alloc())?;
     let mut run = new_run(8);
     let told = run_whole(rt.alloc(), &mut clocked, &mut run, &accesses)?;
-    is_told(&rt, "lost, by a run", told, lost);
+    is_told(&rt, "lost", told, lost);
     assert!(rt; swd_run_again(&mut run, 8));
     let told = run_whole(rt.alloc(), &mut clocked, &mut run, &accesses)?;
-    is_told(&rt, "again, by a run", told, rest);
+    is_told(&rt, "again", told, rest);
     expect_eq(&rt, &clocked.memory().log(), &log.as_slice());
     // The run ended `All`, so it can't be resumed.
     assert!(rt; !swd_run_again(&mut run, 8));
@@ -475,7 +432,7 @@ fn going_on_after_a_lost_acknowledgement(rt: HostRuntime) -> Result<(), Fail> {
 }
 
 // Returns a target that doesn't see the fifteenth request.
-fn deaf_bench<R: Abort>(rt: &R, alloc: Global) -> Result<ClockedBench, Fail> {
+fn deaf_bench<R: Abort>(rt: &R, alloc: Global) -> Result<ClockedBench<Memory>, Fail> {
     let plan = plan_of(alloc, &[(15, Mark::Deaf)])?;
     if !are_legal(&plan) {
         panic!(rt; "a mark isn't legal");

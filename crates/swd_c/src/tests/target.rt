@@ -1,15 +1,17 @@
 //! The exported clocked target beside that of Rattle, cycle by cycle. The host uses only the exports, and its caller
 //! has a bus of sixteen words.
-use super::driver::{BUS_FAULT, REFUSED, REST, VALUE, WRITTEN, ZEROS, plain, read, value, write};
+use super::driver::{
+    ALL, BUS_FAULT, NO_RUN, REFUSED, REST, VALUE, WRITTEN, plain, read, value, write,
+};
 use super::expect::{expect_at, expect_eq, expect_eq_at};
 use crate::{
-    SwdCue, swd_engine_cue, swd_engine_new, swd_engine_next, swd_engine_start, swd_target_cycle,
-    swd_target_hold, swd_target_new, swd_target_settle, swd_target_wants,
+    SwdAccess, SwdCue, swd_run_cue, swd_run_new, swd_run_next, swd_target_cycle, swd_target_hold,
+    swd_target_new, swd_target_settle, swd_target_wants,
 };
 use std::process::Abort;
 use std::test::Fail;
 use swd_clocked::{Clocked, ClockedFields, FrameFields, LineFields};
-use swd_host::{EngineFields, OutcomeFields};
+use swd_host::OutcomeFields;
 use swd_target::{ContentFields, Memory, PendingFields, Quirks, TargetFields};
 
 const BASE: u32 = 0x2000_0000;
@@ -67,7 +69,7 @@ struct Pair {
     target: ClockedFields,
     words: [u32; 16],
     transfers: u32,
-    twin: Clocked,
+    twin: Clocked<Memory>,
     // Transfers are made as soon as they are wanted, and not as late as allowed.
     at_once: bool,
     alike: bool,
@@ -175,17 +177,19 @@ impl Pair {
         }
     }
 
-    // Drives an engine to its next outcome.
-    fn drive(&mut self, engine: &mut EngineFields) -> OutcomeFields {
-        let mut cue = swd_engine_cue(engine);
+    // Performs a new run over these accesses. Returns the kind of its end.
+    fn perform(&mut self, accesses: &[SwdAccess], answers: &mut [OutcomeFields]) -> u8 {
+        let mut run = NO_RUN;
+        swd_run_new(&mut run, 8);
+        let mut cue = swd_run_cue(&run);
         for _ in 0..1_000u32 {
             if cue.kind == REST || cue.kind == REFUSED {
                 break;
             }
             let reply = self.reply(cue);
-            cue = swd_engine_next(engine, reply);
+            cue = swd_run_next(&mut run, accesses, answers, reply);
         }
-        cue.outcome
+        cue.outcome.kind
     }
 }
 
@@ -241,17 +245,9 @@ fn accesses_over_the_exported_target(rt: HostRuntime) -> Result<(), Fail> {
             at_once,
             alike: true,
         };
-        let mut engine = ZEROS;
-        swd_engine_new(&mut engine, 8);
-        expect_eq_at(&rt, &name, &pair.drive(&mut engine), &plain(1));
-        for (index, answer) in answers.iter().enumerate() {
-            expect_at(
-                &rt,
-                &name,
-                swd_engine_start(&mut engine, accesses.as_slice(), index),
-            );
-            expect_eq_at(&rt, &(name, index), &pair.drive(&mut engine), &*answer);
-        }
+        let mut told = [plain(0); 8];
+        expect_eq_at(&rt, &name, &pair.perform(&accesses, &mut told), &ALL);
+        expect_eq_at(&rt, &name, &told, &answers);
         is_alike(&rt, name, &pair);
     }
     Ok(())
@@ -274,9 +270,7 @@ fn a_slow_bus_is_waited_for(rt: HostRuntime) -> Result<(), Fail> {
         at_once: false,
         alike: true,
     };
-    let mut engine = ZEROS;
-    swd_engine_new(&mut engine, 8);
-    expect_eq(&rt, &pair.drive(&mut engine), &plain(1));
+    expect_eq(&rt, &pair.perform(&[], &mut []), &ALL);
     assert!(rt; !swd_target_settle(&mut pair.target, VALUE, 7));
     // TAR, and a read of DRW.
     for (request, data) in [(0x8b, Some(0x2000_0004u64)), (0x9f, None)] {

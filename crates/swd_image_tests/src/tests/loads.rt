@@ -7,7 +7,7 @@ use std::test::Fail;
 use swd_host::End;
 use swd_image::ImageFault;
 use swd_port::{Mark, Transfer};
-use swd_target::Bench;
+use swd_target::{Bench, Memory};
 
 // What a load of these bytes leaves of three words, and how many transfers it makes: one for each word, and a read more
 // for each that it doesn't fill.
@@ -101,7 +101,13 @@ const ROWS: [Row; 11] = [
 ];
 
 // The memory has these words.
-fn expect_words<R: Abort>(rt: &R, name: &'static str, bench: &Bench, base: u32, words: &[u32]) {
+fn expect_words<R: Abort>(
+    rt: &R,
+    name: &'static str,
+    bench: &Bench<Memory>,
+    base: u32,
+    words: &[u32],
+) {
     for (index, word) in words.iter().enumerate() {
         let found = bench.memory().word(addr_at(base, index));
         expect_eq_at(rt, &(name, index), &found, &Some(*word));

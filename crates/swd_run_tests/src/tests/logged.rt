@@ -11,6 +11,7 @@ use swd_bitbang::{Pins, Served};
 use swd_ends::serve_logged;
 use swd_fakes::{CountingWriter, FailingReader, ShortWriter, WatchingReader};
 use swd_port::Mark;
+use swd_target::Memory;
 
 // The session writes deadbeef at 20000000, and reads it back. The write takes effect with the last bit of its data, the
 // read with the last bit of its request: after so many characters.
@@ -22,7 +23,7 @@ const WRITE_LINE: &[u8] = b"w 20000000 deadbeef\n";
 
 const LOG: &[u8] = b"w 20000000 deadbeef\nr 20000000 deadbeef\ncycles 828 requests 15\n";
 
-fn plain_pins(alloc: Global, session: &Recorded) -> Result<Pins, Fail> {
+fn plain_pins(alloc: Global, session: &Recorded) -> Result<Pins<Memory>, Fail> {
     pins_under(alloc, session.request, session.mark)
 }
 

@@ -54,7 +54,7 @@ pub(super) enum Cut {
 /// The pins behind the line, and what went over it.
 #[derive(Drop)]
 pub(super) struct Server {
-    pins: Pins,
+    pins: Pins<Memory>,
     levels: Vec<u8>,
     read: usize,
     pub(super) taken: usize,
@@ -213,7 +213,7 @@ fn plan_of(alloc: Global, marks: &[(usize, Mark)]) -> Result<Vec<Mark>, Fail> {
     Ok(plan)
 }
 
-fn target_of(alloc: Global, task: &Task) -> Result<FaultyClocked, Fail> {
+fn target_of(alloc: Global, task: &Task) -> Result<FaultyClocked<Memory>, Fail> {
     let memory = Memory::new(alloc, BASE, 16, 64)?;
     let plan = plan_of(alloc, task.marks)?;
     if !are_legal(&plan) {
@@ -273,7 +273,7 @@ pub(super) fn simulated(alloc: Global, task: &Task) -> Result<(Report, Vec<Trans
 /// The report over single clocks, and the transfers.
 pub(super) fn clocked(alloc: Global, task: &Task) -> Result<(Report, Vec<Transfer>), Fail> {
     let probe = ClockedProbe::new(target_of(alloc, task)?);
-    let mut wire: TransportWire<ProbeTransport<ClockedProbe>, Untold> = TransportWire::new(
+    let mut wire: TransportWire<ProbeTransport<ClockedProbe<Memory>>, Untold> = TransportWire::new(
         ProbeTransport::new(probe),
     );
     let report = report_of(alloc, &mut wire, task)?;

@@ -41,7 +41,7 @@ impl Write for SlowWriter {
 }
 
 /// The pins at a target of sixteen words from 20000000, of whose requests this one meets the mark.
-pub(super) fn pins_under(alloc: Global, request: usize, mark: Mark) -> Result<Pins, Fail> {
+pub(super) fn pins_under(alloc: Global, request: usize, mark: Mark) -> Result<Pins<Memory>, Fail> {
     let memory = Memory::new(alloc, 0x2000_0000, 16, 16)?;
     let mut plan = Vec::new(alloc);
     for _ in 0..request {
@@ -57,7 +57,7 @@ pub(super) fn pins_under(alloc: Global, request: usize, mark: Mark) -> Result<Pi
     Ok(Pins::new(target, Trace::new(alloc)))
 }
 
-fn plain_pins(alloc: Global) -> Result<Pins, Fail> {
+fn plain_pins(alloc: Global) -> Result<Pins<Memory>, Fail> {
     pins_under(alloc, 0, Mark::Clean)
 }
 

@@ -194,7 +194,7 @@ fn a_word_is_awaited(rt: HostRuntime) {
 // the request for RDBUFF after it.
 #[derive(Drop)]
 struct Changing {
-    bench: Bench,
+    bench: Bench<Memory>,
     words: &'static [u32],
     given: usize,
     posted: bool,
@@ -221,7 +221,7 @@ impl Transport for Changing {
 }
 
 // The call, where the target can take it.
-fn passed_on(bench: &mut Bench, cue: Cue) -> Result<u64, Disconnected> {
+fn passed_on(bench: &mut Bench<Memory>, cue: Cue) -> Result<u64, Disconnected> {
     match (bench.due(), cue) {
         (
             Due::Nothing,

@@ -1,5 +1,6 @@
 //! Stretches of cycles at a clocked target, as texts.
 use swd_clocked::Clocked;
+use swd_target::Memory;
 
 /// Cycles at a target, each as a character 0 or 1.
 #[derive(Clone, Copy)]
@@ -13,7 +14,7 @@ pub(super) enum Part {
 }
 
 // Whether these bits stand on the line, which the host drives with them or not at all.
-fn stands(target: &mut Clocked, bits: &[u8], driven: bool) -> bool {
+fn stands(target: &mut Clocked<Memory>, bits: &[u8], driven: bool) -> bool {
     for bit in bits {
         let bit = *bit == b'1';
         let drive = if driven { Some(bit) } else { None };
@@ -24,7 +25,7 @@ fn stands(target: &mut Clocked, bits: &[u8], driven: bool) -> bool {
     true
 }
 
-fn stand(target: &mut Clocked, ones: u32) -> bool {
+fn stand(target: &mut Clocked<Memory>, ones: u32) -> bool {
     for _ in 0..ones {
         if !target.cycle(Some(true)) {
             return false;
@@ -34,7 +35,7 @@ fn stand(target: &mut Clocked, ones: u32) -> bool {
 }
 
 /// The place of the first part that doesn't stand on the line.
-pub(super) fn failing(target: &mut Clocked, parts: &[Part]) -> Option<usize> {
+pub(super) fn failing(target: &mut Clocked<Memory>, parts: &[Part]) -> Option<usize> {
     for (index, part) in parts.iter().enumerate() {
         let stands = match *part {
             Part::Sent(bits) => stands(target, bits, true),

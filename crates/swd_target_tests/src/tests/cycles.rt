@@ -16,7 +16,7 @@ const QUIRKS: Quirks = Quirks {
 };
 
 // A new target with sixteen words from 20000000 and room for sixteen transfers.
-fn target(alloc: Global) -> Result<Clocked, Fail> {
+fn target(alloc: Global) -> Result<Clocked<Memory>, Fail> {
     let memory = Memory::new(alloc, 0x2000_0000, 16, 16)?;
     Ok(Clocked::new(memory, QUIRKS))
 }

@@ -7,7 +7,7 @@ use swd_clocked::Clocked;
 use swd_target::{Memory, Quirks};
 
 // A new target with one word.
-fn target(alloc: Global) -> Result<Clocked, Fail> {
+fn target(alloc: Global) -> Result<Clocked<Memory>, Fail> {
     let quirks = Quirks {
         wrap: true,
         late: false,

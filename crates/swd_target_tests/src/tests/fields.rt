@@ -7,7 +7,7 @@ use std::process::Abort;
 use swd_clocked::{Clocked, ClockedFields};
 use swd_target::{Memory, Quirks};
 
-fn new_target() -> Clocked {
+fn new_target() -> Clocked<Memory> {
     let quirks = Quirks {
         wrap: true,
         late: true,
@@ -17,7 +17,7 @@ fn new_target() -> Clocked {
 }
 
 // The target of these numbers has them, too.
-fn again<R: Abort>(rt: &R, fields: ClockedFields) -> Clocked {
+fn again<R: Abort>(rt: &R, fields: ClockedFields) -> Clocked<Memory> {
     let Some(target) = fields.clocked(Memory::<Global>::window(0, None)) else {
         panic!(rt; "these are the numbers of no target");
     };

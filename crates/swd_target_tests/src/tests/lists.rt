@@ -21,7 +21,7 @@ fn answered(alloc: Global, ones: u32, quirks: Quirks) -> Result<u32, Fail> {
     Ok(count)
 }
 
-fn is_answered(target: &mut Clocked, list: u16) -> bool {
+fn is_answered(target: &mut Clocked<Memory>, list: u16) -> bool {
     let mut answered = false;
     for place in 0..12u16 {
         let bit = list >> place & 1 == 1;

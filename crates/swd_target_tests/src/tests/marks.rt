@@ -18,7 +18,7 @@ pub(super) fn are_legal(marks: &[Mark]) -> bool
 }
 
 // A bench with one word, under this plan. None where a mark isn't legal, or when out of memory.
-fn bench_of(alloc: Global, plan: Vec<Mark>) -> Option<ClockedBench> {
+fn bench_of(alloc: Global, plan: Vec<Mark>) -> Option<ClockedBench<Memory>> {
     if !are_legal(&plan) {
         return None;
     }
@@ -31,14 +31,14 @@ fn bench_of(alloc: Global, plan: Vec<Mark>) -> Option<ClockedBench> {
     ClockedBench::new(alloc, memory, quirks, plan).ok()
 }
 
-fn reset(bench: &mut ClockedBench) {
+fn reset(bench: &mut ClockedBench<Memory>) {
     if bench.due() == Due::Nothing {
         bench.lead(56, false, 2);
     }
 }
 
 // What DPIDR reads. None where it isn't answered OK, or its data is damaged.
-fn identification(bench: &mut ClockedBench) -> Option<u32> {
+fn identification(bench: &mut ClockedBench<Memory>) -> Option<u32> {
     if bench.due() != Due::Nothing {
         return None;
     }

@@ -7,12 +7,12 @@ use std::test::Fail;
 use swd_bits::{Request, data_bits, word_of};
 use swd_port::{AfterAck, Reply};
 use swd_target::port::{Target, flip_bit};
-use swd_target::{Memory, Quirks};
+use swd_target::{Device, Memory, Quirks};
 
-const IDENTIFICATION: u32 = 0x2ba0_1477;
+pub(super) const IDENTIFICATION: u32 = 0x2ba0_1477;
 
 // What an unknown value reads as.
-const FILLER: u32 = 0xa5a5_a5a5;
+pub(super) const FILLER: u32 = 0xa5a5_a5a5;
 
 // The bytes of requests, by their addresses 0, 4, 8 and c.
 const DP_READ: [u8; 4] = [0xa5, 0x8d, 0x95, 0xbd];
@@ -24,29 +24,31 @@ const AP_READ: [u8; 4] = [0x87, 0xaf, 0xb7, 0x9f];
 const AP_WRITE: [u8; 4] = [0xa3, 0x8b, 0x93, 0xbb];
 
 // The bytes of those that have a name in bank 0 of each port.
-const DPIDR: u8 = 0xa5;
+pub(super) const DPIDR: u8 = 0xa5;
 
-const STATUS: u8 = 0x8d;
+pub(super) const STATUS: u8 = 0x8d;
 
 const RESEND: u8 = 0x95;
 
-const RDBUFF: u8 = 0xbd;
+pub(super) const RDBUFF: u8 = 0xbd;
 
-const ABORT: u8 = 0x81;
+pub(super) const ABORT: u8 = 0x81;
 
-const CONTROL: u8 = 0xa9;
+pub(super) const CONTROL: u8 = 0xa9;
 
 const SELECT: u8 = 0xb1;
 
 const CSW_READ: u8 = 0x87;
 
-const CSW: u8 = 0xa3;
+pub(super) const CSW: u8 = 0xa3;
 
 const TAR_READ: u8 = 0xaf;
 
-const TAR: u8 = 0x8b;
+pub(super) const TAR: u8 = 0x8b;
 
-const DRW: u8 = 0xbb;
+pub(super) const DRW: u8 = 0xbb;
+
+pub(super) const DRW_READ: u8 = 0x9f;
 
 #[derive(Clone, Copy)]
 enum Step {
@@ -77,14 +79,15 @@ const UP: [Step; 4] = [
     Step::Write(CSW, 0x2300_0012),
 ];
 
-// The reply to the request with this byte.
-fn reply(target: &mut Target, byte: u8, waits: bool) -> Option<Reply> {
+/// Returns the reply to the request with this byte.
+pub(super) fn reply<D: Device>(target: &mut Target<D>, byte: u8, waits: bool) -> Option<Reply> {
     let request = Request::of(byte)?;
     let (reply, _) = target.request(waits, request);
     Some(reply)
 }
 
-fn read(target: &mut Target, byte: u8) -> Option<u32> {
+/// Returns the word of a read that is answered OK.
+pub(super) fn read<D: Device>(target: &mut Target<D>, byte: u8) -> Option<u32> {
     let request = Request::of(byte)?;
     let (_, phase) = target.request(false, request);
     match phase {
@@ -93,7 +96,13 @@ fn read(target: &mut Target, byte: u8) -> Option<u32> {
     }
 }
 
-fn write(target: &mut Target, byte: u8, word: u32, flip: Option<u8>) -> bool {
+/// Performs a write, with a bit of its data changed, if any, and returns whether it was answered OK.
+pub(super) fn write<D: Device>(
+    target: &mut Target<D>,
+    byte: u8,
+    word: u32,
+    flip: Option<u8>,
+) -> bool {
     let Some(request) = Request::of(byte) else {
         return false;
     };
@@ -110,7 +119,7 @@ fn write(target: &mut Target, byte: u8, word: u32, flip: Option<u8>) -> bool {
 }
 
 // Whether a step goes as it says. A case's own steps are others.
-fn goes(target: &mut Target, step: Step) -> bool {
+fn goes(target: &mut Target<Memory>, step: Step) -> bool {
     match step {
         Step::LineReset => {
             target.line_reset(false);
@@ -128,7 +137,7 @@ fn goes(target: &mut Target, step: Step) -> bool {
 }
 
 // All steps go as they say, at a place that is told with the first that doesn't.
-fn all_go<R: Abort, P: Debug>(rt: &R, place: &P, target: &mut Target, steps: &[Step]) {
+fn all_go<R: Abort, P: Debug>(rt: &R, place: &P, target: &mut Target<Memory>, steps: &[Step]) {
     for (index, step) in steps.iter().enumerate() {
         expect_at(rt, &(place, index), goes(target, *step));
     }
@@ -149,7 +158,7 @@ const SIXTEEN_WORDS: Words = Words {
 };
 
 // A target with these words, before any line reset.
-fn made(alloc: Global, words: Words) -> Result<Target, Fail> {
+fn made(alloc: Global, words: Words) -> Result<Target<Memory>, Fail> {
     let memory = Memory::new(alloc, words.base, words.words, 16)?;
     let quirks = Quirks {
         wrap: words.wrap,

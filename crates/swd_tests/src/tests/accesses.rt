@@ -8,7 +8,7 @@ use crate::Simulated as _;
 use std::test::Fail;
 use swd_host::End;
 use swd_port::{Access, Answer, Transfer};
-use swd_target::{Bench, Mark, Quirks};
+use swd_target::{Bench, Mark, Memory, Quirks};
 
 // Two words, on both sides of a kilobyte's end.
 const KILOBYTE: Run = Run {
@@ -146,7 +146,7 @@ fn words_on_both_sides_of_a_kilobyte_stand_where_they_were_written(
 ) -> Result<(), Fail> {
     for wrap in [true, false] {
         let quirks = Quirks { wrap, ..QUIRKS };
-        let Some(mut bench) = target_of::<Bench>(rt.alloc(), &KILOBYTE, quirks)? else {
+        let Some(mut bench) = target_of::<Bench<Memory>>(rt.alloc(), &KILOBYTE, quirks)? else {
             panic!(rt; "no target");
         };
         let _ = report_of(rt.alloc(), &mut bench, &KILOBYTE)?;

@@ -11,7 +11,7 @@ use std::test::Fail;
 use swd_clocked::ClockedBench;
 use swd_host::{End, Engine, Outcome, run_block};
 use swd_port::{Access, Answer, Cue, Due, Transfer};
-use swd_target::{Bench, Mark, Quirks};
+use swd_target::{Bench, Mark, Memory, Quirks};
 
 // A block of so many words at an address, what has to come of it, and what is tried by it, in words.
 #[derive(Clone, Copy)]
@@ -419,8 +419,8 @@ const BLOCKS: [Block; 23] = [
 fn each_word_of_a_block_comes_with_the_request_for_the_next(rt: HostRuntime) -> Result<(), Fail> {
     for quirks in ALL_QUIRKS {
         for block in &BLOCKS {
-            comes_out::<Bench, _>(&rt, rt.alloc(), block, quirks)?;
-            comes_out::<ClockedBench, _>(&rt, rt.alloc(), block, quirks)?;
+            comes_out::<Bench<Memory>, _>(&rt, rt.alloc(), block, quirks)?;
+            comes_out::<ClockedBench<Memory>, _>(&rt, rt.alloc(), block, quirks)?;
         }
     }
     Ok(())
@@ -461,8 +461,8 @@ fn a_block_has_at_most_65536_words(rt: HostRuntime) -> Result<(), Fail> {
                 ..WHOLE
             },
         };
-        comes_out::<Bench, _>(&rt, rt.alloc(), &block, QUIRKS)?;
-        comes_out::<ClockedBench, _>(&rt, rt.alloc(), &block, QUIRKS)?;
+        comes_out::<Bench<Memory>, _>(&rt, rt.alloc(), &block, QUIRKS)?;
+        comes_out::<ClockedBench<Memory>, _>(&rt, rt.alloc(), &block, QUIRKS)?;
     }
     Ok(())
 }

@@ -7,7 +7,7 @@ use std::test::Fail;
 use swd_bits::{Reg4, Request, data_bits};
 use swd_host::{End, Engine, Outcome};
 use swd_port::{Access, Answer, Cue, Due, Wire};
-use swd_target::Bench;
+use swd_target::{Bench, Memory};
 
 /// What an engine is told, and what it has to say then.
 #[derive(Clone, Copy)]
@@ -394,7 +394,7 @@ fn an_engine_does_what_each_reply_asks_for(rt: HostRuntime) {
 }
 
 /// One call of the wire, as the engine asks for it. False where it asks for none.
-pub(super) fn goes_on(wire: &mut Bench, engine: &mut Engine) -> bool {
+pub(super) fn goes_on(wire: &mut Bench<Memory>, engine: &mut Engine) -> bool {
     match (engine.cue(), wire.due()) {
         (
             Some(
@@ -432,7 +432,11 @@ pub(super) fn goes_on(wire: &mut Bench, engine: &mut Engine) -> bool {
 }
 
 // Goes on to an outcome, and keeps the number of requests and what is begun where that changes.
-fn changes(alloc: Global, wire: &mut Bench, engine: &mut Engine) -> Result<Vec<(u64, u8)>, Fail> {
+fn changes(
+    alloc: Global,
+    wire: &mut Bench<Memory>,
+    engine: &mut Engine,
+) -> Result<Vec<(u64, u8)>, Fail> {
     let mut changes = Vec::new(alloc);
     for _ in 0..100u8 {
         let before = engine.begun();
@@ -448,7 +452,7 @@ fn changes(alloc: Global, wire: &mut Bench, engine: &mut Engine) -> Result<Vec<(
 
 #[test]
 fn an_access_is_begun_from_its_drw_request_to_its_answer(rt: HostRuntime) -> Result<(), Fail> {
-    let Some(mut bench) = target_of::<Bench>(rt.alloc(), &run_of(&[], &[]), QUIRKS)? else {
+    let Some(mut bench) = target_of::<Bench<Memory>>(rt.alloc(), &run_of(&[], &[]), QUIRKS)? else {
         panic!(rt; "no target");
     };
     let mut engine = Engine::new(8);

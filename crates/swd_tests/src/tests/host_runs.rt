@@ -249,8 +249,8 @@ pub(super) fn leaves<S: Simulated + Drop, R: Abort>(
 pub(super) fn all_come_out<R: Abort>(rt: &R, alloc: Global, rows: &[Row]) -> Result<(), Fail> {
     for quirks in ALL_QUIRKS {
         for row in rows {
-            comes_out::<Bench, R>(rt, alloc, *row, quirks)?;
-            comes_out::<ClockedBench, R>(rt, alloc, *row, quirks)?;
+            comes_out::<Bench<Memory>, R>(rt, alloc, *row, quirks)?;
+            comes_out::<ClockedBench<Memory>, R>(rt, alloc, *row, quirks)?;
         }
     }
     Ok(())

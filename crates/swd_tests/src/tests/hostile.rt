@@ -12,7 +12,7 @@ use std::test::Fail;
 use swd_clocked::ClockedBench;
 use swd_host::{End, Report};
 use swd_port::{Access, Answer, Transfer};
-use swd_target::{Bench, Mark};
+use swd_target::{Bench, Mark, Memory};
 
 // A list of accesses, and what has to come of it over a wire that loses nothing: at most so many requests where a bit of
 // one data phase is changed, and where two data phases are damaged.
@@ -131,8 +131,8 @@ fn comes_out_over_both<R: Abort>(
     marks: &[(usize, Mark)],
     wanted: &Wanted,
 ) -> Result<(), Fail> {
-    comes_out::<Bench, R>(rt, alloc, (list, marks), wanted)?;
-    comes_out::<ClockedBench, R>(rt, alloc, (list, marks), wanted)
+    comes_out::<Bench<Memory>, R>(rt, alloc, (list, marks), wanted)?;
+    comes_out::<ClockedBench<Memory>, R>(rt, alloc, (list, marks), wanted)
 }
 
 // The acknowledgement of one request is lost, in each way.

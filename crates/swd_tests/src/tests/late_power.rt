@@ -11,7 +11,7 @@ use std::test::Fail;
 use swd_clocked::ClockedBench;
 use swd_host::End;
 use swd_port::{Answer, Register};
-use swd_target::{Bench, Mark};
+use swd_target::{Bench, Mark, Memory};
 
 // A simulated end of a wire, step by step.
 #[derive(Clone, Copy)]
@@ -76,8 +76,8 @@ fn goes<W: Simulated + Drop, R: Abort>(rt: &R, alloc: Global, walk: Walk) {
 #[test]
 fn a_target_has_power_once_it_is_found(rt: HostRuntime) {
     for walk in WALKS {
-        goes::<Bench, HostRuntime>(&rt, rt.alloc(), walk);
-        goes::<ClockedBench, HostRuntime>(&rt, rt.alloc(), walk);
+        goes::<Bench<Memory>, HostRuntime>(&rt, rt.alloc(), walk);
+        goes::<ClockedBench<Memory>, HostRuntime>(&rt, rt.alloc(), walk);
     }
 }
 

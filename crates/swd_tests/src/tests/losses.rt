@@ -11,7 +11,7 @@ use std::test::Fail;
 use swd_clocked::ClockedBench;
 use swd_host::End;
 use swd_port::Access;
-use swd_target::{Bench, Mark, Quirks};
+use swd_target::{Bench, Mark, Memory, Quirks};
 
 const ROWS: [Row; 5] = [
     (
@@ -117,8 +117,8 @@ fn takes_effect_late<S: Simulated + Drop, R: Abort>(rt: &R, alloc: Global) -> Re
 
 #[test]
 fn a_begun_write_that_is_late_takes_effect_after_the_run(rt: HostRuntime) -> Result<(), Fail> {
-    takes_effect_late::<Bench, HostRuntime>(&rt, rt.alloc())?;
-    takes_effect_late::<ClockedBench, HostRuntime>(&rt, rt.alloc())
+    takes_effect_late::<Bench<Memory>, HostRuntime>(&rt, rt.alloc())?;
+    takes_effect_late::<ClockedBench<Memory>, HostRuntime>(&rt, rt.alloc())
 }
 
 // Each bit of OK, at the first request, and of FAULT, at the one that confirms a write where there
@@ -134,7 +134,7 @@ fn a_changed_bit_makes_no_acknowledgement_of_another(rt: HostRuntime) -> Result<
                 accesses: &accesses,
                 ..RUN
             };
-            let Some(bench) = target_of::<Bench>(rt.alloc(), &run, QUIRKS)? else {
+            let Some(bench) = target_of::<Bench<Memory>>(rt.alloc(), &run, QUIRKS)? else {
                 panic!(rt; "no target");
             };
             let Some(mut wire) = recorder_over(rt.alloc(), bench) else {

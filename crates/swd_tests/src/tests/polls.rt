@@ -53,6 +53,6 @@ fn polls<W: Simulated + Drop, R: Abort>(rt: &R, alloc: Global) -> Result<(), Fai
 
 #[test]
 fn a_poll_takes_three_requests(rt: HostRuntime) -> Result<(), Fail> {
-    polls::<Bench, _>(&rt, rt.alloc())?;
-    polls::<ClockedBench, _>(&rt, rt.alloc())
+    polls::<Bench<Memory>, _>(&rt, rt.alloc())?;
+    polls::<ClockedBench<Memory>, _>(&rt, rt.alloc())
 }

@@ -7,7 +7,7 @@ use std::test::Fail;
 use swd_bits::Request;
 use swd_clocked::ClockedBench;
 use swd_port::{Due, Register, Wire};
-use swd_target::{Bench, Mark};
+use swd_target::{Bench, Mark, Memory};
 use swd_trace::Item;
 
 const DPIDR: u8 = 0xa5;
@@ -58,12 +58,12 @@ const LEADS: [(u32, bool, u32, u64); 7] = [
 fn a_recorded_wire_has_the_cycles_of_a_bare_one(rt: HostRuntime) -> Result<(), Fail> {
     for (ones, switch, zeros, cycles) in LEADS {
         let run = run_of(&[], &[]);
-        let Some(mut bare) = target_of::<ClockedBench>(rt.alloc(), &run, QUIRKS)? else {
+        let Some(mut bare) = target_of::<ClockedBench<Memory>>(rt.alloc(), &run, QUIRKS)? else {
             panic!(rt; "no target");
         };
         lead_with(&mut bare, ones, switch, zeros);
         expect_eq(&rt, &bare.cycles(), &cycles);
-        let Some(target) = target_of::<ClockedBench>(rt.alloc(), &run, QUIRKS)? else {
+        let Some(target) = target_of::<ClockedBench<Memory>>(rt.alloc(), &run, QUIRKS)? else {
             panic!(rt; "no target");
         };
         let Some(mut wire) = recorder_over(rt.alloc(), target) else {
@@ -79,7 +79,8 @@ fn a_recorded_wire_has_the_cycles_of_a_bare_one(rt: HostRuntime) -> Result<(), F
 // acknowledgement, and then a line reset, a request, and its data phase.
 #[test]
 fn a_recorded_wire_goes_on_inside_a_transaction(rt: HostRuntime) -> Result<(), Fail> {
-    let Some(target) = target_of::<ClockedBench>(rt.alloc(), &run_of(&[], &[]), QUIRKS)? else {
+    let Some(target) = target_of::<ClockedBench<Memory>>(rt.alloc(), &run_of(&[], &[]), QUIRKS)?
+    else {
         panic!(rt; "no target");
     };
     let Some(mut wire) = recorder_over(rt.alloc(), target) else {
@@ -98,7 +99,7 @@ fn a_recorded_wire_goes_on_inside_a_transaction(rt: HostRuntime) -> Result<(), F
 
 #[test]
 fn zeros_after_zeros_are_one_item(rt: HostRuntime) -> Result<(), Fail> {
-    let Some(bench) = target_of::<Bench>(rt.alloc(), &run_of(&[], &[]), QUIRKS)? else {
+    let Some(bench) = target_of::<Bench<Memory>>(rt.alloc(), &run_of(&[], &[]), QUIRKS)? else {
         panic!(rt; "no target");
     };
     let Some(mut wire) = recorder_over(rt.alloc(), bench) else {
@@ -119,7 +120,7 @@ fn zeros_after_zeros_are_one_item(rt: HostRuntime) -> Result<(), Fail> {
 // What the line carries in a line reset inside a transaction is no item. The run goes on as it would.
 #[test]
 fn a_line_reset_inside_a_transaction_cuts_the_items(rt: HostRuntime) -> Result<(), Fail> {
-    let Some(bench) = target_of::<Bench>(rt.alloc(), &run_of(&[], &[]), QUIRKS)? else {
+    let Some(bench) = target_of::<Bench<Memory>>(rt.alloc(), &run_of(&[], &[]), QUIRKS)? else {
         panic!(rt; "no target");
     };
     let Some(mut wire) = recorder_over(rt.alloc(), bench) else {
@@ -144,7 +145,7 @@ fn a_line_reset_inside_a_transaction_cuts_the_items(rt: HostRuntime) -> Result<(
 #[test]
 fn items_go_on_after_a_lost_acknowledgement(rt: HostRuntime) -> Result<(), Fail> {
     let run = run_of(&[(1, Mark::Deaf)], &[]);
-    let Some(bench) = target_of::<Bench>(rt.alloc(), &run, QUIRKS)? else {
+    let Some(bench) = target_of::<Bench<Memory>>(rt.alloc(), &run, QUIRKS)? else {
         panic!(rt; "no target");
     };
     let Some(mut wire) = recorder_over(rt.alloc(), bench) else {

@@ -12,7 +12,7 @@ use std::test::Fail;
 use swd_clocked::ClockedBench;
 use swd_host::{End, Refused, Report, run, run_block};
 use swd_port::{Access, Answer, Due, Wire};
-use swd_target::Bench;
+use swd_target::{Bench, Memory};
 
 // These accesses over a wire. None where something is due on it.
 fn tried<W: Wire, A: Allocator>(
@@ -55,7 +55,7 @@ fn a_list_is_refused_before_anything_is_sent(rt: HostRuntime) -> Result<(), Fail
         (&second, Refused::Unaligned { index: 1 }),
     ];
     for (accesses, refused) in rows {
-        let Some(bench) = target_of::<Bench>(rt.alloc(), &run_of(&[], &[]), QUIRKS)? else {
+        let Some(bench) = target_of::<Bench<Memory>>(rt.alloc(), &run_of(&[], &[]), QUIRKS)? else {
             panic!(rt; "no target");
         };
         let Some(mut wire) = recorder_over(rt.alloc(), bench) else {
@@ -145,12 +145,12 @@ fn refusals<S: Simulated + Drop, R: Abort>(
 // A block has its reads beside its answers, each refused in turn.
 #[test]
 fn want_of_memory_is_told_before_anything_is_sent(rt: HostRuntime) -> Result<(), Fail> {
-    let run = refusals::<Bench, _>(&rt, rt.alloc(), Call::Run)?;
-    let block = refusals::<Bench, _>(&rt, rt.alloc(), Call::Block)?;
+    let run = refusals::<Bench<Memory>, _>(&rt, rt.alloc(), Call::Run)?;
+    let block = refusals::<Bench<Memory>, _>(&rt, rt.alloc(), Call::Block)?;
     assert!(rt; 3 < run && run < block && block < 56);
-    let clocked = refusals::<ClockedBench, _>(&rt, rt.alloc(), Call::Run)?;
+    let clocked = refusals::<ClockedBench<Memory>, _>(&rt, rt.alloc(), Call::Run)?;
     expect_eq(&rt, &clocked, &run);
-    let clocked = refusals::<ClockedBench, _>(&rt, rt.alloc(), Call::Block)?;
+    let clocked = refusals::<ClockedBench<Memory>, _>(&rt, rt.alloc(), Call::Block)?;
     expect_eq(&rt, &clocked, &block);
     Ok(())
 }
@@ -163,7 +163,7 @@ fn as_many_accesses_as_a_list_may_have(rt: HostRuntime) -> Result<(), Fail> {
         room: 65_536,
         ..RUN
     };
-    let Some(mut bench) = target_of::<Bench>(rt.alloc(), &run, QUIRKS)? else {
+    let Some(mut bench) = target_of::<Bench<Memory>>(rt.alloc(), &run, QUIRKS)? else {
         panic!(rt; "no target");
     };
     let Some(report) = report_of(rt.alloc(), &mut bench, &run)? else {

@@ -6,7 +6,7 @@ use std::alloc::Global;
 use std::test::Fail;
 use swd_host::{End, Engine, Outcome};
 use swd_port::Cue;
-use swd_target::Bench;
+use swd_target::{Bench, Memory};
 
 // The two accesses send fifteen requests.
 const REQUESTS: u64 = 15;
@@ -18,7 +18,7 @@ fn is_exempt(place: u64) -> bool {
 
 // An engine whose next cue is the request with this number. None where it never comes to it.
 fn engine_at(alloc: Global, place: u64) -> Result<Option<Engine>, Fail> {
-    let Some(mut bench) = target_of::<Bench>(alloc, &run_of(&[], &[]), QUIRKS)? else {
+    let Some(mut bench) = target_of::<Bench<Memory>>(alloc, &run_of(&[], &[]), QUIRKS)? else {
         return Ok(None);
     };
     let mut engine = Engine::new(8);

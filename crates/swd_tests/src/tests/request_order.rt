@@ -10,7 +10,7 @@ use std::process::Abort;
 use std::test::Fail;
 use swd_clocked::ClockedBench;
 use swd_port::Access;
-use swd_target::{Bench, Mark, Quirks};
+use swd_target::{Bench, Mark, Memory, Quirks};
 use swd_trace::Item;
 
 // The requests, as bytes.
@@ -355,8 +355,8 @@ fn sends<S: Simulated + Drop, R: Abort>(
 fn a_run_sends_the_opening_and_then_its_accesses(rt: HostRuntime) -> Result<(), Fail> {
     for row in ROWS {
         for filler in [FILLER, 0xffff_ffff] {
-            sends::<Bench, HostRuntime>(&rt, rt.alloc(), row, filler)?;
-            sends::<ClockedBench, HostRuntime>(&rt, rt.alloc(), row, filler)?;
+            sends::<Bench<Memory>, HostRuntime>(&rt, rt.alloc(), row, filler)?;
+            sends::<ClockedBench<Memory>, HostRuntime>(&rt, rt.alloc(), row, filler)?;
         }
     }
     Ok(())
@@ -369,7 +369,7 @@ fn a_run_of_nothing_is_552_bits(rt: HostRuntime) -> Result<(), Fail> {
         sum = sum.saturating_add(bits(item_of(sent, FILLER)));
     }
     expect_eq(&rt, &sum, &552);
-    let Some(mut bench) = target_of::<ClockedBench>(rt.alloc(), &RUN, QUIRKS)? else {
+    let Some(mut bench) = target_of::<ClockedBench<Memory>>(rt.alloc(), &RUN, QUIRKS)? else {
         panic!(rt; "no target");
     };
     let _ = report_of(rt.alloc(), &mut bench, &RUN)?;

@@ -17,7 +17,7 @@ use std::test::Fail;
 use swd_clocked::ClockedBench;
 use swd_host::{End, Refused, Report};
 use swd_port::{Access, Answer, Transfer};
-use swd_target::{Bench, Mark, Quirks};
+use swd_target::{Bench, Mark, Memory, Quirks};
 
 // A target, and the last report of what was done over it.
 #[derive(Drop)]
@@ -218,8 +218,8 @@ const ROWS: [Row; 6] = [
 #[test]
 fn a_write_goes_on_after_a_lost_acknowledgement(rt: HostRuntime) -> Result<(), Fail> {
     for row in &ROWS {
-        goes_on::<Bench, HostRuntime>(&rt, rt.alloc(), row)?;
-        goes_on::<ClockedBench, HostRuntime>(&rt, rt.alloc(), row)?;
+        goes_on::<Bench<Memory>, HostRuntime>(&rt, rt.alloc(), row)?;
+        goes_on::<ClockedBench<Memory>, HostRuntime>(&rt, rt.alloc(), row)?;
     }
     Ok(())
 }
@@ -262,8 +262,8 @@ fn each_is_gone_on_with<S: Simulated + Drop, R: Abort>(
 #[test]
 fn a_run_goes_on_after_each_lost_acknowledgement(rt: HostRuntime) -> Result<(), Fail> {
     for late in [false, true] {
-        each_is_gone_on_with::<Bench, HostRuntime>(&rt, rt.alloc(), late)?;
-        each_is_gone_on_with::<ClockedBench, HostRuntime>(&rt, rt.alloc(), late)?;
+        each_is_gone_on_with::<Bench<Memory>, HostRuntime>(&rt, rt.alloc(), late)?;
+        each_is_gone_on_with::<ClockedBench<Memory>, HostRuntime>(&rt, rt.alloc(), late)?;
     }
     Ok(())
 }
@@ -306,7 +306,7 @@ fn two_are_lost<R: Abort>(
         tries: 1,
         ..RUN
     };
-    let mut stage = gone_on_twice::<Bench, R>(rt, alloc, &run, late)?;
+    let mut stage = gone_on_twice::<Bench<Memory>, R>(rt, alloc, &run, late)?;
     expect_eq_at(rt, &(earlier, later), &stage.report.ended, &End::All);
     expect_eq_at(
         rt,
@@ -406,8 +406,8 @@ fn want_of_memory_is_told_before_anything_is_sent(rt: HostRuntime) -> Result<(),
     let mut refused = 0usize;
     for step in 1..40usize {
         let size = step * 16;
-        let is = is_refused::<Bench, HostRuntime>(&rt, rt.alloc(), size)?;
-        let clocked = is_refused::<ClockedBench, HostRuntime>(&rt, rt.alloc(), size)?;
+        let is = is_refused::<Bench<Memory>, HostRuntime>(&rt, rt.alloc(), size)?;
+        let clocked = is_refused::<ClockedBench<Memory>, HostRuntime>(&rt, rt.alloc(), size)?;
         expect_eq(&rt, &clocked, &is);
         if is {
             refused = refused.saturating_add(1);

@@ -13,7 +13,7 @@ use std::test::Fail;
 use swd_clocked::ClockedBench;
 use swd_host::{End, resume};
 use swd_port::{Access, Due, Wire};
-use swd_target::{Bench, Mark, Quirks};
+use swd_target::{Bench, Mark, Memory, Quirks};
 
 // A run that ends early, and what going on with it sends after the items of the run: how many these are.
 #[derive(Clone, Copy)]
@@ -229,8 +229,8 @@ fn going_on_sends_a_line_reset_and_the_opening_and_what_is_left(
     rt: HostRuntime,
 ) -> Result<(), Fail> {
     for row in &ROWS {
-        sends::<Bench, HostRuntime>(&rt, rt.alloc(), row)?;
-        sends::<ClockedBench, HostRuntime>(&rt, rt.alloc(), row)?;
+        sends::<Bench<Memory>, HostRuntime>(&rt, rt.alloc(), row)?;
+        sends::<ClockedBench<Memory>, HostRuntime>(&rt, rt.alloc(), row)?;
     }
     Ok(())
 }

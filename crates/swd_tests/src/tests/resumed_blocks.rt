@@ -13,7 +13,7 @@ use std::test::Fail;
 use swd_clocked::ClockedBench;
 use swd_host::{End, Report, resume, run, run_block};
 use swd_port::{Access, Answer, Due, push_reads};
-use swd_target::{Bench, Mark, Quirks};
+use swd_target::{Bench, Mark, Memory, Quirks};
 
 const COUNT: u32 = 16;
 
@@ -170,8 +170,8 @@ fn a_block_is_resumed_at_each_request(rt: HostRuntime) -> Result<(), Fail> {
         for mark in [Mark::Deaf, Mark::Mute(0), Mark::Mute(2)] {
             for late in [false, true] {
                 let marks = [(FILLED.saturating_add(place), mark)];
-                comes_back::<Bench, HostRuntime>(&rt, rt.alloc(), &marks, late)?;
-                comes_back::<ClockedBench, HostRuntime>(&rt, rt.alloc(), &marks, late)?;
+                comes_back::<Bench<Memory>, HostRuntime>(&rt, rt.alloc(), &marks, late)?;
+                comes_back::<ClockedBench<Memory>, HostRuntime>(&rt, rt.alloc(), &marks, late)?;
             }
         }
     }
@@ -199,8 +199,8 @@ fn any_two_are_lost<S: Simulated + Drop, R: Abort>(
 #[test]
 fn a_block_is_resumed_at_any_two_requests(rt: HostRuntime) -> Result<(), Fail> {
     for pair in [(Mark::Mute(0), Mark::Deaf), (Mark::Deaf, Mark::Mute(0))] {
-        any_two_are_lost::<Bench, HostRuntime>(&rt, rt.alloc(), pair)?;
-        any_two_are_lost::<ClockedBench, HostRuntime>(&rt, rt.alloc(), pair)?;
+        any_two_are_lost::<Bench<Memory>, HostRuntime>(&rt, rt.alloc(), pair)?;
+        any_two_are_lost::<ClockedBench<Memory>, HostRuntime>(&rt, rt.alloc(), pair)?;
     }
     Ok(())
 }

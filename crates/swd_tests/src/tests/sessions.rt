@@ -163,6 +163,6 @@ fn comes_out<W: Simulated + Drop, R: Abort>(rt: &R, alloc: Global) -> Result<(),
 fn an_image_is_written_and_verified_by_calls_one_after_the_other(
     rt: HostRuntime,
 ) -> Result<(), Fail> {
-    comes_out::<Bench, _>(&rt, rt.alloc())?;
-    comes_out::<ClockedBench, _>(&rt, rt.alloc())
+    comes_out::<Bench<Memory>, _>(&rt, rt.alloc())?;
+    comes_out::<ClockedBench<Memory>, _>(&rt, rt.alloc())
 }

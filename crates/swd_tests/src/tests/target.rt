@@ -8,7 +8,7 @@ use std::alloc::Global;
 use std::process::Abort;
 use swd_clocked::ClockedBench;
 use swd_port::Register;
-use swd_target::{Bench, Mark, Quirks};
+use swd_target::{Bench, Mark, Memory, Quirks};
 
 // A target just made for this row goes as its steps say, and so with each choice for late transfers.
 fn goes<W: Simulated + Drop, R: Abort>(rt: &R, alloc: Global, row: &Row) {
@@ -31,8 +31,8 @@ fn goes<W: Simulated + Drop, R: Abort>(rt: &R, alloc: Global, row: &Row) {
 }
 
 fn goes_over_each<R: Abort>(rt: &R, alloc: Global, row: &Row) {
-    goes::<Bench, R>(rt, alloc, row);
-    goes::<ClockedBench, R>(rt, alloc, row);
+    goes::<Bench<Memory>, R>(rt, alloc, row);
+    goes::<ClockedBench<Memory>, R>(rt, alloc, row);
 }
 
 #[test]

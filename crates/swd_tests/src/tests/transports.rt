@@ -15,12 +15,12 @@ use swd_host::{End, Refused, run_over_transport};
 use swd_port::{
     Access, Answer, Cue, Disconnected, Due, Register, Story, Transport, TransportWire, Wire,
 };
-use swd_target::Bench;
+use swd_target::{Bench, Memory};
 
 // The target, and how many calls reach it.
 #[derive(Drop)]
 pub(super) struct Bridge {
-    bench: Bench,
+    bench: Bench<Memory>,
     calls: u64,
     reaching: u64,
 }
@@ -36,7 +36,7 @@ impl Transport for Bridge {
 }
 
 // The call, where the target can take it.
-fn passed_on(bench: &mut Bench, cue: Cue) -> Result<u64, Disconnected> {
+fn passed_on(bench: &mut Bench<Memory>, cue: Cue) -> Result<u64, Disconnected> {
     match (bench.due(), cue) {
         (
             Due::Nothing,
@@ -74,7 +74,7 @@ impl Story for Untold {
 
 // A target that so many calls reach.
 pub(super) fn behind(alloc: Global, reaching: u64) -> Result<Option<Bridge>, Fail> {
-    let bench = target_of::<Bench>(alloc, &run_of(&[], &[]), QUIRKS)?;
+    let bench = target_of::<Bench<Memory>>(alloc, &run_of(&[], &[]), QUIRKS)?;
     Ok(bench.map(|bench| Bridge {
         bench,
         calls: 0,
@@ -245,7 +245,7 @@ fn a_list_is_refused_before_the_transport_is_called(rt: HostRuntime) -> Result<(
 // A target that acknowledges each DRW write and drops it.
 #[derive(Drop)]
 struct Forgetful {
-    bench: Bench,
+    bench: Bench<Memory>,
     dropping: bool,
 }
 
@@ -266,7 +266,7 @@ impl Transport for Forgetful {
 // Each reply is one that a target that conforms to the model may give. So replies never show that a target conforms.
 #[test]
 fn a_target_that_drops_its_writes_is_not_seen(rt: HostRuntime) -> Result<(), Fail> {
-    let Some(bench) = target_of::<Bench>(rt.alloc(), &run_of(&[], &[]), QUIRKS)? else {
+    let Some(bench) = target_of::<Bench<Memory>>(rt.alloc(), &run_of(&[], &[]), QUIRKS)? else {
         panic!(rt; "a mark isn't legal");
     };
     let forgetful = Forgetful {

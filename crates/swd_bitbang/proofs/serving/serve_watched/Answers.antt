@@ -1,5 +1,6 @@
 use Rattle.std.proofs.Common.{ℕ, List, [], Option, None, Some, Err, refl, sym, subst, append-nil}
 use Rattle.std.specs.Io.KnownBytes.{Appends}
+use Rattle.swd_port.specs.Bus.{Bus}
 use Rattle.swd_io.specs.Pieces.{ConsumerReads, LeadsConsumerOn, LeadsConsumerToEnd, consumer_fault_or}
 use Rattle.swd_io.specs.declared.pieces.Unread.{Unread}
 use Rattle.swd_io.specs.declared.pieces.Unread.TheVariants.{Reader, Consumer}
@@ -19,21 +20,23 @@ unchanged None = tt
 unchanged (Some xs) = sym (append-nil xs)
 
 -- nothing was taken yet
-nothing : {A V W : Type 0} (contents : W → Option (List ℕ)) (pins : Pins A) (watch : V) (writer : W)
-    → BitbangHasTaken contents (pins, contents writer)
+nothing : {D A V W : Type 0} (bus : D → Bus) (contents : W → Option (List ℕ)) (pins : Pins D A) (watch : V) (writer : W)
+    → BitbangHasTaken bus contents (pins, contents writer)
     (record { pins = pins; place = 0; written = 0; watch = watch }, writer) []
-nothing contents pins watch writer =
+nothing bus contents pins watch writer =
     record { levels = []; session = (refl, refl); gone = unchanged (contents writer); written = refl; place = refl }
 
 -- a session that ended before its input did
-unread : {A V W : Type 0} (follows : V × Pins A → V × Pins A → Type 0) (contents : W → Option (List ℕ))
-    (fault : Unread Served) (text left : Option (List ℕ)) (begin : BitbangBegin A) (before after : Server A V × W) →
-    BitbangHasTaken contents begin before [] →
-    ConsumerReads (PinsLeadOnWatched follows (LeadsConsumerOn (BitbangHasTaken contents)))
-    (PinsLeadToEndWatched follows (LeadsConsumerToEnd (BitbangHasTaken contents) (BitbangEnds contents))) (Err fault)
+unread : {D A V W : Type 0} (bus : D → Bus) (follows : V × Pins D A → V × Pins D A → Type 0)
+    (contents : W → Option (List ℕ))
+    (fault : Unread Served) (text left : Option (List ℕ)) (begin : BitbangBegin D A) (before after : Server D A V × W) →
+    BitbangHasTaken bus contents begin before [] →
+    ConsumerReads (PinsLeadOnWatched follows (LeadsConsumerOn (BitbangHasTaken bus contents)))
+    (PinsLeadToEndWatched follows (LeadsConsumerToEnd (BitbangHasTaken bus contents) (BitbangEnds bus contents)))
+    (Err fault)
     text left before after →
-    BitbangServes (consumer_fault_or fault ends.Read) text left begin.1 (contents after.1) begin.0 after.0.pins
-unread follows contents Reader text left begin before after h r =
+    BitbangServes bus (consumer_fault_or fault ends.Read) text left begin.1 (contents after.1) begin.0 after.0.pins
+unread bus follows contents Reader text left begin before after h r =
     let read = r.2.leads_on begin [] h in
     record {
       read = r.0;
@@ -42,15 +45,15 @@ unread follows contents Reader text left begin before after h r =
       ends =
           record { levels = read.levels; session = read.session; gone = read.gone };
     }
-unread follows contents (Consumer served) text left begin before after h r =
+unread bus follows contents (Consumer served) text left begin before after h r =
     let stops = r.2.leads_to_end begin [] h in
     record { read = r.0; consumed = r.1; whole = bitbang_stop_is_whole served left stops.0; ends = stops.1 }
 
 -- its watch followed
-followed : {A V W : Type 0} (follows : V × Pins A → V × Pins A → Type 0)
-    (leads : Server A V × W → List ℕ → Server A V × W → Type 0)
-    (stops : Server A V × W → List ℕ → Served → Server A V × W → Type 0) (fault : Unread Served)
-    (text left : Option (List ℕ)) (before after : Server A V × W) →
+followed : {D A V W : Type 0} (follows : V × Pins D A → V × Pins D A → Type 0)
+    (leads : Server D A V × W → List ℕ → Server D A V × W → Type 0)
+    (stops : Server D A V × W → List ℕ → Served → Server D A V × W → Type 0) (fault : Unread Served)
+    (text left : Option (List ℕ)) (before after : Server D A V × W) →
     ConsumerReads (PinsLeadOnWatched follows leads) (PinsLeadToEndWatched follows stops) (Err fault) text left before
     after → follows (pins_watched before) (pins_watched after)
 followed follows leads stops Reader text left before after r = r.2.followed
@@ -60,8 +63,8 @@ pub returns-clause-session : goal.returns-clause-session
 returns-clause-session g c =
     let contents = g.W.Write.contents in
     let pins = c.args.pins in
-    let begin : BitbangBegin g.row.A.Denot = (pins, contents c.args.writer.now) in
-    let none = nothing contents pins c.args.watch c.args.writer.now in
+    let begin : BitbangBegin g.row.D.Denot g.row.A.Denot = (pins, contents c.args.writer.now) in
+    let none = nothing g.D.Device.bus contents pins c.args.watch c.args.writer.now in
     let text = g.R.Read.remaining c.args.reader.now in
     let left = g.R.Read.remaining c.read_pieces.new.reader in
     let after = c.read_pieces.new.consumer.pins in
@@ -70,7 +73,7 @@ returns-clause-session g c =
       | in-Ok w ↦
           let r = w.in-Ok.ensures in
           let read = r.3.leads_on begin [] none in
-          subst (λ (x : Served). BitbangServes x text left begin.1 now pins after) (sym w.served-is)
+          subst (λ (x : Served). BitbangServes g.D.Device.bus x text left begin.1 now pins after) (sym w.served-is)
           (record {
             read = r.0;
             consumed = r.1;
@@ -79,9 +82,10 @@ returns-clause-session g c =
                 record { levels = read.levels; session = read.session; gone = read.gone };
           })
       | in-Err w ↦
-          subst (λ (x : Served). BitbangServes x text left begin.1 now pins after) (sym w.served-is)
-          (subst (λ (x : Served). BitbangServes x text left begin.1 now pins after) (sym w.fault_or-served.ensures)
-          (unread g.V.Watch.follows contents w.in-Err.unread text left begin
+          subst (λ (x : Served). BitbangServes g.D.Device.bus x text left begin.1 now pins after) (sym w.served-is)
+          (subst (λ (x : Served). BitbangServes g.D.Device.bus x text left begin.1 now pins after)
+          (sym w.fault_or-served.ensures)
+          (unread g.D.Device.bus g.V.Watch.follows contents w.in-Err.unread text left begin
           (record { pins = pins; place = 0; written = 0; watch = c.args.watch }, c.args.writer.now)
           (c.read_pieces.new.consumer, c.read_pieces.new.writer) none w.in-Err.ensures))
     ]

@@ -3,7 +3,7 @@ use Rattle.swd_target.specs.declared.quirks.Quirks.{Quirks}
 use Rattle.swd_clocked.specs.Clocks.{clocked_over}
 use Rattle.swd_clocked.proofs.ElsewhereLemmas.{clocked_wait_elsewhere}
 use Rattle.swd_c.specs.Targets.{CApiNumbers}
-use Rattle.swd_c.proofs.Targets.{c_api_fields_over_memory}
+use Rattle.swd_c.proofs.Targets.{c_api_fields_elsewhere, c_api_is_over_a_bus}
 use Rattle.swd_c.proofs.target.swd_target_hold.Goals as goal
 
 pub returns-clause-holds : goal.returns-clause-holds
@@ -16,12 +16,16 @@ returns-clause-holds c = λ yes m.
       late = ap (λ (q : Quirks). q.late) c.hold.ensures.quirks ∙ had.late;
     } in (
       clocked_over m before,
-      c_api_fields_over_memory m c.args.target.now before had,
+      c_api_fields_elsewhere m c.args.target.now before had,
       refl,
       (
         clocked_over m after,
-        c_api_fields_over_memory m c.fields.result after has,
+        c_api_fields_elsewhere m c.fields.result after has,
         refl,
         record { holds = clocked_wait_elsewhere m _ before after c.hold.ensures.holds; cycles = c.hold.ensures.cycles },
       ),
     )
+
+pub returns-clause-refused : goal.returns-clause-refused
+returns-clause-refused c = λ none. absurd (c_api_is_over_a_bus c.args.target.now c.in-Some.now c.in-Some.ensures.same.0
+    none)

@@ -1,11 +1,10 @@
 use Rattle.std.proofs.Common.{ap, refl, sym}
-use Rattle.swd_port.specs.Bus.{bus_of}
 use Rattle.swd_port.specs.Port.{Target as State}
 use Rattle.swd_target.specs.Simulations.{Simulation}
 use Rattle.swd_target.proofs.ElsewhereLemmas.{simulation_placed}
 use Rattle.swd_clocked.specs.Clocks.{clocked_over}
 use Rattle.swd_c.specs.Targets.{CApiNumbers}
-use Rattle.swd_c.proofs.Targets.{c_api_fields_over_memory}
+use Rattle.swd_c.proofs.Targets.{c_api_fields_elsewhere}
 use Rattle.swd_c.proofs.target.swd_target_new.Goals as goal
 
 pub returns : goal.returns
@@ -18,10 +17,10 @@ returns c =
     record {
       new = λ m. (
         clocked_over m made,
-        c_api_fields_over_memory m c.fields.result made has,
+        c_api_fields_elsewhere m c.fields.result made has,
         refl,
         record {
-          state = ap (λ (s : State). record s { memory = bus_of m }) c.new.ensures.state;
+          state = ap (λ (s : State). record s { memory = m }) c.new.ensures.state;
           exact = ap (simulation_placed m) c.new.ensures.exact;
           frame = c.new.ensures.frame;
           held = c.new.ensures.held;

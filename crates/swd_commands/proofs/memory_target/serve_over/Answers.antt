@@ -1,6 +1,6 @@
 use Rattle.std.proofs.Common.{◌≡◌, ◌∙◌, ℕ, Result, ap, false, refl, subst, sym}
 use Rattle.swd_port.specs.PlainMemory.{PlainMemory}
-use Rattle.swd_port.specs.Bus.{plain_of}
+use Rattle.swd_port.specs.Bus.{bus_of, plain_of}
 use Rattle.swd_clocked.specs.Marked.{marked_clocked_state}
 use Rattle.swd_bitbang.specs.Traces.{is_pins_trace_cut_off}
 use Rattle.swd_commands.specs.MemoryTargets.{IsTargetCommandStatus}
@@ -19,7 +19,8 @@ returns-in-Ok g c =
       wrote = wrote;
       written = subst (λ (m : PlainMemory). CommandWritesBack m c.args.memory.now.base c.args.count wrote
           (g.F.Made.Write.contents c.args.file.now) (g.F.Made.Write.contents c.write_back.new.file))
-          (sym (ap plain_of c.memory-after.ensures) ∙ ap (λ t. plain_of (marked_clocked_state t).memory) c.target-2.ensures)
+          (sym (ap plain_of c.memory-after.ensures) ∙ ap (λ t. plain_of (marked_clocked_state bus_of t).memory)
+          c.target-2.ensures)
           c.write_back.ensures;
       is = subst (λ (w : Result (Unit {0}) ℕ). IsTargetCommandStatus served.result.0
           (is_pins_trace_cut_off served.result.1.trace ≡ false) w c.served_status.result)
@@ -39,7 +40,8 @@ returns g c =
       wrote = wrote;
       written = subst (λ (m : PlainMemory). CommandWritesBack m c.args.memory.now.base c.args.count wrote
           (g.F.Made.Write.contents c.args.file.now) (g.F.Made.Write.contents c.write_back.new.file))
-          (sym (ap plain_of c.memory-after.ensures) ∙ ap (λ t. plain_of (marked_clocked_state t).memory) c.target-2.ensures)
+          (sym (ap plain_of c.memory-after.ensures) ∙ ap (λ t. plain_of (marked_clocked_state bus_of t).memory)
+          c.target-2.ensures)
           c.write_back.ensures;
       is = subst (λ (w : Result (Unit {0}) ℕ). IsTargetCommandStatus served.result.0
           (is_pins_trace_cut_off served.result.1.trace ≡ false) w c.in-Err.status) (sym c.in-Err.is)

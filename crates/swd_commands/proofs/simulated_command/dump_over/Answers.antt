@@ -1,6 +1,6 @@
 use Rattle.std.proofs.Common.{◌+◌, ◌≤◌, ◌∙◌, None, length, subst, sym}
 use Rattle.std.specs.Prelude.{◌^◌}
-use Rattle.swd_port.specs.Bus.{plain_of}
+use Rattle.swd_port.specs.Bus.{bus_of, plain_of}
 use Rattle.swd_target.specs.Benches.{bench_plan, bench_port}
 use Rattle.swd_run.specs.Records.{run_file_held}
 use Rattle.swd_run.proofs.EngineLemmas.{run_file_is_some}
@@ -21,15 +21,17 @@ pub write_image_file-requires : goal.write_image_file-requires
 write_image_file-requires g c =
     let dumped = c.dump_simulated-answer in
     subst (λ l. c.args.image.now.addr + length l ≤ 2 ^ 32) (sym c.as_slice-in-Ok.ensures.value)
-    (simulated_command_fits (λ v. v.items) c.args.image.now.addr c.args.count (plain_of (bench_port c.args.bench).target.memory)
-    (plain_of (bench_port dumped.new.bench).target.memory) dumped.result c.in-Ok.bytes c.in-Ok.ensures dumped.ensures.memory)
+    (simulated_command_fits (λ v. v.items) c.args.image.now.addr c.args.count
+    (plain_of (bench_port bus_of c.args.bench).target.memory)
+    (plain_of (bench_port bus_of dumped.new.bench).target.memory) dumped.result c.in-Ok.bytes c.in-Ok.ensures
+    dumped.ensures.memory)
 
 pub returns-in-Ok : goal.returns-in-Ok
 returns-in-Ok g c =
     let image = c.args.image.now in
     let dumped = c.dump_simulated-answer in
-    let before = (plain_of (bench_port c.args.bench).target.memory) in
-    let after = (plain_of (bench_port dumped.new.bench).target.memory) in
+    let before = (plain_of (bench_port bus_of c.args.bench).target.memory) in
+    let after = (plain_of (bench_port bus_of dumped.new.bench).target.memory) in
     let bytes = stream_watched (command_report_contents g.F.Made.Write.contents (λ e. g.E.Write.contents e.now)) in
     record {
       answer = dump_command_as_list (λ v. v.items) dumped.result;
@@ -37,13 +39,15 @@ returns-in-Ok g c =
       memory = simulated_command_ok_list (λ v. v.items) dumped.result
           (λ bytes. DumpsSimulatedMemory image.addr c.args.count bytes before after) dumped.ensures.memory;
       fault = simulated_command_err_list (λ v. v.items) dumped.result
-          (DumpFails bench_port bench_plan AnyImageWire image.tries image.resumes image.addr c.args.count c.args.bench
+          (DumpFails (bench_port bus_of) bench_plan AnyImageWire image.tries image.resumes image.addr c.args.count
+          c.args.bench
           dumped.new.bench) dumped.ensures.fault;
       blank = run_file_held bytes c.report_writer-report.result;
       filled = run_file_held bytes dumped.new.report;
       named = run_file_is_some bytes c.report_writer-report.result ∙ c.report_writer-report.ensures ∙ c.requires.named;
       report = dump_command_fault_list (λ v. v.items) dumped.result
-          (λ fault. DumpReports bench_port bench_plan AnyImageWire image.tries image.resumes image.addr c.args.count
+          (λ fault. DumpReports (bench_port bus_of) bench_plan AnyImageWire image.tries image.resumes image.addr
+          c.args.count
           fault c.args.bench dumped.new.bench (run_file_held bytes c.report_writer-report.result)
           (run_file_held bytes dumped.new.report)) dumped.ensures.report;
       dumped = dump_command_done (λ v. v.items) image.format image.addr None dumped.result c.in-Ok.bytes
@@ -56,8 +60,8 @@ pub returns : goal.returns
 returns g c =
     let image = c.args.image.now in
     let dumped = c.dump_simulated-answer in
-    let before = (plain_of (bench_port c.args.bench).target.memory) in
-    let after = (plain_of (bench_port dumped.new.bench).target.memory) in
+    let before = (plain_of (bench_port bus_of c.args.bench).target.memory) in
+    let after = (plain_of (bench_port bus_of dumped.new.bench).target.memory) in
     let bytes = stream_watched (command_report_contents g.F.Made.Write.contents (λ e. g.E.Write.contents e.now)) in
     record {
       answer = dump_command_as_list (λ v. v.items) dumped.result;
@@ -65,13 +69,15 @@ returns g c =
       memory = simulated_command_ok_list (λ v. v.items) dumped.result
           (λ bytes. DumpsSimulatedMemory image.addr c.args.count bytes before after) dumped.ensures.memory;
       fault = simulated_command_err_list (λ v. v.items) dumped.result
-          (DumpFails bench_port bench_plan AnyImageWire image.tries image.resumes image.addr c.args.count c.args.bench
+          (DumpFails (bench_port bus_of) bench_plan AnyImageWire image.tries image.resumes image.addr c.args.count
+          c.args.bench
           dumped.new.bench) dumped.ensures.fault;
       blank = run_file_held bytes c.report_writer-report.result;
       filled = run_file_held bytes dumped.new.report;
       named = run_file_is_some bytes c.report_writer-report.result ∙ c.report_writer-report.ensures ∙ c.requires.named;
       report = dump_command_fault_list (λ v. v.items) dumped.result
-          (λ fault. DumpReports bench_port bench_plan AnyImageWire image.tries image.resumes image.addr c.args.count
+          (λ fault. DumpReports (bench_port bus_of) bench_plan AnyImageWire image.tries image.resumes image.addr
+          c.args.count
           fault c.args.bench dumped.new.bench (run_file_held bytes c.report_writer-report.result)
           (run_file_held bytes dumped.new.report)) dumped.ensures.report;
       dumped = dump_command_stopped (λ v. v.items) image.format image.addr None dumped.result c.in-Err.status

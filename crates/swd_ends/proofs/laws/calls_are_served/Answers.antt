@@ -9,6 +9,7 @@ use Rattle.swd_ends.proofs.laws.calls_are_served.Goals as goal
 
 pub returns : goal.returns
 returns g c = λ calls more old new s t drives between ended.
-    pins_served_up_to_quit (remote_with_clocks (remote_all_sequences calls)) more old new s t between
-    (subst (λ d. BitbangEndsAs ends.Quit old new (remote_characters_of d calls ++ alphabet_byte Quits ∷ more) s t)
+    pins_served_up_to_quit g.D.Device.bus (remote_with_clocks (remote_all_sequences calls)) more old new s t between
+    (subst (λ d. BitbangEndsAs g.D.Device.bus ends.Quit old new
+    (remote_characters_of d calls ++ alphabet_byte Quits ∷ more) s t)
     (sym drives) ended)

@@ -10,7 +10,8 @@ zero_memory-requires g c = let read = c.in-Ok.ensures.read in script_is_runnable
     (read_script_meaning c.in-Ok.texts.script) read.means
 
 pub target_pins-requires : goal.target_pins-requires
-target_pins-requires g c = let read = c.in-Ok.ensures.read in plan_file_is_plan read.plan_text c.in-Ok.texts.plan.items read.plans
+target_pins-requires g c = let read = c.in-Ok.ensures.read in plan_file_is_plan read.plan_text c.in-Ok.texts.plan.items
+    read.plans
 
 apart : (b : Bool) → b ≡ true → b ≡ false → ⊥
 apart b e f = absurd cc

@@ -3,6 +3,7 @@ use Rattle.std.proofs.KnownBytes.{Appends-nil}
 use Rattle.std.specs.Prelude.{All as Each}
 use Rattle.swd_port.specs.declared.mark.Mark.{Mark}
 use Rattle.swd_port.specs.Choices.{port_disturbed_among, port_lost_among}
+use Rattle.swd_port.specs.Bus.{bus_of}
 use Rattle.swd_target.specs.Benches.{bench_plan, bench_port}
 use Rattle.swd_script.specs.Laws.{IsScriptBatch}
 use Rattle.swd_script.specs.Readers.{script_batch_listed, read_script_meaning}
@@ -55,19 +56,19 @@ returns g c =
     let new = g.W.Write.contents ran.new.report in
     let before = run_files_of g.T.Write.contents c.args.records.now in
     let after = run_files_of g.T.Write.contents ran.new.records in
-    let memory = (bench_port ran.result.1).target.memory in
+    let memory = (bench_port bus_of ran.result.1).target.memory in
     let full : c.full_room.result ≡ full_room script.room memory = c.full_room.ensures
     ∙ ap (full_room script.room) (sym c.memory.ensures) in
     subst (λ answer. ScriptRunAnswers c.args.tries c.args.resumes script c.args.plan.items answer old new before after)
     (sym (c.with_full.ensures ∙ ap (λ used. with_full_room used ran.result.0) full))
-    (script_run_answers bench_port bench_plan (λ bench. Unit {0}) c.args.tries c.args.resumes script
+    (script_run_answers (bench_port bus_of) bench_plan (λ bench. Unit {0}) c.args.tries c.args.resumes script
     c.args.plan.items c.in-Some.bench ran.result.1 c.in-Some.ensures.port c.in-Some.ensures.plan
     (λ bench same. (
-      subst (λ (x : List Mark). (bench_port bench).tally.disturbed ≤ port_disturbed_among x) same
+      subst (λ (x : List Mark). (bench_port bus_of bench).tally.disturbed ≤ port_disturbed_among x) same
           (c.marks_used.ensures.disturbed_most bench),
-      subst (λ (x : List Mark). (bench_port bench).tally.lost ≤ port_lost_among x) same
+      subst (λ (x : List Mark). (bench_port bus_of bench).tally.lost ≤ port_lost_among x) same
           (c.marks_used.ensures.lost_most bench),
     )) tt memory refl ran.result.0 old new before after
-    (subst (λ batches. BatchAnswersAt bench_port bench_plan (λ bench. Unit {0}) c.args.tries c.args.resumes
+    (subst (λ batches. BatchAnswersAt (bench_port bus_of) bench_plan (λ bench. Unit {0}) c.args.tries c.args.resumes
     (map script_batch_listed batches) c.in-Some.bench ran.result.1 ran.result.0 old new before after)
     c.as_slice-batches.ensures.value ran.ensures.answer))

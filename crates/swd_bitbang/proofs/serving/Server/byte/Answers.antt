@@ -9,12 +9,13 @@ use Rattle.swd_bitbang.proofs.serving.Server.byte.Goals as goal
 pub returns-in-Some-clause-err : goal.returns-in-Some-clause-err
 returns-in-Some-clause-err g c = λ begin seen h.
     let old = c.args.self.now in
-    let e = bitbang_sign_ends_session (alphabet_character c.args.byte) old.place c.args.byte c.in-Some.served old.pins
+    let e = bitbang_sign_ends_session g.D.Device.bus (alphabet_character c.args.byte) old.place c.args.byte
+    c.in-Some.served old.pins
     c.take-sign.new.self c.take-sign.result c.take-sign.ensures (sym c.end_at.ensures ∙ c.in-Some.is) in (
       e.why seen refl h.place,
       record {
         levels = h.levels;
-        session = subst (λ (p : Pins _). PinsSession seen h.levels begin.0 p) (sym e.same) h.session;
+        session = subst (λ (p : Pins _ _). PinsSession g.D.Device.bus seen h.levels begin.0 p) (sym e.same) h.session;
         sends = h.sends;
         place = h.place;
       },
@@ -30,7 +31,8 @@ returns-clause-ok g c = λ begin seen h.
     let next = c.saturating_add-self.ensures in
     record {
       levels = h.levels ++ bitbang_answer_to_sign sign;
-      session = bitbang_session_one_more seen h.levels c.args.byte (bitbang_answer_to_sign sign) begin.0 old.pins
+      session = bitbang_session_one_more g.D.Device.bus seen h.levels c.args.byte (bitbang_answer_to_sign sign) begin.0
+          old.pins
           c.take-sign.new.self h.session (record
           { sign = sign; steps = c.take-sign.ensures; goes_on = open_still; tells = refl });
       sends = c.put_answer.ensures.sends begin.1 h.levels h.sends;
@@ -44,6 +46,7 @@ returns-clause-goes g c =
     let open_still = bitbang_open_sign sign old.place c.args.byte (sym c.end_at.ensures ∙ c.in_default.is) in (
       c.args.byte ∷ [],
       bitbang_answer_to_sign sign,
-      bitbang_session_one_more [] [] c.args.byte (bitbang_answer_to_sign sign) old.pins old.pins c.take-sign.new.self
+      bitbang_session_one_more g.D.Device.bus [] [] c.args.byte (bitbang_answer_to_sign sign) old.pins old.pins
+          c.take-sign.new.self
           (refl, refl) (record { sign = sign; steps = c.take-sign.ensures; goes_on = open_still; tells = refl }),
     )

@@ -24,8 +24,8 @@ pub loop-byte-preserved : goal.loop-byte-preserved
 loop-byte-preserved g c =
     let piece = c.args.piece.now in
     let i = c.loop-byte.byte-index in
-    let reaches : PinsReach c.args.self.now.pins c.byte.new.self.pins =
-    pins_reach_further _ _ _ c.loop-byte.invariant.reaches c.in_default.ensures.goes in
+    let reaches : PinsReach g.D.Device.bus c.args.self.now.pins c.byte.new.self.pins =
+    pins_reach_further g.D.Device.bus _ _ _ c.loop-byte.invariant.reaches c.in_default.ensures.goes in
     record {
       writer = c.in_default.ensures.writer ∙ c.loop-byte.invariant.writer;
       written = c.in_default.ensures.written ∙ c.loop-byte.invariant.written;
@@ -33,7 +33,7 @@ loop-byte-preserved g c =
       reaches = reaches;
       goes = λ begin seen h.
           let so_far = seen ++ take i piece in
-          subst (BitbangTaken g.W.Write.contents begin c.byte.new.self c.byte.new.block)
+          subst (BitbangTaken g.D.Device.bus g.W.Write.contents begin c.byte.new.self c.byte.new.block)
           (append_assoc seen (take i piece) _
           ∙ ap (λ x. seen ++ x) (sym (take_more piece i 0 c.loop-byte-test.true)))
           (c.in_default.ensures.ok begin so_far (c.loop-byte.invariant.goes begin seen h));
@@ -43,7 +43,8 @@ pub returns-in-Err-clause-watch : goal.returns-in-Err-clause-watch
 returns-in-Err-clause-watch g c = c.in-Err.ensures.watch ∙ c.loop-byte.invariant.watch
 
 pub returns-in-Err-clause-goes : goal.returns-in-Err-clause-goes
-returns-in-Err-clause-goes g c = pins_reach_further _ _ _ c.loop-byte.invariant.reaches c.in-Err.ensures.goes
+returns-in-Err-clause-goes g c = pins_reach_further g.D.Device.bus _ _ _ c.loop-byte.invariant.reaches
+    c.in-Err.ensures.goes
 
 pub returns-clause-watch : goal.returns-clause-watch
 returns-clause-watch g c = c.loop-byte.invariant.watch

@@ -13,7 +13,7 @@ returns-in-Err-clause-err g c = record {
       let same = c.writer-1.given.1
       (sym (c.flush.ensures.writer ∙ c.bytes-taken.ensures.writer ∙ c.new-block.ensures.writer)) in
       let text = seen ++ c.args.piece.now in
-      let goes : BitbangTaken contents begin c.args.self.now c.new-block.result seen =
+      let goes : BitbangTaken g.D.Device.bus contents begin c.args.self.now c.new-block.result seen =
       record {
         levels = h.levels;
         session = h.session;
@@ -21,11 +21,12 @@ returns-in-Err-clause-err g c = record {
             h.written;
         place = h.place;
       } in
-      let u = bitbang_answers_queued contents begin c.bytes-taken.new.self c.bytes-taken.new.block text
+      let u = bitbang_answers_queued g.D.Device.bus contents begin c.bytes-taken.new.self c.bytes-taken.new.block text
       c.bytes-taken.result (bitbang_on_ok_then c.bytes-taken.result (λ f. f begin seen goes) c.bytes-taken.ensures.ok)
       (bitbang_if_err_then c.bytes-taken.result (λ served f. f begin seen goes) c.bytes-taken.ensures.err) in (
         tt,
-        subst (λ w. BitbangWriterBreaks c.in-Err.written begin.1 (contents w) text begin.0 c.bytes-taken.new.self.pins)
+        subst (λ w. BitbangWriterBreaks g.D.Device.bus c.in-Err.written begin.1 (contents w) text begin.0
+            c.bytes-taken.new.self.pins)
             (sym same) (record {
               taken = u.taken;
               more = u.more;
@@ -83,8 +84,10 @@ returns-in-Err-taken-clause-err g c = record {
       }) in
       let way = stops.under_way in
       subst (λ w. IsBitbangStop c.in-Err-taken.served
-      × BitbangEndsAs c.in-Err-taken.served begin.1 (contents w) text begin.0 c.bytes-taken.new.self.pins) (sym same)
-      (bitbang_session_ends_as c.in-Err-taken.served begin.1 _ text stops.taken stops.byte stops.more begin.0
+      × BitbangEndsAs g.D.Device.bus c.in-Err-taken.served begin.1 (contents w) text begin.0
+      c.bytes-taken.new.self.pins) (sym same)
+      (bitbang_session_ends_as g.D.Device.bus c.in-Err-taken.served begin.1 _ text stops.taken stops.byte stops.more
+      begin.0
       c.bytes-taken.new.self.pins stops.is stops.ends
       (record {
         levels = way.levels;

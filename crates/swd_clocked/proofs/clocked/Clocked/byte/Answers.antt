@@ -6,7 +6,7 @@ use Rattle.swd_clocked.proofs.clocked.Clocked.byte.Goals as goal
 
 pub returns-in-Some-clause-came : goal.returns-in-Some-clause-came
 returns-in-Some-clause-came g c = record {
-  whole = λ q e. subst (λ (x : Request). ClockedRequested x c.args.self.now.target c.args.self.now.waits
+  whole = λ q e. subst (λ (x : Request). ClockedRequested g.D.Device.bus x c.args.self.now.target c.args.self.now.waits
       c.request.new.self) (sym (c.in-Some.ensures.only q e)) c.request.ensures.requested;
   broken = λ none. absurd (none c.in-Some.request c.in-Some.ensures.found);
 }

@@ -7,26 +7,26 @@ use Rattle.swd_clocked.proofs.clocked_bench.ClockedBenchWire.step.Goals as goal
 
 pub returns-in-Ask-clause-step : goal.returns-in-Ask-clause-step
 returns-in-Ask-clause-step g c =
-    let s = clocked_bench_port c.args.self.now in
-    let t = clocked_bench_port c.ask_now.new.self in
+    let s = clocked_bench_port g.D.Device.bus c.args.self.now in
+    let t = clocked_bench_port g.D.Device.bus c.ask_now.new.self in
     subst (λ (cue : Cue). IsPortStep cue c.from.result s t) (sym c.in-Ask.is)
     (subst (λ (n : ℕ). PortAsks s c.in-Ask.request n t) (sym c.from.ensures) c.ask_now.ensures.step)
 
 pub returns-in-Lead-clause-step : goal.returns-in-Lead-clause-step
 returns-in-Lead-clause-step g c =
-    let s = clocked_bench_port c.args.self.now in
-    let t = clocked_bench_port c.lead_now.new.self in
+    let s = clocked_bench_port g.D.Device.bus c.args.self.now in
+    let t = clocked_bench_port g.D.Device.bus c.lead_now.new.self in
     subst (λ (cue : Cue). IsPortStep cue 0 s t) (sym c.in-Lead.is) (s, t, inl refl, c.lead_now.ensures.now, inl refl)
 
 pub returns-in-Take-clause-step : goal.returns-in-Take-clause-step
 returns-in-Take-clause-step g c =
-    let s = clocked_bench_port c.args.self.now in
-    let t = clocked_bench_port c.take_now.new.self in
+    let s = clocked_bench_port g.D.Device.bus c.args.self.now in
+    let t = clocked_bench_port g.D.Device.bus c.take_now.new.self in
     subst (λ (cue : Cue). IsPortStep cue c.take_now.result s t) (sym c.in-Take.is)
     (s, t, inl refl, c.take_now.ensures.now, inl refl)
 
 pub returns-in-Pass-clause-step : goal.returns-in-Pass-clause-step
 returns-in-Pass-clause-step g c =
-    let s = clocked_bench_port c.args.self.now in
-    let t = clocked_bench_port c.pass_now.new.self in
+    let s = clocked_bench_port g.D.Device.bus c.args.self.now in
+    let t = clocked_bench_port g.D.Device.bus c.pass_now.new.self in
     subst (λ (cue : Cue). IsPortStep cue 0 s t) (sym c.in-Pass.is) (s, t, inl refl, c.pass_now.ensures.now, inl refl)

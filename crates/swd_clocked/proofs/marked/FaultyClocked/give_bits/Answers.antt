@@ -17,7 +17,8 @@ loop-place-init g c =
     let old = c.args.self.now in
     let r = frame_register old.clocked.frame in
     let got = port_flipped (port_flip_of old.mark) c.args.bits in
-    let x = open_frame_step (Awaits r port_undriven 0) _ c.cycle.result old c.cycle.new.self c.cycle.ensures.cycles
+    let x = open_frame_step g.D.Device.bus (Awaits r port_undriven 0) _ c.cycle.result old c.cycle.new.self
+    c.cycle.ensures.cycles
     c.requires.heard c.requires.frame tt in
     let goes = cycles_move_frame_chain _ _ old old c.cycle.new.self
     (no_cycle_moves_frame _ old c.requires.heard c.requires.frame)
@@ -38,7 +39,8 @@ loop-place-preserved g c =
     let k = c.loop-place.place in
     let r = frame_register start.clocked.frame in
     let cycle = c.cycle-in-loop-place in
-    let d = arriving_cycle_step start.mark c.args.bits k r i.0 c.loop-place.rest cycle.result c.loop-place.self
+    let d = arriving_cycle_step g.D.Device.bus start.mark c.args.bits k r i.0 c.loop-place.rest cycle.result
+    c.loop-place.self
     cycle.new.self i.3.keeps.mark i.1 cycle.ensures.cycles i.3.heard i.3.moved.frame in
     let moved = d.awaits.more (λ e. absurd (omega arith)) (omega arith) in
     let next = clocked_shifted (2 ^ 32) i.0 (got / 2 ^ k % 2 == 1) in (
@@ -60,7 +62,8 @@ returns-clause-brings g c =
     let k = c.loop-place.place in
     let r = frame_register start.clocked.frame in
     let cycle = c.cycle-2 in
-    let d = arriving_cycle_step start.mark c.args.bits k r i.0 c.loop-place.rest cycle.result c.loop-place.self
+    let d = arriving_cycle_step g.D.Device.bus start.mark c.args.bits k r i.0 c.loop-place.rest cycle.result
+    c.loop-place.self
     cycle.new.self i.3.keeps.mark i.1 cycle.ensures.cycles i.3.heard i.3.moved.frame in
     let last : k + 1 ≡ 33 = omega arith in
     let came = d.awaits.whole last in
@@ -69,7 +72,8 @@ returns-clause-brings g c =
     let small = clocked_flip_in_33_bits start.mark c.args.bits (clocked_mark_legal start.mark start.legal)
     c.requires.bits in
     record {
-      came = clocked_data_after_moves _ _ _ _ _ _ _ _ i.3.moved (clocked_shift_full_33 _ _ _ small shift) came;
+      came = clocked_data_after_moves g.D.Device.bus _ _ _ _ _ _ _ _ i.3.moved (clocked_shift_full_33 _ _ _ small shift)
+          came;
       keeps = cycles_keep_plan_chain _ _ _ i.3.keeps d.keeps;
       heard = d.heard;
     }

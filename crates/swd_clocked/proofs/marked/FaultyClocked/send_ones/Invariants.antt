@@ -10,7 +10,7 @@ invariant-loop-place g l = record {
   frame : IsRisingFrame (marked_clocked_frame l.self);
   heard : marked_clocked_unseen l.self ≡ 0;
   rise : rising_frame_ones (marked_clocked_frame l.self) ≡ rising_frame_ones (marked_clocked_frame l.fn.self) - l.place;
-  leads : CyclesLeadToReset l.fn.self l.self;
+  leads : CyclesLeadToReset g.D.Device.bus l.fn.self l.self;
   cycles : marked_clocked_cycles l.self ≡ cycles_counted l.place (marked_clocked_cycles l.fn.self);
   contended : marked_clocked_contended l.self ≡ marked_clocked_contended l.fn.self;
 }

@@ -16,7 +16,8 @@ loop-place-preserved g c =
     let i = c.loop-place.invariant in
     let b = c.loop-place.rest % 2 == 1 in
     let odd = clocked_request_start c.args.request c.bits-bits.result c.bits-bits.ensures in
-    let x = plain_frame_step (Asks i.0 c.loop-place.place) (Some b) c.cycle.result c.loop-place.self c.cycle.new.self
+    let x = plain_frame_step g.D.Device.bus (Asks i.0 c.loop-place.place) (Some b) c.cycle.result c.loop-place.self
+    c.cycle.new.self
     c.cycle.ensures.cycles i.2.heard i.2.moved.frame (λ e. absurd (omega arith)) in
     let moved = x.cycles.1.more c.loop-place-test.true
     (λ e. clocked_shift_first_8 c.bits-bits.result c.loop-place.place c.loop-place.rest i.0 i.1 e odd) in (
@@ -39,7 +40,8 @@ returns-clause-sent g c =
     subst (λ n. ClockedShifts 256 (c.bits-bits.result * 256 + 255) (n + 1) (c.loop-place.rest / 2)
     (clocked_shifted 128 i.0 b)) last (clocked_shift_8 _ _ _ _ i.1) in
     let goes = subst (λ n. CyclesMoveFrame (Asks i.0 n) c.args.self.now c.loop-place.self) last i.2 in
-    request_last_cycle c.args.request b c.cycle-2.result i.0 c.bits-bits.result c.args.self.now c.loop-place.self
+    request_last_cycle g.D.Device.bus c.args.request b c.cycle-2.result i.0 c.bits-bits.result c.args.self.now
+    c.loop-place.self
     c.cycle-2.new.self goes c.cycle-2.ensures.cycles
     (clocked_shift_full_8 _ _ _ c.bits-bits.type_inv shift) c.bits-bits.ensures
 

@@ -31,7 +31,7 @@ loop-place-preserved g c =
     let sent = frame_bits start.clocked.frame in
     let got = port_flipped (port_flip_of start.mark) sent in
     let k = c.loop-place.place in
-    let d = driven_cycle_step start.mark sent k c.cycle-bit.result c.loop-place.self c.cycle-bit.new.self
+    let d = driven_cycle_step g.D.Device.bus start.mark sent k c.cycle-bit.result c.loop-place.self c.cycle-bit.new.self
     (clocked_mark_legal start.mark start.legal) c.loop-place-test.true i.1.keeps.mark c.cycle-bit.ensures.cycles
     i.1.heard i.1.moved.frame in
     let shift = clocked_shift_takes_bit _ _ _ _ c.from.result i.0 (clocked_byte_bit _ _ _ c.from.ensures d.seen) in (
@@ -64,7 +64,8 @@ returns-clause-goes g c =
     let sent = frame_bits start.clocked.frame in
     let last : c.loop-place.place ≡ 33 = omega arith in
     let goes = subst (λ n. CyclesMoveFrame (Drives (sent / 2 ^ n) (33 - n)) start c.loop-place.self) last i.1 in
-    let x = open_frame_step (Drives (sent / 2 ^ 33) 0) None c.cycle.result c.loop-place.self c.cycle.new.self
+    let x = open_frame_step g.D.Device.bus (Drives (sent / 2 ^ 33) 0) None c.cycle.result c.loop-place.self
+    c.cycle.new.self
     c.cycle.ensures.cycles goes.heard goes.moved.frame tt in
     cycles_move_frame_chain _ _ _ _ _ goes (x.turns.cycles.turn refl).1 x.keeps x.heard
 

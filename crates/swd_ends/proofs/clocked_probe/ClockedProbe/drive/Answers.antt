@@ -10,7 +10,7 @@ loop-place-init g c =
     record {
       leads = λ seen t h. (
         seen,
-        subst (λ x. ClockedProbeCycles x seen (clocked_probe_target c.args.self.now) t)
+        subst (λ x. ClockedProbeCycles g.D.Device.bus x seen (clocked_probe_target c.args.self.now) t)
             (clocked_probe_all_driven c.args.count c.args.bits) h,
       );
       waits = refl;
@@ -22,7 +22,8 @@ loop-place-preserved g c =
     record {
       leads = λ seen t h.
           l.invariant.leads (c.cycle.result ∷ seen) t
-          (clocked_probe_one_cycle _ _ (Some (l.rest % 2 == 1)) c.cycle.result seen l.self.target c.cycle.new.self t
+          (clocked_probe_one_cycle g.D.Device.bus _ _ (Some (l.rest % 2 == 1)) c.cycle.result seen l.self.target
+          c.cycle.new.self t
           (clocked_probe_next_driven c.args.count l.place l.rest c.loop-place-test.true)
           (record {
             cycle = c.cycle.ensures.cycles;
@@ -37,6 +38,6 @@ pub returns : goal.returns
 returns g c =
     let l = c.loop-place in
     let h = l.invariant.leads [] l.self.target
-    (clocked_probe_no_cycle _ l.self.target
+    (clocked_probe_no_cycle g.D.Device.bus _ l.self.target
     (clocked_probe_no_driven c.args.count l.place l.rest c.loop-place-test.false)) in
     (h.0, h.1, l.invariant.waits)

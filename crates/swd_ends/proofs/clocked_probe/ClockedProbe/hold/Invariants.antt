@@ -7,8 +7,9 @@ use Rattle.swd_ends.proofs.clocked_probe.ClockedProbe.hold.Given as goal
 -- the clocks that are left make it whole
 abbrev pub invariant-loop-place : goal.invariant-loop-place
 invariant-loop-place g l = record {
-  leads : (seen : List Bool) (t : FaultyClocked g.row.A.Denot)
-      → ClockedProbeCycles (replicate (l.count - l.place) l.drive) seen (clocked_probe_target l.self) t
-      → (all : List Bool) × ClockedProbeCycles (replicate l.count l.drive) all (clocked_probe_target l.fn.self) t;
+  leads : (seen : List Bool) (t : FaultyClocked g.row.D.Denot g.row.A.Denot)
+      → ClockedProbeCycles g.D.Device.bus (replicate (l.count - l.place) l.drive) seen (clocked_probe_target l.self) t
+      → (all : List Bool) × ClockedProbeCycles g.D.Device.bus (replicate l.count l.drive) all
+      (clocked_probe_target l.fn.self) t;
   waits : clocked_probe_waiting l.self ≡ clocked_probe_waiting l.fn.self;
 }

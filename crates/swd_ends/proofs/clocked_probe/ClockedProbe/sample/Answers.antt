@@ -9,7 +9,7 @@ use Rattle.swd_ends.proofs.clocked_probe.ClockedProbe.sample.Goals as goal
 pub loop-place-init : goal.loop-place-init
 loop-place-init g c = λ seen t h. (
   seen,
-  subst (λ x. ClockedProbeCycles x seen (clocked_probe_target c.args.self.now) t)
+  subst (λ x. ClockedProbeCycles g.D.Device.bus x seen (clocked_probe_target c.args.self.now) t)
       (clocked_probe_all_alike c.args.count None) h,
   refl,
 )
@@ -19,10 +19,10 @@ loop-place-preserved g c = λ seen t h.
     let l = c.loop-place in
     let level = c.cycle-level.result in
     let was = clocked_probe_waiting l.self in
-    let more = subst (λ x. ClockedProbeCycles (replicate (c.args.count - (l.place + 1)) None) seen x t)
+    let more = subst (λ x. ClockedProbeCycles g.D.Device.bus (replicate (c.args.count - (l.place + 1)) None) seen x t)
     c.keep.ensures.target h in
     let all = l.invariant (level ∷ seen) t
-    (clocked_probe_one_cycle _ _ None level seen l.self.target c.cycle-level.new.self t
+    (clocked_probe_one_cycle g.D.Device.bus _ _ None level seen l.self.target c.cycle-level.new.self t
     (clocked_probe_next_alike c.args.count l.place None c.loop-place-test.true)
     (record {
       cycle = c.cycle-level.ensures.cycles;
@@ -39,7 +39,7 @@ pub returns : goal.returns
 returns g c =
     let l = c.loop-place in
     let h = l.invariant [] l.self.target
-    (clocked_probe_no_cycle _ l.self.target
+    (clocked_probe_no_cycle g.D.Device.bus _ l.self.target
     (clocked_probe_none_alike c.args.count l.place None c.loop-place-test.false)) in
     record {
       seen = h.0;

@@ -6,7 +6,8 @@ use Rattle.swd_ends.proofs.clocked_probe.ClockedProbe.sample.Given as goal
 
 -- the clocks that are left make it whole, and what they show comes behind what waits
 abbrev pub invariant-loop-place : goal.invariant-loop-place
-invariant-loop-place g l = (seen : List Bool) (t : FaultyClocked g.row.A.Denot)
-    → ClockedProbeCycles (replicate (l.count - l.place) None) seen (clocked_probe_target l.self) t
-    → (all : List Bool) × ClockedProbeCycles (replicate l.count None) all (clocked_probe_target l.fn.self) t
+invariant-loop-place g l = (seen : List Bool) (t : FaultyClocked g.row.D.Denot g.row.A.Denot)
+    → ClockedProbeCycles g.D.Device.bus (replicate (l.count - l.place) None) seen (clocked_probe_target l.self) t
+    → (all : List Bool) × ClockedProbeCycles g.D.Device.bus (replicate l.count None) all
+    (clocked_probe_target l.fn.self) t
     × (take 64 (clocked_probe_waiting l.self ++ seen) ≡ take 64 (clocked_probe_waiting l.fn.self ++ all))

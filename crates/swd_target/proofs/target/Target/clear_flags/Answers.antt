@@ -11,4 +11,4 @@ returns g c =
     ∙ (ap (λ n. bit_and n 4 == 4) c.of-abort.ensures ∙ target_flag_is_bit c.args.word 2 31 refl) in
     let three : c.contains-2.result ≡ register_bit 3 c.args.word = c.contains-2.ensures tt
     ∙ (ap (λ n. bit_and n 8 == 8) c.of-abort.ensures ∙ target_flag_is_bit c.args.word 3 31 refl) in
-    record { state = rw (two, three) refl; exact = rw (two, three) refl }
+    record { state = rw (two, three) refl; exact = rw (two, three) refl; device = refl }

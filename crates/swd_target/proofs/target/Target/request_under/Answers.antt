@@ -8,5 +8,6 @@ use Rattle.swd_target.proofs.target.Target.request_under.Goals as goal
 
 pub returns-in-Deaf-clause-answers : goal.returns-in-Deaf-clause-answers
 returns-in-Deaf-clause-answers g c =
-    subst (λ (mark : Mark). TargetAnswersUnder mark c.args.request c.args.self.now Silent Idle c.args.self.now)
-    (sym c.in-Deaf.is) (simulated_answers_deaf c.args.request c.args.self.now)
+    subst (λ (mark : Mark). TargetAnswersUnder g.D.Device.bus mark c.args.request c.args.self.now Silent Idle
+    c.args.self.now)
+    (sym c.in-Deaf.is) (simulated_answers_deaf g.D.Device.bus c.args.request c.args.self.now)

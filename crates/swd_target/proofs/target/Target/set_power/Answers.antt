@@ -13,4 +13,4 @@ returns g c =
     let system : c.contains-self-2.result ≡ register_bit 30 c.args.word = c.contains-self-2.ensures tt
     ∙ (ap (λ n. bit_and n 0x4000_0000 == 0x4000_0000) c.of-control.ensures
     ∙ target_flag_is_bit c.args.word 30 ctrl_stat_mask refl) in
-    record { state = rw (debug, system) refl; exact = rw (debug, system) refl }
+    record { state = rw (debug, system) refl; exact = rw (debug, system) refl; device = refl }
