@@ -1,8 +1,8 @@
-"""Builds the wheel of swd.py, with the standard library alone, so that `pip install .` needs no network.
+"""Builds the wheel of the package swd, with the standard library alone, so that `pip install .` needs no network.
 
-The wheel has the shared library in it where SWD_LIBRARY names one, or libswd_c.so stands beside swd.py; the environment
-variable SWD_PLATFORM then names its platform, as linux_x86_64, which is this machine's without it. Else it has swd.py
-alone, which searches the library when it is used. The same files give the same bytes.
+The wheel has the shared library in it where SWD_LIBRARY names one, or the folder swd has libswd_c.so; the environment
+variable SWD_PLATFORM then names its platform, as linux_x86_64, which is this machine's without it. Else it has the
+package alone, which searches the library when it is used. The same files give the same bytes.
 
 `python3 backend.py FOLDER` writes the wheel to a folder, and prints its name."""
 import base64
@@ -32,7 +32,7 @@ def _value(name: str, of: str) -> str:
     return found.group(1)
 
 
-VERSION = _value("__version__", "swd.py")
+VERSION = _value("__version__", "swd/__init__.py")
 METADATA = f"""Metadata-Version: 2.1
 Name: {_value("name", "pyproject.toml")}
 Version: {VERSION}
@@ -44,9 +44,15 @@ Description-Content-Type: text/markdown
 """
 
 
+def _package() -> Files:
+    """The files of the package, but for the library."""
+    names = sorted(name for name in os.listdir(os.path.join(HERE, "swd")) if name.endswith((".py", ".typed")))
+    return {f"swd/{name}": _file(os.path.join("swd", name)) for name in names}
+
+
 def _licenses() -> Files:
-    """The license texts, from here or from the repository."""
-    files = {}
+    """The license texts, from here or from the repository; SWD_NOTICES names that of what is linked into the library."""
+    files = {"LICENSES-LINKED": _file(os.environ["SWD_NOTICES"])} if "SWD_NOTICES" in os.environ else {}
     for name in ("LICENSE-APACHE", "LICENSE-MIT"):
         for folder in (HERE, os.path.join(HERE, "..", "..")):
             if os.path.exists(os.path.join(folder, name)):
@@ -57,7 +63,7 @@ def _licenses() -> Files:
 
 def _library() -> Optional[bytes]:
     """The shared library that goes into the wheel."""
-    path = os.environ.get("SWD_LIBRARY") or os.path.join(HERE, "libswd_c.so")
+    path = os.environ.get("SWD_LIBRARY") or os.path.join(HERE, "swd", "libswd_c.so")
     if not os.path.exists(path):
         if "SWD_LIBRARY" in os.environ:
             raise FileNotFoundError(f"SWD_LIBRARY names no file: {path}")
@@ -79,9 +85,9 @@ def build_wheel(
 ) -> str:
     """Writes the wheel, and returns its name (PEP 517)."""
     library, platform = _library(), "any"
-    files = {"swd.py": _file("swd.py")}
+    files = _package()
     if library is not None:
-        files["libswd_c.so"] = library
+        files["swd/libswd_c.so"] = library
         platform = os.environ.get("SWD_PLATFORM") or re.sub(r"[^A-Za-z0-9]", "_", sysconfig.get_platform())
     info, tag = f"swd-{VERSION}.dist-info", f"py3-none-{platform}"
     pure = "true" if library is None else "false"
@@ -111,7 +117,7 @@ def build_sdist(sdist_directory: str, config_settings: Optional[Dict[str, Any]] 
         return entry
 
     with tarfile.open(os.path.join(sdist_directory, f"{folder}.tar.gz"), "w:gz") as archive:
-        for name in ("README.md", "backend.py", "pyproject.toml", "swd.py"):
+        for name in ("README.md", "backend.py", "pyproject.toml", *_package()):
             archive.add(os.path.join(HERE, name), f"{folder}/{name}", filter=plain)
     return f"{folder}.tar.gz"
 

@@ -1,20 +1,26 @@
-"""Tests of swd.py. `python3 -m unittest` in this folder runs them; SWD_LIBRARY names the library.
+"""Tests of the package swd. `python3 -m unittest` in this folder runs them; SWD_LIBRARY names the library.
 
 SWD names the program `swd`, which random lists and traces are then compared with. COUNT is how many random lists are
 run, 300 without it, and SEED where they begin."""
 import concurrent.futures
 import contextlib
+import ctypes
+import ctypes.util
 import io
 import itertools
 import os
 import random
 import re
 import subprocess
+import sys
 import tempfile
 import unittest
+import unittest.mock
 
+import gpio
 import plain
 import swd
+import swd._library as bound
 from plain import Damaged, MemoryBus, PlainMemory, PlainTarget
 from swd import BusFault, End, Read, Value, Write, Written
 
@@ -85,7 +91,8 @@ class Rows(unittest.TestCase):
             with self.subTest(name, target=target):
                 memory = PlainMemory(BASE, words, room)
                 host = swd.Host(Damaged(make(memory), plan_of(marks)), tries)
-                report = host.run_block(BASE, accesses) if isinstance(accesses, int) else host.run(accesses)
+                run = host.run_block if isinstance(accesses, int) else host.run
+                report = run(*([BASE, accesses] if isinstance(accesses, int) else [accesses]), check=False)
                 self.assertEqual(report, swd.Report(tuple(answers), begun, requests, End(ended)))
                 self.assertEqual(memory.log, log)
 
@@ -107,7 +114,7 @@ class Rows(unittest.TestCase):
             with self.subTest(target):
                 memory = PlainMemory(BASE, 16, 16)
                 host = swd.Host(Damaged(make(memory), plan_of({15: "deaf"})))
-                lost = host.run(accesses)
+                lost = host.run(accesses, check=False)
                 self.assertEqual(lost, swd.Report((Written(),), 1, 15, End.LOST))
                 whole = host.resume(accesses, lost)
                 self.assertEqual(whole, swd.Report((Written(), Written()), 0, 12, End.ALL))
@@ -119,7 +126,7 @@ class Rows(unittest.TestCase):
             with self.subTest(target):
                 memory = PlainMemory(BASE, 16, 16)
                 host = swd.Host(Damaged(make(memory), plan_of({12: "wait", 13: "wait"})), tries=1)
-                stopped = host.run([Read(BASE)])
+                stopped = host.run([Read(BASE)], check=False)
                 self.assertEqual(stopped, swd.Report((), 1, 13, End.TRIES))
                 whole = host.resume([Read(BASE)], stopped)
                 self.assertEqual(whole, swd.Report((Value(0),), 0, 12, End.ALL))
@@ -134,7 +141,7 @@ class Rows(unittest.TestCase):
             with self.subTest(mark):
                 line = Damaged(PlainTarget(PlainMemory(BASE, 16, 16)), plan_of({15: "deaf", 16: mark or "."}))
                 host = swd.Host(line, tries=0)
-                lost = host.run(accesses)
+                lost = host.run(accesses, check=False)
                 self.assertEqual(lost, swd.Report((Written(),), 1, 15, End.LOST))
                 if mark is None:
                     line.cycle = None
@@ -142,7 +149,7 @@ class Rows(unittest.TestCase):
                         host.resume(accesses, lost)
                     report = caught.exception.report
                 else:
-                    report = host.resume(accesses, lost)
+                    report = host.resume(accesses, lost, check=False)
                 self.assertEqual(report, swd.Report((Written(),), 1, requests, ended))
 
     def test_wrong_identification(self):
@@ -150,18 +157,18 @@ class Rows(unittest.TestCase):
         line = Damaged(PlainTarget(PlainMemory(BASE, 1, 1)), [])
         sample, count = line.sample, itertools.count()
         line.sample = lambda: sample() ^ (next(count) in (3, 35))
-        report = swd.Host(line).run([Read(BASE)])
+        report = swd.Host(line).run([Read(BASE)], check=False)
         self.assertEqual(report, swd.Report((), 0, 1, End.WRONG_ID, 0x2BA01476))
         self.assertEqual(report.lines([Read(BASE)]), ["end id 2ba01476"])
 
     def test_nobody_there(self):
-        report = swd.Host((lambda bit: None, lambda: 1)).run([Read(BASE)])
+        report = swd.Host((lambda bit: None, lambda: 1)).run([Read(BASE)], check=False)
         self.assertEqual(report, swd.Report((), 0, 1, End.LOST))
 
     def test_confused(self):
         """FAULT for the read of DPIDR."""
         levels = itertools.chain([1, 0, 0, 1], itertools.repeat(1))
-        report = swd.Host((lambda bit: None, lambda: next(levels))).run([])
+        report = swd.Host((lambda bit: None, lambda: next(levels))).run([], check=False)
         self.assertEqual(report, swd.Report((), 0, 1, End.CONFUSED))
 
 
@@ -180,7 +187,7 @@ class Clocks(unittest.TestCase):
 
     def test_nothing_after_a_lost_acknowledgement(self):
         line = Damaged(PlainTarget(PlainMemory(BASE, 1, 1)), ["deaf"])
-        swd.Host(line).run([])
+        swd.Host(line).run([], check=False)
         self.assertEqual("".join(line.calls), self.LEAD + self.ASK)
 
     def test_the_lead_of_resume_is_released(self):
@@ -190,7 +197,7 @@ class Clocks(unittest.TestCase):
                 target = PlainTarget(PlainMemory(BASE, 4, 4))
                 line = Damaged(target, plan_of({12: mark}))
                 host = swd.Host(line)
-                lost = host.run([Read(BASE)])
+                lost = host.run([Read(BASE)], check=False)
                 self.assertIs(lost.ended, End.LOST)
                 before = len(line.calls)
                 host.resume([Read(BASE)], lost)
@@ -258,11 +265,11 @@ class Session:
     def run(self, host):
         """The reports of the run and of each time that it was resumed."""
         if self.block:
-            reports = [host.run_block(self.accesses[0].addr, len(self.accesses))]
+            reports = [host.run_block(self.accesses[0].addr, len(self.accesses), check=False)]
         else:
-            reports = [host.run(self.accesses)]
+            reports = [host.run(self.accesses, check=False)]
         while reports[-1].ended is End.LOST and len(reports) <= self.resumes:
-            reports.append(host.resume(self.accesses, reports[-1]))
+            reports.append(host.resume(self.accesses, reports[-1], check=False))
         return reports
 
     def lines(self, reports):
@@ -375,7 +382,7 @@ class Random(unittest.TestCase):
         lists = ([Write(BASE, WORD), Write(BASE + 4, 2), Read(BASE), Read(0x30000000)], [Read(BASE), Write(BASE, WORD)])
         for accesses, tries in itertools.product(lists, (0, 8)):
             whole = Damaged(PlainTarget(PlainMemory(BASE, 16, 16)), [])
-            swd.Host(whole, tries).run(accesses)
+            swd.Host(whole, tries).run(accesses, bus_errors=True)
             for at in range(len(whole.calls)):
                 with self.subTest(clock=at, tries=tries):
                     self.fails(accesses, tries, at)
@@ -524,7 +531,7 @@ class Refusals(unittest.TestCase):
         self.refused(swd.OutOfRange, "accesses[0].addr is '20000000'", host.run, [Read("20000000")])
         self.refused(swd.OutOfRange, "accesses[0].word is 0x100000000", host.run, [Write(BASE, 1 << 32)])
         self.refused(swd.NotAnAccess, "accesses[0] is (1, 2)", host.run, [(1, 2)])
-        self.refused(swd.TooManyAccesses, "65537", host.run, [Read(BASE)] * 65_537)
+        self.refused(swd.TooManyAccesses, "65536", host.run, itertools.repeat(Read(BASE)))
         self.refused(swd.TooManyAccesses, "65537", host.run_block, BASE, 65_537)
         self.refused(swd.Unaligned, "addr is 0x20000001", host.run_block, BASE + 1, 1)
         self.refused(swd.OutOfRange, "pass the end", host.run_block, 0xFFFFFFFC, 2)
@@ -551,12 +558,6 @@ class Refusals(unittest.TestCase):
             swd.Host((lambda bit: None, lambda: None)).run([])
         self.assertIsInstance(caught.exception.__cause__, swd.NotABit)
 
-    def test_an_interrupt_passes(self):
-        def interrupt(bit):
-            raise KeyboardInterrupt
-
-        self.assertRaises(KeyboardInterrupt, swd.Host((interrupt, lambda: 1)).run, [])
-
     def test_a_bus_that_fails(self):
         for access, cause in ((Read(BASE), swd.OutOfRange), (Write(BASE, 1), OSError)):
             with self.subTest(access), self.assertRaises(swd.LineFailed) as caught:
@@ -573,7 +574,7 @@ class Refusals(unittest.TestCase):
         """Zeros are no engine, decoder or target."""
         decoder, target = swd.Decoder(), swd.Target(None)
         for struct in (decoder._decoder, target._target):
-            swd.ctypes.memset(swd.ctypes.byref(struct), 0, swd.ctypes.sizeof(struct))
+            ctypes.memset(ctypes.byref(struct), 0, ctypes.sizeof(struct))
         self.refused(swd.LibraryRefused, "swd_decoder_take", decoder.feed, "0")
         self.refused(swd.LibraryRefused, "swd_target_cycle", target.cycle, 0)
         self.refused(swd.LibraryRefused, "swd_target_hold", target.hold, True)
@@ -603,33 +604,30 @@ class Libraries(unittest.TestCase):
 
     def test_another_library(self):
         with self.assertRaises(swd.LibraryMismatch) as caught:
-            swd.Library(swd.ctypes.util.find_library("c"))
+            swd.Library(ctypes.util.find_library("c"))
         self.assertIn("has no function swd_layout", str(caught.exception))
 
     def test_other_structs(self):
         """A struct whose last field is its first, and one with a field more."""
         library = swd.Library()
-        fields = list(swd._Access._fields_)
-        for name, others in (("order", [fields[2], *fields[:2]]), ("more", [*fields, ("more", swd._u32)])):
-            access = swd._struct("_Access", *others)
-            crossing = tuple((name, access if name == "access" else kind) for name, kind in swd._CROSSING)
-            layout = swd._struct("_Layout", *crossing, *swd._Layout._fields_[len(crossing):])
-            kept = swd._CROSSING, swd._Layout
-            swd._CROSSING, swd._Layout = crossing, layout
-            try:
-                with self.subTest(name), self.assertRaises(swd.LibraryMismatch):
-                    library._check_layout()
-            finally:
-                swd._CROSSING, swd._Layout = kept
-        library._check_layout()
+        for function, structs in bound.LAYOUTS:
+            changed, kind = structs[-1]
+            fields = list(kind._fields_)
+            for name, others in (("order", [fields[-1], *fields[:-1]]), ("more", [*fields, ("more", ctypes.c_uint32)])):
+                crossing = (*structs[:-1], (changed, type("Changed", (ctypes.Structure,), {"_fields_": others})))
+                with self.subTest(name, function=function), self.assertRaises(swd.LibraryMismatch):
+                    library.check_structs(function, crossing)
+            library.check_structs(function, structs)
 
     def test_the_names_of_the_fields(self):
-        """They are those of the C example that checks the header, in that order, but for the run's, which isn't bound."""
+        """They are those of the C example that checks the header, in that order. A run has its engine's in it."""
         with open(os.path.join(ROOT, "examples", "c", "layout.c"), encoding="ascii") as source:
-            fields = re.findall(r"\tCHECK\((?!run\.)([a-z_.]+), [0-9]+\);", source.read())
-        layout = swd._Layout()
-        paths = [path for name, _ in swd._CROSSING for path, _, _ in swd._leaves(name, getattr(layout, name))]
-        self.assertEqual(paths, fields)
+            fields = re.findall(r"\tCHECK\((?!run\.engine)([a-z_.]+), [0-9]+\);", source.read())
+        paths = [path for _, structs in bound.LAYOUTS for name, kind in structs for path, _, _ in
+                 bound.leaves(name, kind())]
+        engine = [path for path in paths if path.startswith("engine.")]
+        self.assertEqual([path for path in paths if not path.startswith("run.engine.")], fields)
+        self.assertEqual([path for path in paths if path.startswith("run.engine.")], [f"run.{path}" for path in engine])
 
     def test_the_version(self):
         with open(os.path.join(ROOT, "include", "swd.h"), encoding="ascii") as header:
@@ -641,6 +639,11 @@ def programs_of_the_page():
         return re.findall(r"```python\n(.*?)```", page.read(), re.DOTALL)
 
 
+def program_of_the_page(word):
+    """The program that has this word in it."""
+    return next(program for program in programs_of_the_page() if word in program)
+
+
 class Pages(unittest.TestCase):
     """The programs of README.md, one after the other in one namespace."""
 
@@ -648,7 +651,7 @@ class Pages(unittest.TestCase):
     def test_remote_bitbang(self):
         """The line of that page, at the program's target: its log, and the report."""
         names = {}
-        exec(programs_of_the_page()[2], names)  # pylint: disable=exec-used
+        exec(program_of_the_page("RemoteBitbang"), names)  # pylint: disable=exec-used
         accesses = [Write(BASE, WORD), Write(BASE + 4, 2), Read(BASE), Read(0x30000000), Read(BASE + 4)]
         answers = (Written(), Written(), Value(WORD), BusFault(), Value(2))
         with tempfile.TemporaryDirectory() as folder:
@@ -657,7 +660,8 @@ class Pages(unittest.TestCase):
                     written.write(text)
             with subprocess.Popen([PROGRAM, "target", "script", "--plan", "plan", "--log", "log"], cwd=folder,
                                   stdin=subprocess.PIPE, stdout=subprocess.PIPE) as target:
-                report = swd.Host(names["RemoteBitbang"](target.stdin, target.stdout)).run(accesses)
+                line = names["RemoteBitbang"](target.stdin, target.stdout)
+                report = swd.Host(line).run(accesses, bus_errors=True)
                 target.communicate(b"Q")
             with open(os.path.join(folder, "log"), encoding="ascii") as log:
                 logged = log.read().splitlines()
@@ -666,12 +670,24 @@ class Pages(unittest.TestCase):
         self.assertEqual(logged[:-1], transfers)
         self.assertTrue(logged[-1].endswith(f" requests {report.requests}"), logged[-1])
 
+    def test_gpio_lines(self):
+        """The two lines of that page, over a stand-in of their module."""
+        memory = PlainMemory(BASE, 16, 100)
+        names = {}
+        with unittest.mock.patch.dict(sys.modules, gpio.modules_over(library_target(memory))):
+            exec(program_of_the_page("gpiod"), names)  # pylint: disable=exec-used
+            with swd.Session(names["Pins"]("/dev/gpiochip0", gpio.SWCLK, gpio.SWDIO)) as session:
+                session.write(BASE, WORD)
+                self.assertEqual(session.read(BASE), WORD)
+        self.assertEqual(memory.log, [("w", BASE, WORD), ("r", BASE, WORD)])
+
     def test_programs(self):
-        programs = programs_of_the_page()
-        line = library_target(PlainMemory(BASE, 16, 16))
+        line = library_target(PlainMemory(BASE, 64, 1000))
         names = {"swd": swd, "MyProbe": lambda: line}
         printed = []
-        for program in programs:
+        for program in programs_of_the_page():
+            if "gpiod" in program:
+                continue
             output, here = io.StringIO(), os.getcwd()
             os.chdir(os.path.join(ROOT, "examples"))
             try:
@@ -681,8 +697,8 @@ class Pages(unittest.TestCase):
                 os.chdir(here)
             printed.append(output.getvalue())
         with open(os.path.join(ROOT, "examples", "session.list"), encoding="ascii") as listing:
-            self.assertEqual(printed, [listing.read(), "", "", "(Written(), Value(word=7))\n"])
-        self.assertEqual(names["report"].answers, (Written(), Value(WORD)))
+            wanted = [listing.read(), "0xdeadbeef\n", "200 of 200\n00010203\n", "", "", "", "", "7\n"]
+        self.assertEqual(printed, wanted)
 
 
 if __name__ == "__main__":

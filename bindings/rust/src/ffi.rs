@@ -5,7 +5,7 @@
 //! gives.
 
 #[repr(C)]
-#[derive(Clone, Copy, Debug, Default)]
+#[derive(Clone, Copy, Debug, Default, PartialEq, Eq)]
 pub(crate) struct Outcome {
     pub word: u32,
     pub kind: u8,
@@ -46,8 +46,8 @@ struct Content {
 
 #[repr(C)]
 #[derive(Clone, Copy, Debug, Default)]
-pub(crate) struct Engine {
-    pub requests: u64,
+struct Engine {
+    requests: u64,
     state: State,
     task: Task,
     tar: Content,
@@ -58,6 +58,17 @@ pub(crate) struct Engine {
     ahead: u8,
     begun: u8,
     stray: u8,
+}
+
+#[repr(C)]
+#[derive(Clone, Copy, Debug, Default)]
+pub(crate) struct Run {
+    pub requests: u64,
+    engine: Engine,
+    pub end: Outcome,
+    pub answered: u32,
+    pub begun: u8,
+    stage: u8,
 }
 
 #[repr(C)]
@@ -75,7 +86,7 @@ pub(crate) struct Cue {
 }
 
 #[repr(C)]
-#[derive(Clone, Copy, Debug, Default)]
+#[derive(Clone, Copy, Debug, PartialEq, Eq)]
 pub(crate) struct Access {
     pub addr: u32,
     pub word: u32,
@@ -175,12 +186,19 @@ pub(crate) struct Item {
 
 #[link(name = "swd_c", kind = "static")]
 extern "C" {
-    fn swd_engine_new(engine: *mut Engine, tries: u32);
-    fn swd_engine_blocks(engine: *mut Engine, tries: u32);
-    fn swd_engine_again(engine: *mut Engine, tries: u32);
-    fn swd_engine_cue(engine: *const Engine) -> Cue;
-    fn swd_engine_next(engine: *mut Engine, reply: u64) -> Cue;
-    fn swd_engine_start(engine: *mut Engine, accesses: *const Access, count: usize, index: usize) -> bool;
+    fn swd_run_new(run: *mut Run, tries: u32);
+    fn swd_run_blocks(run: *mut Run, tries: u32);
+    fn swd_run_opened(run: *mut Run, accesses: *const Access, count: usize, blocks: u8, tries: u32) -> Cue;
+    fn swd_run_again(run: *mut Run, tries: u32) -> bool;
+    fn swd_run_cue(run: *const Run) -> Cue;
+    fn swd_run_next(
+        run: *mut Run,
+        accesses: *const Access,
+        count: usize,
+        answers: *mut Outcome,
+        room: usize,
+        reply: u64,
+    ) -> Cue;
     fn swd_target_new(target: *mut Target, wraps: u8, filler: u32);
     fn swd_target_cycle(target: *mut Target, drive: u8) -> u8;
     fn swd_target_wants(target: *const Target) -> Transfer;
@@ -192,42 +210,57 @@ extern "C" {
     fn swd_decoder_last(decoder: *mut Decoder, item: *mut Item) -> bool;
 }
 
-impl Engine {
-    pub fn new(tries: u32) -> Engine {
-        let mut engine = Engine::default();
+/// The accesses as the library takes them.
+pub(crate) fn listed(accesses: &[crate::Access]) -> &[Access] {
+    // SAFETY: `crate::Access` is `repr(transparent)` over the struct.
+    unsafe { &*(accesses as *const [crate::Access] as *const [Access]) }
+}
+
+/// The slots as the library writes them. Each content of the struct is one of a slot.
+pub(crate) fn stored(slots: &mut [crate::Slot]) -> &mut [Outcome] {
+    // SAFETY: `crate::Slot` is `repr(transparent)` over the struct.
+    unsafe { &mut *(slots as *mut [crate::Slot] as *mut [Outcome]) }
+}
+
+impl Run {
+    pub fn new(tries: u32) -> Run {
+        let mut run = Run::default();
         // SAFETY: the pointer is of a whole struct that nobody else has.
-        unsafe { swd_engine_new(&mut engine, tries) };
-        engine
+        unsafe { swd_run_new(&mut run, tries) };
+        run
     }
 
-    pub fn blocks(tries: u32) -> Engine {
-        let mut engine = Engine::default();
+    pub fn blocks(tries: u32) -> Run {
+        let mut run = Run::default();
         // SAFETY: the pointer is of a whole struct that nobody else has.
-        unsafe { swd_engine_blocks(&mut engine, tries) };
-        engine
+        unsafe { swd_run_blocks(&mut run, tries) };
+        run
     }
 
-    pub fn again(tries: u32) -> Engine {
-        let mut engine = Engine::default();
+    /// Makes a run over an open target. The cue is its first, or says why the list was refused.
+    pub fn opened(accesses: &[Access], blocks: bool, tries: u32) -> (Run, Cue) {
+        let mut run = Run::default();
+        // SAFETY: the pointers are of a whole struct that nobody else has, and of as many accesses as the count says.
+        let cue = unsafe { swd_run_opened(&mut run, accesses.as_ptr(), accesses.len(), u8::from(blocks), tries) };
+        (run, cue)
+    }
+
+    /// Makes the run that continues this one, where it ended so that it can be continued.
+    pub fn again(&mut self, tries: u32) -> bool {
         // SAFETY: the pointer is of a whole struct that nobody else has.
-        unsafe { swd_engine_again(&mut engine, tries) };
-        engine
+        unsafe { swd_run_again(self, tries) }
     }
 
     pub fn cue(&self) -> Cue {
         // SAFETY: the pointer is of a whole struct that nobody writes meanwhile.
-        unsafe { swd_engine_cue(self) }
+        unsafe { swd_run_cue(self) }
     }
 
-    pub fn next(&mut self, reply: u64) -> Cue {
-        // SAFETY: the pointer is of a whole struct that nobody else has.
-        unsafe { swd_engine_next(self, reply) }
-    }
-
-    /// Starts the first of these accesses.
-    pub fn start(&mut self, accesses: &[Access]) -> bool {
-        // SAFETY: the pointers are of a whole struct that nobody else has, and of as many accesses as the count says.
-        unsafe { swd_engine_start(self, accesses.as_ptr(), accesses.len(), 0) }
+    pub fn next(&mut self, accesses: &[Access], answers: &mut [Outcome], reply: u64) -> Cue {
+        let (room, stored) = (answers.len(), answers.as_mut_ptr());
+        // SAFETY: the pointers are of a whole struct that nobody else has, and of as many accesses, and answers that
+        // nobody else has, as the counts say.
+        unsafe { swd_run_next(self, accesses.as_ptr(), accesses.len(), stored, room, reply) }
     }
 }
 
@@ -289,10 +322,11 @@ impl Decoder {
 #[cfg(test)]
 mod tests {
     use super::*;
+    use core::mem::MaybeUninit;
     use std::vec::Vec;
 
     #[repr(C)]
-    #[derive(Clone, Copy, Debug, Default)]
+    #[derive(Clone, Copy, Debug)]
     struct Layout {
         engine: Engine,
         cue: Cue,
@@ -311,23 +345,33 @@ mod tests {
         layout_size: u64,
     }
 
+    #[repr(C)]
+    #[derive(Clone, Copy, Debug)]
+    struct RunLayout {
+        run: Run,
+        run_size: u64,
+        layout_size: u64,
+    }
+
     extern "C" {
         fn swd_layout(layout: *mut Layout);
+        fn swd_run_layout(layout: *mut RunLayout);
     }
 
     /// A layout with room behind it, for a library whose structs are larger.
     #[repr(C)]
-    struct Room {
-        layout: Layout,
+    struct Room<L> {
+        layout: MaybeUninit<L>,
         more: [u64; 1024],
     }
 
-    fn layout() -> Layout {
-        let mut room = Room { layout: Layout::default(), more: [0; 1024] };
+    fn written<L: Copy>(write: unsafe extern "C" fn(*mut L)) -> L {
+        let mut room = Room { layout: MaybeUninit::<L>::zeroed(), more: [0; 1024] };
         // SAFETY: there is room for the struct also where it is larger than ours by 8 kB.
-        unsafe { swd_layout(&mut room.layout) };
+        unsafe { write(room.layout.as_mut_ptr()) };
         assert!(room.more.iter().all(|word| *word == 0), "the library's layout is larger");
-        room.layout
+        // SAFETY: zeros are a value of each struct, and the library wrote all of it.
+        unsafe { room.layout.assume_init() }
     }
 
     fn bytes(number: u64) -> u64 {
@@ -349,7 +393,7 @@ mod tests {
 
     #[test]
     fn each_field_stands_where_the_library_has_it() {
-        let layout = layout();
+        let layout = written(swd_layout);
         let found = fields![layout;
             engine.requests, engine.state.outcome.word, engine.state.outcome.kind, engine.state.job.kind,
             engine.state.job.place, engine.state.job.error, engine.state.job.damaged, engine.state.kind,
@@ -377,8 +421,22 @@ mod tests {
     }
 
     #[test]
+    fn each_field_of_a_run_stands_where_the_library_has_it() {
+        let layout = written(swd_run_layout);
+        let found = fields![layout;
+            run.engine.requests, run.engine.state.outcome.word, run.engine.state.outcome.kind,
+            run.engine.state.job.kind, run.engine.state.job.place, run.engine.state.job.error,
+            run.engine.state.job.damaged, run.engine.state.kind, run.engine.state.phase, run.engine.task.addr,
+            run.engine.task.word, run.engine.task.kind, run.engine.tar.word, run.engine.tar.known, run.engine.tries,
+            run.engine.events, run.engine.aims, run.engine.bursts, run.engine.ahead, run.engine.begun,
+            run.engine.stray, run.requests, run.end.word, run.end.kind, run.answered, run.begun, run.stage,
+        ];
+        assert_eq!(found, (1..=27).collect::<Vec<u64>>());
+    }
+
+    #[test]
     fn each_struct_has_the_size_that_the_library_says() {
-        let layout = layout();
+        let (layout, of_run) = (written(swd_layout), written(swd_run_layout));
         let sizes = [
             ("engine", layout.engine_size, size_of::<Engine>()),
             ("cue", layout.cue_size, size_of::<Cue>()),
@@ -388,6 +446,8 @@ mod tests {
             ("target", layout.target_size, size_of::<Target>()),
             ("transfer", layout.transfer_size, size_of::<Transfer>()),
             ("layout", layout.layout_size, size_of::<Layout>()),
+            ("run", of_run.run_size, size_of::<Run>()),
+            ("run layout", of_run.layout_size, size_of::<RunLayout>()),
         ];
         for (name, told, size) in sizes {
             assert_eq!(told, size as u64, "{name}");

@@ -1,20 +1,21 @@
 //! Serial Wire Debug (SWD): a host that reads and writes words of a target, a simulated target, and a decoder of
 //! recorded traces.
 //!
-//! The crate is a safe layer over the C library `libswd_c`, which does the protocol and is proved. A host that drives it
-//! as this one does writes every word that it reports as written exactly once, also where the target answers WAIT or bits
-//! are corrupted on the wire, as long as what was seen is consistent with the model of a target. `docs/C.md` of its
-//! repository says which promise holds at which function. This crate is tested, not proved.
+//! The crate is a safe layer over the C library `libswd_c`, which does the protocol and the loop over a list of
+//! accesses, and is proved. Every word that a run reports as written was written exactly once, also where the target
+//! answers WAIT or bits are corrupted on the wire, as long as the target conforms to the model and was at rest.
+//! `docs/C.md` of its repository says which promise holds at which function. This crate performs what the library's
+//! cues say. It is tested, not proved.
 //!
 //! It is `no_std`, allocates nothing and has no dependency.
 //!
 //! # Reading and writing words
 //!
-//! A [`Line`] is your wire, one clock of SWCLK per call. A [`Host`] drives it through a list of accesses. Here the line
-//! is a simulated [`Target`] with one word behind it:
+//! A [`Line`] is your wire, one clock of SWCLK per call. A [`Session`] opens a target over it, once for any number of
+//! accesses. Here the line is a simulated [`Target`] with one word behind it:
 //!
 //! ```
-//! use swd::{Access, Answer, Bus, BusError, End, Host, Target};
+//! use swd::{Bus, BusError, Error, Session, Target};
 //!
 //! struct OneWord(u32);
 //!
@@ -30,16 +31,43 @@
 //!     }
 //! }
 //!
-//! let accesses = [
-//!     Access::Write(0x2000_0000, 0xdead_beef),
-//!     Access::Read(0x2000_0000),
-//!     Access::Read(0x3000_0000),
-//! ];
-//! let mut answers = [Answer::default(); 3];
-//! let mut host = Host::new(Target::new(OneWord(0)), 8);
-//! let report = host.run(&accesses, &mut answers).unwrap();
-//! assert_eq!(report.ended, End::All);
-//! assert_eq!(answers, [Answer::Written, Answer::Value(0xdead_beef), Answer::BusFault]);
+//! # fn main() -> Result<(), Box<dyn std::error::Error>> {
+//! let mut line = Target::new(OneWord(0));
+//! let mut session = Session::new(&mut line, 8);
+//! session.write(0x2000_0000, 0xdead_beef)?;
+//! assert_eq!(session.until(0x2000_0000, 0xff, 0xef, 100)?, 0xdead_beef);
+//! assert!(matches!(session.read(0x3000_0000), Err(Error::BusFault { .. })));
+//! # Ok(())
+//! # }
+//! ```
+//!
+//! A list of accesses is performed by [`Session::run`], or by a [`Host`], which opens the target for each list. What
+//! ends early is an error, with a [`Report`]: how many accesses were done, and how many more were in flight. A [`Slot`]
+//! is empty until its access is answered:
+//!
+//! ```
+//! use swd::{Access, Answer, End, Error, Host, Line, Slot};
+//!
+//! /// A line to nobody.
+//! struct Unplugged;
+//!
+//! impl Line for Unplugged {
+//!     type Error = std::convert::Infallible;
+//!     fn drive(&mut self, _bit: bool) -> Result<(), Self::Error> { Ok(()) }
+//!     fn release(&mut self) -> Result<(), Self::Error> { Ok(()) }
+//!     fn sample(&mut self) -> Result<bool, Self::Error> { Ok(true) }
+//! }
+//!
+//! let accesses = [Access::write(0x2000_0000, 7), Access::read(0x2000_0000)];
+//! let mut slots = [Slot::EMPTY; 2];
+//! match Host::new(Unplugged, 8).run(&accesses, &mut slots) {
+//!     Ok(_) => assert_eq!(slots[1].answer(), Some(Answer::Value(7))),
+//!     Err(Error::Stopped(report)) => {
+//!         assert_eq!((report.answered, report.begun, report.ended), (0, 0, End::Lost));
+//!         assert_eq!(slots[0].answer(), None);
+//!     }
+//!     Err(error) => panic!("{error}"),
+//! }
 //! ```
 //!
 //! # Decoding a trace
@@ -65,15 +93,20 @@
 #[cfg(test)]
 extern crate std;
 
+mod access;
 mod decoder;
+mod error;
 #[allow(unsafe_code)]
 mod ffi;
 mod host;
 mod line;
 mod target;
+mod wire;
 
+pub use access::{block, Access, Answer, End, Report, Slot};
 pub use decoder::{decode, Ack, Decoder, Item, Items, Transaction};
-pub use host::{Access, Answer, End, Error, Host, Refused, Report};
+pub use error::{Error, Refused};
+pub use host::{Host, Session};
 pub use line::Line;
 pub use target::{Bus, BusError, Target};
 

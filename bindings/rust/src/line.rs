@@ -5,6 +5,11 @@
 /// It has a pull-up: where nobody drives it, it reads 1. The target samples SWDIO at the rising edge of SWCLK, and
 /// changes it after that edge where it drives. So a call sets up SWDIO, lets SWCLK fall, looks at SWDIO, and lets SWCLK
 /// rise.
+///
+/// The calls of several clocks are made of these. A probe that has a command for many clocks implements them too:
+/// [`drive_bits`](Line::drive_bits) and [`release_for`](Line::release_for) may be queued until the next
+/// [`sample_bits`](Line::sample_bits) or [`flush`](Line::flush), so that a request costs one exchange with the probe. A
+/// host calls nothing else.
 pub trait Line {
     /// Why a clock could not be made.
     type Error;
@@ -17,6 +22,37 @@ pub trait Line {
 
     /// Makes one clock in which the host doesn't drive SWDIO. Returns its level from before the rising edge.
     fn sample(&mut self) -> Result<bool, Self::Error>;
+
+    /// Makes `count` clocks, at most 64, in which the host drives the low bits of `bits`, the least significant first.
+    fn drive_bits(&mut self, bits: u64, count: u32) -> Result<(), Self::Error> {
+        for place in 0..count {
+            self.drive(bits >> place & 1 == 1)?;
+        }
+        Ok(())
+    }
+
+    /// Makes `count` clocks in which the host doesn't drive SWDIO, and nobody looks at it.
+    fn release_for(&mut self, count: u32) -> Result<(), Self::Error> {
+        for _ in 0..count {
+            self.release()?;
+        }
+        Ok(())
+    }
+
+    /// Makes `count` clocks, at most 33, in which the host doesn't drive SWDIO. Returns its levels, the first in time
+    /// least significant.
+    fn sample_bits(&mut self, count: u32) -> Result<u64, Self::Error> {
+        let mut bits = 0;
+        for place in 0..count {
+            bits |= u64::from(self.sample()?) << place;
+        }
+        Ok(bits)
+    }
+
+    /// Makes what is queued. A host calls it at the end of each run.
+    fn flush(&mut self) -> Result<(), Self::Error> {
+        Ok(())
+    }
 }
 
 impl<L: Line + ?Sized> Line for &mut L {
@@ -32,5 +68,21 @@ impl<L: Line + ?Sized> Line for &mut L {
 
     fn sample(&mut self) -> Result<bool, L::Error> {
         (**self).sample()
+    }
+
+    fn drive_bits(&mut self, bits: u64, count: u32) -> Result<(), L::Error> {
+        (**self).drive_bits(bits, count)
+    }
+
+    fn release_for(&mut self, count: u32) -> Result<(), L::Error> {
+        (**self).release_for(count)
+    }
+
+    fn sample_bits(&mut self, count: u32) -> Result<u64, L::Error> {
+        (**self).sample_bits(count)
+    }
+
+    fn flush(&mut self) -> Result<(), L::Error> {
+        (**self).flush()
     }
 }

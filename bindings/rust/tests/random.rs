@@ -3,12 +3,12 @@
 
 mod common;
 
-use common::{Damaged, Mark, PlainMemory, Random, BASE};
+use common::{report_of, Damaged, Mark, PlainMemory, Random, BASE};
 use std::fs;
 use std::io::Write as _;
 use std::path::Path;
 use std::process::{Command, Stdio};
-use swd::{Access, Answer, End, Host, Report};
+use swd::{Access, End, Host, Report, Slot};
 
 const WORDS: u32 = 520;
 
@@ -45,7 +45,7 @@ fn list(random: &mut Random) -> Vec<Access> {
         let (addr, reads) = (address(random), random.percent(50));
         for index in 0..[1, 1, 2, 6][random.below(4) as usize] {
             let at = addr.wrapping_add(4 * index);
-            accesses.push(if reads { Access::Read(at) } else { Access::Write(at, random.next() as u32) });
+            accesses.push(if reads { Access::read(at) } else { Access::write(at, random.next() as u32) });
         }
     }
     accesses
@@ -53,7 +53,7 @@ fn list(random: &mut Random) -> Vec<Access> {
 
 fn block(random: &mut Random) -> Vec<Access> {
     let addr = BASE + 4 * random.below(WORDS);
-    (0..=random.below(40)).map(|index| Access::Read(addr + 4 * index)).collect()
+    (0..=random.below(40)).map(|index| Access::read(addr + 4 * index)).collect()
 }
 
 impl Session {
@@ -78,33 +78,25 @@ impl Session {
         PlainMemory::new(BASE, WORDS, self.room)
     }
 
-    /// The reports of the run and of each time that it was resumed, the answers, and the line.
-    fn run(&self, resumes: usize) -> (Vec<Report>, Vec<Answer>, Damaged) {
+    /// The reports of the run and of each time that it was resumed, the slots, and the line.
+    fn run(&self, resumes: usize) -> (Vec<Report>, Vec<Slot>, Damaged) {
         let mut host = Host::new(Damaged::new(self.memory(), self.plan.clone()), self.tries);
-        let mut answers = vec![Answer::default(); self.accesses.len()];
-        let first = if self.block {
-            host.run_block(self.accesses[0].addr(), &mut answers)
-        } else {
-            host.run(&self.accesses, &mut answers)
-        };
-        let mut reports = vec![first.unwrap()];
+        let mut slots = vec![Slot::EMPTY; self.accesses.len()];
+        let first =
+            if self.block { host.run_block(&self.accesses, &mut slots) } else { host.run(&self.accesses, &mut slots) };
+        let mut reports = vec![report_of(first)];
         while reports[reports.len() - 1].ended == End::Lost && reports.len() <= resumes {
             let last = reports[reports.len() - 1];
-            reports.push(host.resume(&self.accesses, &mut answers, &last).unwrap());
+            reports.push(report_of(host.resume(&self.accesses, &mut slots, &last)));
         }
-        (reports, answers, host.into_line())
+        (reports, slots, host.into_line())
     }
 
     /// What `swd run` prints.
-    fn report(&self, reports: &[Report], answers: &[Answer]) -> String {
+    fn report(&self, reports: &[Report], slots: &[Slot]) -> String {
         let (last, stops) = reports.split_last().unwrap();
-        let answered = self.accesses.iter().zip(&answers[..last.answered]);
-        let mut lines = answered
-            .map(|(access, answer)| match access {
-                Access::Read(addr) => format!("r {addr:08x} {answer}\n"),
-                Access::Write(addr, _) => format!("w {addr:08x} {answer}\n"),
-            })
-            .collect::<Vec<_>>();
+        let answered = self.accesses.iter().zip(common::answers(&slots[..last.answered]));
+        let mut lines = answered.map(|(access, answer)| format!("{access} {answer}\n")).collect::<Vec<_>>();
         for stop in stops.iter().rev() {
             lines.insert(stop.answered, format!("resume {} begun {}\n", stop.answered, stop.begun));
         }
@@ -121,9 +113,9 @@ impl Session {
             return text + &format!("block {:08x} {}\n", self.accesses[0].addr(), self.accesses.len());
         }
         for access in &self.accesses {
-            text += &match access {
-                Access::Read(addr) => format!("r {addr:08x}\n"),
-                Access::Write(addr, word) => format!("w {addr:08x} {word:08x}\n"),
+            text += &match access.word() {
+                None => format!("{access}\n"),
+                Some(word) => format!("{access} {word:08x}\n"),
             };
         }
         text
@@ -149,7 +141,7 @@ fn lists_against_a_plain_memory() {
         let last = reports[reports.len() - 1];
         let mut model = session.memory();
         let (done, _) = session.accesses.split_at(last.answered);
-        assert_eq!(model.answers(done), answers[..last.answered], "list {seed}");
+        assert_eq!(model.answers(done), common::answers(&answers[..last.answered]), "list {seed}");
         match last.ended {
             End::All => {
                 assert_eq!(line.memory().words, model.words, "list {seed}");

@@ -2,12 +2,19 @@
 
 mod common;
 
-use common::{plan_of, Call, Damaged, Mark, PlainMemory, Transfer, Unplugged, BASE, WORD};
+use common::{answers, plan_of, report_of, Call, Damaged, Mark, PlainMemory, Transfer, Unplugged, BASE, WORD};
 use std::convert::Infallible;
-use swd::{Access, Answer, End, Error, Host, Line, Refused, Report, Target};
+use swd::{block, Access, Answer, End, Error, Host, Line, Refused, Report, Slot, Target};
 
-use Access::{Read, Write};
 use Answer::{BusFault, Value, Written};
+
+const fn read(addr: u32) -> Access {
+    Access::read(addr)
+}
+
+const fn write(addr: u32, word: u32) -> Access {
+    Access::write(addr, word)
+}
 
 struct Row {
     name: &'static str,
@@ -40,7 +47,7 @@ fn row(name: &'static str, accesses: &[Access], answers: &[Answer], requests: u6
 }
 
 fn reads(count: u32) -> Vec<Access> {
-    (0..count).map(|index| Read(BASE + 4 * index)).collect()
+    (0..count).map(|index| read(BASE + 4 * index)).collect()
 }
 
 fn zeros_read(count: u32) -> Vec<Transfer> {
@@ -49,22 +56,22 @@ fn zeros_read(count: u32) -> Vec<Transfer> {
 
 fn undisturbed() -> Vec<Row> {
     let (low, high) = (BASE + 0x3fc, BASE + 0x400);
-    let three = [Write(BASE, 1), Write(BASE + 4, 2), Write(BASE + 8, 3)];
+    let three = [write(BASE, 1), write(BASE + 4, 2), write(BASE + 8, 3)];
     vec![
         row("no access", &[], &[], 9, &[]),
         row(
             "a write and a read",
-            &[Write(BASE, WORD), Read(BASE)],
+            &[write(BASE, WORD), read(BASE)],
             &[Written, Value(WORD)],
             15,
             &[Transfer::Write(BASE, WORD), Transfer::Read(BASE, WORD)],
         ),
-        row("past the end", &[Read(0x3000_0000), Read(BASE)], &[BusFault, Value(0)], 18, &zeros_read(1)),
+        row("past the end", &[read(0x3000_0000), read(BASE)], &[BusFault, Value(0)], 18, &zeros_read(1)),
         Row {
             words: 512,
             ..row(
                 "across a kilobyte",
-                &[Write(low, 0x1111_1111), Write(high, 0x2222_2222)],
+                &[write(low, 0x1111_1111), write(high, 0x2222_2222)],
                 &[Written, Written],
                 15,
                 &[Transfer::Write(low, 0x1111_1111), Transfer::Write(high, 0x2222_2222)],
@@ -86,32 +93,33 @@ fn undisturbed() -> Vec<Row> {
 
 fn disturbed() -> Vec<Row> {
     let waits = vec![(12, Mark::Wait), (13, Mark::Wait), (14, Mark::Wait)];
-    let read = |name, marks, requests| Row { marks, ..row(name, &[Read(BASE)], &[Value(0)], requests, &zeros_read(1)) };
-    let write = |name, marks, requests| Row {
+    let reads =
+        |name, marks, requests| Row { marks, ..row(name, &[read(BASE)], &[Value(0)], requests, &zeros_read(1)) };
+    let writes = |name, marks, requests| Row {
         marks,
-        ..row(name, &[Write(BASE, WORD)], &[Written], requests, &[Transfer::Write(BASE, WORD)])
+        ..row(name, &[write(BASE, WORD)], &[Written], requests, &[Transfer::Write(BASE, WORD)])
     };
     vec![
-        Row { tries: 3, ..read("three waits", waits.clone(), 15) },
-        Row { tries: 2, begun: 1, ended: End::TriesOut, answers: Vec::new(), ..read("past the tries", waits, 14) },
-        read("a changed bit of the word", vec![(12, Mark::Flip(0))], 13),
-        read("a changed parity bit", vec![(12, Mark::Flip(32))], 13),
-        read("a changed bit of a posted read", vec![(11, Mark::Flip(0))], 12),
-        write("a changed bit of a write", vec![(11, Mark::Flip(17))], 17),
-        write("and of ABORT", vec![(11, Mark::Flip(17)), (14, Mark::Flip(5))], 19),
-        write("a changed bit of the address", vec![(10, Mark::Flip(3))], 17),
+        Row { tries: 3, ..reads("three waits", waits.clone(), 15) },
+        Row { tries: 2, begun: 1, ended: End::TriesOut, answers: Vec::new(), ..reads("past the tries", waits, 14) },
+        reads("a changed bit of the word", vec![(12, Mark::Flip(0))], 13),
+        reads("a changed parity bit", vec![(12, Mark::Flip(32))], 13),
+        reads("a changed bit of a posted read", vec![(11, Mark::Flip(0))], 12),
+        writes("a changed bit of a write", vec![(11, Mark::Flip(17))], 17),
+        writes("and of ABORT", vec![(11, Mark::Flip(17)), (14, Mark::Flip(5))], 19),
+        writes("a changed bit of the address", vec![(10, Mark::Flip(3))], 17),
         Row {
             begun: 1,
             ended: End::Lost,
             answers: Vec::new(),
             log: Vec::new(),
-            ..write("a write's acknowledgement is lost", vec![(11, Mark::Mute(0))], 11)
+            ..writes("a write's acknowledgement is lost", vec![(11, Mark::Mute(0))], 11)
         },
         Row {
             begun: 1,
             ended: End::Lost,
             answers: Vec::new(),
-            ..write("the confirmation's acknowledgement is lost", vec![(12, Mark::Deaf)], 12)
+            ..writes("the confirmation's acknowledgement is lost", vec![(12, Mark::Deaf)], 12)
         },
     ]
 }
@@ -121,11 +129,18 @@ fn worked_runs() {
     for row in undisturbed().into_iter().chain(disturbed()) {
         let line = Damaged::new(PlainMemory::new(BASE, row.words, row.room), plan_of(&row.marks));
         let mut host = Host::new(line, row.tries);
-        let mut answers = vec![Answer::default(); row.accesses.len()];
-        let report = host.run(&row.accesses, &mut answers);
+        let mut slots = vec![Slot::EMPTY; row.accesses.len()];
+        let report = host.run(&row.accesses, &mut slots);
         let wanted = Report { answered: row.answers.len(), begun: row.begun, requests: row.requests, ended: row.ended };
-        assert_eq!(report, Ok(wanted), "{}", row.name);
-        assert_eq!(answers[..wanted.answered], row.answers, "{}", row.name);
+        let faulted = row.answers.iter().position(|answer| *answer == BusFault);
+        let result = match faulted {
+            _ if row.ended != End::All => Err(Error::Stopped(wanted)),
+            Some(index) => Err(Error::BusFault { index, access: row.accesses[index], report: wanted }),
+            None => Ok(wanted),
+        };
+        assert_eq!(report, result, "{}", row.name);
+        assert_eq!(answers(&slots[..wanted.answered]), row.answers, "{}", row.name);
+        assert!(slots[wanted.answered..].iter().all(|slot| slot.answer().is_none()), "{}", row.name);
         assert_eq!(host.line().memory().log, row.log, "{}", row.name);
     }
 }
@@ -133,10 +148,11 @@ fn worked_runs() {
 #[test]
 fn a_block_takes_one_request_a_word() {
     let mut host = Host::new(Damaged::new(PlainMemory::new(BASE, 16, 16), Vec::new()), 8);
-    let mut answers = [BusFault; 4];
-    let report = host.run_block(BASE, &mut answers);
+    let mut slots = [Slot::EMPTY; 4];
+    let accesses = block(BASE, 4).collect::<Vec<_>>();
+    let report = host.run_block(&accesses, &mut slots);
     assert_eq!(report, Ok(Report { answered: 4, begun: 0, requests: 15, ended: End::All }));
-    assert_eq!(answers, [Value(0); 4]);
+    assert_eq!(answers(&slots), [Value(0); 4]);
     assert_eq!(host.line().memory().log, zeros_read(4));
 }
 
@@ -144,29 +160,29 @@ fn a_block_takes_one_request_a_word() {
 #[test]
 fn runs_one_after_the_other() {
     let words = [WORD, 0, 0xffff_ffff, 7];
-    let writes = [0, 1, 2, 3].map(|index| Write(BASE + 4 * index, words[index as usize]));
+    let writes = [0, 1, 2, 3].map(|index| write(BASE + 4 * index, words[index as usize]));
     let mut host = Host::new(Damaged::new(PlainMemory::new(BASE, 16, 16), Vec::new()), 8);
-    let mut answers = [BusFault; 4];
-    host.run(&writes, &mut answers).unwrap();
-    assert_eq!(answers, [Written; 4]);
-    host.run(&reads(4), &mut answers).unwrap();
-    assert_eq!(answers, words.map(Value));
-    host.run_block(BASE, &mut answers).unwrap();
-    assert_eq!(answers, words.map(Value));
+    let mut slots = [Slot::EMPTY; 4];
+    host.run(&writes, &mut slots).unwrap();
+    assert_eq!(answers(&slots), [Written; 4]);
+    host.run(&reads(4), &mut slots).unwrap();
+    assert_eq!(answers(&slots), words.map(Value));
+    host.run_block(&reads(4), &mut slots).unwrap();
+    assert_eq!(answers(&slots), words.map(Value));
 }
 
 // The acknowledgement behind the second write is lost. That write is in the log twice.
 #[test]
 fn a_run_is_resumed() {
-    let accesses = [Write(BASE, WORD), Write(BASE + 16, 1)];
+    let accesses = [write(BASE, WORD), write(BASE + 16, 1)];
     let mut host = Host::new(Damaged::new(PlainMemory::new(BASE, 16, 16), plan_of(&[(15, Mark::Deaf)])), 8);
-    let mut answers = [BusFault; 2];
-    let lost = host.run(&accesses, &mut answers).unwrap();
+    let mut slots = [Slot::EMPTY; 2];
+    let lost = report_of(host.run(&accesses, &mut slots));
     assert_eq!(lost, Report { answered: 1, begun: 1, requests: 15, ended: End::Lost });
     let before = host.line().calls.len();
-    let whole = host.resume(&accesses, &mut answers, &lost).unwrap();
+    let whole = host.resume(&accesses, &mut slots, &lost).unwrap();
     assert_eq!(whole, Report { answered: 2, begun: 0, requests: 12, ended: End::All });
-    assert_eq!(answers, [Written, Written]);
+    assert_eq!(answers(&slots), [Written, Written]);
     let again = Transfer::Write(BASE + 16, 1);
     assert_eq!(host.line().memory().log, [Transfer::Write(BASE, WORD), again, again]);
     // The target may still drive a data phase: the line is released for 34 clocks.
@@ -191,7 +207,7 @@ fn text(calls: &[Call]) -> String {
 
 fn calls_of(plan: Vec<Mark>) -> String {
     let mut host = Host::new(Damaged::new(PlainMemory::new(BASE, 1, 1), plan), 8);
-    host.run(&[], &mut []).unwrap();
+    let _ = host.run(&[], &mut []);
     text(&host.line().calls)
 }
 
@@ -227,7 +243,7 @@ impl Line for Shows {
 fn shown(ack: u8, bits: u64) -> End {
     let levels = (0..3).map(|place| ack >> place & 1 == 1).chain((0..33).map(|place| bits >> place & 1 == 1));
     let mut host = Host::new(Shows(levels.collect::<Vec<_>>().into_iter()), 8);
-    host.run(&[], &mut []).unwrap().ended
+    report_of(host.run(&[], &mut [])).ended
 }
 
 #[test]
@@ -241,33 +257,32 @@ fn other_targets() {
 #[test]
 fn refusals_send_nothing() {
     let mut host = Host::new(Damaged::new(PlainMemory::new(BASE, 4, 4), Vec::new()), 8);
-    let mut answers = vec![Written; 65_537];
+    let mut slots = vec![Slot::EMPTY; 65_537];
     let lost = Report { answered: 2, begun: 0, requests: 1, ended: End::Lost };
     let all = Report { ended: End::All, ..lost };
-    let many = vec![Read(BASE); 65_537];
+    let many = vec![read(BASE); 65_537];
     let cases = [
-        (host.run(&[Read(BASE), Write(BASE + 2, 0)], &mut answers), Refused::Unaligned { index: 1 }),
-        (host.run(&many, &mut answers), Refused::TooMany { accesses: 65_537 }),
-        (host.run(&[Read(BASE)], &mut []), Refused::TooFewAnswers { accesses: 1, answers: 0 }),
-        (host.run_block(BASE, &mut answers), Refused::TooMany { accesses: 65_537 }),
-        (host.run_block(BASE + 1, &mut answers[..1]), Refused::Unaligned { index: 0 }),
-        (host.run_block(0xffff_fffc, &mut answers[..2]), Refused::PastTheEnd),
-        (host.resume(&[Read(BASE)], &mut answers, &all), Refused::NotResumable(End::All)),
-        (host.resume(&[Read(BASE)], &mut answers, &lost), Refused::OtherReport { accesses: 1, answered: 2 }),
+        (host.run(&[read(BASE), write(BASE + 2, 0)], &mut slots), Refused::Unaligned { index: 1 }),
+        (host.run(&many, &mut slots), Refused::TooMany { accesses: 65_537 }),
+        (host.run(&[read(BASE)], &mut []), Refused::TooFewSlots { accesses: 1, slots: 0 }),
+        (host.run_block(&many, &mut slots), Refused::TooMany { accesses: 65_537 }),
+        (host.run_block(&[read(BASE + 1)], &mut slots), Refused::Unaligned { index: 0 }),
+        (host.resume(&[read(BASE)], &mut slots, &all), Refused::NotResumable(End::All)),
+        (host.resume(&[read(BASE)], &mut slots, &lost), Refused::OtherReport { accesses: 1, answered: 2 }),
     ];
     for (result, refused) in cases {
         assert_eq!(result, Err(Error::Refused(refused)), "{refused}");
     }
     assert!(host.line().calls.is_empty());
-    assert!(answers.iter().all(|answer| *answer == Written));
 }
 
 #[test]
 fn words_at_the_end_of_the_address_space() {
     let mut host = Host::new(Target::new(PlainMemory::new(0xffff_fff8, 2, 16)), 8);
-    let mut answers = [BusFault; 2];
-    assert_eq!(host.run_block(0xffff_fff8, &mut answers).map(|report| report.answered), Ok(2));
-    assert_eq!(answers, [Value(0), Value(0)]);
+    let mut slots = [Slot::EMPTY; 2];
+    let accesses = block(0xffff_fff8, 2).collect::<Vec<_>>();
+    assert_eq!(host.run_block(&accesses, &mut slots).map(|report| report.answered), Ok(2));
+    assert_eq!(answers(&slots), [Value(0), Value(0)]);
 }
 
 // Nine requests of the opening, TAR, DRW and RDBUFF. The read is in the log twice.
@@ -275,12 +290,12 @@ fn words_at_the_end_of_the_address_space() {
 fn a_run_past_its_tries_is_resumed() {
     let plan = plan_of(&[(12, Mark::Wait), (13, Mark::Wait)]);
     let mut host = Host::new(Damaged::new(PlainMemory::new(BASE, 16, 16), plan), 1);
-    let mut answers = [BusFault];
-    let stopped = host.run(&[Read(BASE)], &mut answers).unwrap();
+    let mut slots = [Slot::EMPTY];
+    let stopped = report_of(host.run(&[read(BASE)], &mut slots));
     assert_eq!(stopped, Report { answered: 0, begun: 1, requests: 13, ended: End::TriesOut });
-    let whole = host.resume(&[Read(BASE)], &mut answers, &stopped);
+    let whole = host.resume(&[read(BASE)], &mut slots, &stopped);
     assert_eq!(whole, Ok(Report { answered: 1, begun: 0, requests: 12, ended: End::All }));
-    assert_eq!(answers, [Value(0)]);
+    assert_eq!(answers(&slots), [Value(0)]);
     assert_eq!(host.line().memory().log, [Transfer::Read(BASE, 0); 2]);
 }
 
@@ -288,19 +303,16 @@ fn a_run_past_its_tries_is_resumed() {
 // tries, or whose line fails.
 #[test]
 fn a_resumed_run_is_lost_again() {
-    let accesses = [Write(BASE, WORD), Write(BASE + 16, 1)];
+    let accesses = [write(BASE, WORD), write(BASE + 16, 1)];
     for (mark, ended) in [(Mark::Deaf, End::Lost), (Mark::Flip(0), End::TriesOut), (Mark::Clean, End::Lost)] {
         let plan = plan_of(&[(15, Mark::Deaf), (16, mark)]);
         let mut host = Host::new(Damaged::new(PlainMemory::new(BASE, 16, 16), plan), 0);
-        let mut answers = [BusFault; 2];
-        let lost = host.run(&accesses, &mut answers).unwrap();
+        let mut slots = [Slot::EMPTY; 2];
+        let lost = report_of(host.run(&accesses, &mut slots));
         if mark == Mark::Clean {
             host.line_mut().fails_at = Some(0);
         }
-        let report = match host.resume(&accesses, &mut answers, &lost) {
-            Ok(report) | Err(Error::Line { report, .. }) => report,
-            Err(refused) => panic!("{refused}"),
-        };
+        let report = report_of(host.resume(&accesses, &mut slots, &lost));
         assert_eq!(report, Report { answered: 1, begun: 1, requests: 1, ended }, "{mark}");
     }
 }
@@ -309,12 +321,12 @@ fn a_resumed_run_is_lost_again() {
 #[test]
 fn lines_that_fail() {
     let lists = [
-        vec![Write(BASE, WORD), Write(BASE + 4, 2), Read(BASE), Read(0x3000_0000)],
-        vec![Read(BASE), Write(BASE, WORD)],
+        vec![write(BASE, WORD), write(BASE + 4, 2), read(BASE), read(0x3000_0000)],
+        vec![read(BASE), write(BASE, WORD)],
     ];
     for (accesses, tries) in lists.iter().flat_map(|list| [(list, 0), (list, 8)]) {
         let mut whole = Host::new(Damaged::new(PlainMemory::new(BASE, 16, 16), Vec::new()), tries);
-        whole.run(accesses, &mut [BusFault; 4]).unwrap();
+        let _ = report_of(whole.run(accesses, &mut [Slot::EMPTY; 4]));
         for at in 0..whole.line().calls.len() {
             fails(accesses, tries, at);
         }
@@ -325,12 +337,12 @@ fn fails(accesses: &[Access], tries: u32, at: usize) {
     let mut line = Damaged::new(PlainMemory::new(BASE, 16, 16), Vec::new());
     line.fails_at = Some(at);
     let mut host = Host::new(line, tries);
-    let mut answers = [BusFault; 4];
-    let Err(Error::Line { error: Unplugged, report }) = host.run(accesses, &mut answers) else {
+    let mut slots = [Slot::EMPTY; 4];
+    let Err(Error::Line { error: Unplugged, report }) = host.run(accesses, &mut slots) else {
         panic!("clock {at} failed unnoticed");
     };
     assert_eq!(host.line().calls.len(), at + 1);
-    common::is_sure(accesses, &answers, &report, host.line().memory(), PlainMemory::new(BASE, 16, 16));
+    common::is_sure(accesses, &slots, &report, host.line().memory(), PlainMemory::new(BASE, 16, 16));
     assert_eq!(report.ended, if report.answered == accesses.len() { End::All } else { End::Lost }, "clock {at}");
 }
 

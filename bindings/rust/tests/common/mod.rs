@@ -3,7 +3,7 @@
 #![allow(dead_code)]
 
 use std::collections::BTreeMap;
-use swd::{Access, Answer, Bus, BusError, Line};
+use swd::{Access, Answer, Bus, BusError, Error, Line, Report, Slot};
 
 pub const BASE: u32 = 0x2000_0000;
 pub const WORD: u32 = 0xdead_beef;
@@ -41,9 +41,10 @@ impl PlainMemory {
 
     /// What an access is answered.
     pub fn answer(&mut self, access: Access) -> Answer {
-        match access {
-            Access::Read(addr) => self.transfer(addr, None).map_or(Answer::BusFault, Answer::Value),
-            Access::Write(addr, word) => self.transfer(addr, Some(word)).map_or(Answer::BusFault, |_| Answer::Written),
+        match (access.word(), self.transfer(access.addr(), access.word())) {
+            (_, None) => Answer::BusFault,
+            (None, Some(word)) => Answer::Value(word),
+            (Some(_), Some(_)) => Answer::Written,
         }
     }
 
@@ -132,6 +133,8 @@ pub struct Damaged {
 
 #[derive(Debug, PartialEq, Eq)]
 pub struct Unplugged;
+
+impl std::error::Error for Unplugged {}
 
 impl std::fmt::Display for Unplugged {
     fn fmt(&self, f: &mut std::fmt::Formatter<'_>) -> std::fmt::Result {
@@ -301,12 +304,26 @@ impl Random {
     }
 }
 
+/// The answers of these slots, each of which has one.
+pub fn answers(slots: &[Slot]) -> Vec<Answer> {
+    slots.iter().map(|slot| slot.answer().expect("the access was answered")).collect()
+}
+
+/// The report of a run, also where it ended early or met a bus error.
+pub fn report_of<E: std::fmt::Debug>(result: Result<Report, Error<E>>) -> Report {
+    match result {
+        Ok(report) => report,
+        Err(error) => *error.report().unwrap_or_else(|| panic!("{error:?}")),
+    }
+}
+
 /// The answers are those of a plain memory. The transfers are those of the answered accesses, and of no more accesses
 /// behind them than were begun.
-pub fn is_sure(accesses: &[Access], answers: &[Answer], report: &swd::Report, memory: &PlainMemory, made: PlainMemory) {
+pub fn is_sure(accesses: &[Access], slots: &[Slot], report: &Report, memory: &PlainMemory, made: PlainMemory) {
     let (done, left) = accesses.split_at(report.answered);
     let mut model = made;
-    assert_eq!(model.answers(done), answers[..report.answered]);
+    assert_eq!(model.answers(done), answers(&slots[..report.answered]));
+    assert!(slots[report.answered..].iter().all(|slot| slot.answer().is_none()));
     let mut possible = vec![model.log.clone()];
     for access in &left[..usize::from(report.begun)] {
         model.answer(*access);

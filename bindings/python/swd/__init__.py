@@ -1,0 +1,61 @@
+"""Serial Wire Debug (SWD): a host, a simulated target and a trace decoder, over the library libswd_c.
+
+    import swd
+
+    for item in swd.decode("0" * 8 + "1" * 56 + "00"):
+        print(item)                                   # idle 8, reset 56, idle 2
+
+    with swd.Session(line) as session:                # your adapter: one clock of SWCLK per call
+        session.write(0x20000000, 0xdeadbeef)
+        print(hex(session.read(0x20000000)))          # 0xdeadbeef
+
+The library implements the protocol and is proved; docs/C.md of its repository lists what is proved of each function.
+The loop over the accesses of a list is the library's. This package is tested, not proved: it performs on your line what
+the library's cues say, passes back what it saw, and converts structs to objects.
+
+What fails is an exception. One that is raised after a run began has its `report`: which accesses were done, and how
+many more were in flight.
+
+Numbers: addresses are in bytes, words have 32 bits, and a bit is 0 or 1. Bits are in time order.
+
+Memory: Python owns every struct that the library works on. The library keeps no pointer, calls nothing back and
+allocates nothing, so nothing has to be closed or freed.
+
+Threads: objects are independent of each other. Use one object in one thread at a time. Two calls that would use one
+line at once are refused.
+
+The library, libswd_c.so, is searched in this order; `Library` checks it once, field by field, before its first use:
+
+    1. the argument `library` of each class and function: a `Library`, or a path
+    2. the path in the environment variable SWD_LIBRARY
+    3. libswd_c.so in the folder of this package
+    4. libswd_c.so where the system's loader finds it
+"""
+from ._accesses import (
+    MOST_ACCESSES, Access, Answer, BusFault, End, Read, Report, Value, Write, Written, block,
+)
+from ._cues import Ask, Cue, Drive, Give, Lead, Pass, Release, Sample, Sequence, Take
+from ._decoding import Bits, Cut, Decoder, Idle, Item, Junk, Reset, Switch, Transaction, decode, trace_bits
+from ._errors import (
+    AccessFaulted, BusError, CallbackFailed, ConditionNotMet, DecoderFinished, ImageDiffers, ImageInterrupted,
+    ImageStopped, Interrupted, LibraryMismatch, LibraryNotFound, LibraryRefused, LineFailed, NotABit, NotALine,
+    NotAnAccess, NotBytes, NotResumable, OutOfRange, Reentered, RunEnded, RunFailed, RunStopped, SwdError,
+    TooManyAccesses, Unaligned, report_of,
+)
+from ._hosts import Host, Session
+from ._library import Library
+from ._lines import Line, SequenceLine, Sequences
+from ._runs import Run
+from ._target import Bus, Target
+
+__version__ = "0.1.0"
+__all__ = [
+    "Access", "AccessFaulted", "Answer", "Ask", "Bits", "Bus", "BusError", "BusFault", "CallbackFailed",
+    "ConditionNotMet", "Cue", "Cut", "Decoder", "DecoderFinished", "Drive", "End", "Give", "Host", "Idle",
+    "ImageDiffers", "ImageInterrupted", "ImageStopped", "Interrupted", "Item", "Junk", "Lead", "Library",
+    "LibraryMismatch", "LibraryNotFound", "LibraryRefused", "Line", "LineFailed", "MOST_ACCESSES", "NotABit",
+    "NotALine", "NotAnAccess", "NotBytes", "NotResumable", "OutOfRange", "Pass", "Read", "Reentered", "Release",
+    "Report", "Reset", "Run", "RunEnded", "RunFailed", "RunStopped", "Sample", "Sequence", "SequenceLine",
+    "Sequences", "Session", "SwdError", "Switch", "Take", "Target", "TooManyAccesses", "Transaction",
+    "Unaligned", "Value", "Write", "Written", "block", "decode", "report_of", "trace_bits",
+]

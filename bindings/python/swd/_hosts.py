@@ -1,0 +1,258 @@
+"""Hosts, which drive a line through runs."""
+import contextlib
+import threading
+import time
+from types import TracebackType
+from typing import Any, Iterable, Iterator, Optional, Set, Type
+
+from . import _images
+from ._accesses import Access, End, Read, Report, Write, block, counts
+from ._errors import (
+    CallbackFailed, ConditionNotMet, Interrupted, LineFailed, Reentered, RunFailed, fail, number, word as checked_word,
+)
+from ._images import Buffer, OnProgress
+from ._library import LibraryOrPath, library_functions
+from ._lines import AnyLine, Wire
+from ._runs import OnAnswer, Run
+
+# The lines that calls use now, and what guards that set.
+_in_use: Set[int] = set()
+_guard = threading.Lock()
+
+
+@contextlib.contextmanager
+def _alone(line: Any) -> Iterator[None]:
+    """Has the line for one call."""
+    with _guard:
+        if id(line) in _in_use:
+            raise Reentered("the line is in use by another call, which would lose its place on it")
+        _in_use.add(id(line))
+    try:
+        yield
+    finally:
+        _in_use.discard(id(line))
+
+
+def _attempt(run: Run, kind: Type[RunFailed], call: Any, *arguments: Any) -> Any:
+    """Calls what the caller gave."""
+    try:
+        return call(*arguments)
+    except Exception as failure:  # pylint: disable=broad-except
+        report = run.report()
+        what = "the callback" if kind is CallbackFailed else "the line"
+        raise kind(f"{what} failed: {failure!r}: {counts(report)}", report) from failure
+
+
+class _Driver:
+    """What drives runs over a line."""
+
+    # Whether a run begins with an opening of its own, although the target is open.
+    _opens_each = True
+
+    def __init__(self, line: AnyLine, tries: int = 8, *, library: LibraryOrPath = None) -> None:
+        self._wire = Wire(line)
+        self.tries = number("tries", tries, 0xFFFF_FFFF)
+        self._library = library
+        library_functions(library)
+        # How the last run over this line ended, if there was one. The target is open after End.ALL.
+        self._last: Optional[End] = None
+        # Whether the line isn't known to be between two cues.
+        self._inside = True
+
+    def run(
+        self, accesses: Iterable[Access], *, check: bool = True, bus_errors: bool = False, on_answer: OnAnswer = None,
+    ) -> Report:
+        """Performs the accesses in order, each once. Returns the report, or raises `RunStopped` if the run ended early,
+        and `AccessFaulted` if an access was a bus error. `bus_errors` allows bus errors; without `check` the report is
+        returned in any case.
+
+        `on_answer(index, answer)` is called for each answer as it comes.
+
+        A run that ends with `End.ALL` sends eight idle cycles, and leaves the target with power on.
+
+        Raises `NotAnAccess`, `OutOfRange`, `Unaligned` or `TooManyAccesses` before anything is sent, and `Reentered` if
+        the line is in use. Raises `LineFailed` if the line raises an `Exception`, `CallbackFailed` if `on_answer` does,
+        and `Interrupted` at Ctrl-C. All that is raised after the run began has its `report` (see `report_of`)."""
+        run = self._made(accesses, False)
+        return self._checked(self._perform(run, on_answer), check, bus_errors)
+
+    def run_block(
+        self, addr: int, count: int, *, check: bool = True, bus_errors: bool = False, on_answer: OnAnswer = None,
+    ) -> Report:
+        """Reads `count` words at `addr`, `addr + 4` and so on, at one request per word in place of two. `words()` of
+        the report has them.
+
+        Raises what `block` and `run` raise. `resume` continues it with the list `block(addr, count)`."""
+        run = self._made(block(addr, count), True)
+        return self._checked(self._perform(run, on_answer), check, bus_errors)
+
+    def resume(
+        self, accesses: Iterable[Access], report: Report, *, check: bool = True, bus_errors: bool = False,
+        on_answer: OnAnswer = None,
+    ) -> Report:
+        """Continues a run of these accesses that ended with `End.LOST` or `End.TRIES`, over the same target, from the
+        first access that wasn't answered. The report is that of the whole list, but `requests` counts this call alone.
+
+        An access that was in flight may be done again. Raises `NotResumable` if the report ended otherwise or has more
+        answers than there are accesses, and what `run` raises."""
+        run = Run.resumed(accesses, report, self.tries, library=self._library)
+        return self._checked(self._perform(run, on_answer), check, bus_errors)
+
+    def load(self, addr: int, data: Buffer, *, on_progress: OnProgress = None) -> None:
+        """Writes bytes from `addr` on, which need not be a multiple of 4. Byte 0 of a word is bits 0 to 7. A word of
+        which `data` has only some bytes is read first, and its other bytes keep their values; then each word is written
+        once, in ascending order, by runs of at most 65,536 accesses. No bytes are no run: nothing is sent.
+
+        `on_progress(done, total)` is called with numbers of bytes, after each 1,024 words and at the end: the first
+        `done` bytes are certainly written.
+
+        Raises `NotBytes`, and `OutOfRange` if the bytes pass the end of the address space, before anything is sent.
+        Raises `ImageStopped` if a run ended early or met a bus error, if the line or `on_progress` failed, and
+        `ImageInterrupted` at Ctrl-C: these say which bytes are certainly written, and where to continue."""
+        _images.load(self.run, addr, data, on_progress)
+
+    def verify(self, addr: int, data: Buffer, *, on_progress: OnProgress = None) -> None:
+        """Reads as many bytes as `data` has, as `dump` does, and compares them with it once all are read. Returns if
+        they are equal.
+
+        Raises `ImageDiffers` with the first byte that differs, and what `load` raises."""
+        _images.verify(self.run_block, addr, data, on_progress)
+
+    def dump(self, addr: int, count: int, *, on_progress: OnProgress = None) -> bytes:
+        """Returns `count` bytes from `addr` on, which need not be a multiple of 4. Each word that has one of them is
+        read once, by blocks of at most 65,536 words. `on_progress` is as for `load`.
+
+        Raises what `load` raises but for `NotBytes`; `data` of an `ImageStopped` has the bytes that were read."""
+        return _images.dump("dump", self.run_block, addr, count, on_progress)
+
+    def _made(self, accesses: Iterable[Access], of_block: bool) -> Run:
+        """Returns a run of a list, over a target that is at rest from here on."""
+        run = Run(accesses, self.tries, block=of_block, library=self._library)
+        if self._last is not None and self._last is not End.ALL:
+            self._settle()
+        if self._opens_each or self._last is None:
+            return run
+        return Run(run.accesses, self.tries, block=of_block, opened=True, library=self._library)
+
+    def _settle(self) -> None:
+        """Brings a target to rest, and opens it, after a run that ended early: it may be inside a transaction. This is
+        the run that continues that one, over a list of no access."""
+        ended = Report((), 0, 0, End.LOST)
+        self._perform(Run.resumed([], ended, self.tries, library=self._library), None).check()
+
+    def _perform(self, run: Run, on_answer: OnAnswer) -> Report:
+        """Performs a run over the line. Nothing else does."""
+        with _alone(self._wire.over):
+            try:
+                self._last = End.LOST
+                if run.continues and self._inside:
+                    _attempt(run, LineFailed, self._wire.leave)
+                self._inside = True
+                self._follow(run, on_answer)
+                report = run.report()
+                self._last, self._inside = report.ended, False
+                return report
+            except RunFailed:
+                raise
+            except KeyboardInterrupt as stop:
+                report = run.report()
+                raise Interrupted(f"interrupted: {counts(report)}", report) from stop
+            except BaseException as failure:
+                with contextlib.suppress(AttributeError):
+                    failure.report = run.report()  # type: ignore[attr-defined]
+                raise
+
+    def _follow(self, run: Run, on_answer: OnAnswer) -> None:
+        cue, perform, told = run.cue(), self._wire.perform, run.answered
+        while cue is not None:
+            cue = run.advance(_attempt(run, LineFailed, perform, cue))
+            if on_answer is not None and run.answered > told:
+                for index, answer in enumerate(run.answers(told), told):
+                    _attempt(run, CallbackFailed, on_answer, index, answer)
+                told = run.answered
+        _attempt(run, LineFailed, self._wire.flush)
+
+    @staticmethod
+    def _checked(report: Report, check: bool, bus_errors: bool) -> Report:
+        return report.check(bus_errors=bus_errors) if check else report
+
+
+class Host(_Driver):
+    """Reads and writes words of a target over a line, each access of a list once. Each run opens the target: a line
+    reset with the switch from JTAG, power-up, and a MEM-AP set up for words. A `Session` opens it once.
+
+    `line` is an object with `drive(bit)`, `release()` and `sample()` (see `Line`), such as a `Target`, and each call is
+    one clock. Or it is `Sequences(probe)`, for several clocks per call (see `SequenceLine`). Or it is a tuple of two
+    functions, `(drive, sample)`: then `sample` is also called to release the line, and its result is ignored.
+
+    `tries` is the number of events that the opening, and each access, may meet: a WAIT, a read word with wrong parity,
+    or corrupted write data. At one more the run ends with `End.TRIES`."""
+
+
+class Session(_Driver):
+    """Reads and writes words of a target that is opened once, for any number of lists:
+
+        with swd.Session(line) as session:
+            session.write(0x20000000, 7)
+            session.until(0x40001000, 1, 1)
+            print(session.read(0x20000000))
+
+    A read that is polled costs three requests. `line` and `tries` are as of `Host`.
+
+    **Between two lists nothing else may drive the line, nor may the target be reset**: the reports may be wrong then.
+    `close()` after such an event, and the next call opens the target again. So does the next call after one that ended
+    early; it begins by bringing the target to rest."""
+
+    _opens_each = False
+
+    def __enter__(self) -> "Session":
+        self.open()
+        return self
+
+    def __exit__(
+        self, kind: Optional[Type[BaseException]], failure: Optional[BaseException], trace: Optional[TracebackType],
+    ) -> None:
+        self.close()
+
+    @property
+    def is_open(self) -> bool:
+        """Whether the last call left the target open."""
+        return self._last is End.ALL
+
+    def open(self) -> None:
+        """Opens the target, if it isn't open. Each other call does so, too. Raises what `run` raises."""
+        if not self.is_open:
+            self.run([])
+
+    def close(self) -> None:
+        """Forgets that the target is open. Nothing is sent: its power stays on."""
+        if self.is_open:
+            self._last = None
+
+    def read(self, addr: int) -> int:
+        """Returns the word at an address. Raises what `run` raises."""
+        return self.run([Read(addr)]).words()[0]
+
+    def write(self, addr: int, word: int) -> None:
+        """Writes a word at an address, once. Raises what `run` raises."""
+        self.run([Write(addr, word)])
+
+    def until(self, addr: int, mask: int, value: int, reads: int = 1000, *, interval: float = 0.0) -> int:
+        """Reads the word at an address until its bits under `mask` are `value`, at most `reads` times, and sleeps
+        `interval` seconds between two of them. Returns the word.
+
+        Raises `OutOfRange` if `value` has bits outside `mask`, since they would never come, `ConditionNotMet` after the
+        last read, and what `run` raises."""
+        mask, value = checked_word("mask", mask), checked_word("value", value)
+        if value & ~mask:
+            fail("value", value, f"within mask, {mask:#x}")
+        if number("reads", reads, 0xFFFF_FFFF) == 0:
+            fail("reads", reads, "1 or more")
+        for left in range(reads - 1, -1, -1):
+            report = self.run([Read(addr)])
+            found = report.words()[0]
+            if found & mask == value:
+                return found
+            if left > 0 and interval > 0:
+                time.sleep(interval)
+        raise ConditionNotMet(f"r {addr:08x} was {found:08x} at the last of {reads} reads", report)

@@ -1,0 +1,185 @@
+"""The shared library: its structs, its functions, and the search for it."""
+import ctypes
+import os
+from typing import Any, Dict, Iterator, List, Optional, Tuple, Union
+
+from ._errors import LibraryMismatch, LibraryNotFound
+
+
+def _struct(name: str, *fields: Tuple[str, Any]) -> Any:
+    return type(name, (ctypes.Structure,), {"_fields_": list(fields)})
+
+
+_u8, _u32, _u64 = ctypes.c_uint8, ctypes.c_uint32, ctypes.c_uint64
+
+
+def _bytes(names: str) -> List[Tuple[str, Any]]:
+    return [(name, _u8) for name in names.split()]
+
+
+# As swd.h declares them.
+OutcomeStruct = _struct("OutcomeStruct", ("word", _u32), ("kind", _u8))
+JobStruct = _struct("JobStruct", *_bytes("kind place error damaged"))
+StateStruct = _struct("StateStruct", ("outcome", OutcomeStruct), ("job", JobStruct), *_bytes("kind phase"))
+TaskStruct = _struct("TaskStruct", ("addr", _u32), ("word", _u32), ("kind", _u8))
+ContentStruct = _struct("ContentStruct", ("word", _u32), ("known", _u8))
+EngineStruct = _struct(
+    "EngineStruct", ("requests", _u64), ("state", StateStruct), ("task", TaskStruct), ("tar", ContentStruct),
+    ("tries", _u32), ("events", _u32), *_bytes("aims bursts ahead begun stray"),
+)
+CueStruct = _struct(
+    "CueStruct", ("bits", _u64), ("ones", _u32), ("zeros", _u32), ("undriven", _u32), ("outcome", OutcomeStruct),
+    *_bytes("kind request with_switch begun"),
+)
+AccessStruct = _struct("AccessStruct", ("addr", _u32), ("word", _u32), ("write", _u8))
+DecoderStruct = _struct("DecoderStruct", ("fed", _u64), ("run", _u64), ("bits", _u64), *_bytes("mode one len"))
+ItemStruct = _struct(
+    "ItemStruct", ("count", _u64), ("bits", _u64), ("word", _u32), *_bytes("kind request ack parity_ok"),
+)
+WireLineStruct = _struct("WireLineStruct", ("bits", _u64), *_bytes("kind reg flips flip"))
+FrameStruct = _struct("FrameStruct", ("line", WireLineStruct), *_bytes("kind place byte reply"))
+PendingStruct = _struct("PendingStruct", ("word", _u32), ("kind", _u8))
+PortStruct = _struct(
+    "PortStruct", ("tar", ContentStruct), ("buffer", ContentStruct), ("last_returned", ContentStruct),
+    ("pending", PendingStruct), ("filler", _u32),
+    *_bytes("wrap late reset sticky_error write_error read_ok debug_power system_power power_up"),
+    *_bytes("apsel apbanksel dpbanksel increments csw_upper"),
+)
+TargetStruct = _struct("TargetStruct", ("cycles", _u64), ("frame", FrameStruct), ("target", PortStruct), ("waits", _u8))
+TransferStruct = _struct("TransferStruct", ("addr", _u32), ("word", _u32), ("kind", _u8))
+RunStruct = _struct(
+    "RunStruct", ("requests", _u64), ("engine", EngineStruct), ("end", OutcomeStruct), ("answered", _u32),
+    *_bytes("begun stage"),
+)
+_CROSSING = (
+    ("engine", EngineStruct), ("cue", CueStruct), ("access", AccessStruct), ("decoder", DecoderStruct),
+    ("item", ItemStruct), ("target", TargetStruct), ("transfer", TransferStruct),
+)
+_Crossing = Tuple[Tuple[str, Any], ...]
+
+
+def _layout(crossing: _Crossing) -> Any:
+    """Returns a struct of these structs, and of their sizes behind them."""
+    sizes = ((f"{name}_size", _u64) for name, _ in (*crossing, ("layout", None)))
+    return _struct("_Layout", *crossing, *sizes)
+
+
+# Each function that writes a layout, with its structs and the number of their first field.
+LAYOUTS = (("swd_layout", _CROSSING), ("swd_run_layout", (("run", RunStruct),)))
+
+# Kinds of cues.
+REST, LEAD, ASK, TAKE, GIVE, PASS, REFUSED = 0, 1, 2, 3, 4, 5, 255
+# Kinds of outcomes.
+VALUE, WRITTEN, BUS_FAULT, WRONG_ID = 2, 3, 4, 8
+# The level that says that the host drives none, and what a target returns in place of a bit.
+RELEASED = 2
+WANTS = 2
+WANTS_READ, WANTS_WRITE = 1, 2
+# Three bits and 33 bits of a line that nobody drives.
+SILENCE = {ASK: 0x7, TAKE: 0x1_FFFF_FFFF}
+
+_run, _accesses, _size = ctypes.POINTER(RunStruct), ctypes.POINTER(AccessStruct), ctypes.c_size_t
+_FUNCTIONS: Dict[str, Tuple[Any, Tuple[Any, ...]]] = {
+    "swd_layout": (None, (ctypes.c_void_p,)),
+    "swd_run_layout": (None, (ctypes.c_void_p,)),
+    "swd_run_new": (None, (_run, _u32)),
+    "swd_run_blocks": (None, (_run, _u32)),
+    "swd_run_opened": (CueStruct, (_run, _accesses, _size, _u8, _u32)),
+    "swd_run_again": (ctypes.c_bool, (_run, _u32)),
+    "swd_run_cue": (CueStruct, (_run,)),
+    "swd_run_next": (CueStruct, (_run, _accesses, _size, ctypes.POINTER(OutcomeStruct), _size, _u64)),
+    "swd_decoder_new": (None, (ctypes.POINTER(DecoderStruct),)),
+    "swd_decoder_take": (_u8, (ctypes.POINTER(DecoderStruct), _u64, _u8)),
+    "swd_decoder_due": (ctypes.c_bool, (ctypes.POINTER(DecoderStruct), ctypes.POINTER(ItemStruct))),
+    "swd_decoder_last": (ctypes.c_bool, (ctypes.POINTER(DecoderStruct), ctypes.POINTER(ItemStruct))),
+    "swd_target_new": (None, (ctypes.POINTER(TargetStruct), _u8, _u32)),
+    "swd_target_cycle": (_u8, (ctypes.POINTER(TargetStruct), _u8)),
+    "swd_target_wants": (TransferStruct, (ctypes.POINTER(TargetStruct),)),
+    "swd_target_settle": (ctypes.c_bool, (ctypes.POINTER(TargetStruct), _u8, _u32)),
+    "swd_target_hold": (ctypes.c_bool, (ctypes.POINTER(TargetStruct), _u8)),
+}
+
+
+NAME = "libswd_c.so"
+
+
+class Library:
+    """The shared library, loaded and checked.
+
+    `path` names the file; without it the library is searched as this package's documentation says. Raises
+    `LibraryNotFound` if none can be loaded. Raises `LibraryMismatch` if a function is missing, or if a struct's size or
+    a field's offset differs from this package."""
+
+    def __init__(self, path: Union[None, str, "os.PathLike[str]"] = None) -> None:
+        self.path, self._functions = _load(path)
+        for name, (result, arguments) in _FUNCTIONS.items():
+            try:
+                function = getattr(self._functions, name)
+            except AttributeError:
+                raise LibraryMismatch(f"{self.path} has no function {name}") from None
+            function.restype, function.argtypes = result, arguments
+        self._check_layout()
+
+    def _check_layout(self) -> None:
+        """Compares every struct's size and every field's offset with those of the library."""
+        for function, crossing in LAYOUTS:
+            self.check_structs(function, crossing)
+
+    def check_structs(self, function: str, crossing: _Crossing) -> None:
+        """Compares these structs with those that this function of the library writes."""
+        # More than the library's may need, should it be another one.
+        room = (_u64 * 1024)()
+        getattr(self._functions, function)(ctypes.cast(room, ctypes.c_void_p))
+        struct = _layout(crossing)
+        layout = struct.from_buffer_copy(room)
+        fields = [leaf for name, _ in crossing for leaf in leaves(name, getattr(layout, name))]
+        # The numbers of a run begin with those of its engine.
+        fields.sort(key=lambda leaf: not leaf[0].startswith("run.engine."))
+        for number, (path, size, value) in enumerate(fields, 1):
+            if value != int.from_bytes(bytes([number]) * size, "little"):
+                raise LibraryMismatch(f"{self.path}: the field {path} is at another offset")
+        for name, kind in (*crossing, ("layout", struct)):
+            size = getattr(layout, f"{name}_size")
+            if size != ctypes.sizeof(kind):
+                raise LibraryMismatch(f"{self.path}: struct swd_{name} has {size} bytes, here {ctypes.sizeof(kind)}")
+
+
+def leaves(path: str, value: Any) -> Iterator[Tuple[str, int, int]]:
+    """Yields the integer fields of a struct, in order: path, size in bytes, value."""
+    for name, kind in value._fields_:
+        field = getattr(value, name)
+        if isinstance(field, ctypes.Structure):
+            yield from leaves(f"{path}.{name}", field)
+        else:
+            yield f"{path}.{name}", ctypes.sizeof(kind), field
+
+
+def _load(path: Union[None, str, "os.PathLike[str]"]) -> Tuple[str, ctypes.CDLL]:
+    if path is None:
+        path = os.environ.get("SWD_LIBRARY")
+    beside = os.path.join(os.path.dirname(os.path.abspath(__file__)), NAME)
+    # The system's loader searches a bare name: no compiler or linker is asked where the library is.
+    tried = [os.fspath(path)] if path else [beside, NAME]
+    reasons = []
+    for name in tried:
+        try:
+            return name, ctypes.CDLL(name)
+        except OSError as reason:
+            reasons.append(str(reason))
+    raise LibraryNotFound(f"no library; SWD_LIBRARY may name one. Tried: {'; '.join(reasons)}")
+
+
+_found: Optional[Library] = None
+LibraryOrPath = Union[None, str, "os.PathLike[str]", Library]
+
+
+def library_functions(given: LibraryOrPath) -> Any:
+    """Returns the functions of this library, or of the one that the search finds."""
+    global _found
+    if isinstance(given, Library):
+        return given._functions
+    if given is not None:
+        return Library(given)._functions
+    if _found is None:
+        _found = Library()
+    return _found._functions

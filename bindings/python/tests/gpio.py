@@ -1,0 +1,69 @@
+"""A stand-in of the module `gpiod` 2, as far as README.md uses it: two lines of a chip, and a target behind them. A value
+put on an input, and a read of an output, fail, as a kernel lets them."""
+import enum
+import types
+
+SWCLK, SWDIO = 25, 24
+
+
+class Value(enum.Enum):
+    """The level of a line."""
+
+    INACTIVE = 0
+    ACTIVE = 1
+
+
+class Direction(enum.Enum):
+    """Whether a line is driven."""
+
+    INPUT = 1
+    OUTPUT = 2
+
+
+class Bias(enum.Enum):
+    """What holds a line that nobody drives."""
+
+    PULL_UP = 1
+
+
+class LineSettings:
+    """What a line is asked to be."""
+
+    def __init__(self, direction, output_value=None, bias=None):
+        assert (direction is Direction.OUTPUT) == (output_value is Value.ACTIVE) == (bias is None)
+        self.direction = direction
+
+
+class Lines:
+    """Requested lines. A cycle of the target is the falling edge of SWCLK."""
+
+    def __init__(self, target, config):
+        self.target, self.level = target, None
+        self.values = {SWCLK: Value.ACTIVE, SWDIO: Value.ACTIVE}
+        self.reconfigure_lines(config)
+
+    def reconfigure_lines(self, config):
+        """Makes each line an input or an output."""
+        assert set(config) == {SWCLK, SWDIO}
+        self.outputs = {line for line, settings in config.items() if settings.direction is Direction.OUTPUT}
+
+    def set_value(self, line, value):
+        """Drives an output."""
+        assert line in self.outputs
+        if line == SWCLK and self.values[line] is Value.ACTIVE and value is Value.INACTIVE:
+            self.level = self.target.cycle(self.values[SWDIO].value if SWDIO in self.outputs else None)
+        self.values[line] = value
+
+    def get_value(self, line):
+        """Reads an input."""
+        assert line not in self.outputs
+        return Value(self.level)
+
+
+def modules_over(target):
+    """The modules by their names, with this target behind the lines."""
+    gpiod, line = types.ModuleType("gpiod"), types.ModuleType("gpiod.line")
+    gpiod.LineSettings, gpiod.line = LineSettings, line
+    gpiod.request_lines = lambda path, consumer, config: Lines(target, config)
+    line.Bias, line.Direction, line.Value = Bias, Direction, Value
+    return {"gpiod": gpiod, "gpiod.line": line}

@@ -1,0 +1,523 @@
+"""Tests of sessions, of failures, and of runs without I/O. They are run as those of test_swd.py."""
+import asyncio
+import itertools
+import os
+import signal
+import subprocess
+import sys
+import tempfile
+import threading
+import unittest
+
+import swd
+from plain import Damaged, PlainMemory, PlainTarget
+from swd import BusFault, End, Read, Value, Write, Written
+from test_swd import BASE, PROGRAM, WORD, library_target, plan_of, program_of_the_page, sure_of
+
+ROOT = os.path.abspath(os.path.join(os.path.dirname(__file__), "..", "..", ".."))
+LIST = [Write(BASE, WORD), Write(BASE + 4, 2), Read(BASE), Read(BASE + 4)]
+ANSWERS = (Written(), Written(), Value(WORD), Value(2))
+DEAD = (lambda bit: None, lambda: 1)
+POLL_REQUESTS, POLL_CLOCKS = 3, 160
+
+
+def damaged(marks=None, words=16):
+    """A line to the library's target, and its memory."""
+    memory = PlainMemory(BASE, words, 65_536)
+    return Damaged(library_target(memory), plan_of(marks or {})), memory
+
+
+class Breaking:
+    """A line that fails once, after `left` clocks more. The clock that fails is made or isn't."""
+
+    def __init__(self, line, made):
+        self.line, self.made, self.left = line, made, None
+
+    def _clock(self, call, *bits):
+        fails, self.left = self.left == 0, self.left - 1 if self.left else None
+        if fails and not self.made:
+            raise OSError("unplugged")
+        level = call(*bits)
+        if fails:
+            raise OSError("unplugged")
+        return level
+
+    def drive(self, bit):
+        self._clock(self.line.drive, bit)
+
+    def release(self):
+        self._clock(self.line.release)
+
+    def sample(self):
+        return self._clock(self.line.sample)
+
+
+class Sequenced:
+    """A probe: sequences of clocks over a line of clocks. What is driven waits for the next sample."""
+
+    def __init__(self, line):
+        self.line, self.queue, self.exchanges = line, [], 0
+
+    def drive(self, bits, count):
+        self.queue.append((bits, count))
+
+    def release(self, count):
+        self.queue.append((None, count))
+
+    def flush(self):
+        for bits, count in self.queue:
+            for place in range(count):
+                if bits is None:
+                    self.line.release()
+                else:
+                    self.line.drive(bits >> place & 1)
+        self.queue.clear()
+
+    def sample(self, count):
+        self.exchanges += 1
+        self.flush()
+        return sum(self.line.sample() << place for place in range(count))
+
+
+class Sessions(unittest.TestCase):
+    """Lists over a target that is opened once."""
+
+    def test_a_session(self):
+        line, memory = damaged()
+        with swd.Session(line) as session:
+            self.assertTrue(session.is_open)
+            session.write(BASE, WORD)
+            self.assertEqual(session.read(BASE), WORD)
+            report = session.run(LIST)
+            self.assertEqual(report, swd.Report(ANSWERS, 0, 9, End.ALL))
+            self.assertEqual(session.run_block(BASE, 4).words(), [WORD, 2, 0, 0])
+            self.assertEqual(session.run([]), swd.Report((), 0, 0, End.ALL))
+        self.assertFalse(session.is_open)
+        self.assertEqual(memory.log[:2], [("w", BASE, WORD), ("r", BASE, WORD)])
+        self.assertEqual(session.read(BASE), WORD)
+
+    def test_a_poll(self):
+        line, memory = damaged()
+        with swd.Session(line) as session:
+            for _ in range(20):
+                before = len(line.levels)
+                self.assertEqual(session.run([Read(BASE)]).requests, POLL_REQUESTS)
+                self.assertLessEqual(len(line.levels) - before, POLL_CLOCKS)
+        self.assertEqual(memory.log, [("r", BASE, 0)] * 20)
+
+    def test_until(self):
+        line, memory = damaged()
+        with swd.Session(line) as session:
+            transfer, left = memory.transfer, iter(range(3, -1, -1))
+
+            def counted(addr, word=None):
+                memory.words[BASE] = 0x80000001 if next(left) == 0 else 0xFF
+                return transfer(addr, word)
+
+            memory.transfer = counted
+            self.assertEqual(session.until(BASE, 0x80000000, 0x80000000, 10), 0x80000001)
+            self.assertEqual(len(memory.log), 4)
+            memory.transfer = transfer
+            with self.assertRaises(swd.ConditionNotMet) as caught:
+                session.until(BASE, 2, 2, 5, interval=0.001)
+            self.assertEqual(len(memory.log), 9)
+            self.assertEqual(caught.exception.report.words(), [0x80000001])
+            self.assertIn("80000001 at the last of 5 reads", str(caught.exception))
+            for arguments in ((BASE, 1, 2), (BASE, 1, 1, 0), (BASE + 1, 1, 1), (BASE, 1 << 32, 0)):
+                with self.subTest(arguments), self.assertRaises(swd.OutOfRange):
+                    session.until(*arguments)
+            self.assertEqual(len(memory.log), 9)
+
+    def test_after_a_loss(self):
+        """Nine requests of the opening, TAR, DRW and RDBUFF. The next list is done over a target opened anew."""
+        for mark, number in itertools.product(("deaf", "mute 0", "mute 1"), range(1, 13)):
+            with self.subTest(mark, number=number):
+                target = PlainTarget(PlainMemory(BASE, 4, 100))
+                session = swd.Session(Damaged(target, plan_of({number: mark})))
+                report = session.run([Write(BASE, 1)], check=False)
+                self.assertEqual(report.ended is End.ALL, session.is_open)
+                self.assertEqual(session.run([Read(BASE + 4)]).answers, (Value(0),))
+                self.assertEqual(session.run([Write(BASE, 7), Read(BASE)]).words(), [7])
+                self.assertEqual(target.contended, 0)
+
+    def test_resume(self):
+        """The request that confirms the write is lost."""
+        line, memory = damaged({12: "deaf"})
+        with swd.Session(line) as session:
+            with self.assertRaises(swd.RunStopped) as caught:
+                session.run([Write(BASE, WORD)])
+            lost = caught.exception.report
+            self.assertEqual(lost, swd.Report((), 1, 3, End.LOST))
+            self.assertFalse(session.is_open)
+            self.assertEqual(session.resume([Write(BASE, WORD)], lost).answers, (Written(),))
+            self.assertTrue(session.is_open)
+            self.assertEqual(session.run([Read(BASE)]).requests, POLL_REQUESTS)
+        self.assertEqual(memory.words[BASE], WORD)
+
+    @unittest.skipUnless(PROGRAM, "SWD names no program")
+    def test_polls_of_the_program(self):
+        """A session at `swd target`: its log has each access once, and its trace the clocks of each poll."""
+        names = {}
+        exec(program_of_the_page("RemoteBitbang"), names)  # pylint: disable=exec-used
+        with tempfile.TemporaryDirectory() as folder:
+            with open(os.path.join(folder, "script"), "w", encoding="ascii") as written:
+                written.write(f"memory {BASE:08x} 16\n")
+            with subprocess.Popen([PROGRAM, "target", "script", "--log", "log", "--trace", "trace"], cwd=folder,
+                                  stdin=subprocess.PIPE, stdout=subprocess.PIPE) as target:
+                with swd.Session(names["RemoteBitbang"](target.stdin, target.stdout)) as session:
+                    requests = [session.run([Read(BASE)]).requests for _ in range(10)]
+                target.communicate(b"Q")
+            with open(os.path.join(folder, "log"), encoding="ascii") as log:
+                logged = log.read().splitlines()
+            with open(os.path.join(folder, "trace"), encoding="ascii") as trace:
+                clocks = len(swd.trace_bits(trace.read()))
+        self.assertEqual(requests, [POLL_REQUESTS] * 10)
+        self.assertEqual(logged[:-1], [f"r {BASE:08x} 00000000"] * 10)
+        self.assertLessEqual(clocks, 690 + 10 * POLL_CLOCKS)
+
+
+class Failures(unittest.TestCase):
+    """What isn't done is an exception, with a report of what was."""
+
+    def test_a_dead_line(self):
+        for kind in (swd.Host, swd.Session):
+            with self.subTest(kind):
+                with self.assertRaises(swd.RunStopped) as caught:
+                    kind(DEAD).run([Write(BASE, 1)])
+                self.assertEqual(caught.exception.report, swd.Report((), 0, 1, End.LOST))
+                self.assertIn("no acknowledgement", str(caught.exception))
+                self.assertIn("0 of 1 answered, 0 in flight", str(caught.exception))
+                self.assertIs(swd.report_of(caught.exception), caught.exception.report)
+        with self.assertRaises(swd.RunStopped), swd.Session(DEAD):
+            self.fail("the body of a session that isn't open")
+        for call in (lambda: swd.Host(DEAD).run_block(BASE, 2), lambda: swd.Session(DEAD).read(BASE),
+                     lambda: swd.Session(DEAD).write(BASE, 1), lambda: swd.Session(DEAD).until(BASE, 1, 1)):
+            self.assertRaises(swd.RunStopped, call)
+
+    def test_bus_errors(self):
+        line, _ = damaged()
+        with swd.Session(line) as session:
+            with self.assertRaises(swd.AccessFaulted) as caught:
+                session.run([Read(BASE), Write(0x30000000, 1)])
+            self.assertIn("access 1 (w 30000000) was a bus error", str(caught.exception))
+            self.assertEqual(caught.exception.report.answers, (Value(0), BusFault()))
+            self.assertTrue(session.is_open)
+            self.assertRaises(swd.AccessFaulted, session.read, 0x30000000)
+            self.assertEqual(session.run([Read(0x30000000)], bus_errors=True).answers, (BusFault(),))
+            self.assertEqual(session.run([Read(0x30000000)], check=False).answers, (BusFault(),))
+            self.assertEqual(session.read(BASE), 0)
+
+    def test_check(self):
+        whole = swd.Report(ANSWERS, 0, 15, End.ALL)
+        self.assertIs(whole.check(), whole)
+        for ended in (End.LOST, End.TRIES, End.WRONG_ID, End.CONFUSED):
+            with self.subTest(ended), self.assertRaises(swd.RunStopped):
+                swd.Report((), 0, 1, ended, 0).check(bus_errors=True)
+        faulted = swd.Report((BusFault(),), 0, 15, End.ALL)
+        self.assertIs(faulted.check(bus_errors=True), faulted)
+        self.assertRaises(swd.AccessFaulted, faulted.check)
+
+    def stopped(self, at, failure, kind=swd.Host):
+        """A run whose line raises this at a clock: the exception, the clocks made, and the memory."""
+        memory = PlainMemory(BASE, 16, 100)
+        line = Damaged(PlainTarget(memory), [])
+        cycle, left = line.cycle, iter(range(at, -1, -1))
+
+        def failing(drive):
+            if next(left, 0) == 0 and at >= 0:
+                line.cycle = cycle
+                raise failure
+            return cycle(drive)
+
+        line.cycle = failing if at >= 0 else cycle
+        host = kind(line)
+        try:
+            host.run(LIST)
+        except BaseException as raised:  # pylint: disable=broad-except
+            return raised, line, memory, host
+        return None, line, memory, host
+
+    def test_an_interrupt_at_each_clock(self):
+        """The report of the interrupt is certain, and the run is resumed after it."""
+        _, whole, _, _ = self.stopped(-1, None)
+        for at in range(len(whole.calls)):
+            with self.subTest(clock=at):
+                raised, line, memory, host = self.stopped(at, KeyboardInterrupt())
+                self.assertIsInstance(raised, swd.Interrupted)
+                self.assertIsInstance(raised, KeyboardInterrupt)
+                self.assertEqual(len(line.calls), at + 1)
+                sure_of(self, LIST, raised.report, memory, 100, 16)
+                if raised.report.ended is End.LOST:
+                    self.assertEqual(host.resume(LIST, raised.report).answers, ANSWERS)
+                self.assertEqual(host.run([Read(BASE), Read(BASE + 4)]).words(), [WORD, 2])
+                self.assertEqual(line.target.contended, 0)
+
+    def test_other_exceptions(self):
+        for failure in (SystemExit(3), GeneratorExit()):
+            raised, _, memory, _ = self.stopped(700, failure)
+            self.assertIs(raised, failure)
+            sure_of(self, LIST, swd.report_of(raised), memory, 100, 16)
+        raised, _, _, _ = self.stopped(700, OSError("unplugged"))
+        self.assertIsInstance(raised, swd.LineFailed)
+        self.assertIn("OSError('unplugged')", str(raised))
+
+    def test_a_failure_at_each_clock_of_a_session(self):
+        """The session opens the target again, and reads what the report says was written."""
+        _, whole, _, _ = self.stopped(-1, None, swd.Session)
+        for at in range(len(whole.calls)):
+            with self.subTest(clock=at):
+                raised, line, memory, session = self.stopped(at, OSError("unplugged"), swd.Session)
+                sure_of(self, LIST, raised.report, memory, 100, 16)
+                written = raised.report.answers.count(Written())
+                self.assertFalse(session.is_open)
+                read = session.run([Read(BASE), Read(BASE + 4)]).words()
+                self.assertEqual(read[:written], [WORD, 2][:written])
+                self.assertEqual(line.target.contended, 0)
+
+    def test_a_data_phase_that_is_broken_off(self):
+        """At each clock of it, which is made or isn't. The target drops the word: nothing is written until the next
+        list, and nothing else ever. If all its clocks were made, the word was written."""
+        for word, made, at in itertools.product((0, WORD, 0x7FFFFFFF), (False, True), range(34)):
+            with self.subTest(word=word, made=made, clock=at):
+                memory = PlainMemory(BASE, 4, 100)
+                line = Breaking(Damaged(PlainTarget(memory), []), made)
+                session = swd.Session(line)
+                session.open()
+                # TAR, and the request for the word, come before.
+                line.left = 46 + 12 + at
+                self.assertRaises(swd.LineFailed, session.write, BASE, word)
+                session.open()
+                self.assertEqual(memory.log, [("w", BASE, word)] if made and at == 33 else [])
+                self.assertEqual(line.line.target.contended, 0)
+
+    def test_signals(self):
+        """Ctrl-C at any place of the code, and not only inside the line. Before the run, nothing was sent."""
+        # A shell that runs a command aside lets it ignore the signal.
+        self.addCleanup(signal.signal, signal.SIGINT, signal.signal(signal.SIGINT, signal.default_int_handler))
+        places = {"before": 0, "inside": 0}
+        for number in range(60):
+            with self.subTest(number):
+                line, memory = damaged()
+                accesses = [Write(BASE + 4 * (index % 16), index) for index in range(1000)]
+                timer = threading.Timer(0.001 + 0.0013 * number, signal.raise_signal, (signal.SIGINT,))
+                try:
+                    timer.start()
+                    swd.Host(line).run(accesses)
+                    timer.join()
+                except swd.Interrupted as stop:
+                    places["inside"] += 1
+                    sure_of(self, accesses, stop.report, memory, 65_536, 16)
+                except KeyboardInterrupt:
+                    places["before"] += 1
+                    self.assertIn(memory.log, ([], [("w", access.addr, access.word) for access in accesses]))
+        self.assertGreater(places["inside"], 20, places)
+
+    def test_a_run_inside_a_run(self):
+        for inner in (swd.Host, swd.Session):
+            with self.subTest(inner):
+                line, memory = damaged()
+                clocks, release = itertools.count(), line.release
+                host = swd.Host(line)
+                other = host if inner is swd.Host else swd.Session(line)
+
+                def reenter():
+                    if next(clocks) == 30:
+                        other.run([Read(BASE)])
+                    release()
+
+                line.release = reenter
+                host = swd.Host(line)
+                with self.assertRaises(swd.LineFailed) as caught:
+                    host.run(LIST)
+                self.assertIsInstance(caught.exception.__cause__, swd.Reentered)
+                sure_of(self, LIST, caught.exception.report, memory, 65_536, 16)
+                self.assertEqual(host.resume(LIST, caught.exception.report).answers, ANSWERS)
+
+    def test_answers_as_they_come(self):
+        line, _ = damaged()
+        seen = []
+        swd.Host(line).run(LIST, on_answer=lambda index, answer: seen.append((index, answer)))
+        self.assertEqual(seen, list(enumerate(ANSWERS)))
+        seen.clear()
+        with swd.Session(line) as session:
+            session.run_block(BASE, 3, on_answer=lambda index, answer: seen.append(answer.word))
+        self.assertEqual(seen, [WORD, 2, 0])
+
+    def test_a_callback_that_fails(self):
+        for failure, kind in ((ValueError("full"), swd.CallbackFailed), (KeyboardInterrupt(), swd.Interrupted)):
+            with self.subTest(kind):
+                line, memory = damaged()
+                host = swd.Host(line)
+
+                def fail(index, answer):
+                    if index == 1:
+                        raise failure
+
+                with self.assertRaises(kind) as caught:
+                    host.run(LIST, on_answer=fail)
+                self.assertIs(caught.exception.__cause__, failure)
+                self.assertGreaterEqual(len(caught.exception.report.answers), 2)
+                sure_of(self, LIST, caught.exception.report, memory, 65_536, 16)
+                self.assertEqual(host.resume(LIST, caught.exception.report).answers, ANSWERS)
+
+    def test_a_report_that_was_kept(self):
+        """A run is resumed by another host, from nothing but the number of answers."""
+        line, memory = damaged({15: "deaf"})
+        lost = swd.Host(line).run(LIST, check=False)
+        kept = swd.Report(lost.answers, lost.begun, 0, End.LOST)
+        self.assertEqual(swd.Host(line).resume(LIST, kept).answers, ANSWERS)
+        self.assertEqual(memory.words[BASE + 4], 2)
+
+
+class WithoutIo(unittest.TestCase):
+    """Runs whose caller performs the cues."""
+
+    def test_a_run(self):
+        line, _ = damaged()
+        wire = swd.Sequences(Sequenced(line)).line
+        run, came = swd.Run(LIST), []
+        cue = run.cue()
+        while cue is not None:
+            reply = 0
+            for step in cue.sequences():
+                if isinstance(step, swd.Drive):
+                    wire.drive(step.bits, step.count)
+                elif isinstance(step, swd.Release):
+                    wire.release(step.count)
+                else:
+                    reply = wire.sample(step.count)
+            self.assertEqual(run.report().ended, End.LOST if run.ended is None and len(came) < 4 else End.ALL)
+            came += run.next(reply)
+            self.assertEqual(run.answered, len(came))
+            cue = run.cue()
+        self.assertEqual(tuple(came), ANSWERS)
+        self.assertEqual(run.report(), swd.Report(ANSWERS, 0, 18, End.ALL))
+        self.assertRaises(swd.RunEnded, run.next)
+
+    def test_replies_that_are_refused(self):
+        run = swd.Run([Read(BASE)])
+        self.assertIsInstance(run.cue(), swd.Lead)
+        self.assertEqual(run.next(), ())
+        self.assertEqual(run.cue(), swd.Ask(0xA5))
+        for reply in (8, -1, "1", 1 << 64):
+            with self.subTest(reply), self.assertRaises(swd.OutOfRange):
+                run.next(reply)
+        run.next(1)
+        self.assertEqual(run.cue(), swd.Take())
+        self.assertRaises(swd.OutOfRange, run.next, 1 << 33)
+
+    def test_opened(self):
+        run = swd.Run([Read(BASE)], opened=True)
+        self.assertEqual(run.cue(), swd.Ask(0x8B))
+        self.assertEqual(swd.Run([], opened=True).cue(), swd.Lead(0, 0, False, 8))
+
+    def test_exchanges(self):
+        """A word costs a probe one exchange if written, and in a block two."""
+        line, _ = damaged(words=256)
+        probe = Sequenced(line)
+        with swd.Session(swd.Sequences(probe)) as session:
+            for count in (1, 200):
+                before = probe.exchanges
+                session.run([Write(BASE + 4 * index, index) for index in range(count)])
+                self.assertEqual(probe.exchanges - before, count + 3)
+                before = probe.exchanges
+                self.assertEqual(session.run_block(BASE, count).words(), list(range(count)))
+                self.assertEqual(probe.exchanges - before, 2 * count + 3)
+            self.assertEqual(probe.queue, [])
+        plainly, _ = damaged(words=256)
+        swd.Session(plainly).run(LIST)
+        sequenced, _ = damaged(words=256)
+        swd.Session(swd.Sequences(Sequenced(sequenced))).run(LIST)
+        self.assertEqual(sequenced.calls, plainly.calls)
+
+    def test_sequences_that_are_refused(self):
+        for level in (8, -1, None, True, "1"):
+            with self.subTest(level):
+                probe = Sequenced(damaged()[0])
+                probe.sample = lambda count, level=level: level
+                with self.assertRaises(swd.LineFailed) as caught:
+                    swd.Host(swd.Sequences(probe)).run([])
+                self.assertIsInstance(caught.exception.__cause__, swd.OutOfRange)
+        self.assertRaises(swd.NotALine, swd.Sequences, object())
+
+    def test_coroutines_are_refused(self):
+        class Asynchronous:
+            """A line of an event loop."""
+
+            async def drive(self, bit):
+                """One clock."""
+
+            async def release(self):
+                """One clock."""
+
+            async def sample(self):
+                """One clock."""
+
+        for line in (Asynchronous(), (Asynchronous().drive, Asynchronous().sample)):
+            with self.assertRaises(swd.NotALine) as caught:
+                swd.Host(line)
+            self.assertIn("use swd.Run", str(caught.exception))
+
+    def test_the_asynchronous_program_of_the_page(self):
+        """Two runs at once, each over its line."""
+        names = {"swd": swd}
+        exec(program_of_the_page("async def"), names)  # pylint: disable=exec-used
+
+        class Probe(Sequenced):
+            """A probe whose calls are awaited."""
+
+            async def drive(self, bits, count):
+                """Some clocks."""
+                await asyncio.sleep(0)
+                Sequenced.drive(self, bits, count)
+
+            async def release(self, count):
+                """Some clocks."""
+                Sequenced.release(self, count)
+
+            async def sample(self, count):
+                """Some clocks."""
+                await asyncio.sleep(0)
+                return Sequenced.sample(self, count)
+
+        async def both():
+            lines = [damaged()[0], damaged({12: "deaf"})[0]]
+            runs = (names["perform"](Probe(line), swd.Run(LIST)) for line in lines)
+            return await asyncio.gather(*runs)
+
+        whole, lost = asyncio.run(both())
+        self.assertEqual(whole.check().answers, ANSWERS)
+        self.assertIs(lost.ended, End.LOST)
+
+
+class FirstUse(unittest.TestCase):
+    """The library beside the package is found by the package alone."""
+
+    def test_no_program_is_run(self):
+        """PATH has nothing but programs that leave a trace of themselves."""
+        with tempfile.TemporaryDirectory() as folder:
+            for name in ("gcc", "cc", "ld", "ldconfig", "objdump"):
+                path = os.path.join(folder, name)
+                with open(path, "w", encoding="ascii") as script:
+                    script.write(f"#!/bin/sh\n: >{folder}/{name}.ran\n")
+                os.chmod(path, 0o755)
+            package = os.path.join(folder, "package", "swd")
+            os.makedirs(package)
+            sources = os.path.dirname(swd.__file__)
+            for name in os.listdir(sources):
+                if name.endswith(".py"):
+                    os.symlink(os.path.join(sources, name), os.path.join(package, name))
+            os.symlink(swd.Library().path, os.path.join(package, "libswd_c.so"))
+            environment = {"PATH": folder, "PYTHONPATH": os.path.dirname(package)}
+            for found in (True, False):
+                if not found:
+                    os.remove(os.path.join(package, "libswd_c.so"))
+                code = "import swd\ntry: print(swd.decode('000'))\nexcept swd.LibraryNotFound: print('none')"
+                told = subprocess.run([sys.executable, "-B", "-c", code], env=environment, check=True,
+                                      stdout=subprocess.PIPE, universal_newlines=True).stdout
+                self.assertEqual(told, "[Idle(count=3)]\n" if found else "none\n")
+                self.assertEqual([name for name in os.listdir(folder) if name.endswith(".ran")], [])
+
+
+if __name__ == "__main__":
+    unittest.main()

@@ -1,0 +1,96 @@
+//! What cues say, over a line.
+
+use crate::{ffi, Line};
+
+/// Kinds of cues.
+pub(crate) const REST: u8 = 0;
+const LEAD: u8 = 1;
+const ASK: u8 = 2;
+const TAKE: u8 = 3;
+const GIVE: u8 = 4;
+const PASS: u8 = 5;
+
+/// The sixteen bits that switch from JTAG to serial wire.
+const SWITCH_BITS: u64 = 0xe79e;
+
+/// The reply to a cue on a line that nobody drives.
+pub(crate) fn silence(cue: &ffi::Cue) -> u64 {
+    match cue.kind {
+        ASK => 0x7,
+        TAKE => 0x1_ffff_ffff,
+        _ => 0,
+    }
+}
+
+/// Performs cues over a line, as far as it doesn't fail.
+pub(crate) struct Wire<'l, L: Line> {
+    pub line: &'l mut L,
+    pub failure: Option<L::Error>,
+}
+
+impl<L: Line> Wire<'_, L> {
+    /// Performs the cue, and returns the reply. Once the line has failed it makes no clock, and returns what an
+    /// undriven line shows.
+    pub fn reply(&mut self, cue: &ffi::Cue) -> u64 {
+        if self.failure.is_none() {
+            match self.perform(cue) {
+                Ok(seen) => return seen,
+                Err(error) => self.failure = Some(error),
+            }
+        }
+        silence(cue)
+    }
+
+    pub fn flush(&mut self) {
+        if self.failure.is_none() {
+            self.failure = self.line.flush().err();
+        }
+    }
+
+    fn perform(&mut self, cue: &ffi::Cue) -> Result<u64, L::Error> {
+        match cue.kind {
+            LEAD => self.lead(cue)?,
+            ASK => {
+                self.line.drive_bits(u64::from(cue.request), 8)?;
+                self.line.release_for(1)?;
+                return self.line.sample_bits(3);
+            }
+            TAKE => {
+                let bits = self.line.sample_bits(33)?;
+                self.line.release_for(1)?;
+                return Ok(bits);
+            }
+            GIVE => {
+                self.line.release_for(1)?;
+                self.line.drive_bits(cue.bits, 33)?;
+            }
+            PASS => self.line.release_for(1)?,
+            kind => unreachable!("cue {kind}"),
+        }
+        Ok(0)
+    }
+
+    fn lead(&mut self, cue: &ffi::Cue) -> Result<(), L::Error> {
+        let undriven = cue.undriven.min(cue.ones);
+        if undriven > 0 {
+            self.line.release_for(undriven)?;
+        }
+        self.hold(u64::MAX, cue.ones - undriven)?;
+        if cue.with_switch != 0 {
+            self.line.drive_bits(SWITCH_BITS, 16)?;
+            self.hold(u64::MAX, cue.ones)?;
+        }
+        self.hold(0, cue.zeros)
+    }
+
+    /// Drives one level, which all of these bits have.
+    fn hold(&mut self, bits: u64, count: u32) -> Result<(), L::Error> {
+        let mut left = count;
+        while left > 0 {
+            let now = left.min(64);
+            self.line.drive_bits(bits, now)?;
+            left -= now;
+        }
+        Ok(())
+    }
+}

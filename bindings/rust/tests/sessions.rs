@@ -1,0 +1,260 @@
+//! Sessions, and what fails.
+
+mod common;
+
+use common::{answers, plan_of, report_of, Call, Damaged, Mark, PlainMemory, Transfer, Unplugged, BASE, WORD};
+use std::error::Error as _;
+use swd::{block, Access, Answer, End, Error, Host, Line, Refused, Session, Slot};
+
+const POLL_REQUESTS: u64 = 3;
+const POLL_CLOCKS: usize = 160;
+
+fn line_with(marks: &[(usize, Mark)]) -> Damaged {
+    Damaged::new(PlainMemory::new(BASE, 16, 65_536), plan_of(marks))
+}
+
+fn list() -> [Access; 4] {
+    [Access::write(BASE, WORD), Access::write(BASE + 4, 2), Access::read(BASE), Access::read(BASE + 4)]
+}
+
+#[test]
+fn a_poll_takes_three_requests() {
+    let mut line = line_with(&[]);
+    Session::new(&mut line, 8).open().unwrap();
+    let opening = line.calls.len();
+    let mut session = Session::new(&mut line, 8);
+    session.open().unwrap();
+    for _ in 0..20 {
+        let report = session.run(&[Access::read(BASE)], &mut [Slot::EMPTY]).unwrap();
+        assert_eq!(report.requests, POLL_REQUESTS);
+    }
+    assert!(line.calls.len() <= 2 * opening + 20 * POLL_CLOCKS);
+    assert_eq!(line.memory().log.len(), 20);
+}
+
+#[test]
+fn words_and_lists_over_one_opening() {
+    let mut line = line_with(&[]);
+    let mut session = Session::new(&mut line, 8);
+    assert!(!session.is_open());
+    session.write(BASE, WORD).unwrap();
+    assert!(session.is_open());
+    assert_eq!(session.read(BASE), Ok(WORD));
+    let mut slots = [Slot::EMPTY; 4];
+    assert_eq!(session.run(&list(), &mut slots).map(|report| report.requests), Ok(9));
+    assert_eq!(answers(&slots), [Answer::Written, Answer::Written, Answer::Value(WORD), Answer::Value(2)]);
+    let accesses = block(BASE, 4).collect::<Vec<_>>();
+    assert_eq!(session.run_block(&accesses, &mut slots).map(|report| report.requests), Ok(6));
+    assert_eq!(slots.map(|slot| slot.word()), [Some(WORD), Some(2), Some(0), Some(0)]);
+    assert_eq!(session.until(BASE, 0xff, 0xef, 1), Ok(WORD));
+    assert_eq!(session.until(BASE, 0xff, 0xee, 5), Err(Error::NeverCame { word: WORD }));
+    assert_eq!(session.until(BASE, 1, 2, 5), Err(Error::Refused(Refused::OutsideMask)));
+    session.close();
+    assert!(!session.is_open());
+    assert_eq!(session.read(BASE), Ok(WORD));
+    assert_eq!(line.memory().log.len(), 17);
+}
+
+// Nine requests of the opening, TAR, DRW and RDBUFF. The next list is performed over a target that was opened again.
+#[test]
+fn a_session_after_a_loss() {
+    for (mark, number) in
+        [Mark::Deaf, Mark::Mute(0), Mark::Mute(1)].iter().flat_map(|mark| (1..13).map(|at| (*mark, at)))
+    {
+        let mut line = line_with(&[(number, mark)]);
+        let mut session = Session::new(&mut line, 8);
+        let written = session.write(BASE, 1);
+        assert_eq!(written.is_ok(), session.is_open(), "{mark} {number}");
+        assert_eq!(session.read(BASE + 4), Ok(0), "{mark} {number}");
+        session.write(BASE, 7).unwrap();
+        assert_eq!(session.read(BASE), Ok(7), "{mark} {number}");
+    }
+}
+
+#[test]
+fn a_session_is_resumed() {
+    let mut line = line_with(&[(12, Mark::Deaf)]);
+    let mut session = Session::new(&mut line, 8);
+    session.open().unwrap();
+    let (accesses, mut slots) = ([Access::write(BASE, WORD)], [Slot::EMPTY]);
+    let Err(Error::Stopped(lost)) = session.run(&accesses, &mut slots) else {
+        panic!("the run isn't lost");
+    };
+    assert_eq!((lost.answered, lost.begun, lost.requests, lost.ended), (0, 1, 3, End::Lost));
+    session.resume(&accesses, &mut slots, &lost).unwrap();
+    assert_eq!(slots[0].answer(), Some(Answer::Written));
+    assert_eq!(session.run(&[Access::read(BASE)], &mut slots).map(|report| report.requests), Ok(POLL_REQUESTS));
+    assert_eq!(
+        line.memory().log,
+        [Transfer::Write(BASE, WORD), Transfer::Write(BASE, WORD), Transfer::Read(BASE, WORD)]
+    );
+}
+
+// At each clock in turn. The session opens the target again, and what the report says was written is there.
+#[test]
+fn a_line_that_fails_under_a_session() {
+    let mut whole = line_with(&[]);
+    Session::new(&mut whole, 8).run(&list(), &mut [Slot::EMPTY; 4]).unwrap();
+    for at in 0..whole.calls.len() {
+        let mut line = Plug { line: line_with(&[]), fails_at: Some(at) };
+        let mut session = Session::new(&mut line, 8);
+        let mut slots = [Slot::EMPTY; 4];
+        let Err(Error::Line { error: Unplugged, report }) = session.run(&list(), &mut slots) else {
+            panic!("clock {at} failed unnoticed");
+        };
+        assert!(!session.is_open());
+        let read = [session.read(BASE).unwrap(), session.read(BASE + 4).unwrap()];
+        let written = report.answered.min(2);
+        assert_eq!(read[..written], [WORD, 2][..written], "clock {at}");
+    }
+}
+
+/// A line that fails once.
+struct Plug {
+    line: Damaged,
+    fails_at: Option<usize>,
+}
+
+impl Plug {
+    fn check(&mut self) -> Result<(), Unplugged> {
+        if self.fails_at == Some(self.line.calls.len()) {
+            self.fails_at = None;
+            self.line.calls.push(Call::Release);
+            return Err(Unplugged);
+        }
+        Ok(())
+    }
+}
+
+impl Line for Plug {
+    type Error = Unplugged;
+
+    fn drive(&mut self, bit: bool) -> Result<(), Unplugged> {
+        self.check()?;
+        self.line.drive(bit)
+    }
+
+    fn release(&mut self) -> Result<(), Unplugged> {
+        self.check()?;
+        self.line.release()
+    }
+
+    fn sample(&mut self) -> Result<bool, Unplugged> {
+        self.check()?;
+        self.line.sample()
+    }
+}
+
+#[test]
+fn a_line_to_nobody() {
+    let mut line = line_with(&[(1, Mark::Deaf)]);
+    let error = Session::new(&mut line, 8).write(BASE, 1).unwrap_err();
+    assert_eq!(error.to_string(), "the run ended early: 0 answered, 0 in flight, end lost");
+    assert_eq!(error.report().map(|report| report.requests), Some(1));
+    assert!(error.source().is_none());
+    let mut slots = [Slot::EMPTY];
+    assert!(Host::new(line_with(&[(1, Mark::Deaf)]), 8).run(&[Access::read(BASE)], &mut slots).is_err());
+    assert_eq!(slots[0].answer(), None);
+    line = line_with(&[]);
+    line.fails_at = Some(3);
+    let error = Session::new(&mut line, 8).read(BASE).unwrap_err();
+    assert_eq!(error.source().map(ToString::to_string), Some("unplugged".to_string()));
+}
+
+// Slots that have answers of another list are emptied.
+#[test]
+fn old_answers_are_no_answers() {
+    let mut host = Host::new(line_with(&[(16, Mark::Deaf)]), 8);
+    let mut slots = [Slot::EMPTY; 2];
+    host.run(&[Access::write(BASE, 1), Access::write(BASE + 4, 2)], &mut slots).unwrap();
+    let lost = report_of(host.run(&[Access::read(BASE), Access::read(BASE + 4)], &mut slots));
+    assert_eq!((lost.answered, slots[0].answer(), slots[1].answer()), (0, None, None));
+}
+
+#[test]
+fn bus_errors() {
+    let far = [Access::read(BASE), Access::read(0x3000_0000)];
+    let mut slots = [Slot::EMPTY; 2];
+    let mut line = line_with(&[]);
+    let mut session = Session::new(&mut line, 8);
+    let error = session.run(&far, &mut slots).unwrap_err();
+    assert_eq!(error.to_string(), "access 1 (r 30000000) was a bus error");
+    assert!(session.is_open());
+    assert_eq!(slots.map(|slot| slot.answer()), [Some(Answer::Value(0)), Some(Answer::BusFault)]);
+    assert!(matches!(session.read(0x3000_0000), Err(Error::BusFault { .. })));
+    assert!(matches!(session.write(0x3000_0000, 1), Err(Error::BusFault { .. })));
+    let mut session = session.bus_errors(true);
+    assert!(session.run(&far, &mut slots).is_ok());
+    assert!(matches!(session.read(0x3000_0000), Err(Error::BusFault { .. })));
+    assert!(matches!(session.write(0x3000_0000, 1), Err(Error::BusFault { .. })));
+    assert!(Host::new(line_with(&[]), 8).bus_errors(true).run(&far, &mut slots).is_ok());
+}
+
+/// A probe: what is driven or released waits for the next sample.
+struct Probe {
+    line: Damaged,
+    queue: Vec<(Option<u64>, u32)>,
+    exchanges: usize,
+}
+
+impl Line for Probe {
+    type Error = Unplugged;
+
+    fn drive(&mut self, _bit: bool) -> Result<(), Unplugged> {
+        panic!("a host has nothing to do with single clocks");
+    }
+
+    fn release(&mut self) -> Result<(), Unplugged> {
+        panic!("a host has nothing to do with single clocks");
+    }
+
+    fn sample(&mut self) -> Result<bool, Unplugged> {
+        panic!("a host has nothing to do with single clocks");
+    }
+
+    fn drive_bits(&mut self, bits: u64, count: u32) -> Result<(), Unplugged> {
+        self.queue.push((Some(bits), count));
+        Ok(())
+    }
+
+    fn release_for(&mut self, count: u32) -> Result<(), Unplugged> {
+        self.queue.push((None, count));
+        Ok(())
+    }
+
+    fn sample_bits(&mut self, count: u32) -> Result<u64, Unplugged> {
+        self.exchanges += 1;
+        self.flush()?;
+        self.line.sample_bits(count)
+    }
+
+    fn flush(&mut self) -> Result<(), Unplugged> {
+        for (bits, count) in std::mem::take(&mut self.queue) {
+            match bits {
+                Some(bits) => self.line.drive_bits(bits, count)?,
+                None => self.line.release_for(count)?,
+            }
+        }
+        Ok(())
+    }
+}
+
+// A written word costs one exchange, and a word of a block two. The clocks are those of a line without sequences.
+#[test]
+fn exchanges_of_a_probe() {
+    let mut opened = Probe { line: line_with(&[]), queue: Vec::new(), exchanges: 0 };
+    Session::new(&mut opened, 8).open().unwrap();
+    let mut probe = Probe { line: line_with(&[]), queue: Vec::new(), exchanges: 0 };
+    let mut session = Session::new(&mut probe, 8);
+    session.open().unwrap();
+    let mut slots = [Slot::EMPTY; 12];
+    let writes = (0..12).map(|index| Access::write(BASE + 4 * index, index)).collect::<Vec<_>>();
+    session.run(&writes, &mut slots).unwrap();
+    assert_eq!(probe.exchanges, opened.exchanges + 12 + 3);
+    assert!(probe.queue.is_empty());
+    let mut line = line_with(&[]);
+    let mut session = Session::new(&mut line, 8);
+    session.open().unwrap();
+    session.run(&writes, &mut slots).unwrap();
+    assert!(probe.line.calls == line.calls);
+}
