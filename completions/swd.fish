@@ -3,7 +3,7 @@ complete -c swd -f
 complete -c swd -n __fish_use_subcommand -a one -d 'Decode a trace of exactly one transaction'
 complete -c swd -n __fish_use_subcommand -a decode -d 'Decode a trace to a listing, one line an item'
 complete -c swd -n __fish_use_subcommand -a encode -d 'Encode a listing to a trace, one line an item'
-complete -c swd -n __fish_use_subcommand -a run -d 'Run a script\'s accesses at a target, each once'
+complete -c swd -n __fish_use_subcommand -a run -d 'Run a script\'s accesses at a target'
 complete -c swd -n __fish_use_subcommand -a target -d 'Simulate a target for a debugger on the standard streams'
 complete -c swd -n __fish_use_subcommand -a draw -d 'Draw a trace\'s waves as an SVG picture, one row an item'
 complete -c swd -n __fish_use_subcommand -a load -d 'Load a file into a target\'s memory'
