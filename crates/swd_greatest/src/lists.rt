@@ -3,25 +3,17 @@ ghost use Rattle.std.specs.Prelude.{IfOk};
 ghost use Rattle.swd_target.specs.Marks.{IsLegalPlan};
 
 use crate::fault::Fault;
+use crate::targets::{BASE, TRIES, bench, is_ready};
 use std::alloc::{AllocError, Global};
 use swd_host::{End, resume, run, run_block};
 use swd_port::{Access, Answer};
-use swd_target::{Bench, Mark, Memory, Quirks};
+use swd_target::{Bench, Mark, Memory};
 
 /// The greatest number of accesses in a list.
 const MOST: u32 = 65_536;
 
-/// Where the memory begins.
-const BASE: u32 = 0x2000_0000;
-
-/// The events that the opening or an access may meet.
-const TRIES: u32 = 8;
-
-const QUIRKS: Quirks = Quirks {
-    wrap: true,
-    late: false,
-    filler: 0,
-};
+/// The transfers that the target's log has room for.
+const ROOM: u32 = 4 * MOST;
 
 /// The requests of a list of writes at consecutive addresses: the opening, DRW for each, and in each kilobyte TAR before
 /// its first word and RDBUFF after its last one.
@@ -30,15 +22,16 @@ const REQUESTS: usize = 9 + 65_536 + 2 * 256;
 /// Makes 65,536 writes, and reads their words in one block. Returns whether each is answered as it was made.
 pub fn writes_and_block(alloc: Global) -> Result<bool, Fault> {
     let accesses = writes(alloc)?;
-    let mut bench = bench(alloc, Vec::new(alloc))?;
+    let mut bench = bench(alloc, MOST, ROOM, Vec::new(alloc))?;
+    if !is_ready(&bench) {
+        return Ok(false);
+    }
     let written = run(alloc, &mut bench, &accesses, TRIES)?;
-    let read = run_block(alloc, &mut bench, BASE, MOST, TRIES)?;
     Ok(
         matches!(&written.ended, End::All)
             && written.requests as usize == REQUESTS
             && are_written(&written.answers)
-            && matches!(&read.ended, End::All)
-            && are_words(&read.answers),
+            && are_read(alloc, bench)?,
     )
 }
 
@@ -46,17 +39,19 @@ pub fn writes_and_block(alloc: Global) -> Result<bool, Fault> {
 /// accesses but the last one were answered before, and the last one once it was resumed.
 pub fn resumed_at_its_end(alloc: Global) -> Result<bool, Fault> {
     let accesses = writes(alloc)?;
-    let mut bench = bench(alloc, losing(alloc, REQUESTS - 1)?)?;
+    let mut bench = bench(alloc, MOST, ROOM, losing(alloc, REQUESTS - 1)?)?;
+    if !is_ready(&bench) {
+        return Ok(false);
+    }
     let lost = run(alloc, &mut bench, &accesses, TRIES)?;
     if !matches!(&lost.ended, End::Lost) || lost.answers.len() != MOST as usize - 1 {
         return Ok(false);
     }
     let resumed = resume(alloc, &mut bench, &accesses, &lost, TRIES)?;
-    let read = run_block(alloc, &mut bench, BASE, MOST, TRIES)?;
     Ok(
         matches!(&resumed.ended, End::All)
             && are_written(&resumed.answers)
-            && are_words(&read.answers),
+            && are_read(alloc, bench)?,
     )
 }
 
@@ -68,13 +63,6 @@ fn writes(alloc: Global) -> Result<Vec<Access>, AllocError> {
         accesses.push(Access::Write(addr, !addr))?;
     }
     Ok(accesses)
-}
-
-fn bench(alloc: Global, plan: Vec<Mark>) -> Result<Bench<Memory>, Fault>
-    requires { IsLegalPlan plan.items }
-{
-    let memory = Memory::new(alloc, BASE, MOST, 4 * MOST)?;
-    Ok(Bench::new(memory, QUIRKS, plan))
 }
 
 // A plan that loses the acknowledgement of one request.
@@ -97,6 +85,16 @@ fn are_written(answers: &[Answer]) -> bool {
         && answers
             .iter()
             .all(|answer| matches!(answer, Answer::Written))
+}
+
+// Returns whether a block of reads is answered with the words that were written.
+fn are_read(alloc: Global, bench: Bench<Memory>) -> Result<bool, Fault> {
+    let mut bench = bench;
+    if !is_ready(&bench) {
+        return Ok(false);
+    }
+    let read = run_block(alloc, &mut bench, BASE, MOST, TRIES)?;
+    Ok(matches!(&read.ended, End::All) && are_words(&read.answers))
 }
 
 fn are_words(answers: &[Answer]) -> bool {

@@ -5,6 +5,7 @@ mod fault;
 mod images;
 mod lists;
 mod polls;
+mod targets;
 
 use std::process::ExitCode;
 

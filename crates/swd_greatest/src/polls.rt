@@ -1,5 +1,6 @@
 //! A poll of a status that is ready at the last read that a script allows.
 use crate::fault::Fault;
+use crate::targets::TRIES;
 use std::alloc::Global;
 use swd_devices::Registers;
 use swd_host::End;
@@ -13,9 +14,6 @@ const REPORT: &[u8] = b"r 40000000 00000001 reads 1000000\nend all 1\n";
 
 /// The reads that find the status not ready.
 const READS: u32 = 999_999;
-
-/// The events that the opening or an access may meet.
-const TRIES: u32 = 8;
 
 /// Returns whether the last read is answered with the word, and the report says so.
 pub fn ends_at_its_last_read(alloc: Global) -> Result<bool, Fault> {
