@@ -146,13 +146,12 @@ pub fn run_on_reporting<W: Wire, O: Write, A: Allocator + Copy>(
     ensures unwritten { IfNone result (O.contents report.new ≡ O.contents report.old) }
     ensures plan { W.plan wire.new ≡ W.plan wire.old }
 {
-    report_call(
-        alloc,
-        wire,
-        batch,
-        CallOptions::opening(tries, resumes),
-        report,
-    )
+    let options = CallOptions {
+        tries,
+        resumes,
+        opened: false,
+    };
+    report_call(alloc, wire, batch, options, report)
 }
 
 // Performs the reads of an `until`. Writes the report of the last one at its end, since it has the number of reads.

@@ -100,8 +100,13 @@ fn run_reported<W: Wire, O: Write, A: Allocator + Copy>(
 {
     let mut finished = Finished::NONE;
     let mut written = 0u64;
-    let mut options = CallOptions::opening(tries, resumes);
+    let mut opened = false;
     for batch in batches {
+        let options = CallOptions {
+            tries,
+            resumes,
+            opened,
+        };
         let Some(reported) = report_batch(alloc, wire, batch, options, report) else {
             return Err(EngineFault::Memory);
         };
@@ -119,7 +124,7 @@ fn run_reported<W: Wire, O: Write, A: Allocator + Copy>(
         if finished.never_came {
             return Ok(finished);
         }
-        options = options.further();
+        opened = true;
     }
     Ok(finished)
 }

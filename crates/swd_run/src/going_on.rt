@@ -144,7 +144,12 @@ pub fn run_on_to<W: Wire, K: RunSink, A: Allocator>(
         (script_batch_listed batch.now) wire.old wire.new) }
     ensures plan { W.plan wire.new ≡ W.plan wire.old }
 {
-    make_call_to(wire, batch, CallOptions::opening(tries, resumes), sink)
+    let options = CallOptions {
+        tries,
+        resumes,
+        opened: false,
+    };
+    make_call_to(wire, batch, options, sink)
 }
 
 /// Makes a call as [`run_on`] does, with these options.
@@ -200,5 +205,10 @@ pub fn run_on<W: Wire, A: Allocator + Copy>(
         (script_batch_listed batch.now) wire.old wire.new) }
     ensures plan { W.plan wire.new ≡ W.plan wire.old }
 {
-    make_call(alloc, wire, batch, CallOptions::opening(tries, resumes))
+    let options = CallOptions {
+        tries,
+        resumes,
+        opened: false,
+    };
+    make_call(alloc, wire, batch, options)
 }

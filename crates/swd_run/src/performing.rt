@@ -100,7 +100,11 @@ pub(crate) fn perform<W: Wire, A: Allocator + Copy>(
         if !asks_again(until, &last) {
             return Some(Performed { runs, last });
         }
-        last = make_call(alloc, wire, batch, options.further())?;
+        let further = CallOptions {
+            opened: true,
+            ..options
+        };
+        last = make_call(alloc, wire, batch, further)?;
     }
     Some(Performed {
         runs: until.most,
