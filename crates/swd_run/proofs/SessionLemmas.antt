@@ -20,7 +20,6 @@ use Rattle.swd_run.specs.Starts.{ScriptStarts}
 use Rattle.swd_run.specs.Unfoldings.{BatchRuns, Unfolds, calls_of, runs_of}
 use Rattle.swd_run.proofs.RunLemmas.{IsRunTraceRecorded, script_target_at_rest}
 use Rattle.swd_run.proofs.WentLemmas.{asked, due_after, ending, law_before, opens, plan_kept, runs_on}
-use Rattle.swd_run.proofs.WentLemmas.{script_starts_at_rest}
 
 -- ---- lists of runs
 

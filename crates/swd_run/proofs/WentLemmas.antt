@@ -62,11 +62,6 @@ lost_at ended tries s t is e = (subst (λ x. HostEndsAt x tries s t) is e).1
 open_at : (ended : End) (tries : ℕ) (s t : Port) → ended ≡ All → HostEndsAt ended tries s t → HostIsOpen t
 open_at ended tries s t is e = subst (λ x. HostEndsAt x tries s t) is e
 
--- an open target is at rest
-pub script_starts_at_rest : (opened : Bool) (s : Port) → ScriptStarts opened s → IsAtRest s
-script_starts_at_rest false s starts = starts
-script_starts_at_rest true s starts = starts.0
-
 spends_first : (most : ℕ → ℕ) (n a r : ℕ) → r ≤ most (min n (a + 1)) → r ≤ most (min (n - 0) (a - 0 + 1))
 spends_first most n a r h =
     let e : n ≡ n - 0 = omega arith in

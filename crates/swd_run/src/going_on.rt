@@ -3,7 +3,7 @@ ghost use Rattle.std.specs.Prelude.{◌≡◌, ◌≤◌, [], false, IfNone, IfO
 ghost use Rattle.swd_port.specs.declared.wire.Due.TheVariants.{Nothing};
 ghost use Rattle.swd_script.specs.Readers.{script_batch_listed};
 ghost use Rattle.swd_script.specs.Laws.{IsScriptBatch};
-ghost use Rattle.swd_host.specs.Reports.{host_report_to};
+ghost use Rattle.swd_host.specs.Reports.{Closes, ListCloses, ListsWithin, RunsWithin, host_report_to};
 ghost use Rattle.swd_host.specs.Tasks.{bursts_limit};
 ghost use Rattle.swd_run.specs.declared.going_on.Stop.{Stop as StopType};
 ghost use Rattle.swd_run.specs.Sessions.{RunsBatch, RunsBatchFrom, IsBatchRefused, script_run_of, batch_limit};
@@ -46,6 +46,72 @@ fn bursts_of<A: Allocator>(batch: &Batch<A>) -> Bursts
     }
 }
 
+// Opens the target, and performs the accesses of a batch.
+fn open_and_perform<W: Wire, K: AnswerSink, A: Allocator>(
+    wire: &mut W,
+    batch: &Batch<A>,
+    tries: u32,
+    sink: &mut K,
+) -> Ending
+    requires batch { IsScriptBatch (script_batch_listed batch.now) }
+    requires due { (W.port wire.old).link.due ≡ Nothing }
+    requires none { K.taken sink.old ≡ [] }
+    requires room { length (script_batch_listed batch.now).accesses ≤ K.most sink.old }
+    ensures closes { Closes 0 (batch_limit (script_batch_listed batch.now))
+        (script_batch_listed batch.now).accesses tries (host_report_to (K.taken sink.new) result)
+        (W.port wire.new).link.due }
+    ensures fits { W.lawful wire.new → W.lawful wire.old
+        × RunsWithin (batch_limit (script_batch_listed batch.now)) (script_batch_listed batch.now).accesses tries
+        (host_report_to (K.taken sink.new) result) (W.port wire.old) (W.port wire.new) }
+    ensures keeps { K.keeps sink.old sink.new }
+    ensures most { K.most sink.old ≤ K.most sink.new }
+    ensures plan { W.plan wire.new ≡ W.plan wire.old }
+{
+    match run_to(
+        wire,
+        batch.accesses.as_slice(),
+        bursts_of(batch),
+        tries,
+        sink,
+    ) {
+        Ok(ending) => ending,
+        Err(_) => unreachable!(),
+    }
+}
+
+// Performs the accesses of a batch over the open target.
+fn perform_open<W: Wire, K: AnswerSink, A: Allocator>(
+    wire: &mut W,
+    batch: &Batch<A>,
+    tries: u32,
+    sink: &mut K,
+) -> Ending
+    requires batch { IsScriptBatch (script_batch_listed batch.now) }
+    requires due { (W.port wire.old).link.due ≡ Nothing }
+    requires none { K.taken sink.old ≡ [] }
+    requires room { length (script_batch_listed batch.now).accesses ≤ K.most sink.old }
+    ensures closes { ListCloses (batch_limit (script_batch_listed batch.now))
+        (script_batch_listed batch.now).accesses tries (host_report_to (K.taken sink.new) result)
+        (W.port wire.new).link.due }
+    ensures fits { W.lawful wire.new → W.lawful wire.old
+        × ListsWithin (batch_limit (script_batch_listed batch.now)) (script_batch_listed batch.now).accesses tries
+        (host_report_to (K.taken sink.new) result) (W.port wire.old) (W.port wire.new) }
+    ensures keeps { K.keeps sink.old sink.new }
+    ensures most { K.most sink.old ≤ K.most sink.new }
+    ensures plan { W.plan wire.new ≡ W.plan wire.old }
+{
+    match run_open_to(
+        wire,
+        batch.accesses.as_slice(),
+        bursts_of(batch),
+        tries,
+        sink,
+    ) {
+        Ok(ending) => ending,
+        Err(_) => unreachable!(),
+    }
+}
+
 // Performs the accesses of a batch once: over the open target, or opens it first.
 fn begin<W: Wire, K: AnswerSink, A: Allocator>(
     wire: &mut W,
@@ -68,17 +134,10 @@ fn begin<W: Wire, K: AnswerSink, A: Allocator>(
     ensures most { K.most sink.old ≤ K.most sink.new }
     ensures plan { W.plan wire.new ≡ W.plan wire.old }
 {
-    let accesses = batch.accesses.as_slice();
     if options.opened {
-        return match run_open_to(wire, accesses, bursts_of(batch), options.tries, sink) {
-            Ok(ending) => ending,
-            Err(_) => unreachable!(),
-        };
+        return perform_open(wire, batch, options.tries, sink);
     }
-    match run_to(wire, accesses, bursts_of(batch), options.tries, sink) {
-        Ok(ending) => ending,
-        Err(_) => unreachable!(),
-    }
+    open_and_perform(wire, batch, options.tries, sink)
 }
 
 /// Makes a call as [`run_on_to`] does, with these options.
