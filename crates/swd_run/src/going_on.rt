@@ -67,13 +67,8 @@ fn open_and_perform<W: Wire, K: AnswerSink, A: Allocator>(
     ensures most { K.most sink.old ≤ K.most sink.new }
     ensures plan { W.plan wire.new ≡ W.plan wire.old }
 {
-    match run_to(
-        wire,
-        batch.accesses.as_slice(),
-        bursts_of(batch),
-        tries,
-        sink,
-    ) {
+    let accesses = batch.accesses.as_slice();
+    match run_to(wire, accesses, bursts_of(batch), tries, sink) {
         Ok(ending) => ending,
         Err(_) => unreachable!(),
     }
@@ -100,13 +95,8 @@ fn perform_open<W: Wire, K: AnswerSink, A: Allocator>(
     ensures most { K.most sink.old ≤ K.most sink.new }
     ensures plan { W.plan wire.new ≡ W.plan wire.old }
 {
-    match run_open_to(
-        wire,
-        batch.accesses.as_slice(),
-        bursts_of(batch),
-        tries,
-        sink,
-    ) {
+    let accesses = batch.accesses.as_slice();
+    match run_open_to(wire, accesses, bursts_of(batch), tries, sink) {
         Ok(ending) => ending,
         Err(_) => unreachable!(),
     }

@@ -12,7 +12,7 @@ returns-in-Ok-clause-closes g c =
     let end = g.W.Wire.port c.run_to.new.wire in
     subst (λ n. Closes 0 n batch.accesses c.args.tries told end.link.due) c.bursts_of.ensures
     (subst (λ (l : List Access). Closes 0 (bursts_limit c.bursts_of.result) l c.args.tries told end.link.due)
-    c.as_slice.ensures.value c.in-Ok.ensures.closes)
+    c.as_slice-accesses.ensures.value c.in-Ok.ensures.closes)
 
 pub returns-in-Ok-clause-fits : goal.returns-in-Ok-clause-fits
 returns-in-Ok-clause-fits g c =
@@ -24,4 +24,4 @@ returns-in-Ok-clause-fits g c =
     × RunsWithin n batch.accesses c.args.tries told (g.W.Wire.port start) (g.W.Wire.port end)) c.bursts_of.ensures
     (subst (λ (l : List Access). g.W.Wire.lawful end → g.W.Wire.lawful start
     × RunsWithin (bursts_limit c.bursts_of.result) l c.args.tries told (g.W.Wire.port start) (g.W.Wire.port end))
-    c.as_slice.ensures.value c.in-Ok.ensures.fits)
+    c.as_slice-accesses.ensures.value c.in-Ok.ensures.fits)

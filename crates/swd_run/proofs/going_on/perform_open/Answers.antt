@@ -17,8 +17,8 @@ returns-in-Ok-clause-closes g c =
     let told = λ (answers : List Answer). host_report_to answers c.in-Ok.ending in
     let end = g.W.Wire.port c.run_open_to.new.wire in
     subst (λ n. ListCloses n batch.accesses tries (told taken) end.link.due) c.bursts_of.ensures
-    (subst (λ (l : List Access). ListCloses limit l tries (told taken) end.link.due) c.as_slice.ensures.value
-    (subst (λ (answers : List Answer). ListCloses limit c.as_slice.result.now tries (told answers) end.link.due) whole
+    (subst (λ (l : List Access). ListCloses limit l tries (told taken) end.link.due) c.as_slice-accesses.ensures.value
+    (subst (λ (answers : List Answer). ListCloses limit c.as_slice-accesses.result.now tries (told answers) end.link.due) whole
     c.in-Ok.ensures.closes))
 
 pub returns-in-Ok-clause-fits : goal.returns-in-Ok-clause-fits
@@ -37,6 +37,6 @@ returns-in-Ok-clause-fits g c =
     let to = g.W.Wire.port end in
     subst (λ n. lawful end → lawful start × ListsWithin n batch.accesses tries (told taken) from to) c.bursts_of.ensures
     (subst (λ (l : List Access). lawful end → lawful start × ListsWithin limit l tries (told taken) from to)
-    c.as_slice.ensures.value
+    c.as_slice-accesses.ensures.value
     (subst (λ (answers : List Answer). lawful end → lawful start
-    × ListsWithin limit c.as_slice.result.now tries (told answers) from to) whole c.in-Ok.ensures.fits))
+    × ListsWithin limit c.as_slice-accesses.result.now tries (told answers) from to) whole c.in-Ok.ensures.fits))
