@@ -1,5 +1,5 @@
 -- The runs of a script so far, and the report of them that was written.
-use Rattle.std.proofs.Common.{◌≡◌, ℕ, ◌+◌, ◌-◌, ◌<◌, ◌≤◌, ◌^◌, ◌∙◌, List, [], ◌∷◌, ◌++◌, length, take, drop, Option}
+use Rattle.std.proofs.Common.{◌≡◌, ℕ, ◌+◌, ◌-◌, ◌<◌, ◌≤◌, ◌^◌, ◌∙◌, Bool, List, [], ◌∷◌, ◌++◌, length, take, drop, Option}
 use Rattle.std.proofs.Common.{None, Ok, Err, inl, min, false, refl, sym, ap, subst, arith}
 use Rattle.std.proofs.KnownBytes.{Appends-nil, Appends-trans}
 use Rattle.std.proofs.Math.Seq.{take-append-add}
@@ -195,7 +195,7 @@ module _ {W : Type 0} (port : W → Port) (plan : W → List Mark) (lawful : W �
           subst (λ z. RunsBatches port plan lawful false batch_limit tries resumes s z (runs_of (so_far.made ++ runs ∷ [])) u)
           calls (subst (λ z. RunsBatches port plan lawful false batch_limit tries resumes s (before ++ next) z u)
           (sym (unfolded_runs_last so_far.made runs))
-          (runs_append port plan lawful false batch_limit tries resumes s t u before next (runs_of so_far.made) ended
+          (runs_append port plan lawful false batch_limit tries resumes s t before (runs_of so_far.made) u next ended
           so_far.are (sym so_far.is.ended ∙ all)
           (subst (λ o. RunsBatches port plan lawful o batch_limit tries resumes t next ended u) so_far.is_open
           (then performs.earlier (earlier_reads_ended_all batch.until runs.earlier performs.are.earlier)

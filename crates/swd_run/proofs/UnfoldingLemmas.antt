@@ -101,16 +101,17 @@ script_open_append opened (run ∷ first) (next ∷ second) = refl
 module _ {W : Type 0} (port : W → Port) (plan : W → List Mark) (lawful : W → Type 0) (opened : Bool)
     (most : ScriptListed → ℕ) (tries resumes : ℕ) where
   -- runs after runs that all ended `All`
-  pub runs_append : (s t u : W) (xs ys : List ScriptListed) (first second : List ScriptRun)
+  pub runs_append : (s t : W) (xs : List ScriptListed) (first : List ScriptRun) (u : W) (ys : List ScriptListed)
+      (second : List ScriptRun)
       → RunsBatches port plan lawful opened most tries resumes s xs first t → script_ended first ≡ All
       → RunsBatches port plan lawful (script_is_open opened first) most tries resumes t ys second u
       → RunsBatches port plan lawful opened most tries resumes s (xs ++ ys) (first ++ second) u
-  runs_append s t u xs ys first second before all none =
+  runs_append s t xs first u ys second before all none =
       subst (λ z. RunsBatches port plan lawful opened most tries resumes s z (first ++ []) u) (sym (append-nil xs))
       (subst (λ z. RunsBatches port plan lawful opened most tries resumes s xs z u) (sym (append-nil first)) before)
-  runs_append s t u xs ys first second before all
+  runs_append s t xs first u ys second before all
       (then {batches = front} {runs = earlier} {t = v} {u = w} {batch = batch} {run = run} prior ended goes) =
-      let whole = runs_append s t v xs front first earlier before all prior in
+      let whole = runs_append s t xs first v front earlier before all prior in
       subst (λ z. RunsBatches port plan lawful opened most tries resumes s z (first ++ (earlier ++ run ∷ [])) w)
       (append_assoc xs front (batch ∷ []))
       (subst (λ z. RunsBatches port plan lawful opened most tries resumes s ((xs ++ front) ++ batch ∷ []) z w)

@@ -435,7 +435,7 @@ module _ {W : Type 0} (port : W → Port) (plan : W → List Mark) (lawful : W �
       m : Bus
       m = (port s).target.memory
 
-      whole : Fits limit list m a (port u).target.memory
+      whole : FitsFrom (script_opening_requests opened) limit list m a (port u).target.memory
           → take (length a.answers) a.answers ≡ answers_of (take (length a.answers) list) m
       whole (k, fit) =
           let many : length a.answers ≡ k = ap length fit.answers ∙ script_calls_answer_count (take k list) m

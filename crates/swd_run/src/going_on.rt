@@ -3,7 +3,8 @@ ghost use Rattle.std.specs.Prelude.{◌≡◌, ◌≤◌, [], false, IfNone, IfO
 ghost use Rattle.swd_port.specs.declared.wire.Due.TheVariants.{Nothing};
 ghost use Rattle.swd_script.specs.Readers.{script_batch_listed};
 ghost use Rattle.swd_script.specs.Laws.{IsScriptBatch};
-ghost use Rattle.swd_host.specs.Reports.{Closes, ListCloses, ListsWithin, RunsWithin, host_report_to};
+ghost use Rattle.swd_host.specs.Plain.{AreHostAccesses};
+ghost use Rattle.swd_host.specs.Reports.{host_report_to};
 ghost use Rattle.swd_host.specs.Tasks.{bursts_limit};
 ghost use Rattle.swd_run.specs.declared.going_on.Stop.{Stop as StopType};
 ghost use Rattle.swd_run.specs.Sessions.{RunsBatch, RunsBatchFrom, IsBatchRefused, script_run_of, batch_limit};
@@ -46,62 +47,6 @@ fn bursts_of<A: Allocator>(batch: &Batch<A>) -> Bursts
     }
 }
 
-// Opens the target, and performs the accesses of a batch.
-fn open_and_perform<W: Wire, K: AnswerSink, A: Allocator>(
-    wire: &mut W,
-    batch: &Batch<A>,
-    tries: u32,
-    sink: &mut K,
-) -> Ending
-    requires batch { IsScriptBatch (script_batch_listed batch.now) }
-    requires due { (W.port wire.old).link.due ≡ Nothing }
-    requires none { K.taken sink.old ≡ [] }
-    requires room { length (script_batch_listed batch.now).accesses ≤ K.most sink.old }
-    ensures closes { Closes 0 (batch_limit (script_batch_listed batch.now))
-        (script_batch_listed batch.now).accesses tries (host_report_to (K.taken sink.new) result)
-        (W.port wire.new).link.due }
-    ensures fits { W.lawful wire.new → W.lawful wire.old
-        × RunsWithin (batch_limit (script_batch_listed batch.now)) (script_batch_listed batch.now).accesses tries
-        (host_report_to (K.taken sink.new) result) (W.port wire.old) (W.port wire.new) }
-    ensures keeps { K.keeps sink.old sink.new }
-    ensures most { K.most sink.old ≤ K.most sink.new }
-    ensures plan { W.plan wire.new ≡ W.plan wire.old }
-{
-    let accesses = batch.accesses.as_slice();
-    match run_to(wire, accesses, bursts_of(batch), tries, sink) {
-        Ok(ending) => ending,
-        Err(_) => unreachable!(),
-    }
-}
-
-// Performs the accesses of a batch over the open target.
-fn perform_open<W: Wire, K: AnswerSink, A: Allocator>(
-    wire: &mut W,
-    batch: &Batch<A>,
-    tries: u32,
-    sink: &mut K,
-) -> Ending
-    requires batch { IsScriptBatch (script_batch_listed batch.now) }
-    requires due { (W.port wire.old).link.due ≡ Nothing }
-    requires none { K.taken sink.old ≡ [] }
-    requires room { length (script_batch_listed batch.now).accesses ≤ K.most sink.old }
-    ensures closes { ListCloses (batch_limit (script_batch_listed batch.now))
-        (script_batch_listed batch.now).accesses tries (host_report_to (K.taken sink.new) result)
-        (W.port wire.new).link.due }
-    ensures fits { W.lawful wire.new → W.lawful wire.old
-        × ListsWithin (batch_limit (script_batch_listed batch.now)) (script_batch_listed batch.now).accesses tries
-        (host_report_to (K.taken sink.new) result) (W.port wire.old) (W.port wire.new) }
-    ensures keeps { K.keeps sink.old sink.new }
-    ensures most { K.most sink.old ≤ K.most sink.new }
-    ensures plan { W.plan wire.new ≡ W.plan wire.old }
-{
-    let accesses = batch.accesses.as_slice();
-    match run_open_to(wire, accesses, bursts_of(batch), tries, sink) {
-        Ok(ending) => ending,
-        Err(_) => unreachable!(),
-    }
-}
-
 // Performs the accesses of a batch once: over the open target, or opens it first.
 fn begin<W: Wire, K: AnswerSink, A: Allocator>(
     wire: &mut W,
@@ -113,6 +58,8 @@ fn begin<W: Wire, K: AnswerSink, A: Allocator>(
     requires due { (W.port wire.old).link.due ≡ Nothing }
     requires none { K.taken sink.old ≡ [] }
     requires room { length (script_batch_listed batch.now).accesses ≤ K.most sink.old }
+    ensures accepted { (length (script_batch_listed batch.now).accesses ≤ 65536)
+        × AreHostAccesses (script_batch_listed batch.now).accesses }
     ensures closes { ScriptCallCloses options.opened (batch_limit (script_batch_listed batch.now))
         (script_batch_listed batch.now).accesses options.tries (host_report_to (K.taken sink.new) result)
         (W.port wire.new).link.due }
@@ -124,10 +71,17 @@ fn begin<W: Wire, K: AnswerSink, A: Allocator>(
     ensures most { K.most sink.old ≤ K.most sink.new }
     ensures plan { W.plan wire.new ≡ W.plan wire.old }
 {
+    let accesses = batch.accesses.as_slice();
     if options.opened {
-        return perform_open(wire, batch, options.tries, sink);
+        return match run_open_to(wire, accesses, bursts_of(batch), options.tries, sink) {
+            Ok(ending) => ending,
+            Err(_) => unreachable!(),
+        };
     }
-    open_and_perform(wire, batch, options.tries, sink)
+    match run_to(wire, accesses, bursts_of(batch), options.tries, sink) {
+        Ok(ending) => ending,
+        Err(_) => unreachable!(),
+    }
 }
 
 /// Makes a call as [`run_on_to`] does, with these options.

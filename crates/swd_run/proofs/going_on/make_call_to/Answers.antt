@@ -1,9 +1,11 @@
-use Rattle.std.proofs.Common.{◌≡◌, ◌∙◌, ℕ, List, [], ◌∷◌, ◌++◌, Result, Ok, Err, refl, ap, subst, arith}
+use Rattle.std.proofs.Common.{◌≡◌, ◌∙◌, ℕ, List, [], ◌∷◌, ◌++◌, Result, Ok, Err, length, refl, sym, ap}
+use Rattle.std.proofs.Common.{◌≤◌, subst, arith}
 use Rattle.std.specs.Prelude.{OnErr}
 use Rattle.std.proofs.lemmas.List.{length-append}
 use Rattle.swd_port.specs.declared.access.Access.{Access}
 use Rattle.swd_port.specs.declared.access.Answer.{Answer}
 use Rattle.swd_host.specs.Again.{ResumeCloses, ResumesOver}
+use Rattle.swd_host.specs.Plain.{AreHostAccesses}
 use Rattle.swd_host.specs.Reports.{host_report_to}
 use Rattle.swd_script.specs.Readers.{script_batch_listed}
 use Rattle.swd_run.specs.declared.going_on.Stop.{Stop}
@@ -39,6 +41,11 @@ returns-in_err-stop-clause-refused g c =
     let (stops, count, follows, went) = c.loop-done.invariant.went in
     let low = c.loop-done-test.true in
     on_err c.from_residual.result (unresumed went c.in-Lost.is (omega (arith, count, low)))
+
+pub resume_to-ending-requires-clause-accepted : goal.resume_to-ending-requires-clause-accepted
+resume_to-ending-requires-clause-accepted g c =
+    subst (λ (l : List Access). (length l ≤ 65536) × AreHostAccesses l) (sym c.as_slice-accesses.ensures.value)
+    c.begin-ending.ensures.accepted
 
 pub loop-done-preserved : goal.loop-done-preserved
 loop-done-preserved g c =
