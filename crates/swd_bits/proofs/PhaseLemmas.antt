@@ -70,7 +70,8 @@ low_bits_count_all_ones (suc k) =
 
 -- ones alone tell none
 pub ones_data_phase_no_word : data_phase_word (2 ^ 33 - 1) ≡ None
-ones_data_phase_no_word = let e : count_ones (2 ^ 33 - 1) % 2 ≡ 1 = ap (λ n. n % 2) (low_bits_count_all_ones 33) in rw e refl
+ones_data_phase_no_word = let e : count_ones (2 ^ 33 - 1) % 2 ≡ 1 = ap (λ n. n % 2) (low_bits_count_all_ones 33) in
+    rw e refl
 
 last_bit : (p : ℕ) → p < 2 → low_bits 1 p ≡ (p == 1) ∷ []
 unfolding low_bits

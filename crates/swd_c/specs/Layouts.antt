@@ -1,5 +1,5 @@
--- The structs that C programs use, as the lists of their fields. In a layout each field has a number of its own in all of
--- its bytes, so that whoever reads these bytes finds the field's place and its size.
+-- The structs that C programs use, as the lists of their fields. In a layout each field has a number of its own in all
+-- of its bytes, so that whoever reads these bytes finds the field's place and its size.
 use Rattle.std.specs.Prelude.{ℕ, ◌≡◌, ◌+◌, ◌*◌, zero, suc, List, [], ◌∷◌, ◌++◌}
 use Rattle.swd_host.specs.declared.fields.EngineFields.{EngineFields}
 use Rattle.swd_host.specs.declared.fields.JobFields.{JobFields}

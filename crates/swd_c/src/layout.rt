@@ -217,8 +217,8 @@ fn transfer_numbered() -> SwdTransfer
     }
 }
 
-/// Writes a number of its own to each field, the same to all of its bytes: 1, 2 and so on in the order of the fields. So
-/// a header can be checked, and a field's place and size can be found. Also writes the sizes.
+/// Writes a number of its own to each field, the same to all of its bytes: 1, 2 and so on in the order of the fields.
+/// So a header can be checked, and a field's place and size can be found. Also writes the sizes.
 #[unsafe(no_mangle)]
 pub extern "C" fn swd_layout(layout: &mut SwdLayout)
     ensures { CStructIsNumbered 1 (c_whole_layout layout.new) }

@@ -59,9 +59,9 @@ pub extern "C" fn swd_run_blocks(run: &mut RunFields, tries: u32)
     *run = Run::blocks(tries).fields();
 }
 
-/// Makes a run over a target that is open already, as a run leaves it that ended `All`: it sends no opening, and its first
-/// cue, which is returned, is that of the first access. `blocks` isn't 0 for a block of reads. Pass the same list to each
-/// call of `swd_run_next`.
+/// Makes a run over a target that is open already, as a run leaves it that ended `All`: it sends no opening, and its
+/// first cue, which is returned, is that of the first access. `blocks` isn't 0 for a block of reads. Pass the same list
+/// to each call of `swd_run_next`.
 ///
 /// Refuses the call, and leaves the fields unchanged, only if the list isn't valid.
 #[unsafe(no_mangle)]

@@ -96,10 +96,10 @@ struct Stage<S> {
     in_flight: [u32; 8],
 }
 
-/// Makes the run at registers of which nothing was read or written yet, and resumes it until every access is answered. A
-/// plan loses at most as many acknowledgements as it has marks, here two. Returns whether the registers saw each access
-/// once, and once more at most for each resumption at which it was in flight; and, where none was, whether answers and
-/// registers are exactly those of accesses that are made once.
+/// Makes the run at registers of which nothing was read or written yet, and resumes it until every access is answered.
+/// A plan loses at most as many acknowledgements as it has marks, here two. Returns whether the registers saw each
+/// access once, and once more at most for each resumption at which it was in flight; and, where none was, whether
+/// answers and registers are exactly those of accesses that are made once.
 pub fn is_once<S: Simulated + Drop>(
     alloc: Global,
     late: bool,

@@ -21,14 +21,14 @@ pub enum Lock {
     Shut,
 }
 
-/// A flash controller in the manner of an STM32G0's (RM0444, "Embedded flash memory"), with a page of one double word. A
-/// command keeps it busy until its status was read so many times.
+/// A flash controller in the manner of an STM32G0's (RM0444, "Embedded flash memory"), with a page of one double word.
+/// A command keeps it busy until its status was read so many times.
 ///
 /// | Byte address | Register | Read | Write |
 /// |---|---|---|---|
 /// | 4002_2008 | keys | bus error | two keys, one after the other, open the lock; any other word shuts it for good |
 /// | 4002_2010 | status | bit 16 while it is busy, and bit 1 after an error | clears bit 1 |
-/// | 4002_2014 | control | the last command, or bit 31 where the lock isn't open | a command: 8000_0000 locks, 0001_0052 erases the page |
+/// | 4002_2014 | control | the last command, or bit 31 unless it is unlocked | 8000_0000 locks, 0001_0052 erases |
 /// | 0800_5000, 0800_5004 | the page | its word | programs an erased page, the lower word first, under the command 1 |
 ///
 /// Control while the lock isn't open, and a word that can't be programmed, are bus errors, and set bit 1 of the status.

@@ -23,7 +23,7 @@ pub enum Key {
 /// |---|---|---|---|
 /// | 4000_0000 | status | 0, until it was read N times; then 1 | bus error |
 /// | 4000_0004 | key | bus error | the key opens it; any other word, and the key a second time, shut it for good |
-/// | 4000_0008 | FIFO of two words | takes the oldest word; bus error if it has none | adds a word, and sets the flag; bus error if it has two |
+/// | 4000_0008 | FIFO of two | takes the oldest word, or a bus error | adds a word, sets the flag, or a bus error |
 /// | 4000_000c | flag | 1 if it is set, else 0 | a word with bit 0 set clears the flag |
 ///
 /// A bus error has an effect: it is counted. Another address is a bus error that isn't counted.

@@ -71,13 +71,14 @@ bits_same : (xs ys : List Bool) → (xs ≡ ys) ⊎ (xs ≢ ys)
 bits_same [] [] = inl refl
 bits_same [] (y ∷ ys) = inr (λ e. cc)
 bits_same (x ∷ xs) [] = inr (λ e. cc)
-bits_same (x ∷ xs) (y ∷ ys) = elim (bool_same x y) as (λ (_ : (x ≡ y) ⊎ (x ≢ y)). (x ∷ xs ≡ y ∷ ys) ⊎ (x ∷ xs ≢ y ∷ ys)) [
-  | inl e ↦ elim (bits_same xs ys) as (λ (_ : (xs ≡ ys) ⊎ (xs ≢ ys)). (x ∷ xs ≡ y ∷ ys) ⊎ (x ∷ xs ≢ y ∷ ys)) [
-    | inl f ↦ inl (ap (λ l. x ∷ l) f ∙ ap (λ b. b ∷ ys) e)
-    | inr n ↦ inr (λ f. n (ap (drop 1) f))
-  ]
-  | inr n ↦ inr (λ f. n (ap (λ l. get_or l 0 true) f))
-]
+bits_same (x ∷ xs) (y ∷ ys) = elim (bool_same x y)
+    as (λ (_ : (x ≡ y) ⊎ (x ≢ y)). (x ∷ xs ≡ y ∷ ys) ⊎ (x ∷ xs ≢ y ∷ ys)) [
+      | inl e ↦ elim (bits_same xs ys) as (λ (_ : (xs ≡ ys) ⊎ (xs ≢ ys)). (x ∷ xs ≡ y ∷ ys) ⊎ (x ∷ xs ≢ y ∷ ys)) [
+        | inl f ↦ inl (ap (λ l. x ∷ l) f ∙ ap (λ b. b ∷ ys) e)
+        | inr n ↦ inr (λ f. n (ap (drop 1) f))
+      ]
+      | inr n ↦ inr (λ f. n (ap (λ l. get_or l 0 true) f))
+    ]
 
 abbrev register_at : Bool → Bool → Reg4
 register_at false false = R0

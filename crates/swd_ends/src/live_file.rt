@@ -33,7 +33,8 @@ impl<M> LiveFile<M> {
 impl<M: Write> LiveFile<M> {
     /// Writes the lines of the transfers of a log behind those that were written.
     pub(crate) fn add_transfers(&mut self, log: &[Transfer])
-        ensures { LiveFileAddsRest M.contents (λ n. live_log_lines (drop n log.now)) (length log.now) self.old self.new }
+        ensures { LiveFileAddsRest M.contents (λ n. live_log_lines (drop n log.now)) (length log.now) self.old
+            self.new }
     {
         if self.failed || self.done >= log.len() {
             return;

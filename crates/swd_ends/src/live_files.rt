@@ -134,7 +134,8 @@ impl<M: Write> LiveFiles<M> {
     // Writes what isn't written yet, and the last lines.
     fn finish<A: Allocator>(&mut self, pins: &Pins<Memory<A>, A>)
         ensures log { LiveFileFinishesIf M.contents (live_log_first self.old.skipped pins.now)
-            (length (live_log_at self.old.skipped pins.now)) (live_log_whole self.old.skipped pins.now) self.old.log self.new.log }
+            (length (live_log_at self.old.skipped pins.now)) (live_log_whole self.old.skipped pins.now) self.old.log
+            self.new.log }
         ensures trace { LiveFileFinishesIf M.contents (live_trace_first pins.now) (length (live_trace_at pins.now))
             (live_trace_whole pins.now) self.old.trace self.new.trace }
     {
@@ -151,8 +152,8 @@ impl<M: Write> LiveFiles<M> {
 /// Serves a host as `serve` does, and writes the log of its target and the trace of its pins, each if there is a writer
 /// for it. After each piece of input, before the last of its answers are written and before the next read, the log has
 /// the line of each transfer that took effect so far, and the trace the bits of all cycles so far. At the end of the
-/// session the log gets its last line, and the trace its line feed. Transfers of the target from before the session have
-/// no line.
+/// session the log gets its last line, and the trace its line feed. Transfers of the target from before the session
+/// have no line.
 ///
 /// If the writer of a file fails, nothing is retried, nothing more is written to this file, and the session goes on.
 /// The file then has exactly the first bytes of the whole one. [`LiveFiles::are_whole`] says whether no writer failed.

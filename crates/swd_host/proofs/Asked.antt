@@ -153,7 +153,8 @@ module _ (n b : ℕ) (k : EngineHand) (s t : Port) (flip : Option ℕ) (h : Engi
     (a : PortAccepts CtrlStatRead true flip s t) where
   asked_power : (m : ℕ) → n ≤ m → m ≤ n ⊎ (flip ≡ None → ⊥) → HostFrame s t → HostSameFlags s t
       → EngineBefore (At Powered) m b k t
-      → CtrlStatShows a.choice s.target → OpeningAskedPower (host_reads_power (ctrl_stat_word_in a.choice s.target)) m b k t
+      → CtrlStatShows a.choice s.target →
+      OpeningAskedPower (host_reads_power (ctrl_stat_word_in a.choice s.target)) m b k t
   asked_power m more few f e before r = grind arith
 
 pub host_power_says : (n b : ℕ) (k : EngineHand) (s t : Port) (flip : Option ℕ) → s.target.reset ≡ Live
@@ -165,7 +166,8 @@ host_power_says n b k s t flip live h (inl none) a more =
     let r = ctrl_stat_returned flip s t a in (
       ctrl_stat_word_in a.choice s.target,
       tells a.choice s t e r.1,
-      whole (r.0.line ∙ ap (λ x. Drives (port_flipped x (data_phase_number (ctrl_stat_word_in a.choice s.target)))) none)
+      whole (r.0.line ∙ ap (λ x. Drives (port_flipped x (data_phase_number (ctrl_stat_word_in a.choice s.target))))
+          none)
           r.0.range (asked_power n b k s t flip h a n (omega arith) (inl (omega arith)) f e
           (before_framed n n b k s t f e (omega arith) (At Powered) h) r.1),
     )

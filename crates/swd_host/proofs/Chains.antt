@@ -207,7 +207,8 @@ module _ (limit : ℕ) (list : List Access) (m : Bus) (calls : List HostReport) 
       where
         none_own : (n : ℕ) → own ≡ n → n ≤ 0
         none_own zero is = omega arith
-        none_own (suc n) is = absurd ((fit.begun (λ none. absurd (let both : suc n ≡ 0 = sym is ∙ none in omega (arith, both)))).1 all)
+        none_own (suc n) is = absurd ((fit.begun (λ none. absurd (let both : suc n ≡ 0 = sym is ∙ none in
+            omega (arith, both)))).1 all)
 
     bounds : Bounds
     bounds = by told.ended refl
@@ -237,7 +238,8 @@ module _ (limit : ℕ) (list : List Access) (m : Bus) (calls : List HostReport) 
                 ∙ ap (λ l. memory_after l m)
                 (ap (λ l. resume_accesses_at places list ++ l) (sym (at_row at (k + j) list)) ∙ sym
                 (at_append places more list))));
-            copies = λ i. (let h = was.done.copies i in let g = times_row i at (k + j) in let t = times_both i places more in
+            copies = λ i. (let h = was.done.copies i in let g = times_row i at (k + j) in
+                let t = times_both i places more in
                 omega (arith, h, g, t, one));
             within = below_both (length told.answers + told.begun) places more
                 (below_further (at + earlier.begun) (length told.answers + told.begun) places old was.done.within)

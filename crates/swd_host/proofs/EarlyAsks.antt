@@ -140,7 +140,8 @@ module _ (job : Job) (n : ℕ) (stray : Bool) (start s y z t : Port) (flip : Opt
 
 -- an exempt request is none of DRW's
 no_drw : (r : Register) → is_exempt_register r ≡ true → r ≢ DrwRead
-no_drw r e = λ d. absurd (let f : is_exempt_register DrwRead ≡ true = subst (λ z. is_exempt_register z ≡ true) d e in cc)
+no_drw r e = λ d. absurd (let f : is_exempt_register DrwRead ≡ true = subst (λ z. is_exempt_register z ≡ true) d e in
+    cc)
 
 module _ (n : ℕ) (base : EngineBase) (stray : Bool) (start : Port) (v : ℕ) (s t : Port) (k : Task)
     (l : base.lost ≤ s.tally.lost) where

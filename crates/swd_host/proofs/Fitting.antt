@@ -1,6 +1,7 @@
 -- What is known of the memory, as what a report says of it.
 use Rattle.swd_host.proofs.Words.{◌≡◌, ◌≢◌, ◌+◌, ◌≤◌, ℕ, arith, List, length, take, Access, Answer, Bus, End}
-use Rattle.swd_host.proofs.Words.{All, Engine, memory_after, answers_of, engine_begun, FitsFrom, HostReport, engine_report}
+use Rattle.swd_host.proofs.Words.{All, Engine, memory_after, answers_of, engine_begun, FitsFrom, HostReport}
+use Rattle.swd_host.proofs.Words.{engine_report}
 
 -- the memory is that after the accesses that are answered, and after some of those that are begun besides
 pub record IsLeftByEngine (i : ℕ) (list : List Access) (m : Bus) (begun : ℕ) (now : Bus) : Type 0 where

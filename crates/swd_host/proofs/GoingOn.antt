@@ -104,7 +104,8 @@ goes_onward : (js : List ℕ) (k : ℕ) (list : List Access) (d : Access) (m q :
     → k < length list → LogHasRoomForResume js list m → length earlier.answers ≡ k → StandsAt js k list m earlier q
     → Onward js k list d m q earlier
 goes_onward js k list d m q earlier l room is (inl h) =
-    let roomy : ResumeRoomy (length js) list m = record { plain = room.plain; one = omega (arith, room.room); all = omega (arith, room.room) } in
+    let roomy : ResumeRoomy (length js) list m =
+    record { plain = room.plain; one = omega (arith, room.room); all = omega (arith, room.room) } in
     record {
       more = js;
       grows = inl refl;

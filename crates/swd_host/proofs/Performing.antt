@@ -314,7 +314,8 @@ module _ (i : ℕ) (list : List Access) (o e : Engine) (answers : List Answer) (
       let idle : u.target.pending ≡ None = ap (λ x. x.pending) passed.target ∙ up.calm.pending in
       let counts : u.tally.disturbed ≡ t.tally.disturbed = ap (λ x. x.disturbed) passed.tally in
       let fits = λ (now : Bus) (left : now ≡ last).
-      engine_fits_by o.requests (bursts_limit o.bursts) i list m answers e All now (omega arith) r.answered (omega arith)
+      engine_fits_by o.requests (bursts_limit o.bursts) i list m answers e All now (omega arith) r.answered
+      (omega arith)
       (λ begun. absurd (begun unbegun)) (λ all. whole) (engine_none_in_flight i list m (engine_begun e) now left) in
       record {
         now = fits u.target.memory memory;

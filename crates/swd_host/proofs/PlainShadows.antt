@@ -113,7 +113,8 @@ shadow_more : (c : ℕ) (p q : PlainMemory) → PlainShadow c p q → PlainShado
 shadow_more c p q h = record { words = h.words; room = h.room; most = omega (arith, h.most); least = h.least }
 
 -- an access done once more is answered the same, and leaves one more transfer
-pub plain_shadow_twice : (c : ℕ) (a : Access) (p q : PlainMemory) → PlainHasRoom (c + 1) a p → PlainShadow c (plain_after a p) q
+pub plain_shadow_twice : (c : ℕ) (a : Access) (p q : PlainMemory) → PlainHasRoom (c + 1) a p →
+    PlainShadow c (plain_after a p) q
     → PlainTwice c a p q
 plain_shadow_twice c a p q f h =
     elim (succeeds_at (plain_address a) p) as (λ b. succeeds_at (plain_address a) p ≡ b → PlainTwice c a p q) [
@@ -134,23 +135,24 @@ plain_grown a p b e = grind (arith, plain_after_bus_error, plain_after_success, 
 
 -- a read leaves one transfer more at most, and all else as it was
 pub plain_read_shadow : (at : ℕ) (p : PlainMemory) → PlainShadow 1 p (plain_after (Read at) p)
-plain_read_shadow at p = elim (succeeds_at at p) as (λ b. succeeds_at at p ≡ b → PlainShadow 1 p (plain_after (Read at) p)) [
-  | true ↦ λ e.
-      (let is = plain_after_success (Read at) p e in
-      let l = plain_log_one_more (Read at) p e in
-      record {
-        words = ap (λ x. x.words) is;
-        room = ap (λ x. x.room) is;
-        most = omega (arith, l);
-        least = omega (arith, l);
-      })
-  | false ↦ λ e.
-      (let is = plain_after_bus_error (Read at) p e in
-      let l = ap (λ x. length x.log) is in
-      record {
-        words = ap (λ x. x.words) is;
-        room = ap (λ x. x.room) is;
-        most = omega (arith, l);
-        least = omega (arith, l);
-      })
-] refl
+plain_read_shadow at p = elim (succeeds_at at p)
+    as (λ b. succeeds_at at p ≡ b → PlainShadow 1 p (plain_after (Read at) p)) [
+      | true ↦ λ e.
+          (let is = plain_after_success (Read at) p e in
+          let l = plain_log_one_more (Read at) p e in
+          record {
+            words = ap (λ x. x.words) is;
+            room = ap (λ x. x.room) is;
+            most = omega (arith, l);
+            least = omega (arith, l);
+          })
+      | false ↦ λ e.
+          (let is = plain_after_bus_error (Read at) p e in
+          let l = ap (λ x. length x.log) is in
+          record {
+            words = ap (λ x. x.words) is;
+            room = ap (λ x. x.room) is;
+            most = omega (arith, l);
+            least = omega (arith, l);
+          })
+    ] refl

@@ -73,7 +73,8 @@ reads_more k j list p plain h =
     subst (λ x. ResumeShadow j (memory_after (take k list) p) x) (sym is)
     (shadow_few (length more) j (memory_after (take k list) p) (memory_after more (memory_after (take k list) p))
     (omega (arith, length-take j (drop k list)))
-    (reads_shadow more (memory_after (take k list) p) (is_plain_list (take k list) p plain) (reads_take j (drop k list) (reads_drop k list h))))
+    (reads_shadow more (memory_after (take k list) p) (is_plain_list (take k list) p plain)
+    (reads_take j (drop k list) (reads_drop k list h))))
 
 -- ACCESSES OVER A SHADOW of the plain memory
 record Shown (x k n : ℕ) (list : List Access) (m q : Bus) : Type 0 where
@@ -160,7 +161,8 @@ first_plainly limit list m told now plain reads (k, fit) =
       reported = omega (arith, many, low);
       answers = fit.answers ∙ ap (λ i. answers_of (take i list) m) (sym many);
       shadow = subst (λ i. ResumeShadow j (memory_after (take i list) m) now) (sym many)
-          (subst (ResumeShadow j (memory_after (take k list) m)) (sym fit.memory.2) (reads_more k j list m plain reads));
+          (subst (ResumeShadow j (memory_after (take k list) m)) (sym fit.memory.2)
+          (reads_more k j list m plain reads));
     }
 
 again_plainly : (limit : ℕ) (list : List Access) (m : Bus) (calls : List HostReport) (earlier told : HostReport)
@@ -189,7 +191,8 @@ again_plainly limit list m calls earlier told before now own k some reads was ro
     let w : Shown x at k list m before = shown x at k list m before (omega (arith, long, low)) roomy was.shadow in
     let here : Bus = memory_after (take k rest) before in
     let onward : ResumeShadow j here now =
-    subst (ResumeShadow j here) (sym fit.memory.2) (reads_more k j rest before was.shadow.second (reads_drop at list reads)) in
+    subst (ResumeShadow j here) (sym fit.memory.2)
+    (reads_more k j rest before was.shadow.second (reads_drop at list reads)) in
     let told_is : told.answers ≡ answers_of (take (at + k) list) m =
     kept ∙ (ap (λ l. earlier.answers ++ l) (fit.answers ∙ w.answers)
     ∙ (ap (λ l. l ++ answers_of (take k rest) (memory_after (take at list) m)) was.answers
@@ -214,7 +217,8 @@ plainly limit list m calls told now some reads room
     (again {calls = c} {earlier = e} {told = a} {before = left} {now = n} chain own kept begun (k, fit)) =
     let one = length-append c (e ∷ []) in
     again_plainly limit list m c e a left n own k some reads
-    (plainly limit list m c e left some reads (record { plain = room.plain; room = omega (arith, room.room, one) }) chain)
+    (plainly limit list m c e left some reads (record { plain = room.plain; room = omega (arith, room.room, one) })
+    chain)
     (record { plain = room.plain; room = omega (arith, room.room, one) }) kept fit
 
 -- a chain of calls over a list of reads changes no word, and where the log has room it answers as the plain memory

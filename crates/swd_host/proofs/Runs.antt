@@ -1,9 +1,11 @@
 -- From the opening and the list done after it to the report of a run.
-use Rattle.swd_host.proofs.Words.{◌≡◌, ◌≢◌, ◌+◌, ◌%◌, ◌^◌, ◌<◌, ◌≤◌, ℕ, false, sym, ap, subst, inl, inr, arith, ◌∙◌, List}
+use Rattle.swd_host.proofs.Words.{◌≡◌, ◌≢◌, ◌+◌, ◌%◌, ◌^◌, ◌<◌, ◌≤◌, ℕ, false, sym, ap, subst, inl, inr, arith, ◌∙◌}
+use Rattle.swd_host.proofs.Words.{List}
 use Rattle.swd_host.proofs.Words.{[], ◌++◌, Access, Answer, Bus, Port, port_completed, MayBecome, End, All}
 use Rattle.swd_host.proofs.Words.{Lost, Opened, Stopped, Resting, Engine, AreHostAccesses, Bursts, bursts_limit}
 use Rattle.swd_host.proofs.Words.{engine_left_in, EngineDueFits, EngineResumes, EngineIsNew, EngineGoesWithPort}
-use Rattle.swd_host.proofs.Words.{HostReport, Fits, FitsFrom, HostEndsAt, IsAtRest, RunFits, RunsWithin, EngineTargetIsOpen}
+use Rattle.swd_host.proofs.Words.{HostReport, Fits, FitsFrom, HostEndsAt, IsAtRest, RunFits, RunsWithin}
+use Rattle.swd_host.proofs.Words.{EngineTargetIsOpen}
 use Rattle.swd_host.proofs.Words.{EngineDoes, engine_report}
 use Rattle.swd_port.proofs.CompletionLaws.{port_may_become_of_none}
 use Rattle.swd_host.proofs.Openings.{engine_ends_since, opening_spends, opening_asked, opening_unbegun, opening_lost}

@@ -208,7 +208,8 @@ module _ (list : List Access) (answers : List Answer) where
               stood = asked_stood job task more calls here h.none stood;
             })
         | inr none ↦
-            (let unasked : host_awaits_drw (record { cue = CueAsk (engine_request_for job task); seen = v } ∷ calls) ≡ false =
+            (let unasked : host_awaits_drw (record { cue = CueAsk (engine_request_for job task); seen = v } ∷ calls)
+            ≡ false =
             ap (λ okays. host_asks_drw (CueAsk (engine_request_for job task)) && okays) none ∙ and-false _ in
             subst (λ okays. EngineKnowsAt list answers
             (if okays then Doing job Data else if v == 2 then Doing job Waited else

@@ -183,7 +183,8 @@ pub opening_turns_calls : (list : List Access) (e f : Engine) (calls : List Call
 opening_turns_calls list e f [] on moves same = record {
   on = ap (λ (x : Engine). engine_state_is_of true x.state) same ∙ on;
   ahead = λ rested.
-      absurd (let both : true ≡ false = sym rested ∙ (ap (λ (x : Engine). engine_is_rested x.state) same ∙ moves) in cc);
+      absurd (let both : true ≡ false = sym rested ∙ (ap (λ (x : Engine). engine_is_rested x.state) same ∙ moves) in
+      cc);
   none = refl;
   since = Quiet;
   sent = none;

@@ -106,7 +106,8 @@ module _ (n : ℕ) (base : EngineBase) (b : ℕ) (k : EngineHand) (v : ℕ) (s t
   plain_asked Configured h asks none other = opening_ask_csw_word n base b k v s t l h asks
   plain_asked WriteTar h asks none other =
       write_asked WriteTar n base b b k v s t TarWrite refl refl refl refl refl refl
-      (λ e. absurd (cc)) (omega arith) h.has.up.calm (λ e. host_debug_power s.target h.has.up.debug h.has.up.debug_seen) l h
+      (λ e. absurd (cc)) (omega arith) h.has.up.calm (λ e. host_debug_power s.target h.has.up.debug h.has.up.debug_seen)
+      l h
       asks (λ w. w)
   plain_asked _ h asks none other = grind arith
 

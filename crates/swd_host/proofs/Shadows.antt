@@ -201,7 +201,8 @@ after_shadow js (suc i) list d m l room =
     resume_shadow_next (below i js) a p q (place (below i js) (omega (arith, e)))
     (after_shadow js i list d m (omega (arith, l)) room) in
     let all : ResumeShadow (below i js + n) (bus_after a p) (memory_after (replicate n a) (bus_after a q)) =
-    shadow_copies n (below i js) a p (bus_after a q) (is_plain_list (take i list) m room.plain) (place (below i js + n) (omega (arith, e))) one in
+    shadow_copies n (below i js) a p (bus_after a q) (is_plain_list (take i list) m room.plain)
+    (place (below i js + n) (omega (arith, e))) one in
     let plain : memory_after (take (i + 1) list) m ≡ bus_after a p = host_list_memory_next list i d m low in
     let there : memory_after (list_with_resume_repeats js 0 (take (i + 1) list)) m
     ≡ memory_after (replicate n a) (bus_after a q) =
@@ -259,4 +260,5 @@ resume_again_words more js list m told now d few room all (k, a) =
     (memory_after (list_with_resume_repeats more 0 (take k list)) m) =
     after_shadow more k list d m (omega arith) roomy in
     ap plain_words_of here.memory ∙ (shadow.same.words
-    ∙ ap (λ xs. plain_words_of (memory_after xs m)) (ap (λ n. take n list) whole ∙ take_all (length list) list (omega arith)))
+    ∙ ap (λ xs. plain_words_of (memory_after xs m))
+    (ap (λ n. take n list) whole ∙ take_all (length list) list (omega arith)))

@@ -172,7 +172,8 @@ confirms_at (Read at) n b k x y flip e single h flag paid more sp d ac =
     )
 confirms_at (Write at word) n b k x y flip e single h flag paid more sp d ac =
     record {
-      done = done_there b k RdbuffRead true flip x y (λ e. absurd (cc)) (stays_pending (Write at word) true flip x y refl ac) h d ac;
+      done = done_there b k RdbuffRead true flip x y (λ e. absurd (cc))
+          (stays_pending (Write at word) true flip x y refl ac) h d ac;
       answered = d.answer ∙ ap (λ a. bus_done_answer (access_of_task a) k.memory) e;
       flag = ap (λ i. i.write_error) ac.target ∙ flag;
       paid = omega arith;
@@ -292,7 +293,8 @@ module _ (n : ℕ) (base : EngineBase) (b c : ℕ) (k : EngineHand) (v : ℕ) (s
       let ux : TaskTransferSent b k x.target = host_under_completed b k s x first u in
       let flag : x.target.write_error ≡ false = kp.write_error ∙ h.flag refl in
       let paid : n ≤ x.tally.disturbed = omega (arith, ap (λ i. i.disturbed) kp.tally, h.paid) in
-      confirming_came r q k x y (λ e. host_debug_power x.target ux.serves.debug ux.serves.debug_seen) (At Confirm) n base c k
+      confirming_came r q k x y (λ e. host_debug_power x.target ux.serves.debug ux.serves.debug_seen) (At Confirm) n
+      base c k
       v t (omega (arith, ap (λ i. i.lost) kp.tally)) (under_more b 1 k x (omega arith) ux) flag paid last
       (λ d a. good x y last (under_more b c k x some ux) flag paid d a)
       (λ a w. record { free = refl; before = inl (host_sure_more (n + 1) 1 c k t some w) })

@@ -75,8 +75,8 @@ pub record ResumeCloses (list : List Access) (tries : ℕ) (earlier told : HostR
   pub begun : told.begun ≡ resume_begun earlier told own
   pub closes : Closes 5 1 (drop (length earlier.answers) list) tries (resume_own_report earlier told own) next
 
--- `HostReportsCalls` for a call that resumed after an earlier report: over the rest of the list, for its new answers and its
--- own requests.
+-- `HostReportsCalls` for a call that resumed after an earlier report: over the rest of the list, for its new answers
+-- and its own requests.
 abbrev pub ResumeReportsCalls : List Access → HostReport → HostReport → List Call → Type 0
 ResumeReportsCalls list earlier told calls =
     HostReportsCalls (drop (length earlier.answers) list) (resume_own_report earlier told told.begun) calls

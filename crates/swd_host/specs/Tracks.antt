@@ -6,18 +6,18 @@
 -- least n (`paid`). `b` is how many unanswered accesses are begun, so that the bus may be that after them: 0, the
 -- current one, or in a block of reads the next one too.
 --
--- A REQUEST has two facts: `EngineBefore` its job, where it may be sent, and `EngineDuring`, where its OK was seen and its data
--- phase is due. `EngineDuring` implies `EngineBefore` of the next job. For an access without an error:
+-- A REQUEST has two facts: `EngineBefore` its job, where it may be sent, and `EngineDuring`, where its OK was seen and
+-- its data phase is due. `EngineDuring` implies `EngineBefore` of the next job. For an access without an error:
 --
---     job           the request         before it (`EnginePlaceHas`)                      the data phase that is due
---     At WriteTar   write TAR           EngineLacksTar: TAR has to be written        the address
---     At Transfer   read or write DRW   EngineHasTar: TAR has the address            a write's word; a read's is ignored
---     At Confirm    read RDBUFF         Under: sent, perhaps not done yet      a read's word; a write's is ignored
+--     job           the request         before it (`EnginePlaceHas`)               the data phase that is due
+--     At WriteTar   write TAR           EngineLacksTar: TAR has to be written      the address
+--     At Transfer   read or write DRW   EngineHasTar: TAR has the address          a write's word; a read's is ignored
+--     At Confirm    read RDBUFF         Under: sent, perhaps not done yet          a read's word; a write's is ignored
 --     (the end)                         Finished: done, and the answer known
 --
 -- WriteTar is left out where TAR is known to have the address. In a burst the request for DRW of the next access takes
--- RDBUFF's place. In a block of reads it starts that access before this one is answered, and `EngineAheadAt` has what is
--- known of it.
+-- RDBUFF's place. In a block of reads it starts that access before this one is answered, and `EngineAheadAt` has what
+-- is known of it.
 --
 -- AFTER AN ERROR, what is known instead of `EnginePlaceIsSure` (`EnginePlaceHas` holds, and no write was corrupted):
 --

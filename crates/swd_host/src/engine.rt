@@ -151,7 +151,8 @@ impl Engine {
     /// can pass (IHI 0031, B4, protocol error response). A transfer that was left pending may turn out to be a bus
     /// error: its flag is cleared once, and that is no event.
     ///
-    /// Start with the first unanswered access. Accesses in flight may take effect a second time.
+    /// Start with the first unanswered access. Each time that a run is resumed, an access in flight may take effect
+    /// again.
     pub fn again(tries: u32) -> Engine
         ensures again { EngineIsNew Bursts.Writes true tries result }
         ensures open { engine_open_requests result ≤ 9 + 5 * (tries + 2) }
@@ -163,8 +164,8 @@ impl Engine {
     }
 
     /// Creates an engine for a list over a target that is open: powered, at rest and without a flag, as a run leaves it
-    /// that ended [`All`](End::All). It starts at the outcome `Opened`, so it sends no opening. It writes TAR before its
-    /// first access, whatever the calls before left there.
+    /// that ended [`All`](End::All). It starts at the outcome `Opened`, so it sends no opening. It writes TAR before
+    /// its first access, whatever the calls before left there.
     pub fn opened(bursts: Bursts, tries: u32) -> Engine
         ensures opened { EngineIsOpened bursts tries result }
         ensures fits { (s : Port) → s.link.due ≡ Nothing → EngineDueFits result s }

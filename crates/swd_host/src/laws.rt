@@ -32,9 +32,8 @@ pub fn sessions()
         → HostSession s list answers t → HostSessionIsAsOne s list answers t }
 {}
 
-/// States that successive lists and blocks over an open target, each of which ended `All`, are as one list. Their answers
-/// are those of the bus to the concatenated list, and the bus is that after it. The target is open
-/// again.
+/// States that successive lists and blocks over an open target, each of which ended `All`, are as one list. Their
+/// answers are those of the bus to the concatenated list, and the bus is that after it. The target is open again.
 pub fn lists()
     ensures { (s : Port) (list : List Access) (answers : List Answer) (t : Port) → HostIsOpen s
         → HostLists s list answers t → HostListsAreAsOne s list answers t }

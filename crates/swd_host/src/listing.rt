@@ -21,8 +21,8 @@ use crate::task::Bursts;
 use std::alloc::Allocator;
 use swd_port::{Access, Answer, Wire};
 
-/// Opens a target at rest: a run of no accesses. If it ends [`All`](crate::End::All), the target is open, with its memory
-/// as it was: [`run_open`], [`run_open_to`] and [`run_open_block`] may follow.
+/// Opens a target at rest: a run of no accesses. If it ends [`All`](crate::End::All), the target is open, with its
+/// memory as it was: [`run_open`], [`run_open_to`] and [`run_open_block`] may follow.
 ///
 /// Whatever the other end sends, the call ends after at most `10 + 5 * tries` requests.
 pub fn open_target<W: Wire>(wire: &mut W, tries: u32) -> Ending
@@ -38,8 +38,8 @@ pub fn open_target<W: Wire>(wire: &mut W, tries: u32) -> Ending
     conduct_to(wire, Engine::new(tries), &[], &mut none)
 }
 
-/// Performs the accesses in order over an open target, with the guarantees of [`run`](crate::run), and sends no opening.
-/// A target is open after each call that ended [`All`](crate::End::All).
+/// Performs the accesses in order over an open target, with the guarantees of [`run`](crate::run), and sends no
+/// opening. A target is open after each call that ended [`All`](crate::End::All).
 ///
 /// An access that nothing disturbs takes three requests, and a write within a burst one. After an early end the target
 /// may be no longer open: [`resume`](crate::resume) continues the list.
@@ -116,8 +116,9 @@ pub fn run_open_block<W: Wire, A: Allocator + Copy>(
     Ok(report_open(wire, &accesses, Bursts::Reads, tries, answers))
 }
 
-/// Performs the accesses in order over an open target as [`run_open`] does, and hands each answer on once it is certain,
-/// as [`run_to`](crate::run_to) does. The kind of bursts is chosen for this list alone. It allocates no memory.
+/// Performs the accesses in order over an open target as [`run_open`] does, and hands each answer on once it is
+/// certain, as [`run_to`](crate::run_to) does. The kind of bursts is chosen for this list alone. It allocates no
+/// memory.
 ///
 /// The sink may have the answers of earlier lists: those of this one come after them.
 ///

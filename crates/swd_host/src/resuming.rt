@@ -50,7 +50,8 @@ pub fn resume<W: Wire, A: Allocator>(
     ensures untouched { IfErr result (λ refused. wire.new ≡ wire.old) }
     ensures plan { W.plan wire.new ≡ W.plan wire.old }
     ensures told { IfOk result (λ told.
-        HostCalls W.notes (ResumeReportsCalls accesses.now (host_report_of report.now) (host_report_of told)) wire.old wire.new) }
+        HostCalls W.notes (ResumeReportsCalls accesses.now (host_report_of report.now) (host_report_of told)) wire.old
+        wire.new) }
 {
     let Some(mut answers) = copy_answers(alloc, &report.answers, accesses.len()) else {
         return Err(Refused::Memory);

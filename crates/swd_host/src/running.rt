@@ -220,8 +220,8 @@ fn idle<W: Wire>(wire: &mut W)
     });
 }
 
-// Performs a list over a target that the engine has opened, and hands each answer on once it is certain. Sends eight idle
-// cycles after a whole list.
+// Performs a list over a target that the engine has opened, and hands each answer on once it is certain. Sends eight
+// idle cycles after a whole list.
 pub(crate) fn perform<W: Wire, K: AnswerSink>(
     wire: &mut W,
     engine: &mut Engine,
@@ -257,10 +257,11 @@ pub(crate) fn perform<W: Wire, K: AnswerSink>(
 
 /// Performs the accesses in order over a target at rest.
 ///
-/// Over a target that conforms to the model, each answered access took effect exactly once (at `BusFault` not at all).
-/// The answers are those of the bus to the first accesses of the list. The run stops early only at a lost
-/// acknowledgement or after more than `tries` disturbed requests; [`resume`](crate::resume) continues from both. A
-/// whole run sends eight idle cycles at its end (only tested), and leaves the target at rest with power on.
+/// Over a target that conforms to the model, each access answered with a word or as `Written` reached the target's bus
+/// exactly once, and one answered `BusFault` changes no plain memory. The answers are those of the bus to the first
+/// accesses of the list. The run stops early only at a lost acknowledgement or after more than `tries` disturbed
+/// requests; [`resume`](crate::resume) continues from both. A whole run sends eight idle cycles at its end (only
+/// tested), and leaves the target at rest with power on.
 ///
 /// A simulated target that was just made is at rest, and so is a target after a run that ended `All`. Flags, power, CSW
 /// and TAR may have any values. `tries` is the number of events that the opening, and each access, may meet.
@@ -299,8 +300,8 @@ pub fn run<W: Wire, A: Allocator>(
     Ok(conduct(wire, Engine::new(tries), accesses, answers))
 }
 
-/// Performs the accesses in order over a target at rest, with the guarantees of [`run`], and hands each answer on once it
-/// is certain. It allocates no memory.
+/// Performs the accesses in order over a target at rest, with the guarantees of [`run`], and hands each answer on once
+/// it is certain. It allocates no memory.
 ///
 /// The answers that the sink has taken are at each moment the first ones of the report: those that it would have if the
 /// next acknowledgement were lost. With `Bursts::Reads` it reads as [`run_block`](crate::run_block) does: a report may
@@ -333,7 +334,8 @@ pub fn run_to<W: Wire, K: AnswerSink>(
     ensures most { K.most sink.old ≤ K.most sink.new }
     ensures plan { W.plan wire.new ≡ W.plan wire.old }
     ensures told { IfOk result (λ ending.
-        HostCalls W.notes (HostReportsCalls accesses.now (host_report_to (K.taken sink.new) ending)) wire.old wire.new) }
+        HostCalls W.notes (HostReportsCalls accesses.now (host_report_to (K.taken sink.new) ending)) wire.old
+        wire.new) }
 {
     match refusal(accesses) {
         Some(refused) => Err(refused),

@@ -72,11 +72,13 @@ impl<'w, W: Wire> Session<'w, W> {
         ensures ready { self.new.ready ≡ host_end_is_all result.ended }
         ensures closes { Closes 0 1 [] self.old.tries (host_report_to [] result) (W.port self.new.wire.now).link.due }
         ensures fits { W.lawful self.new.wire.now → W.lawful self.old.wire.now
-            × RunsOver [] self.old.tries (host_report_to [] result) (W.port self.old.wire.now) (W.port self.new.wire.now) }
+            × RunsOver [] self.old.tries (host_report_to [] result) (W.port self.old.wire.now)
+            (W.port self.new.wire.now) }
         ensures opens { W.lawful self.new.wire.now
             → HostOpens result.ended (W.port self.old.wire.now) (W.port self.new.wire.now) }
         ensures plan { W.plan self.new.wire.now ≡ W.plan self.old.wire.now }
-        ensures told { HostCalls W.notes (HostReportsCalls [] (host_report_to [] result)) self.old.wire.now self.new.wire.now }
+        ensures told { HostCalls W.notes (HostReportsCalls [] (host_report_to [] result)) self.old.wire.now
+            self.new.wire.now }
     {
         let ending = open_target(self.wire, self.tries);
         self.note(ending.ended);
@@ -87,8 +89,8 @@ impl<'w, W: Wire> Session<'w, W> {
     ///
     /// # Errors
     ///
-    /// Returns `TooMany`, `Unaligned` and `Memory` as [`run_open`] does. Nothing is sent in these cases, and the session
-    /// stays open.
+    /// Returns `TooMany`, `Unaligned` and `Memory` as [`run_open`] does. Nothing is sent in these cases, and the
+    /// session stays open.
     pub fn run<A: Allocator>(&mut self, alloc: A, accesses: &[Access]) -> Result<Report<A>, Refused>
         requires ready { self.old.ready ≡ true }
         requires due { (W.port self.old.wire.now).link.due ≡ Nothing }

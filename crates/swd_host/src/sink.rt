@@ -8,8 +8,8 @@ use swd_port::Answer;
 
 /// Takes the answers of a run in order, each once it is certain.
 ///
-/// An answer is passed on when the request that confirms its access was acknowledged. So at each moment the answers that
-/// were taken are the first ones of the report, whatever comes back later.
+/// An answer is passed on when the request that confirms its access was acknowledged. So at each moment the answers
+/// that were taken are the first ones of the report, whatever comes back later.
 pub trait AnswerSink {
     /// The answers that it took so far.
     ghost taken: { Self → List AnswerType };

@@ -262,7 +262,8 @@ impl Engine {
         ensures meets { EngineMeets false None self.old self.new }
         ensures goes { engine_place_is_of false place ≡ true
             → EngineGoesTo (engine_after_resend place word) self.new.state }
-        ensures rests { EngineRestsWith (engine_ahead_to (Job.Resend place) self.old.task) self.new.state self.new.ahead }
+        ensures rests { EngineRestsWith (engine_ahead_to (Job.Resend place) self.old.task) self.new.state
+            self.new.ahead }
     {
         match place {
             HostStep::Configured => self.check_csw(is_configured(word)),

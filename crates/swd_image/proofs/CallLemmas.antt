@@ -283,7 +283,8 @@ module _ {W : Type 0} (port : W → Port) (plan : W → List Mark) (lawful : W �
     pub at_rest : IsAtRest (port t)
     pub plain : IsPlain (port t).target.memory
     pub held : Held want P (plain_words_of (port s).target.memory) (plain_words_of (port t).target.memory)
-    pub tells : AllTell want P (plain_words_of (port s).target.memory) (plain_words_of (port t).target.memory) list answers
+    pub tells : AllTell want P (plain_words_of (port s).target.memory) (plain_words_of (port t).target.memory) list
+        answers
 
   -- over a lawful wire, from a target at rest, consecutive calls leave it at rest
   pub calls_rest : (s t : W) (list : List Access) (answers : List Answer)
@@ -313,20 +314,27 @@ module _ {W : Type 0} (port : W → Port) (plan : W → List Mark) (lawful : W �
           let went = call.goes.went in
           let back : lawful r = law_before port plan lawful n batch.accesses tries r run.stops run.told v went law in
           let h = leaves r xs vs before (all_front want P words xs batch.accesses i) back in
-          let turns = (tell_of port plan lawful n batch.accesses tries r h.at_rest run.stops run.told v went law).turns in
-          let kept = chain_keeps want P words n batch.accesses (port r).target.memory turns.calls run.told turns.memory h.plain
+          let turns =
+          (tell_of port plan lawful n batch.accesses tries r h.at_rest run.stops run.told v went law).turns in
+          let kept = chain_keeps want P words n batch.accesses (port r).target.memory turns.calls run.told turns.memory
+          h.plain
           (all_back want P words xs batch.accesses i) h.held turns.chain in
-          let there : Kept want P words batch.accesses (plain_words_of (port r).target.memory) (plain_words_of (port v).target.memory)
+          let there : Kept want P words batch.accesses (plain_words_of (port r).target.memory)
+          (plain_words_of (port v).target.memory)
           run.told.answers =
-          subst (λ m. Kept want P words batch.accesses (plain_words_of (port r).target.memory) (plain_words_of m) run.told.answers)
+          subst (λ m. Kept want P words batch.accesses (plain_words_of (port r).target.memory) (plain_words_of m)
+          run.told.answers)
           (turns.left all) kept in
           record {
-            plain = subst IsPlain (turns.left all) (resume_chain_plain n batch.accesses (port r).target.memory turns.calls
+            plain = subst IsPlain (turns.left all)
+                (resume_chain_plain n batch.accesses (port r).target.memory turns.calls
                 run.told turns.memory h.plain turns.chain);
             at_rest = rests port plan lawful n batch.accesses tries r h.at_rest run.stops run.told v went law all;
             held = there.held;
-            tells = tells_both want P words (plain_words_of (port v).target.memory) xs batch.accesses vs run.told.answers
+            tells = tells_both want P words (plain_words_of (port v).target.memory) xs batch.accesses vs
+                run.told.answers
                 (calls_done s r xs vs before)
-                (all_later want P words (plain_words_of (port r).target.memory) (plain_words_of (port v).target.memory) xs vs there.later
+                (all_later want P words (plain_words_of (port r).target.memory) (plain_words_of (port v).target.memory)
+                xs vs there.later
                 h.tells) there.tells;
           }

@@ -236,7 +236,8 @@ module _ (want : ℕ → ℕ) (P : ℕ → Type 0) (words : FinMap nat_cmp ℕ) 
       let inside : AllIn rest = all_drop (length earlier.answers) list i in
       let is : now ≡ memory_after (take (k + j) rest) left = fit.memory.2 in
       let r = ran (k + j) rest left plain_left inside c.held in
-      let later : Later (plain_words_of left) (plain_words_of now) = subst (λ x. Later (plain_words_of left) (plain_words_of x)) (sym is) r.later in
+      let later : Later (plain_words_of left) (plain_words_of now) =
+      subst (λ x. Later (plain_words_of left) (plain_words_of x)) (sym is) r.later in
       let added : AllTell (plain_words_of now) rest (resume_added earlier told) =
       subst (AllTell (plain_words_of now) rest) (sym fit.answers)
       (subst (λ x. AllTell (plain_words_of x) rest (answers_of (take k rest) left)) (sym is)

@@ -62,7 +62,8 @@ memory_bytes m first many place addr (suc count) aligned is few =
     let enough : place + suc count ≤ 4 * many = few (omega arith) in
     let word : get_or (image_words_at m.words first many) (place / 4) 0 ≡ image_word_in m.words (image_word_of addr) =
     word_there m.words first many (place / 4) (omega (arith, enough))
-    ∙ (let e : first + 4 * (place / 4) ≡ image_word_of addr = omega (arith, aligned, is) in ap (image_word_in m.words) e) in
+    ∙ (let e : first + 4 * (place / 4) ≡ image_word_of addr = omega (arith, aligned, is) in
+    ap (image_word_in m.words) e) in
     let same : place % 4 ≡ addr % 4 = omega (arith, aligned, is) in
     ap (λ w. image_byte_in w place ∷ image_bytes_of (image_words_at m.words first many) (place + 1) count) word
     ∙ ap (λ i. get_or (to_le_bytes w32 (image_word_in m.words (image_word_of addr))) i 0
@@ -90,8 +91,10 @@ module _ {W : Type 0} (port : W → Port) (plan : W → List Mark) (lawful : W �
         are = are;
         memory = λ law rest plain. are
             ∙ ap (λ l. image_bytes_of l (addr % 4) count)
-            ((read law rest plain).words_are ∙ image_reads_from_memory (plain_words_of (port s).target.memory) first many)
-            ∙ memory_bytes (plain_of (port s).target.memory) first many (addr % 4) addr count (omega arith) (omega arith)
+            ((read law rest plain).words_are
+            ∙ image_reads_from_memory (plain_words_of (port s).target.memory) first many)
+            ∙ memory_bytes (plain_of (port s).target.memory) first many (addr % 4) addr count (omega arith)
+            (omega arith)
             (dump_words_enough addr count);
         same = λ law rest plain. (read law rest plain).same;
         plain = λ law rest plain. (read law rest plain).plain;

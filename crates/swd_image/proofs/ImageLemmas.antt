@@ -135,7 +135,8 @@ module _ (addr : ℕ) (bytes : List ℕ) (head tail : ℕ) (before after : FinMa
         → image_edge_word addr head tail (image_word_of at) ≡ image_word_in before (image_word_of at)
     kept at i out = elim (cases_lt addr (image_word_of at)) [
       | inl later ↦
-          (let edge : image_edge_word addr head tail (image_word_of at) ≡ tail = later_edge addr head tail (image_word_of at) later in
+          (let edge : image_edge_word addr head tail (image_word_of at) ≡ tail =
+          later_edge addr head tail (image_word_of at) later in
           let past : addr + length bytes ≤ at = elim out [ inl low ↦ absurd (omega arith) | inr high ↦ high ] in
           let h = i.high in
           let g = i.aligned in
@@ -147,7 +148,8 @@ module _ (addr : ℕ) (bytes : List ℕ) (head tail : ℕ) (before after : FinMa
           edge ∙ is_tail (tail_there addr (length bytes) (omega (arith, last)) (omega (arith, last)))
           ∙ ap (image_word_in before) last)
       | inr first ↦
-          (let edge : image_edge_word addr head tail (image_word_of at) ≡ head = first_edge addr head tail (image_word_of at) first in
+          (let edge : image_edge_word addr head tail (image_word_of at) ≡ head =
+          first_edge addr head tail (image_word_of at) first in
           let l = i.low in
           let g = i.aligned in
           let same : image_word_of addr ≡ image_word_of at = omega (arith, l, g, first) in

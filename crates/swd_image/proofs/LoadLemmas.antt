@@ -178,7 +178,8 @@ module _ {W : Type 0} (port : W → Port) (plan : W → List Mark) (lawful : W �
         (image_last_word addr len)) edges back rest plain in
         let e = edged (λ a. image_word_in old (plain_address a)) (image_needs_head addr len) (image_needs_tail addr len)
         (image_word_of addr) (image_last_word addr len) head tail r.words_are in
-        let l = leaves port plan lawful tries resumes word (InImageWords addr len) reached r.at_rest r.plain t list made.answers
+        let l = leaves port plan lawful tries resumes word (InImageWords addr len) reached r.at_rest r.plain t list
+        made.answers
         made.calls (all_writes word (InImageWords addr len) middle (image_word_of addr) (image_word_count addr len)
         (λ k low. record { low = omega arith; high = omega arith; aligned = omega arith })) law in
         let written : (k : ℕ) → k < image_word_count addr len

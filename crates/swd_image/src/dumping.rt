@@ -82,7 +82,8 @@ pub fn dump<W: Wire, A: Allocator + Copy>(
 ///
 /// # Errors
 ///
-/// Returns the errors of [`dump`]. The reports of all calls are written then, with that of the call that failed. Returns
+/// Returns the errors of [`dump`]. The reports of all calls are written then, with that of the call that failed.
+/// Returns
 /// `Report` if the writer failed or took no bytes. The call that was in progress went on to its end, and no call was
 /// made after it.
 pub fn dump_reporting<W: Wire, O: Write, A: Allocator + Copy>(

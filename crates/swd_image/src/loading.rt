@@ -120,11 +120,13 @@ pub fn load<W: Wire, A: Allocator + Copy>(
 }
 
 /// Loads an image as [`load`] does. Writes the reports of its calls to the writer `report`, if there is one: for each
-/// call the lines that `swd run` writes, each at the latest 1,024 lines after it is known, and all before the next call.
+/// call the lines that `swd run` writes, each at the latest 1,024 lines after it is known, and all before the next
+/// call.
 ///
 /// # Errors
 ///
-/// Returns the errors of [`load`]. The reports of all calls are written then, with that of the call that failed. Returns
+/// Returns the errors of [`load`]. The reports of all calls are written then, with that of the call that failed.
+/// Returns
 /// `Report` if the writer failed or took no bytes. The call that was in progress went on to its end, and no call was
 /// made after it.
 pub fn load_reporting<W: Wire, O: Write, A: Allocator + Copy>(

@@ -117,7 +117,8 @@ pub(crate) fn write_words<W: Wire, O: Write, A: Allocator + Copy>(
     ensures fault { IfErr result (FailsAs W.port W.plan W.lawful tries resumes
         (image_writes (image_loaded_word addr bytes.now edges.head edges.tail) first count) wire.old wire.new) }
     ensures report { ReportsTo W.port W.plan W.lawful tries resumes
-        (image_writes (image_loaded_word addr bytes.now edges.head edges.tail) first count) (image_fault_of result) wire.old wire.new
+        (image_writes (image_loaded_word addr bytes.now edges.head edges.tail) first count) (image_fault_of result)
+        wire.old wire.new
         (run_file_held O.contents report.old) (run_file_held O.contents report.new) }
     ensures plan { W.plan wire.new ≡ W.plan wire.old }
 {

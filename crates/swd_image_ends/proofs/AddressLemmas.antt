@@ -91,7 +91,8 @@ module _ {W : Type 0} (port : W → Port) (plan : W → List Mark) (tries resume
     plain : IsPlain (port t).target.memory
     addresses : ImageEndSameAddresses (plain_of (port s).target.memory) (plain_of (port t).target.memory)
 
-  same_calls : (s t : W) (list : List Access) (answers : List Answer) → IsAtRest (port s) → IsPlain (port s).target.memory
+  same_calls : (s t : W) (list : List Access) (answers : List Answer) → IsAtRest (port s) →
+      IsPlain (port s).target.memory
       → Calls port plan AnyImageWire tries resumes s list answers t → Keeps s t
   same_calls s t list answers rest plain none = record { at_rest = rest; plain = plain; addresses = λ q. refl }
   same_calls s t list answers rest plain

@@ -1,5 +1,6 @@
--- What a load and a verification of pieces state at a target of which nothing is proved. `calls` are the calls of a wire
--- to the outside, with what came back, the last one first. The wire is lawful if they are consistent with the story.
+-- What a load and a verification of pieces state at a target of which nothing is proved. `calls` are the calls of a
+-- wire to the outside, with what came back, the last one first. The wire is lawful if they are consistent with the
+-- story.
 -- `Over` holds of the connection and these calls.
 use Rattle.std.specs.Prelude.{ℕ, List, [], Option, Result, Ok, Err}
 use Rattle.swd_port.specs.declared.call.Call.{Call}

@@ -1,5 +1,5 @@
-//! Loads images into a target behind OpenOCD's remote_bitbang characters or into a simulated one, verifies them, and dumps
-//! its memory. Reads the file of an image.
+//! Loads images into a target behind OpenOCD's remote_bitbang characters or into a simulated one, verifies them, and
+//! dumps its memory. Reads the file of an image.
 #![tactic(auto)]
 
 mod file;

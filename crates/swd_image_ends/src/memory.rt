@@ -60,8 +60,8 @@ pub fn memory_with<A: Allocator + Copy>(
 }
 
 /// Creates the simulated target of `swd run` under a plan. Its memory has the words of `bytes`, from address `base` on,
-/// the least significant byte first, and no other word. Its log has room for `spare` transfers. Returns `None` if out of
-/// memory.
+/// the least significant byte first, and no other word. Its log has room for `spare` transfers. Returns `None` if out
+/// of memory.
 pub fn simulated_target<A: Allocator + Copy>(
     alloc: A,
     base: u32,

@@ -12,7 +12,8 @@ use swd_image::{ByteDifference, ImageFault, load_reporting, verify_reporting};
 use swd_image_files::Image;
 use swd_port::Wire;
 
-/// Loads the pieces of an image in their order, each by `swd_image::load_reporting`, over a wire on which nothing is due.
+/// Loads the pieces of an image in their order, each by `swd_image::load_reporting`, over a wire on which nothing is
+/// due.
 ///
 /// Over a target that conforms to the model and was at rest, with a plain memory, this memory contains each piece after
 /// a load that succeeds. If two pieces have an address, it contains the later one's byte. All other memory is unchanged
@@ -20,8 +21,8 @@ use swd_port::Wire;
 ///
 /// # Errors
 ///
-/// Returns the error of the first piece that fails. The pieces before it were loaded, and for those after it no call was
-/// made.
+/// Returns the error of the first piece that fails. The pieces before it were loaded, and for those after it no call
+/// was made.
 pub fn load_pieces<W: Wire, O: Write, A: Allocator + Copy>(
     alloc: A,
     wire: &mut W,
@@ -47,9 +48,9 @@ pub fn load_pieces<W: Wire, O: Write, A: Allocator + Copy>(
     Ok(())
 }
 
-/// Compares the memory with the pieces of an image in their order, each by `swd_image::verify_reporting`, up to the first
-/// one that differs. Returns the first byte of it that differs, or `None` if all are equal. The writer `report`, if there
-/// is one, gets the reports of the calls while they go on.
+/// Compares the memory with the pieces of an image in their order, each by `swd_image::verify_reporting`, up to the
+/// first one that differs. Returns the first byte of it that differs, or `None` if all are equal. The writer `report`,
+/// if there is one, gets the reports of the calls while they go on.
 ///
 /// Over a target that conforms to the model and was at rest, with a plain memory, the result holds for the bytes of
 /// this memory.

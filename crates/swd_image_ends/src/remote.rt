@@ -13,8 +13,8 @@ use swd_image::{ByteDifference, ImageFault, dump_reporting, load_reporting, veri
 use swd_port::{Story, Tied, TransportWire};
 use swd_remote::{InitialStreams, RemoteStreams, RemoteTransport};
 
-/// Loads an image by `swd_image::load_reporting` at the target behind a remote_bitbang server, and then sends `Q`. Returns
-/// the connection too, with the error that ended it, if any.
+/// Loads an image by `swd_image::load_reporting` at the target behind a remote_bitbang server, and then sends `Q`.
+/// Returns the connection too, with the error that ended it, if any.
 ///
 /// Whatever comes back, the load ends unless the connection blocks. For every story that starts at rest over a plain
 /// memory and with which the replies are consistent, its memory contains the image if the result is `Ok`. If the target
@@ -69,8 +69,8 @@ fn load_begun<P: Story, B: InitialStreams, R: Read, W: Write, O: Write, A: Alloc
     (answer, wire.into_transport().hang_up())
 }
 
-/// Reads `count` bytes from `addr` on by `swd_image::dump_reporting` at the target behind a remote_bitbang server, and then
-/// sends `Q`. Returns the connection too, with the error that ended it, if any.
+/// Reads `count` bytes from `addr` on by `swd_image::dump_reporting` at the target behind a remote_bitbang server, and
+/// then sends `Q`. Returns the connection too, with the error that ended it, if any.
 ///
 /// Whatever comes back, the dump ends unless the connection blocks. For every story as for [`load_remote`], the bytes
 /// are those of its memory. What is sent, read and written to `report` is as for [`load_remote`].
@@ -92,7 +92,8 @@ pub fn dump_remote<P: Story, R: Read, W: Write, O: Write, A: Allocator + Copy>(
         (λ calls. ∥ GoesOver R.remaining W.contents (W.contents writer) (R.remaining reader) result.1 calls ∥₁
         × DumpReports (port_at P.at) (λ calls. []) (FitsStory P.at) tries resumes addr count (image_fault_of result.0)
         []
-        calls (run_file_held O.contents report.old) (run_file_held O.contents report.new)) count result.0 (λ bytes. bytes.items) }
+        calls (run_file_held O.contents report.old) (run_file_held O.contents report.new)) count result.0
+        (λ bytes. bytes.items) }
 {
     dump_begun::<P, Brand, R, W, O, A>(alloc, reader, writer, addr, count, tries, resumes, report)
 }
@@ -124,8 +125,8 @@ fn dump_begun<P: Story, B: InitialStreams, R: Read, W: Write, O: Write, A: Alloc
 }
 
 /// Reads the range of an image by `swd_image::verify_reporting` at the target behind a remote_bitbang server, and then
-/// sends `Q`. Returns the first byte that differs from the image, if any, and the connection with the error that ended it,
-/// if any.
+/// sends `Q`. Returns the first byte that differs from the image, if any, and the connection with the error that ended
+/// it, if any.
 ///
 /// Whatever comes back, the verification ends unless the connection blocks. For every story as for [`load_remote`], the
 /// result holds for the bytes of its memory. What is sent, read and written to `report` is as for [`load_remote`].
@@ -149,7 +150,8 @@ pub fn verify_remote<P: Story, R: Read, W: Write, O: Write, A: Allocator + Copy>
     ensures { VerifiesRemote P.at tries resumes addr
         (λ calls. ∥ GoesOver R.remaining W.contents (W.contents writer) (R.remaining reader) result.1 calls ∥₁
         × DumpReports (port_at P.at) (λ calls. []) (FitsStory P.at) tries resumes addr (length bytes.now)
-        (image_fault_of result.0) [] calls (run_file_held O.contents report.old) (run_file_held O.contents report.new)) bytes.now result.0 }
+        (image_fault_of result.0) [] calls (run_file_held O.contents report.old) (run_file_held O.contents report.new))
+        bytes.now result.0 }
 {
     verify_begun::<P, Brand, R, W, O, A>(alloc, reader, writer, addr, bytes, tries, resumes, report)
 }
@@ -172,7 +174,8 @@ fn verify_begun<P: Story, B: InitialStreams, R: Read, W: Write, O: Write, A: All
     ensures { VerifiesRemote P.at tries resumes addr
         (λ calls. ∥ GoesOver R.remaining W.contents B.sent B.left result.1 calls ∥₁
         × DumpReports (port_at P.at) (λ calls. []) (FitsStory P.at) tries resumes addr (length bytes.now)
-        (image_fault_of result.0) [] calls (run_file_held O.contents report.old) (run_file_held O.contents report.new)) bytes.now result.0 }
+        (image_fault_of result.0) [] calls (run_file_held O.contents report.old) (run_file_held O.contents report.new))
+        bytes.now result.0 }
 {
     let mut wire: TransportWire<RemoteTransport<R, W, B>, P, Tied> = TransportWire::begun(
         RemoteTransport::new(reader, writer),

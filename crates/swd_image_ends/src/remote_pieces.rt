@@ -17,8 +17,8 @@ use swd_image_files::Image;
 use swd_port::{Story, Tied, TransportWire};
 use swd_remote::{InitialStreams, RemoteStreams, RemoteTransport};
 
-/// Loads the pieces of an image by [`load_pieces`] at the target behind a remote_bitbang server, over one connection, and
-/// then sends `Q`. Returns the connection too, with the error that ended it, if any.
+/// Loads the pieces of an image by [`load_pieces`] at the target behind a remote_bitbang server, over one connection,
+/// and then sends `Q`. Returns the connection too, with the error that ended it, if any.
 ///
 /// Whatever comes back, the load ends unless the connection blocks. For every story as for
 /// [`load_remote`](crate::load_remote), its memory contains the image if the result is `Ok`. What is sent and read is
@@ -69,9 +69,9 @@ fn load_begun<P: Story, B: InitialStreams, R: Read, W: Write, O: Write, A: Alloc
     (answer, wire.into_transport().hang_up())
 }
 
-/// Compares the memory with the pieces of an image by [`verify_pieces`] at the target behind a remote_bitbang server, over
-/// one connection, and then sends `Q`. Returns the first byte that differs, if any, and the connection with the error that
-/// ended it, if any.
+/// Compares the memory with the pieces of an image by [`verify_pieces`] at the target behind a remote_bitbang server,
+/// over one connection, and then sends `Q`. Returns the first byte that differs, if any, and the connection with the
+/// error that ended it, if any.
 ///
 /// Whatever comes back, the verification ends unless the connection blocks. For every story as for
 /// [`load_remote`](crate::load_remote), the result holds for the bytes of its memory. What is sent and read is as for

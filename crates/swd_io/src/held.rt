@@ -87,7 +87,8 @@ impl HeldOutput {
         requires first { first_count ≤ A }
         requires second { second_count ≤ B }
         ensures { block_buffer_bytes self.new
-            ≡ block_buffer_bytes self.old ++ (take first_count first.now ++ (take second_count second.now ++ third.now)) }
+            ≡ block_buffer_bytes self.old ++
+            (take first_count first.now ++ (take second_count second.now ++ third.now)) }
     {
         self.extend_first(first, first_count);
         self.extend_first(second, second_count);

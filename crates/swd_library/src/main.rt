@@ -1,6 +1,6 @@
 //! Ways to use the host: by `run` and `run_block` over a wire, by `resume` after a lost acknowledgement, by
-//! `run_over_transport` over a probe, by `run_over_line` over a connection, by the engine alone over two pins, by `run` over
-//! a wire that is recorded, whose trace shows the accesses, and by `run` over registers in place of a memory.
+//! `run_over_transport` over a probe, by `run_over_line` over a connection, by the engine alone over two pins, by `run`
+//! over a wire that is recorded, whose trace shows the accesses, and by `run` over registers in place of a memory.
 #![tactic(auto)]
 
 mod by_hand;

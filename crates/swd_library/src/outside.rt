@@ -1,5 +1,5 @@
-//! The host over a line of your own: by `run_over_transport` over a probe, and by `run_over_line` over the characters of
-//! remote_bitbang.
+//! The host over a line of your own: by `run_over_transport` over a probe, and by `run_over_line` over the characters
+//! of remote_bitbang.
 ghost use Rattle.std.specs.FinMap.{empty};
 ghost use Rattle.std.specs.Prelude.{[]};
 ghost use Rattle.swd_port.specs.Bus.{bus_of};

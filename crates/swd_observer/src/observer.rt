@@ -443,7 +443,8 @@ impl Observer {
         slot: Option<Older>,
     ) -> Option<ObservedAccess>
         ensures { result ≡ unless_observed_older slot
-            (observed_flight_access Took (observed_whole self.increments (if is_observed_posted_read request then word else None)) self) }
+            (observed_flight_access Took (observed_whole self.increments
+            (if is_observed_posted_read request then word else None)) self) }
     {
         match slot {
             Some(_) => None,
@@ -541,7 +542,8 @@ impl Observer {
         ensures observer { self.new ≡ observer_unanswered (observed_kind (observer_doubted self.old).select request)
             (observer_doubted self.old) }
         ensures tells { result ≡ record (observed_older_flush (observed_doubt self.old) self.old) {
-          itself = observed_unanswered_read (observed_kind (observer_doubted self.old).select request) (observer_doubted self.old).tar place;
+          itself = observed_unanswered_read (observed_kind (observer_doubted self.old).select request)
+              (observer_doubted self.old).tar place;
         } }
     {
         let mut tells = self.abort();

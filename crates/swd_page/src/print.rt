@@ -49,8 +49,9 @@ fn numbers_of(ended: Result<(), DecodeFault>) -> (u8, u64)
 /// Prints a trace file to the page, as `swd decode` does. What the page had before has no meaning.
 ///
 /// `reading` is 0 for a trace; 1 for a capture, as with `--resync`; any other value for one with overrun detection, as
-/// with `--resync --overrun`. `printed` is 0 for a line for each part, as with `--places`; 1 for a line for each access, as
-/// with `--accesses`; any other value for one of a target that begins in its reset state, as with `--accesses --made`.
+/// with `--resync --overrun`. `printed` is 0 for a line for each part, as with `--places`; 1 for a line for each
+/// access, as with `--accesses`; any other value for one of a target that begins in its reset state, as with
+/// `--accesses --made`.
 #[unsafe(no_mangle)]
 pub extern "C" fn swd_page_print(page: &mut SwdPage, text: &[u8], reading: u8, printed: u8)
     ensures prints { (left : Option (List ℕ)) × Prints (page_reading reading) (page_printed printed)

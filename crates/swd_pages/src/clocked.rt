@@ -24,8 +24,8 @@ pub fn sample(target: &mut Clocked<Memory>, count: u32) -> u64
     bits
 }
 
-/// Reads a target's identification, from a line reset on. Returns the three bits of the acknowledgement, and the 33 bits
-/// of the data phase.
+/// Reads a target's identification, from a line reset on. Returns the three bits of the acknowledgement, and the 33
+/// bits of the data phase.
 pub fn identification(target: &mut Clocked<Memory>) -> (u64, u64) {
     send(target, u64::MAX, 56);
     send(target, 0, 2);

@@ -74,7 +74,8 @@ given_word at word sent m s asked given r h range fits is o clean gives =
     record {
       live = k.reset ∙ ap (λ x. x.reset) g.target ∙ a.live;
       write_error = k.write_error
-          ∙ ap (λ x. x.write_error) (g.target ∙ ap (port_after_bits g.refuses (Arrives DrwWrite word)) a.target) ∙ r.write_error;
+          ∙ ap (λ x. x.write_error) (g.target ∙ ap (port_after_bits g.refuses (Arrives DrwWrite word)) a.target)
+          ∙ r.write_error;
       sent = port_sent_stays (Write at word) m found.0 given found.2
           (port_drw_write_sent at word m asked found.0 aimed g);
     }

@@ -94,7 +94,8 @@ port_due_after_step Pass seen s t h = due_stays h.1 t (ap (λ p. p.link.due) h.3
 
 -- the numbers over a step and its completions
 counted_around : (s a b t : Port) → PortCompletes s a → b.tally ≡ a.tally → PortCompletes b t → t.tally ≡ s.tally
-counted_around s a b t first u last = let k : PortKept s a = port_kept s a first in let l : PortKept b t = port_kept b t last in l.tally
+counted_around s a b t first u last = let k : PortKept s a = port_kept s a first in
+    let l : PortKept b t = port_kept b t last in l.tally
     ∙ u ∙ k.tally
 
 -- a call that isn't a request changes none of the three counts
@@ -109,7 +110,8 @@ port_others_uncounted Pass seen s t other h = counted_around s h.0 h.1 t h.2 (ap
 -- what DPIDR gives over a step and its completions
 identified_around : (s a b t : Port) → PortCompletes s a → b.target.identification ≡ a.target.identification
     → PortCompletes b t → t.target.identification ≡ s.target.identification
-identified_around s a b t first u last = let k : PortKept s a = port_kept s a first in let l : PortKept b t = port_kept b t last in
+identified_around s a b t first u last = let k : PortKept s a = port_kept s a first in
+    let l : PortKept b t = port_kept b t last in
     l.identification ∙ u ∙ k.identification
 
 one_disturbed : (mark : Mark) → port_disturbs mark ≤ 1
@@ -160,7 +162,8 @@ port_request_counted q seen s t (a, b, mark, c, first, now, last) =
 pub port_identification_kept : PortIdentificationKept
 port_identification_kept (Lead ones undriven switch zeros) seen s t h =
     identified_around s h.0 h.1 t h.2 (ap (λ p. p.target.identification) h.3.after) h.4
-port_identification_kept (Ask q) seen s t h = let c : PortAsked s t = port_request_counted q seen s t h in c.identification
+port_identification_kept (Ask q) seen s t h = let c : PortAsked s t = port_request_counted q seen s t h in
+    c.identification
 port_identification_kept Take seen s t h =
     identified_around s h.0 h.1 t h.2 (ap (λ p. p.target.identification) h.3.after) h.4
 port_identification_kept (Give sent) seen s t h =
@@ -177,13 +180,14 @@ completed_apart n s t (inr (c, fits, e)) = inr (c, fits, ap (port_with_asked n) 
 moved_apart : (Step : Port → Port → Type 0) (n : ℕ) (s t : Port)
     → ((a b : Port) → Step a b → Step (port_with_asked n a) (port_with_asked n b)) → PortAround Step s t
     → PortAround Step (port_with_asked n s) (port_with_asked (n + 0) t)
-moved_apart Step n s t apart h = subst (λ m. PortAround Step (port_with_asked n s) (port_with_asked m t)) (omega arith) (
-  port_with_asked n h.0,
-  port_with_asked n h.1,
-  completed_apart n s h.0 h.2,
-  apart h.0 h.1 h.3,
-  completed_apart n h.1 t h.4,
-)
+moved_apart Step n s t apart h =
+    subst (λ m. PortAround Step (port_with_asked n s) (port_with_asked m t)) (omega arith) (
+      port_with_asked n h.0,
+      port_with_asked n h.1,
+      completed_apart n s h.0 h.2,
+      apart h.0 h.1 h.3,
+      completed_apart n h.1 t h.4,
+    )
 
 -- a step stays one if another number replaces the count of requests; a request still raises it by one, and no other
 -- call does

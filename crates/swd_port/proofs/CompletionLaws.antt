@@ -157,10 +157,12 @@ port_sent_completed access m c x (owed pending tar memory error) =
     elim (bus_succeeds access m) as
     (λ b. bus_succeeds access m ≡ b → PortSent access m (port_completion c x)) [
       | true ↦ λ fits. gone fits refl
-          (pending_done_memory c access x tar pending ∙ ap (bus_after access) memory) (done_error c access m x true tar pending memory error fits)
+          (pending_done_memory c access x tar pending ∙ ap (bus_after access) memory)
+          (done_error c access m x true tar pending memory error fits)
           (done_buffer c access m x tar pending memory fits) (done_tar c access m x tar pending memory fits)
       | false ↦ λ fits. failed fits refl
-          (pending_done_memory c access x tar pending ∙ ap (bus_after access) memory) (done_error c access m x false tar pending memory error fits)
+          (pending_done_memory c access x tar pending ∙ ap (bus_after access) memory)
+          (done_error c access m x false tar pending memory error fits)
           (lost_tar c access m x tar pending memory fits) (lost_buffer c access m x tar pending memory fits)
     ] refl
 port_sent_completed access m c x (gone fits pending memory error buffered advanced) = subst (PortSent access m)
@@ -261,7 +263,8 @@ pub port_drw_write_sent : (at word : ℕ) (m : Bus) (s t : Port) → PortAimed a
 port_drw_write_sent at word m s t h g = subst (PortSent (Write at word) m) (sym g.target)
     (owed refl h.tar h.memory h.sticky_error)
 
--- the memory that `PortBecomes` states is the target's once the pending transfer took effect, whatever the target chooses
+-- the memory that `PortBecomes` states is the target's once the pending transfer took effect, whatever the target
+-- chooses
 pub port_becomes_completed : (m : Bus) (c : Choice) (x : Target) → PortBecomes m x
     → (port_completion c x).memory ≡ m
 port_becomes_completed m c x h = port_becomes_is m (port_completion c x) refl (port_becomes_done m c x h)

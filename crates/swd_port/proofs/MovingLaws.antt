@@ -30,7 +30,8 @@ got_damaged : (place value bits : ℕ) → bits ≡ port_flipped (Some place) (d
 got_damaged place value bits e range fits =
     let none : data_phase_word bits ≡ None = ap data_phase_word e ∙ flipped_data_phase_no_word value place range in
     damaged place refl (λ word small is.
-    absurd (let some : data_phase_word bits ≡ Some word = data_phase_word_by_bits bits word fits small (sym is) in let both : Some word ≡
+    absurd (let some : data_phase_word bits ≡ Some word = data_phase_word_by_bits bits word fits small (sym is) in
+    let both : Some word ≡
     None = sym some ∙ none in cc)) none
 
 got : (flip : Option ℕ) (value bits : ℕ) → bits ≡ port_flipped flip (data_phase_number value) → value < 2 ^ 32

@@ -126,7 +126,8 @@ completes_recording past s t (inr (c, legal, after)) =
 
 -- a completion, after others
 completes_later : (past more : List Access) (s t : Port) (h : PortCompletes s t)
-    → PortCompletes (port_recording (past ++ more) s) (port_recording (past ++ (more ++ accesses_of_completion s t h)) t)
+    → PortCompletes (port_recording (past ++ more) s)
+    (port_recording (past ++ (more ++ accesses_of_completion s t h)) t)
 completes_later past more s t h =
     subst (λ p. PortCompletes (port_recording (past ++ more) s) (port_recording p t))
     (later_list past more (accesses_of_completion s t h)) (completes_recording (past ++ more) s t h)

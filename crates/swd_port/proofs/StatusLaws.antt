@@ -69,7 +69,8 @@ holds : (n word : ℕ) (b : Bool) → bit_and ctrl_stat_mask (2 ^ n) ≡ 2 ^ n �
     → ctrl_stat_holds (2 ^ n) word ≡ b
 holds n word b named some e =
     let all : bit_and (bit_and word ctrl_stat_mask) (2 ^ n) ≡ bit b * 2 ^ n =
-    and_assoc (2 ^ n) word ctrl_stat_mask ∙ ap (bit_and word) named ∙ register_bit_masked word n ∙ ap (λ x. x * 2 ^ n) e in
+    and_assoc (2 ^ n) word ctrl_stat_mask ∙ ap (bit_and word) named ∙ register_bit_masked word n
+    ∙ ap (λ x. x * 2 ^ n) e in
     ap (λ x. x == 2 ^ n) all ∙ mask_is b (2 ^ n) some
 
 -- the word of CTRL/STAT has 32 bits

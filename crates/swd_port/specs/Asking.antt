@@ -93,8 +93,8 @@ abbrev pub port_line_after : Reply → AfterAck → AfterAck → AfterAck
 port_line_after reply phase line = if is_port_okay reply then phase else line
 
 -- The read buffer after a read returned it. An AP read puts its own result there, DRW when its transfer is done; RDBUFF
--- leaves it unknown (an unknown TAR is an unknown result). A register elsewhere has any word, and a bus error there leaves
--- the buffer unknown (this project's choice).
+-- leaves it unknown (an unknown TAR is an unknown result). A register elsewhere has any word, and a bus error there
+-- leaves the buffer unknown (this project's choice).
 abbrev pub port_buffer_once_read : Register → Choice → Bool → Option ℕ → Option ℕ → Option ℕ
 port_buffer_once_read RdbuffRead c increments tar buffer = None
 port_buffer_once_read CswRead c increments tar buffer = Some (csw_read increments c.others)
@@ -158,7 +158,8 @@ abbrev pub port_after_reply : Mark → Reply → Register → Request → Choice
 port_after_reply mark reply r q c s = record {
   link = record {
     due = port_due_after q.read (port_seen_at mark reply);
-    line = port_line_after reply (port_phase_after q.read r (port_flip_of mark) (port_value_in c r s.target)) s.link.line;
+    line = port_line_after reply (port_phase_after q.read r (port_flip_of mark) (port_value_in c r s.target))
+        s.link.line;
   };
   target = port_target_after c reply r q.ap s.target;
   tally = port_tally_after mark s.tally;

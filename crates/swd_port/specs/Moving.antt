@@ -144,8 +144,8 @@ PortGives s sent t = (a : Port) × (b : Port) × PortCompletes s a × PortGivesN
 abbrev pub port_after_pass : Port → Port
 port_after_pass s = record s { link = record s.link { due = Nothing } }
 
--- one call of `pass`, without completion: the turnaround doesn't change the target; `PortPasses` has completion before and
--- after
+-- one call of `pass`, without completion: the turnaround doesn't change the target; `PortPasses` has completion before
+-- and after
 pub record PortPassesNow (s t : Port) : Type 0 where
   pub after : t ≡ port_after_pass s
 

@@ -24,7 +24,7 @@ pub enum Answer {
     Value(u32),
     /// The word was written.
     Written,
-    /// A bus error: nothing was read or written.
+    /// A bus error. A plain memory is then as it was before; another bus may have changed.
     BusFault,
 }
 

@@ -37,7 +37,8 @@ pub trait Transport {
     ///
     /// # Errors
     ///
-    /// Returns `Disconnected` if the other end can't be reached. An [`TransportWire`] doesn't call the transport again then.
+    /// Returns `Disconnected` if the other end can't be reached. A [`TransportWire`] doesn't call the transport again
+    /// then.
     fn step(&mut self, cue: Cue) -> Result<u64, Disconnected>
         ensures told { (made : List PortAttempt) → tells made self.old
             → tells (made ++ port_attempt cue result ∷ []) self.new };

@@ -42,8 +42,8 @@ pub enum Register {
     /// Address 8 of bank 0 of access port 0, and any address of another bank or access port: it reads any word, or is a
     /// bus error.
     ApOtherRead,
-    /// Address 8 of bank 0 of access port 0, and any address of another bank or access port: a write has no effect, or is
-    /// a bus error.
+    /// Address 8 of bank 0 of access port 0, and any address of another bank or access port: a write has no effect, or
+    /// is a bus error.
     ApOtherWrite,
 }
 

@@ -2,7 +2,7 @@
 ghost use Rattle.std.specs.Prelude.{◌≡◌, ◌≢◌, ◌<◌, ◌^◌, List, [], ◌∷◌};
 ghost use Rattle.swd_port.specs.Answers.{port_due_after};
 ghost use Rattle.swd_port.specs.declared.wire.Due.TheVariants.{Nothing, Take, Give, Pass};
-ghost use Rattle.swd_port.specs.Port.{Port};
+ghost use Rattle.swd_port.specs.Port.{Port, Idle};
 ghost use Rattle.swd_port.specs.Choices.{Mark};
 ghost use Rattle.swd_port.specs.Leading.{PortMayLead, PortLeads};
 ghost use Rattle.swd_port.specs.Asking.{PortAsks};
@@ -68,7 +68,7 @@ impl Due {
 /// ```text
 /// // What DPIDR reads after a line reset.
 /// fn identification<W: Wire>(wire: &mut W) -> Option<u32>
-///     requires { (W.port wire.old).link.due ≡ Nothing }
+///     requires { (W.port wire.old).link ≡ port_idle_link }
 /// {
 ///     wire.line_reset();
 ///     match wire.ask(Register::DpidrRead.request()) {
@@ -131,9 +131,11 @@ pub trait Wire {
     }
 
     /// Sends a line reset: 56 ones and two zeros. It changes no DP or AP register. The target then awaits a read of
-    /// DPIDR (IHI 0031, B4, "Connection and line reset sequence").
+    /// DPIDR (IHI 0031, B4, "Connection and line reset sequence"). It is for a line between transactions: inside one, a
+    /// data phase takes some of the ones, and what is left may be too few. There, `lead` with a hundred ones resets.
     final fn line_reset(&mut self)
-        requires { (port self.old).link.due ≡ Nothing }
+        requires due { (port self.old).link.due ≡ Nothing }
+        requires line { lawful self.old → (port self.old).link.line ≡ Idle }
         ensures due { (port self.new).link.due ≡ Nothing }
         ensures step { lawful self.new → lawful self.old × PortLeads (port self.old) 56 (port self.new) }
         ensures plan { plan self.new ≡ plan self.old }

@@ -78,8 +78,13 @@ step_of Take due reset n = (
   record { gets = refl; after = refl },
   inl refl,
 )
-step_of (Give bits) due reset n =
-    (open_wire_port due reset n, open_wire_port Nothing reset n, inl refl, record { refuses = false; after = refl }, inl refl)
+step_of (Give bits) due reset n = (
+  open_wire_port due reset n,
+  open_wire_port Nothing reset n,
+  inl refl,
+  record { refuses = false; after = refl },
+  inl refl,
+)
 step_of Pass due reset n =
     (open_wire_port due reset n, open_wire_port Nothing reset n, inl refl, record { after = refl }, inl refl)
 

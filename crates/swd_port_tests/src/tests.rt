@@ -31,7 +31,8 @@ struct OpenWire {
 impl Wire for OpenWire {
     ghost port = { λ wire. record {
       link = record { due = wire.due; line = Idle };
-      target = record (port_made_target 0 (bus_of (record { words = empty; log = []; room = 0 }))) { reset = wire.reset };
+      target = record (port_made_target 0 (bus_of (record { words = empty; log = []; room = 0 })))
+          { reset = wire.reset };
       tally = record { asked = wire.asked.ticks; disturbed = 0; lost = wire.asked.ticks };
     } };
 

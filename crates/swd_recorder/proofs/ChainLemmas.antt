@@ -289,7 +289,8 @@ joined_at (first ∷ second ∷ items) (suc k) n l h = ap (λ x. first ∷ x) (j
 -- more zeros make the last item one of more idle cycles
 pub recorded_idle_joined_last : (items : List Item) (n : ℕ) → 0 < recorded_idle_at_end items
     → slice_set items (length items - 1) (Idle (recorded_idle_at_end items + n)) ≡ recorded_with_item items (Idle n)
-recorded_idle_joined_last items n h = let some : 0 < length items = some_last items h in joined_at items (length items - 1) n
+recorded_idle_joined_last items n h = let some : 0 < length items = some_last items h in
+    joined_at items (length items - 1) n
     (omega arith) h
 
 -- more idle cycles stand wherever fewer do

@@ -127,7 +127,8 @@ place_lead items ones lows switches h =
 lead_at : (due : Due) (items : List Item) (ones lows : ℕ) (switches : Bool) → PortMayLead due ones switches lows
     → is_recorded_place_due due (recorded_place_of items) ≡ true → is_recorded_place_due Nothing (recorded_place_of
     (recorded_with_items items (recorded_high_items ones switches ++ recorded_low_items lows))) ≡ true
-lead_at due items ones (suc n) switches m e = let some : suc n ≢ 0 = λ z. omega (arith, z) in ap (is_recorded_place_due Nothing)
+lead_at due items ones (suc n) switches m e = let some : suc n ≢ 0 = λ z. omega (arith, z) in
+    ap (is_recorded_place_due Nothing)
     (place_lead items ones (suc n) switches some)
 lead_at due items (suc k) zero switches m e =
     let two : 2 ≤ 0 = m.low (λ z. omega (arith, z)) in absurd (omega (arith, two))
@@ -171,7 +172,8 @@ items_placed due in_hand (Ask q) seen items m h i e =
     place_tests q seen items q.read (seen == 1) (seen == 2) (seen == 4)
     (subst (λ d. is_recorded_place_due d (recorded_place_of items) ≡ true) m e)
 items_placed due None CueTake seen items m h i e = let one = ap recorded_due_count m in absurd (omega (arith, one, h))
-items_placed due None (CueGive bits) seen items m h i e = let one = ap recorded_due_count m.0 in absurd (omega (arith, one, h))
+items_placed due None (CueGive bits) seen items m h i e = let one = ap recorded_due_count m.0 in
+    absurd (omega (arith, one, h))
 items_placed due None CuePass seen items m h i e = let one = ap recorded_due_count m in absurd (omega (arith, one, h))
 items_placed due (Some asked) CueTake seen items m h i e = ap (is_recorded_place_due Nothing)
     (recorded_place_with_item Clear items (Tx (record { request = asked.request; result = recorded_moved seen })))
@@ -266,7 +268,8 @@ ends_silent place (item ∷ front) q seen = ends_silent (recorded_place_after it
 
 silent_due : (due : Due) (place : RecordedPlace) → is_recorded_place_due due place ≡ true → place ≡ Silent → due ≡ Lost
 silent_due Lost place e f = refl
-silent_due due place e f = let none : is_recorded_place_due due place ≡ false = ap (is_recorded_place_due due) f in absurd cc
+silent_due due place e f = let none : is_recorded_place_due due place ≡ false = ap (is_recorded_place_due due) f in
+    absurd cc
 
 lost_silent : (place : RecordedPlace) → is_recorded_place_due Lost place ≡ true → place ≡ Silent
 lost_silent Silent e = refl

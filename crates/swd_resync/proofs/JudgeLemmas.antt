@@ -36,7 +36,8 @@ judged_near_of_few bits h = let l = past_le bits in record { place = 0; within =
 
 -- where fewer than fifty bits come after at most m bits and zeros, m may be replaced by any greater number
 pub judged_near_widened : (m n : ℕ) (bits : List Bool) → m ≤ n → IsResyncNear m bits → IsResyncNear n bits
-judged_near_widened m n bits h i = let w : i.place ≤ m = i.within in record { place = i.place; within = omega arith; few = i.few }
+judged_near_widened m n bits h i = let w : i.place ≤ m = i.within in
+    record { place = i.place; within = omega arith; few = i.few }
 
 -- behind some of the bits
 pub judged_near_behind : (k m n : ℕ) (bits : List Bool) → k + m ≤ n → IsResyncNear m (drop k bits) → IsResyncNear n bits

@@ -60,7 +60,8 @@ parts_from_step over place b bits s e = resync_parts_first over place b bits
 -- of at most n + 1 bits, at most n are left where at least one is removed
 pub resync_fewer_left : (n m : ℕ) (b : Bool) (bits : List Bool) → length (b ∷ bits) ≤ suc n → 0 < m
     → length (drop m (b ∷ bits)) ≤ n
-resync_fewer_left n m b bits h k = let l : length (drop m (b ∷ bits)) ≡ length (b ∷ bits) - m = length-drop m (b ∷ bits) in
+resync_fewer_left n m b bits h k = let l : length (drop m (b ∷ bits)) ≡ length (b ∷ bits) - m =
+    length-drop m (b ∷ bits) in
     omega arith
 
 divided : (n : ℕ) (over : Bool) (place : ResyncPlace) (bits : List Bool) → length bits ≤ n

@@ -105,7 +105,8 @@ resync_queue_run_found len front run c back_len back z k t =
 -- behind all of them is a one
 pub resync_queue_run_ends : (back_len back c : ℕ) → back < 2 ^ back_len → back_len ≤ 63 →
     c ≡ min (count_trailing_zeros 64 back) back_len → 0 < back_len - c → back / 2 ^ c % 2 ≡ 1
-resync_queue_run_ends back_len zero c h k e some = let t : count_trailing_zeros 64 zero ≡ 64 = trailing_of_zero 64 in absurd (omega arith)
+resync_queue_run_ends back_len zero c h k e some = let t : count_trailing_zeros 64 zero ≡ 64 = trailing_of_zero 64 in
+    absurd (omega arith)
 resync_queue_run_ends back_len (suc back) c h k e some =
     let r : DecoderTrailingZeros back_len (suc back) (count_trailing_zeros 64 (suc back)) =
     decoder_zeros_counted 64 back_len (suc back) (omega arith) (omega arith) h in

@@ -67,7 +67,8 @@ stretch_idle_zeros over n (suc k) bits =
 
 ones_before : (n : ℕ) (bits : List Bool) → trace_ones (replicate n true ++ bits) ≡ n + trace_ones bits
 ones_before zero bits = let e : trace_ones bits ≡ 0 + trace_ones bits = omega arith in e
-ones_before (suc n) bits = let h = ones_before n bits in let e : suc (n + trace_ones bits) ≡ suc n + trace_ones bits = omega arith in
+ones_before (suc n) bits = let h = ones_before n bits in
+    let e : suc (n + trace_ones bits) ≡ suc n + trace_ones bits = omega arith in
     ap suc h ∙ e
 
 drop_before : (n m : ℕ) (bits : List Bool) → drop (n + m) (replicate n true ++ bits) ≡ drop m bits

@@ -18,8 +18,8 @@ pub record IsResyncNear (most : ℕ) (bits : List Bool) : Type 0 where
   pub within : place ≤ most
   pub few : length (past_zeros (drop place bits)) < 50
 
--- how many low bits are taken where `held` bits are held apart from a count of zeros: with fewer than 92 held all, or as
--- many as make 92; with 92 held at least the zeros at their front; with more all, or as many as make 155
+-- how many low bits are taken where `held` bits are held apart from a count of zeros: with fewer than 92 held all, or
+-- as many as make 92; with 92 held at least the zeros at their front; with more all, or as many as make 155
 pub record ResyncTakesMany (held bits count taken : ℕ) : Type 0 where
   pub front : held < 92 → taken ≡ min count (92 - held)
   pub run : held ≡ 92 → (n : ℕ) → n ≤ count → low_bits n bits ≡ replicate n false → n ≤ taken

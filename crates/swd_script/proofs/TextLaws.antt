@@ -482,7 +482,8 @@ legal_flip place (Some bit) mark e = flip (nat_lt bit 33) refl e
   where
     flip : (test : Bool) → nat_lt bit 33 ≡ test
         → plan_file_marked (λ bit. Flip bit) (if test then Ok bit else Err Range) ≡ Ok mark → IsPortMark mark
-    flip true t e = let small : bit < 33 = grind (arith, nat_tests) in subst IsPortMark (same_value (Flip bit) mark e) small
+    flip true t e = let small : bit < 33 = grind (arith, nat_tests) in
+        subst IsPortMark (same_value (Flip bit) mark e) small
     flip false t e = absurd cc
 
 legal_mute : (place : ℕ) (r : Option ℕ) (mark : Mark)
@@ -492,7 +493,8 @@ legal_mute place (Some bit) mark e = mute (nat_lt bit 3) refl e
   where
     mute : (test : Bool) → nat_lt bit 3 ≡ test
         → plan_file_marked (λ bit. Mute bit) (if test then Ok bit else Err Range) ≡ Ok mark → IsPortMark mark
-    mute true t e = let small : bit < 3 = grind (arith, nat_tests) in subst IsPortMark (same_value (Mute bit) mark e) small
+    mute true t e = let small : bit < 3 = grind (arith, nat_tests) in
+        subst IsPortMark (same_value (Mute bit) mark e) small
     mute false t e = absurd cc
 
 abbrev bare_shape : Bool → Bool → Bool → Result Mark LineFault

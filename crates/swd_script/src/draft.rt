@@ -66,9 +66,11 @@ impl<A: Allocator + Copy> Draft<A> {
     /// After an error the state is unspecified.
     pub(crate) fn line(&mut self, number: u64, words: Option<&FirstWords>) -> Result<(), LineFault>
         ensures ok { OnOk result
-            (script_line number (script_draft_sayings self.old) (texts_of (option_copied words.entry)) ≡ Ok (script_draft_sayings self.new)) }
+            (script_line number (script_draft_sayings self.old) (texts_of (option_copied words.entry))
+            ≡ Ok (script_draft_sayings self.new)) }
         ensures err { IfErr result
-            (λ fault. IsScriptLineFault fault (script_line number (script_draft_sayings self.old) (texts_of (option_copied words.entry)))) }
+            (λ fault. IsScriptLineFault fault
+            (script_line number (script_draft_sayings self.old) (texts_of (option_copied words.entry)))) }
     {
         let Some(words) = words else {
             return Err(LineFault::Word);
@@ -183,7 +185,8 @@ impl<A: Allocator + Copy> Draft<A> {
         ensures ok { OnOk result (script_with_accesses (script_further (script_draft_sayings self.old)) addr 1
             (access ∷ []) ≡ Ok (script_draft_sayings self.new)) }
         ensures err { IfErr result (λ fault.
-            IsScriptLineFault fault (script_with_accesses (script_further (script_draft_sayings self.old)) addr 1 (access ∷ []))) }
+            IsScriptLineFault fault (script_with_accesses (script_further (script_draft_sayings self.old)) addr 1
+            (access ∷ []))) }
     {
         if !are_words(addr, 1) || !self.has_room_for(1) {
             return Err(LineFault::Range);
@@ -201,7 +204,8 @@ impl<A: Allocator + Copy> Draft<A> {
             (plain_reads addr count)
             ≡ Ok (script_draft_sayings self.new)) }
         ensures err { IfErr result (λ fault.
-            IsScriptLineFault fault (script_with_accesses (script_further (script_draft_sayings self.old)) addr count (plain_reads addr count))) }
+            IsScriptLineFault fault (script_with_accesses (script_further (script_draft_sayings self.old)) addr count
+            (plain_reads addr count))) }
     {
         if !are_words(addr, count) || !self.has_room_for(count) {
             return Err(LineFault::Range);
@@ -283,7 +287,8 @@ impl<A: Allocator + Copy> Draft<A> {
             (script_with_accesses (script_further (script_draft_sayings self.old)) addr count (plain_reads addr count))
             ≡ Ok (script_draft_sayings self.new)) }
         ensures err { IfErr result (λ fault.
-            IsScriptLineFault fault (script_as_block addr (script_with_accesses (script_further (script_draft_sayings self.old)) addr count (plain_reads addr count)))) }
+            IsScriptLineFault fault (script_as_block addr (script_with_accesses
+            (script_further (script_draft_sayings self.old)) addr count (plain_reads addr count)))) }
     {
         self.add_reads(addr, count)?;
         self.batch.block = Some(addr);
@@ -303,7 +308,8 @@ impl<A: Allocator + Copy> Draft<A> {
 
     // Returns whether the call of the next access may have `count` more accesses.
     fn has_room_for(&self, count: u32) -> bool
-        ensures { result ≡ nat_le (length (script_further (script_draft_sayings self.now)).batch.accesses + count) 65536 }
+        ensures { result ≡ nat_le (length (script_further (script_draft_sayings self.now)).batch.accesses + count)
+            65536 }
     {
         self.place() as u64 + u64::from(count) <= u64::from(MOST_ACCESSES)
     }

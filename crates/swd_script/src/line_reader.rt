@@ -92,7 +92,8 @@ impl<S: LineSink> LineReader<S> {
     /// The first error of the input, or `Memory` if memory ran out for what a line says.
     pub fn finish(self) -> Result<S::Whole, ScriptFault>
         ensures ok { IfOk result (λ whole. (seen : List ℕ) → ReadsScriptLines S.took self seen → S.says seen whole) }
-        ensures err { IfErr result (λ fault. (seen : List ℕ) → ReadsScriptLines S.took self seen → S.refuses fault seen) }
+        ensures err { IfErr result (λ fault. (seen : List ℕ) → ReadsScriptLines S.took self seen →
+            S.refuses fault seen) }
     {
         let LineReader {
             mut lines,

@@ -71,7 +71,8 @@ pub fn read_script<R: Read, A: Allocator + Copy>(
     reader: &mut R,
 ) -> Result<Script<A>, Unread<ScriptFault>>
     ensures ok { IfOk result (λ script.
-        (text : List ℕ) × IsReaderText (R.remaining reader.old) text × (script_of text ≡ Ok (read_script_meaning script))) }
+        (text : List ℕ) × IsReaderText (R.remaining reader.old) text
+        × (script_of text ≡ Ok (read_script_meaning script))) }
     ensures err { IfErr result (λ unread. IfSome (R.remaining reader.old) (IsUnreadByConsumer IsScriptFault unread)) }
 {
     read_lines(Draft::new(alloc), reader)

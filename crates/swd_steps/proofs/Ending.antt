@@ -20,7 +20,8 @@ use Rattle.swd_host.proofs.Folding.{engine_turn_falls, engine_turn_works}
 use Rattle.swd_steps.specs.declared.run.Stage.{Stage}
 use Rattle.swd_steps.specs.declared.run.Stage.TheVariants.{Driving, Between, Ended}
 use Rattle.swd_steps.specs.Laws.{SteppedRunEnds, stepped_most_calls}
-use Rattle.swd_steps.specs.Runs.{SteppedBeginsBy, SteppedSetup, SteppedCame, has_begun, has_turned, has_opened, has_answered}
+use Rattle.swd_steps.specs.Runs.{SteppedBeginsBy, SteppedSetup, SteppedCame, has_begun, has_turned, has_opened}
+use Rattle.swd_steps.specs.Runs.{has_answered}
 use Rattle.swd_steps.specs.Runs.{has_started, has_idled, has_stopped}
 use Rattle.swd_steps.proofs.Keeping.{stepped_begins_part, stepped_opening_no_answer}
 use Rattle.swd_steps.proofs.Running.{stepped_few_answers}

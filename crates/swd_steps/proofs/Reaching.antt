@@ -1,4 +1,5 @@
--- Which accesses reach the bus in a run. For the law `accesses`: the theorem of a run holds for the bus that records them.
+-- Which accesses reach the bus in a run. For the law `accesses`: the theorem of a run holds for the bus that records
+-- them.
 use Rattle.std.proofs.Common.{◌≡◌, ◌+◌, ℕ, List, [], ◌∷◌, ◌++◌, length, refl, sym, ap, subst, ◌∙◌}
 use Rattle.std.specs.Prelude.{take, drop}
 use Rattle.std.proofs.lemmas.List.{append-nil, append_assoc}
@@ -10,7 +11,8 @@ use Rattle.swd_port.specs.Port.{Port}
 use Rattle.swd_port.specs.Reached.{accesses_of_story, accesses_once_completed, story_before}
 use Rattle.swd_port.specs.Stories.{FitsStory, port_due_by, port_at}
 use Rattle.swd_port.proofs.Recording.{bus_recording, port_recording, bus_recording_after, accesses_content_same}
-use Rattle.swd_port.proofs.Recording.{completed_recording, recorded_story, recorded_at_end, recorded_before, recorded_fits}
+use Rattle.swd_port.proofs.Recording.{completed_recording, recorded_story, recorded_at_end, recorded_before}
+use Rattle.swd_port.proofs.Recording.{recorded_fits}
 use Rattle.swd_host.specs.Plain.{memory_after}
 use Rattle.swd_host.specs.Again.{ResumeFits, resume_own_report}
 use Rattle.swd_host.specs.Reports.{Fits, FitsFrom, HostIsOpen, HostReport, HostKnowsTarget, IsAtRest, RunFitsFrom}
@@ -38,8 +40,8 @@ memory_after_recording (a ∷ list) past b =
     ∙ ap (λ p. bus_recording p (memory_after list (bus_after a b))) (append_assoc past (a ∷ []) list)
 
 -- the accesses of a report that fits a recording bus
-reached_by_report : (opening limit : ℕ) (list : List Access) (told : HostReport) (before after : List Access) (b c : Bus)
-    → FitsFrom opening limit list (bus_recording before b) told (bus_recording after c)
+reached_by_report : (opening limit : ℕ) (list : List Access) (told : HostReport) (before after : List Access)
+    (b c : Bus) → FitsFrom opening limit list (bus_recording before b) told (bus_recording after c)
     → SteppedReaches list told before after
 reached_by_report opening limit list told before after b c (k, h) =
     let number : length told.answers ≡ k =

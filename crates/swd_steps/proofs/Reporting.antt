@@ -28,12 +28,14 @@ use Rattle.swd_host.specs.declared.engine.State.TheVariants.{Resting}
 use Rattle.swd_host.specs.declared.outcome.Outcome.TheVariants.{Opened, Stopped}
 use Rattle.swd_host.specs.declared.task.Bursts.{Bursts}
 use Rattle.swd_host.proofs.Folding.{opening_closes, list_closes, engine_closes_equal, engine_requests_small}
-use Rattle.swd_host.proofs.Folding.{engine_report_matches, engine_turn_moves, list_report_closes, list_report_sent, list_runs_within}
+use Rattle.swd_host.proofs.Folding.{engine_report_matches, engine_turn_moves, list_report_closes, list_report_sent}
+use Rattle.swd_host.proofs.Folding.{list_runs_within}
 use Rattle.swd_host.proofs.Folding.{opening_counts}
 use Rattle.swd_host.proofs.Folding.{opening_stop_sent, opening_stops, list_fits, resume_stops, resume_performs}
 use Rattle.swd_steps.specs.declared.run.Run.{Run}
 use Rattle.swd_steps.specs.declared.run.Stage.TheVariants.{Ended}
-use Rattle.swd_steps.specs.Laws.{SteppedAlwaysCloses, SteppedOpenFits, SteppedReportCloses, SteppedResumeFits, SteppedRunFits}
+use Rattle.swd_steps.specs.Laws.{SteppedAlwaysCloses, SteppedOpenFits, SteppedReportCloses, SteppedResumeFits}
+use Rattle.swd_steps.specs.Laws.{SteppedRunFits}
 use Rattle.swd_steps.specs.Runs.{SteppedBeginsBy, SteppedListAccepted, SteppedSetup, SteppedCame, SteppedRan}
 use Rattle.swd_steps.specs.Runs.{stepped_again, stepped_anew, stepped_opened}
 use Rattle.swd_steps.proofs.Keeping.{stepped_opened_rests, stepped_opened_same}
@@ -184,7 +186,8 @@ runs_by how list calls e answers end story past small closed new ok (never_opene
     opening_stops how.kind list how.tries h.first e answers (port_at story past) (port_at story (calls ++ past)) small
     (subst (λ b. EngineIsNew how.kind b how.tries h.first) new
     (subst (λ b. SteppedBeginsBy b how h.first) closed h.new)) (h.went.goes fits).1 h.went.due none rest end at
-runs_by how list calls e answers end story past small closed new ok (performed o early late parts h at performs does tells)
+runs_by how list calls e answers end story past small closed new ok
+    (performed o early late parts h at performs does tells)
     fits
     rest =
     let done = does fits in

@@ -275,7 +275,8 @@ stepped_two_outcomes_drive mid one two same calm further drives driven at =
     elim (cases_Bool (engine_is_resting mid.engine)) [
       | inl rests ↦ (let known = calm rests (driven at) in drives known.0 known.1 at)
       | inr moves ↦
-          (let first : engine_is_resting one.engine ≡ false = ap (λ (x : Run). engine_is_resting x.engine) (same moves) ∙ moves in
+          (let first : engine_is_resting one.engine ≡ false = ap (λ (x : Run). engine_is_resting x.engine) (same moves)
+          ∙ moves in
           ap (λ (x : Run). engine_is_resting x.engine) (further first) ∙ first)
     ]
 

@@ -1,5 +1,5 @@
--- Which accesses reach the bus in a run, bus errors among them. The theorem of a run equates buses, and a bus may ignore
--- an access that is a bus error. So this is stated of the accesses themselves.
+-- Which accesses reach the bus in a run, bus errors among them. The theorem of a run equates buses, and a bus may
+-- ignore an access that is a bus error. So this is stated of the accesses themselves.
 use Rattle.std.specs.Prelude.{ℕ, ◌≡◌, ◌+◌, ◌<◌, ◌≤◌, ◌^◌, ◌++◌, List, length, drop, take}
 use Rattle.swd_port.specs.declared.access.Access.{Access}
 use Rattle.swd_port.specs.declared.access.Answer.{Answer}
@@ -62,8 +62,8 @@ pub record SteppedResumeReachesBus (list : List Access) (earlier told : HostRepo
 
 -- In a run that resumes, once a transfer that is still pending has taken effect.
 abbrev pub SteppedResumeReaches : Type 0
-SteppedResumeReaches = (tries : ℕ) (accesses : List Access) (calls : List Call) (run : Run) (answers : List Answer) (end :
-    End) (earlier : HostReport) → tries < 2 ^ 32
+SteppedResumeReaches = (tries : ℕ) (accesses : List Access) (calls : List Call) (run : Run) (answers : List Answer)
+    (end : End) (earlier : HostReport) → tries < 2 ^ 32
     → SteppedRan (stepped_again (length earlier.answers) tries) accesses calls run answers
     → run.stage ≡ Ended end → (story : ℕ → Port) (past : List Call) → (fits : FitsStory story (calls ++ past))
     → HostKnowsTarget (port_at story past).target → (c : Choice) → IsPortChoice c

@@ -206,7 +206,8 @@ impl Run {
     /// unchanged then.
     pub fn next<L: Accesses>(&mut self, accesses: &L, reply: u64) -> Result<Answers, Refusal>
         ensures goes { IfOk result (λ came. EngineHasCue (λ cue.
-            SteppedExtends cue reply (L.list accesses.now) self.old (stepped_answers came) self.new) (stepped_run_cue self.old)) }
+            SteppedExtends cue reply (L.list accesses.now) self.old (stepped_answers came) self.new)
+            (stepped_run_cue self.old)) }
         ensures counted { IfOk result (λ came. (self.new.answered ≡ self.old.answered + length (stepped_answers came))
             × (self.new.answered ≤ length (L.list accesses.now))) }
         ensures refused { IfErr result (SteppedRefusalReason self.old (L.list accesses.now) reply) }

@@ -32,8 +32,8 @@ pub fn always_lawful<D: Device, A: Allocator>()
     ensures { (b : Bench D A) → ⟦<Bench<D, A> as Wire>⟧.lawful b }
 {}
 
-/// States that the state of the port model determines the memory behind a bench. So a contract that speaks of that state
-/// alone says all of the memory.
+/// States that the state of the port model determines the memory behind a bench. So a contract that speaks of that
+/// state alone says all of the memory.
 pub fn memories<A: Allocator>()
     ensures { (b : Bench PlainMemory A) (c : Bench PlainMemory A) → bench_port bus_of b ≡ bench_port bus_of c
         → bench_device b ≡ bench_device c }

@@ -10,8 +10,8 @@ use swd_port::{Access, Transfer};
 
 /// Registers behind an access port, of words of 32 bits. [`Attached`] makes a [`Device`] of a peripheral.
 ///
-/// An implementer states by `answer` and `after` what one access does, and its three methods are proved to do that. What
-/// follows for any number of accesses is proved once, for all peripherals:
+/// An implementer states by `answer` and `after` what one access does, and its three methods are proved to do that.
+/// What follows for any number of accesses is proved once, for all peripherals:
 ///
 /// ```text
 /// // A register that a read increments. Any write is a bus error.

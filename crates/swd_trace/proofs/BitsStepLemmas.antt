@@ -90,7 +90,8 @@ pub decoder_junks_in_lost : (i len v : ℕ) → len ≤ 50 → v + 2 ^ i < 2 ^ l
     → reading Lost (low_bits len v ++ more)
     ≡ map Junk (low_bits (suc i) v) ++ reading Lost (low_bits (len - suc i) (v / 2 ^ suc i) ++ more)
 unfolding low_bits
-decoder_junks_in_lost i zero v k h more = let some : 0 < 2 ^ i = pow_pos i in let none : v + 2 ^ i < 1 = h in absurd (omega arith)
+decoder_junks_in_lost i zero v k h more = let some : 0 < 2 ^ i = pow_pos i in let none : v + 2 ^ i < 1 = h in
+    absurd (omega arith)
 decoder_junks_in_lost zero (suc len) v k h more =
     decoder_junk_in_lost Lost (suc len) v refl (omega arith) k (zero_below zero (suc len) v k h) more
 decoder_junks_in_lost (suc i) (suc len) v k h more =

@@ -78,5 +78,6 @@ item_equality_sound Switch Switch e = refl
 item_equality_sound (Idle m) (Idle n) e = let f : (m == n) ≡ true = e in ap Idle (eqb-true m n f)
 item_equality_sound (Tx a) (Tx b) e = let f : (tx_eq.ghosts).eq a b ≡ true = e in ap Tx (same_tx a b f)
 item_equality_sound (Junk a) (Junk b) e = let f : beq a b ≡ true = e in ap Junk (same_bool a b f)
-item_equality_sound (Cut a) (Cut b) e = let f : ((a.len == b.len) && (a.bits == b.bits)) ≡ true = e in ap Cut (same_bits a b f)
+item_equality_sound (Cut a) (Cut b) e = let f : ((a.len == b.len) && (a.bits == b.bits)) ≡ true = e in
+    ap Cut (same_bits a b f)
 item_equality_sound a b e = absurd cc

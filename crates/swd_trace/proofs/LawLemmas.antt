@@ -283,7 +283,8 @@ pub trace_few_ones_begin_reset : (bits : List Bool) → (nat_le 50 (trace_ones b
     × (trace_all_ones bits ≡ true) → (more : List Bool) × (more ≢ []) × (replicate 50 true ≡ bits ++ more)
 trace_few_ones_begin_reset bits h =
     let few : trace_ones bits < 50 = elim (leb_tells 50 (trace_ones bits)) [
-      | inl p ↦ (let f : nat_le 50 (trace_ones bits) ≡ true = p.0 in let g : nat_le 50 (trace_ones bits) ≡ false = h.0 in
+      | inl p ↦ (let f : nat_le 50 (trace_ones bits) ≡ true = p.0 in
+          let g : nat_le 50 (trace_ones bits) ≡ false = h.0 in
           absurd cc)
       | inr p ↦ (let n : trace_ones bits < 50 = p.1 in n)
     ] in
@@ -328,7 +329,8 @@ trace_prefix_test_sound (x ∷ a) [] e = absurd cc
 trace_prefix_test_sound (true ∷ a) (true ∷ b) e = let r = trace_prefix_test_sound a b e in (r.0, ap (λ x. true ∷ x) r.1)
 trace_prefix_test_sound (true ∷ a) (false ∷ b) e = absurd cc
 trace_prefix_test_sound (false ∷ a) (true ∷ b) e = absurd cc
-trace_prefix_test_sound (false ∷ a) (false ∷ b) e = let r = trace_prefix_test_sound a b e in (r.0, ap (λ x. false ∷ x) r.1)
+trace_prefix_test_sound (false ∷ a) (false ∷ b) e = let r = trace_prefix_test_sound a b e in
+    (r.0, ap (λ x. false ∷ x) r.1)
 
 front_with : (a more : List Bool) → trace_begins_with a (a ++ more) ≡ true
 front_with [] more = refl

@@ -105,12 +105,14 @@ pub first_item_is_reset : (mode : Mode) (b : Bool) (bits : List Bool) → 50 ≤
       after = AfterReset;
       taken = trace_ones (b ∷ bits);
     }
-first_item_is_reset mode b bits h = let t : nat_le 50 (trace_ones (b ∷ bits)) ≡ true = le-leb 50 (trace_ones (b ∷ bits)) h in rw t refl
+first_item_is_reset mode b bits h = let t : nat_le 50 (trace_ones (b ∷ bits)) ≡ true =
+    le-leb 50 (trace_ones (b ∷ bits)) h in rw t refl
 
 -- with fewer than fifty ones at the front, the cases of the mode say what is read first
 pub first_item_no_reset : (mode : Mode) (b : Bool) (bits : List Bool) → trace_ones (b ∷ bits) < 50
     → first_item mode b bits ≡ first_item_by_mode mode b bits
-first_item_no_reset mode b bits h = let t : nat_le 50 (trace_ones (b ∷ bits)) ≡ false = trace_len_test_false 50 (trace_ones (b ∷ bits)) h in rw t refl
+first_item_no_reset mode b bits h = let t : nat_le 50 (trace_ones (b ∷ bits)) ≡ false =
+    trace_len_test_false 50 (trace_ones (b ∷ bits)) h in rw t refl
 
 -- a reset, with a zero after it
 pub reset_item_before_zero : (mode : Mode) (n : ℕ) (more : List Bool) → 50 ≤ n

@@ -187,7 +187,8 @@ stands_end q (NoAck seen) t u more h =
     ap (λ x. stand_after_request q (t ∷ x)) (append_assoc (low_bits 3 seen) [] more) ∙ stands_none q t seen more h
 
 length_ending : (read : Bool) (end : TxEnd) (u : Bool) → 9 + length (tx_ending_bits read end u) ≡ trace_tx_len end
-length_ending true (Moved word ok) u = let e = length-append (phase_with word ok) (u ∷ []) in let f = data_phase_length_33
+length_ending true (Moved word ok) u = let e = length-append (phase_with word ok) (u ∷ []) in
+    let f = data_phase_length_33
     word ok in omega arith
 length_ending false (Moved word ok) u = let f = data_phase_length_33 word ok in omega arith
 length_ending read Wait u = refl

@@ -23,7 +23,11 @@ stand_by_test false a b P f g = g refl
 
 -- the test whether a is at most b says no where b is less
 pub trace_len_test_false : (a b : ℕ) → b < a → nat_le a b ≡ false
-trace_len_test_false a b h = elim (leb_tells a b) [ inl p ↦ (let n : a ≤ b = p.1 in absurd (omega arith)) | inr p ↦ p.0 ]
+trace_len_test_false a b h = elim (leb_tells a b) [
+  | inl p ↦ (let n : a ≤ b = p.1 in
+      absurd (omega arith))
+  | inr p ↦ p.0
+]
 
 -- where a transaction begins, more bits may change what stands; else they do not
 abbrev Settles : Stand → Stand → Type 0
@@ -127,9 +131,12 @@ trace_stand_few_ones (false ∷ bits) = inr (omega arith)
 trace_stand_few_ones (true ∷ []) = inr (omega arith)
 trace_stand_few_ones (true ∷ ap ∷ []) = let h = trace_ones_le_length (true ∷ ap ∷ []) in inr (omega arith)
 trace_stand_few_ones (true ∷ ap ∷ read ∷ []) = let h = trace_ones_le_length (true ∷ ap ∷ read ∷ []) in inr (omega arith)
-trace_stand_few_ones (true ∷ ap ∷ read ∷ a ∷ []) = let h = trace_ones_le_length (true ∷ ap ∷ read ∷ a ∷ []) in inr (omega arith)
-trace_stand_few_ones (true ∷ ap ∷ read ∷ a ∷ b ∷ []) = let h = trace_ones_le_length (true ∷ ap ∷ read ∷ a ∷ b ∷ []) in inr (omega arith)
-trace_stand_few_ones (true ∷ ap ∷ read ∷ a ∷ b ∷ parity ∷ []) = let h = trace_ones_le_length (true ∷ ap ∷ read ∷ a ∷ b ∷ parity ∷ []) in inr
+trace_stand_few_ones (true ∷ ap ∷ read ∷ a ∷ []) = let h = trace_ones_le_length (true ∷ ap ∷ read ∷ a ∷ []) in
+    inr (omega arith)
+trace_stand_few_ones (true ∷ ap ∷ read ∷ a ∷ b ∷ []) = let h = trace_ones_le_length (true ∷ ap ∷ read ∷ a ∷ b ∷ []) in
+    inr (omega arith)
+trace_stand_few_ones (true ∷ ap ∷ read ∷ a ∷ b ∷ parity ∷ []) = let h =
+    trace_ones_le_length (true ∷ ap ∷ read ∷ a ∷ b ∷ parity ∷ []) in inr
     (omega arith)
 trace_stand_few_ones (true ∷ ap ∷ read ∷ a ∷ b ∷ parity ∷ false ∷ bits) =
     let h : trace_ones (true ∷ ap ∷ read ∷ a ∷ b ∷ parity ∷ false ∷ bits) ≤ 6 = ones_front

@@ -65,7 +65,8 @@ pub record PortSession (next : List Call → Cue) (marks : ℕ → Mark) (s : Po
   pub fits : FitsStory story calls
   pub marked : FitsStoryUnder marks story calls
 
--- Each host has such a session of any length, under any marks. It may choose each cue by all that it did and saw before.
+-- Each host has such a session of any length, under any marks. It may choose each cue by all that it did and saw
+-- before.
 abbrev pub PortSessionFits : Type 0
 PortSessionFits = (next : List Call → Cue) (marks : ℕ → Mark) (s : Port) (n : ℕ) → ((k : ℕ) → IsPortMark (marks k))
     → PortHasWords s → s.link.due ≡ Nothing → PortSession next marks s n

@@ -12,8 +12,8 @@ pub fn never_stuck()
 
 /// States that every session of a host is consistent with the model for some replies. Every cue has a step from a state
 /// whose values are words to another such state, a request under each mark, and each state made over words is one. So
-/// replies and states of the model exist for whatever the host chooses to do next, under any marks and for any number of
-/// calls. A run over a `TransportWire` is such a session.
+/// replies and states of the model exist for whatever the host chooses to do next, under any marks and for any number
+/// of calls. A run over a `TransportWire` is such a session.
 pub fn sessions_fit()
     ensures made { MadePortHasWords }
     ensures steps { PortStepForEachCue }

@@ -14,8 +14,8 @@ use swd_host::{End, Report};
 use swd_port::{Access, Answer, Transfer};
 use swd_target::{Bench, Mark, Memory};
 
-// A list of accesses, and what has to come of it over a wire that loses nothing: at most so many requests where a bit of
-// one data phase is changed, and where two data phases are damaged.
+// A list of accesses, and what has to come of it over a wire that loses nothing: at most so many requests where a bit
+// of one data phase is changed, and where two data phases are damaged.
 #[derive(Clone, Copy)]
 struct List {
     name: &'static str,

@@ -69,8 +69,8 @@ type Row = (
 const FAR: Access = Access::Write(0x2000_0020, 7);
 
 // The opening is a lead and nine requests, each with a data phase: 19 calls. An access takes requests of TAR, DRW and
-// RDBUFF: six calls, and four where TAR has its address, which is incremented after each access. In a burst of writes the
-// OK of the next DRW request confirms a write, before its own data phase.
+// RDBUFF: six calls, and four where TAR has its address, which is incremented after each access. In a burst of writes
+// the OK of the next DRW request confirms a write, before its own data phase.
 const ROWS: [Row; 6] = [
     (
         "a write, and a read of the next word",

@@ -99,9 +99,9 @@ const BEFORE_THE_WRITE: Wanted = Wanted {
     ..LOST
 };
 
-// The opening is a lead and nine requests. A write and a read at another address take three requests each: TAR, DRW, and
-// the read of RDBUFF that confirms the write or returns the word. Each request is a call, and so is its data phase. The
-// call that fails is the next one, and no call is made behind it.
+// The opening is a lead and nine requests. A write and a read at another address take three requests each: TAR, DRW,
+// and the read of RDBUFF that confirms the write or returns the word. Each request is a call, and so is its data phase.
+// The call that fails is the next one, and no call is made behind it.
 const REACHING: [Reaching; 10] = [
     (
         "nothing reaches it",

@@ -100,7 +100,8 @@ impl<A: Allocator> ListingLines<A> {
             → ListingTakes seen self.items.items self.line.items self.total
             → ListsItems (listing_lines seen) items.items) }
         ensures err { IfErr result (λ fault. (seen : List ℕ)
-            → ListingTakes seen self.items.items self.line.items self.total → RefusesListing fault (listing_lines seen)) }
+            → ListingTakes seen self.items.items self.line.items self.total →
+            RefusesListing fault (listing_lines seen)) }
     {
         if self.line.is_empty() {
             return Ok(self.items);

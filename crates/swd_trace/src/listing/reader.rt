@@ -29,7 +29,8 @@ pub fn read_list<R: Read, A: Allocator>(alloc: A, reader: &mut R) -> Result<Vec<
     ensures legal { IfOk result (λ items. AreLegalItems items.items) }
     ensures ok { IfOk result (λ items. IfSome (R.remaining reader.old)
         (λ text. ListsItems (lines_of text) items.items × IsNormalListing items.items)) }
-    ensures err { IfErr result (λ fault. IfSome (R.remaining reader.old) (λ text. RefusesListing fault (lines_of text))) }
+    ensures err { IfErr result (λ fault. IfSome (R.remaining reader.old)
+        (λ text. RefusesListing fault (lines_of text))) }
 {
     let items = match read_lines(alloc, reader) {
         Ok(items) => items,
@@ -47,8 +48,10 @@ pub fn read_list<R: Read, A: Allocator>(alloc: A, reader: &mut R) -> Result<Vec<
 fn read_lines<R: Read, A: Allocator>(alloc: A, reader: &mut R) -> Result<Vec<Item, A>, ListFault>
     ensures legal { IfOk result (λ items. AreLegalItems items.items) }
     ensures counted { IfOk result (λ items. length (bits_of_items items.items) < 2 ^ 64) }
-    ensures ok { IfOk result (λ items. IfSome (R.remaining reader.old) (λ text. ListsItems (lines_of text) items.items)) }
-    ensures err { IfErr result (λ fault. IfSome (R.remaining reader.old) (λ text. RefusesListing fault (lines_of text))) }
+    ensures ok { IfOk result (λ items. IfSome (R.remaining reader.old)
+        (λ text. ListsItems (lines_of text) items.items)) }
+    ensures err { IfErr result (λ fault. IfSome (R.remaining reader.old)
+        (λ text. RefusesListing fault (lines_of text))) }
 {
     let mut lines = ListingLines::new(alloc);
     match read_pieces(reader, &mut (), &mut lines) {

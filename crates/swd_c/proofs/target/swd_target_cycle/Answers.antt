@@ -28,7 +28,8 @@ returns-then-not-is_empty-clause-wants c = λ yes.
     let after = c.cycle-line.new.self in
     let line = c.cycle-line.result in
     let clocks : ClocksOneCycle bus_of (c_api_drive c.args.drive) line before after =
-    subst (λ (d : Option Bool). ClocksOneCycle bus_of d line before after) c.driven.ensures c.cycle-line.ensures.clocks in (
+    subst (λ (d : Option Bool). ClocksOneCycle bus_of d line before after) c.driven.ensures
+    c.cycle-line.ensures.clocks in (
       before,
       c.in-Some.ensures.same.0,
       c.in-Some.ensures.same.1 ∙ c.window.ensures,
@@ -55,7 +56,8 @@ returns-clause-clocks c = λ yes m there.
     let had = c.in-Some.ensures.same.0 in
     let here : clocked_device before ≡ c_api_ready_memory old = c.in-Some.ensures.same.1 ∙ c.window.ensures in
     let clocks : ClocksOneCycle bus_of (c_api_drive c.args.drive) line before after =
-    subst (λ (d : Option Bool). ClocksOneCycle bus_of d line before after) c.driven.ensures c.cycle-line.ensures.clocks in
+    subst (λ (d : Option Bool). ClocksOneCycle bus_of d line before after) c.driven.ensures
+    c.cycle-line.ensures.clocks in
     let empty : (after.target.device).log ≡ [] = ap (λ (b : Bus). b.log) c.memory.ensures
     ∙ (sym c.log.ensures ∙ nothing c.log.result.now (sym c.is_empty.ensures ∙ c.if-not-is_empty.false)) in
     let untouched : IsUntouched bus_of before.target after.target = record {

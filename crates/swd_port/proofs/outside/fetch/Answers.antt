@@ -6,7 +6,8 @@ pub returns-in_default-clause-fetches : goal.returns-in_default-clause-fetches
 returns-in_default-clause-fetches g c = record {
   told = c.step.result;
   tells = c.step.ensures.told;
-  makes = λ read. breaks c.step.result (subst (PortTransportFails 33) (sym c.in-Ok.is) c.if-bits-lt8589934592.false) read refl
+  makes = λ read. breaks c.step.result (subst (PortTransportFails 33) (sym c.in-Ok.is) c.if-bits-lt8589934592.false)
+      read refl
       refl refl refl;
 }
 
@@ -14,5 +15,6 @@ pub returns-in_default-2-clause-fetches : goal.returns-in_default-2-clause-fetch
 returns-in_default-2-clause-fetches g c = record {
   told = c.step.result;
   tells = c.step.ensures.told;
-  makes = λ read. breaks c.step.result (subst (PortTransportFails 33) (sym c.in_default.is) tt) read refl refl refl refl;
+  makes = λ read. breaks c.step.result (subst (PortTransportFails 33) (sym c.in_default.is) tt) read refl refl refl
+      refl;
 }

@@ -62,7 +62,8 @@ returns-clause-step g c =
     (sym idles) in
     let tally = asked.uses.tally in
     simulated_asks_lawful new.mark _ _ _ _
-    (bench_asks_lawful g.D.Device.bus new.mark q was.clocked.target new.clocked.target u.0 u.2.phase (clocked_bench_link old)
+    (bench_asks_lawful g.D.Device.bus new.mark q was.clocked.target new.clocked.target u.0 u.2.phase
+    (clocked_bench_link old)
     (clocked_bench_tally old) _ _ _ _ _ _ u.2.answers
     u.1 c.after-self.ensures line (ap (λ (n : PortTally). n.asked) tally) (ap (λ (n : PortTally). n.disturbed) tally)
     (ap (λ (n : PortTally). n.lost) tally))

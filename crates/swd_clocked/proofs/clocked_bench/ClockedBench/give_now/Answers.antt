@@ -44,7 +44,8 @@ returns-clause-step g c =
     let was = old.marked.value in
     let new = c.give_bits.new.self in
     let d = brings g.D.Device.bus was _ new c.args.bits c.deref_mut.ensures.value c.give_bits.ensures.brings in
-    let gives = simulated_gives_lawful g.D.Device.bus _ (clocked_bench_link old) (clocked_bench_tally old) was.clocked.target
+    let gives = simulated_gives_lawful g.D.Device.bus _ (clocked_bench_link old) (clocked_bench_tally old)
+    was.clocked.target
     new.clocked.target c.args.bits (arrives old c.args.bits old.resting c.requires.due) d.came.comes in
     let P = λ (f : Frame) (p : Plan _). PortGives
     (target_port_at (clocked_bench_link old) (clocked_bench_tally old) (target_state g.D.Device.bus was.clocked.target))
