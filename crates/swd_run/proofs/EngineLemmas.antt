@@ -26,7 +26,7 @@ use Rattle.swd_run.specs.declared.going_on.Stop.{Stop}
 use Rattle.swd_run.specs.Engine.{Answers, BatchAnswersAt, BatchAnswers, AreRunTraceItems, IsScriptFinished}
 use Rattle.swd_run.specs.Engine.{IsOfTraceOver, IsTraceOver, IsPartOfRunTrace, RanBatches, RanBatchesShort}
 use Rattle.swd_run.specs.Engine.{RunFilesOutcome, run_port_seen, whole, short, trace_stops, accesses_stop}
-use Rattle.swd_run.specs.GoingOn.{ScriptCalls, ran, resumed}
+use Rattle.swd_run.specs.GoingOn.{ScriptCallsFrom, ran, resumed}
 use Rattle.swd_run.specs.Reports.{session_text}
 use Rattle.swd_run.specs.declared.records.Records.{Records}
 use Rattle.swd_run.specs.Records.{AreRunFilesStarted, AreRunFilesLeft, RunFiles, ForRunFile, IfRunFiles}
@@ -35,7 +35,7 @@ use Rattle.swd_run.specs.Records.{no_run_files}
 use Rattle.swd_observer.specs.Explained.{ObservedLog}
 use Rattle.swd_observer.specs.Traces.{trace_observer_made, observed_in_trace}
 use Rattle.swd_run.specs.Running.{ScriptRunAnswers, IsTraceIn, RunsScript, full_room, script_bus, with_full_room}
-use Rattle.swd_run.specs.Sessions.{ScriptRun, RunsBatch, IsBatchRefused, RunsBatches, batch_limit, none}
+use Rattle.swd_run.specs.Sessions.{ScriptRun, RunsBatchFrom, IsBatchRefused, RunsBatches, batch_limit, none}
 use Rattle.swd_run.specs.Sessions.{script_requests, then, unresumed, unsent}
 use Rattle.swd_run.specs.Unfoldings.{AreBatchesDone, BatchRuns, IsCutShort, Unfolds, batch_again, calls_of, runs_of}
 use Rattle.swd_run.proofs.RunLemmas.{script_target_at_rest}
@@ -140,34 +140,35 @@ script_answers_map batches used runs before IsWhole IsPart IsWholeToo IsPartToo 
 -- runs over wires are runs over all that the wires are known by
 module _ {W V : Type 0} (by : W → V) (port : V → Port) (plan : V → List Mark) (lawful : V → Type 0) (tries resumes : ℕ)
   where
-    went_by : (limit : ℕ) (list : List Access) (s : W) (stops : List Stop) (told : HostReport) (t : W)
-        → ScriptCalls (λ w. port (by w)) (λ w. plan (by w)) (λ w. lawful (by w)) limit list tries s stops told t
-        → ScriptCalls port plan lawful limit list tries (by s) stops told (by t)
+    went_by : {opened : Bool} (limit : ℕ) (list : List Access) (s : W) (stops : List Stop) (told : HostReport) (t : W)
+        → ScriptCallsFrom (λ w. port (by w)) (λ w. plan (by w)) (λ w. lawful (by w)) opened limit list tries s stops told
+        t
+        → ScriptCallsFrom port plan lawful opened limit list tries (by s) stops told (by t)
     went_by limit list s stops told t (ran same closes over) = ran same closes over
     went_by limit list s stops told t (resumed {stops = before} {earlier = e} {t = u} went lost same goes over) =
         resumed (went_by limit list s before e u went) lost same goes over
 
     -- one run is
-    pub goes_by : (batch : ScriptListed) (s : W) (run : ScriptRun) (t : W)
-        → RunsBatch (λ w. port (by w)) (λ w. plan (by w)) (λ w. lawful (by w)) (batch_limit batch) tries resumes batch s
-        run t → RunsBatch port plan lawful (batch_limit batch) tries resumes batch (by s) run (by t)
+    pub goes_by : {opened : Bool} (batch : ScriptListed) (s : W) (run : ScriptRun) (t : W)
+        → RunsBatchFrom (λ w. port (by w)) (λ w. plan (by w)) (λ w. lawful (by w)) opened (batch_limit batch) tries
+        resumes batch s run t → RunsBatchFrom port plan lawful opened (batch_limit batch) tries resumes batch (by s) run (by t)
     goes_by batch s run t goes = record {
       went = went_by (batch_limit batch) batch.accesses s run.stops run.told t goes.went;
       few = goes.few;
       lost = goes.lost;
     }
 
-    pub runs_by : (s : W) (batches : List ScriptListed) (runs : List ScriptRun) (t : W)
-        → RunsBatches (λ w. port (by w)) (λ w. plan (by w)) (λ w. lawful (by w)) batch_limit tries resumes s batches
-        runs t → RunsBatches port plan lawful batch_limit tries resumes (by s) batches runs (by t)
+    pub runs_by : {opened : Bool} (s : W) (batches : List ScriptListed) (runs : List ScriptRun) (t : W)
+        → RunsBatches (λ w. port (by w)) (λ w. plan (by w)) (λ w. lawful (by w)) opened batch_limit tries resumes s batches
+        runs t → RunsBatches port plan lawful opened batch_limit tries resumes (by s) batches runs (by t)
     runs_by s batches runs t none = none
     runs_by s batches runs t
         (then {batches = before} {runs = earlier} {t = u} {u = v} {batch = batch} {run = run} prior all goes) =
         then (runs_by s before earlier u prior) all (goes_by batch u run v goes)
 
-    refused_by : (limit : ℕ) (batch : ScriptListed) (s t : W)
-        → IsBatchRefused (λ w. port (by w)) (λ w. plan (by w)) (λ w. lawful (by w)) limit tries resumes batch s t
-        → IsBatchRefused port plan lawful limit tries resumes batch (by s) (by t)
+    refused_by : {opened : Bool} (limit : ℕ) (batch : ScriptListed) (s t : W)
+        → IsBatchRefused (λ w. port (by w)) (λ w. plan (by w)) (λ w. lawful (by w)) opened limit tries resumes batch s t
+        → IsBatchRefused port plan lawful opened limit tries resumes batch (by s) (by t)
     refused_by limit batch s t (unsent same) = unsent (ap by same)
     refused_by limit batch s t (unresumed {stops = stops} {told = told} went lost few) =
         unresumed (went_by limit batch.accesses s stops told t went) lost few
@@ -182,9 +183,9 @@ module _ {W V : Type 0} (by : W → V) (port : V → Port) (plan : V → List Ma
       are = runs_by s (calls_of batches over.made) (runs_of over.made) t over.are;
     }
 
-    cut_by : (batch : ScriptListed) (s t : W)
-        → IsCutShort (λ w. port (by w)) (λ w. plan (by w)) (λ w. lawful (by w)) tries resumes batch s t
-        → IsCutShort port plan lawful tries resumes batch (by s) (by t)
+    cut_by : {opened : Bool} (batch : ScriptListed) (s t : W)
+        → IsCutShort (λ w. port (by w)) (λ w. plan (by w)) (λ w. lawful (by w)) opened tries resumes batch s t
+        → IsCutShort port plan lawful opened tries resumes batch (by s) (by t)
     cut_by batch s t over = record {
       runs = over.runs;
       are = over.are;
@@ -332,24 +333,25 @@ batch_answers_recorded {g} tries resumes batches s t start end begins no_request
 
 -- ---- over a target that was just made
 
-law_refused : {W : Type 0} (port : W → Port) (plan : W → List Mark) (lawful : W → Type 0) (tries resumes : ℕ)
-    (batch : ScriptListed) (s t : W) → IsBatchRefused port plan lawful (batch_limit batch) tries resumes batch s t
-    → lawful t → lawful s
+law_refused : {W : Type 0} (port : W → Port) (plan : W → List Mark) (lawful : W → Type 0) {opened : Bool}
+    (tries resumes : ℕ) (batch : ScriptListed) (s t : W)
+    → IsBatchRefused port plan lawful opened (batch_limit batch) tries resumes batch s t → lawful t → lawful s
 law_refused port plan lawful tries resumes batch s t (unsent same) law = subst lawful same law
 law_refused port plan lawful tries resumes batch s t (unresumed {stops = stops} {told = told} went lost few) law =
     law_before port plan lawful (batch_limit batch) batch.accesses tries s stops told t went law
 
-law_runs : {W : Type 0} (port : W → Port) (plan : W → List Mark) (lawful : W → Type 0) (tries resumes : ℕ)
-    (s t : W) (batches : List ScriptListed) (runs : List ScriptRun)
-    → RunsBatches port plan lawful batch_limit tries resumes s batches runs t → lawful t → lawful s
+law_runs : {W : Type 0} (port : W → Port) (plan : W → List Mark) (lawful : W → Type 0) {opened : Bool}
+    (tries resumes : ℕ) (s t : W) (batches : List ScriptListed) (runs : List ScriptRun)
+    → RunsBatches port plan lawful opened batch_limit tries resumes s batches runs t → lawful t → lawful s
 law_runs port plan lawful tries resumes s t batches runs none law = law
 law_runs port plan lawful tries resumes s t batches runs
     (then {batches = before} {runs = earlier} {t = u} {u = v} {batch = batch} {run = run} prior all goes) law =
     law_runs port plan lawful tries resumes s u before earlier prior
     (law_before port plan lawful (batch_limit batch) batch.accesses tries u run.stops run.told v goes.went law)
 
-law_cut : {W : Type 0} (port : W → Port) (plan : W → List Mark) (lawful : W → Type 0) (tries resumes : ℕ)
-    (batch : ScriptListed) (s t : W) → IsCutShort port plan lawful tries resumes batch s t → lawful t → lawful s
+law_cut : {W : Type 0} (port : W → Port) (plan : W → List Mark) (lawful : W → Type 0) {opened : Bool}
+    (tries resumes : ℕ) (batch : ScriptListed) (s t : W) → IsCutShort port plan lawful opened tries resumes batch s t
+    → lawful t → lawful s
 law_cut port plan lawful tries resumes batch s t over law =
     law_runs port plan lawful tries resumes s over.between (batch_again batch over.runs) over.runs over.earlier
     (law_refused port plan lawful tries resumes batch over.between t over.refused law)
@@ -417,7 +419,7 @@ script_run_answers port plan lawful tries resumes script marks s t is_made plann
     let rest : IsAtRest (seen (0, s)) = script_target_at_rest (script_bus script) (seen (0, s)) begins in
     let runs_at = λ (runs : List BatchRuns) (end : ℕ × _) (law : lawful end.1)
     (unfolds : Unfolds (take (length runs) script.batches) runs)
-    (are : RunsBatches seen (λ x. plan x.1) (λ x. lawful x.1) batch_limit tries resumes (0, s)
+    (are : RunsBatches seen (λ x. plan x.1) (λ x. lawful x.1) false batch_limit tries resumes (0, s)
     (calls_of script.batches runs) (runs_of runs) end).
     script_runs seen (λ x. plan x.1) (λ x. lawful x.1) tries resumes script marks runs (0, s) end begins planned
     (λ x same. marks_seen traced port (port_disturbed_among marks) (port_lost_among marks) x.0 x.1 (marked x.1 same))

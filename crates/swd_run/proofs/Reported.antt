@@ -1,6 +1,6 @@
 -- The runs of a script so far, and the report of them that was written.
-use Rattle.std.proofs.Common.{◌≡◌, ℕ, ◌+◌, ◌-◌, ◌<◌, ◌≤◌, ◌^◌, ◌∙◌, List, [], ◌∷◌, ◌++◌, length, take, drop, Option}
-use Rattle.std.proofs.Common.{None, Ok, Err, inl, min, false, refl, sym, ap, subst, arith}
+use Rattle.std.proofs.Common.{◌≡◌, ℕ, ◌+◌, ◌-◌, ◌<◌, ◌≤◌, ◌^◌, ◌∙◌, Bool, List, [], ◌∷◌, ◌++◌, length, take, drop, Option}
+use Rattle.std.proofs.Common.{None, Ok, Err, inl, min, false, true, refl, sym, ap, subst, arith}
 use Rattle.std.proofs.KnownBytes.{Appends-nil, Appends-trans}
 use Rattle.std.proofs.Math.Seq.{take-append-add}
 use Rattle.std.proofs.lemmas.List.{length-append, length-take}
@@ -18,11 +18,12 @@ use Rattle.swd_run.specs.declared.fault.EngineFault.TheVariants.{Memory, Write}
 use Rattle.swd_run.specs.Engine.{BatchAnswers, IsScriptFinished, RanBatches}
 use Rattle.swd_run.specs.Records.{AreRunFilesLeft, no_run_files}
 use Rattle.swd_run.specs.Reports.{HasReportWritten, batch_report, session_text}
-use Rattle.swd_run.specs.Sessions.{ScriptRun, RunsBatches, batch_limit, none, then}
+use Rattle.swd_run.specs.Sessions.{ScriptRun, RunsBatches, batch_limit, script_is_open, none, then}
 use Rattle.swd_run.specs.Unfoldings.{AreRunsOfBatch, BatchRuns, IsCutShort, Performs, Unfolds, batch_again, calls_of}
 use Rattle.swd_run.specs.Unfoldings.{ends_until, until_never_came, no_batch, runs_of, one_more as batch_more}
 use Rattle.swd_run.specs.Verified.{verify_difference_in, first_difference, report_has_bus_fault, verify_or_else}
 use Rattle.swd_run.proofs.ReportLemmas.{report_pairs_front, report_pairs_append}
+use Rattle.swd_run.proofs.SessionLemmas.{script_open_later}
 use Rattle.swd_run.proofs.UnfoldingLemmas.{unfolded_calls_front, unfolded_calls_last, earlier_reads_ended_all}
 use Rattle.swd_run.proofs.UnfoldingLemmas.{unfolded_difference_last, unfolded_runs_ended, unfolded_bus_fault_last}
 use Rattle.swd_run.proofs.UnfoldingLemmas.{unfolded_batch_count, runs_append, unfolded_runs_last, unfolded_until_front}
@@ -82,26 +83,30 @@ stopped_after total before more old mid new a b text sum gone stop whole =
 module _ {W : Type 0} (port : W → Port) (plan : W → List Mark) (lawful : W → Type 0) (tries resumes : ℕ)
     (batches : List ScriptListed) (s : W) (old : Option (List ℕ)) where
   -- The runs of the first i batches, to this state of the wire, with what they come to. The report's writer has their
-  -- report, and so many bytes are counted.
-  pub record SoFar (i : ℕ) (t : W) (now : Option (List ℕ)) (finished : Finished) (written : ℕ) : Type 0 where
+  -- report, and so many bytes are counted. `opened` says whether the target is open for the next run.
+  pub record SoFar (i : ℕ) (t : W) (now : Option (List ℕ)) (finished : Finished) (written : ℕ) (opened : Bool) :
+      Type 0 where
     pub made : List BatchRuns
     pub unfolds : Unfolds (take i batches) made
-    pub are : RunsBatches port plan lawful batch_limit tries resumes s (calls_of (take i batches) made) (runs_of made) t
+    pub are : RunsBatches port plan lawful false batch_limit tries resumes s (calls_of (take i batches) made) (runs_of made) t
     pub is : IsScriptFinished (take i batches) made None finished
     pub gone : HasReportWritten old now (session_text (take i batches) made) written
+    pub is_open : opened ≡ script_is_open false (runs_of made)
 
   -- before the first batch there is no run, and nothing was written
-  pub none_yet : (finished : Finished) → IsScriptFinished [] [] None finished → SoFar 0 s old finished 0
+  pub none_yet : (finished : Finished) → IsScriptFinished [] [] None finished
+      → SoFar 0 s old finished 0 false
   none_yet finished is = record {
     made = [];
     unfolds = no_batch;
     are = none;
     is = is;
     gone = record { gone = Appends-nil old; count = refl };
+    is_open = refl;
   }
 
-  module _ (i : ℕ) (t : W) (now : Option (List ℕ)) (finished : Finished) (written : ℕ)
-      (so_far : SoFar i t now finished written) where
+  module _ (i : ℕ) (t : W) (now : Option (List ℕ)) (finished : Finished) (written : ℕ) (opened : Bool)
+      (so_far : SoFar i t now finished written opened) where
     as_batches : length so_far.made ≡ length (take i batches)
     as_batches = unfolded_batch_count (take i batches) so_far.made so_far.unfolds
 
@@ -126,7 +131,7 @@ module _ {W : Type 0} (port : W → Port) (plan : W → List Mark) (lawful : W �
     ran low = record {
       made = so_far.made;
       unfolds = subst (λ n. Unfolds (take n batches) so_far.made) (sym (counted low)) so_far.unfolds;
-      are = subst (λ calls. RunsBatches port plan lawful batch_limit tries resumes s calls (runs_of so_far.made) t)
+      are = subst (λ calls. RunsBatches port plan lawful false batch_limit tries resumes s calls (runs_of so_far.made) t)
           (front calls_of unfolded_calls_front low) so_far.are;
     }
 
@@ -152,7 +157,7 @@ module _ {W : Type 0} (port : W → Port) (plan : W → List Mark) (lawful : W �
     -- memory was refused for the next one
     pub refused_next : finished.ended ≡ All → finished.never_came ≡ false → i ≤ length batches → (batch : ScriptListed)
         (later : List ScriptListed) → drop i batches ≡ batch ∷ later → (u : W)
-        → IsCutShort port plan lawful tries resumes batch t u
+        → IsCutShort port plan lawful opened tries resumes batch t u
         → BatchAnswers port plan lawful tries resumes batches s u (Err Memory) old now no_run_files no_run_files
     refused_next all came low batch later next u refused = (
       record {
@@ -163,7 +168,7 @@ module _ {W : Type 0} (port : W → Port) (plan : W → List Mark) (lawful : W �
         batch = batch;
         later = later;
         next = ap (λ n. drop n batches) (counted low) ∙ next;
-        refused = refused;
+        refused = subst (λ o. IsCutShort port plan lawful o tries resumes batch t u) so_far.is_open refused;
       },
       subst (Appends old now) (front_text low) so_far.gone.gone,
       untouched,
@@ -172,13 +177,13 @@ module _ {W : Type 0} (port : W → Port) (plan : W → List Mark) (lawful : W �
     -- the runs of the next batch
     module _ (all : finished.ended ≡ All) (came : finished.never_came ≡ false) (batch : ScriptListed)
         (split : take (i + 1) batches ≡ take i batches ++ batch ∷ []) (runs : BatchRuns) (u : W)
-        (performs : Performs port plan lawful tries resumes batch t runs u) (told : HostReport)
+        (performs : Performs port plan lawful opened tries resumes batch t runs u) (told : HostReport)
         (last_is : runs.last.told ≡ told) (new : Option (List ℕ)) where
       unfolds_next : Unfolds (take (i + 1) batches) (so_far.made ++ runs ∷ [])
       unfolds_next = subst (λ z. Unfolds z (so_far.made ++ runs ∷ [])) (sym split)
           (batch_more so_far.unfolds (sym so_far.is.never_came ∙ came) performs.are)
 
-      runs_next : RunsBatches port plan lawful batch_limit tries resumes s (calls_of (take (i + 1) batches)
+      runs_next : RunsBatches port plan lawful false batch_limit tries resumes s (calls_of (take (i + 1) batches)
           (so_far.made ++ runs ∷ [])) (runs_of (so_far.made ++ runs ∷ [])) u
       runs_next =
           let before = calls_of (take i batches) so_far.made in
@@ -187,13 +192,14 @@ module _ {W : Type 0} (port : W → Port) (plan : W → List Mark) (lawful : W �
           let calls : before ++ next ≡ calls_of (take (i + 1) batches) (so_far.made ++ runs ∷ []) =
           sym (unfolded_calls_last (take i batches) so_far.made batch runs as_batches)
           ∙ ap (λ z. calls_of z (so_far.made ++ runs ∷ [])) (sym split) in
-          subst (λ z. RunsBatches port plan lawful batch_limit tries resumes s z (runs_of (so_far.made ++ runs ∷ [])) u)
-          calls (subst (λ z. RunsBatches port plan lawful batch_limit tries resumes s (before ++ next) z u)
+          subst (λ z. RunsBatches port plan lawful false batch_limit tries resumes s z (runs_of (so_far.made ++ runs ∷ [])) u)
+          calls (subst (λ z. RunsBatches port plan lawful false batch_limit tries resumes s (before ++ next) z u)
           (sym (unfolded_runs_last so_far.made runs))
-          (runs_append port plan lawful batch_limit tries resumes s t u before next (runs_of so_far.made) ended
+          (runs_append port plan lawful false batch_limit tries resumes s t before (runs_of so_far.made) u next ended
           so_far.are (sym so_far.is.ended ∙ all)
+          (subst (λ o. RunsBatches port plan lawful o batch_limit tries resumes t next ended u) so_far.is_open
           (then performs.earlier (earlier_reads_ended_all batch.until runs.earlier performs.are.earlier)
-          performs.last)))
+          performs.last))))
 
       text_next : session_text (take i batches) so_far.made ++ batch_report batch runs
           ≡ session_text (take (i + 1) batches) (so_far.made ++ runs ∷ [])
@@ -208,7 +214,7 @@ module _ {W : Type 0} (port : W → Port) (plan : W → List Mark) (lawful : W �
           → IsScriptBatch batch
           → AreRunsOfBatch batch runs → runs.last.told ≡ told → IsScriptFinished batches made None finished
           → IsScriptFinished (batches ++ batch ∷ []) (made ++ runs ∷ []) None finished_next)
-          → SoFar (i + 1) u new finished_next total
+          → SoFar (i + 1) u new finished_next total true
       one_more written_next total wrote sum fits finished_next and =
           let front = session_text (take i batches) so_far.made in
           let len = length-append front (batch_report batch runs) in
@@ -225,6 +231,8 @@ module _ {W : Type 0} (port : W → Port) (plan : W → List Mark) (lawful : W �
               count = counts total written written_next (length front) (length (batch_report batch runs)) sum
                   so_far.gone.count wrote.count ∙ ap (λ n. min n (2 ^ 64 - 1)) (sym len ∙ same);
             };
+            is_open = sym (ap (script_is_open false) (unfolded_runs_last so_far.made runs)
+                ∙ script_open_later false (runs_of so_far.made) runs.earlier runs.last);
           }
 
       -- the runs of the next batch, of whose report not all was written, are the last: the engine's answer is
@@ -248,7 +256,7 @@ module _ {W : Type 0} (port : W → Port) (plan : W → List Mark) (lawful : W �
             record {
               made = made;
               unfolds = subst (λ n. Unfolds (take n batches) made) many unfolds_next;
-              are = subst (λ z. RunsBatches port plan lawful batch_limit tries resumes s z (runs_of made) u) calls
+              are = subst (λ z. RunsBatches port plan lawful false batch_limit tries resumes s z (runs_of made) u) calls
                   runs_next;
             },
             inl (

@@ -1,5 +1,5 @@
 -- What a run over a simulated target says in terms of its plan.
-use Rattle.std.proofs.Common.{◌≡◌, ℕ, ◌+◌, ◌%◌, ◌≤◌, List, refl, ap, arith}
+use Rattle.std.proofs.Common.{◌≡◌, ℕ, ◌+◌, ◌%◌, ◌≤◌, Bool, List, refl, ap, arith}
 use Rattle.std.specs.Prelude.{◌↔◌}
 use Rattle.swd_trace.specs.declared.item.Item.{Item}
 use Rattle.swd_port.specs.declared.wire.Due.{Due}
@@ -11,10 +11,11 @@ use Rattle.swd_port.specs.Choices.{port_disturbed_among, port_lost_among}
 use Rattle.swd_host.specs.declared.outcome.End.{End}
 use Rattle.swd_host.specs.declared.outcome.End.TheVariants.{All, Lost, TriesOut, WrongId, Confused}
 use Rattle.swd_port.specs.Bus.{Bus}
-use Rattle.swd_host.specs.Reports.{Closes, HostEndsAt, IsAtRest, RunFits, RunsWithin, HostReport}
+use Rattle.swd_host.specs.Reports.{HostEndsAt, IsAtRest, HostReport}
 use Rattle.swd_script.specs.Scripts.{ScriptListed}
 use Rattle.swd_run.specs.Running.{IsRunExcused, RunsAs}
 use Rattle.swd_run.specs.Sessions.{batch_limit}
+use Rattle.swd_run.specs.Starts.{ScriptCallCloses, ScriptCallFits, ScriptStarts}
 use Rattle.swd_run.specs.Engine.{AreRunTraceItems, IsRunTraceOf, IsPartOfRunTrace}
 
 -- a run stops early only if the plan excuses it, where the plan bounds what was disturbed and lost by its end
@@ -38,24 +39,23 @@ script_target_at_rest m s is_made = record {
   settled = ap (λ x. x.target.pending) is_made;
 }
 
--- a run from a target at rest, which met at most the marks of a plan
-pub batch_run_under_plan : (tries : ℕ) (batch : ScriptListed) (marks : List Mark) (told : HostReport) (s t : Port)
-    (due : Due) → IsAtRest s → s.tally.lost ≤ port_lost_among marks
+-- a run from a target at rest or open, which met at most the marks of a plan
+pub batch_run_under_plan : (opened : Bool) (tries : ℕ) (batch : ScriptListed) (marks : List Mark) (told : HostReport)
+    (s t : Port) (due : Due) → ScriptStarts opened s → s.tally.lost ≤ port_lost_among marks
     → t.tally.disturbed ≤ port_disturbed_among marks → t.tally.lost ≤ port_lost_among marks
-    → Closes 0 (batch_limit batch) batch.accesses tries told due
-    → RunsWithin (batch_limit batch) batch.accesses tries told s t
-    → RunsAs tries batch s.target.memory marks told t.target.memory
-batch_run_under_plan tries batch marks told s t due rest r p q closes over =
-    let fits : RunFits (batch_limit batch) batch.accesses tries s.target.memory told s t = over rest in
+    → ScriptCallCloses opened (batch_limit batch) batch.accesses tries told due
+    → ScriptCallFits opened (batch_limit batch) batch.accesses tries told s t
+    → RunsAs opened tries batch s.target.memory marks told t.target.memory
+batch_run_under_plan opened tries batch marks told s t due starts r p q closes over =
+    let fits = over starts in
     let most = fits.most in
-    let spends = closes.spends in
     record {
       fits = fits.now;
       excused = script_run_end_excused told.ended tries marks s t p q fits.ends;
       whole = λ none few. fits.stops_only (omega arith) (omega arith);
       least = fits.least;
       most = omega arith;
-      spends = omega arith;
+      spends = closes.spends;
     }
 
 -- ---- what a recorded run leaves

@@ -1,6 +1,6 @@
 -- Runs of a script, one after the other.
 use Rattle.std.proofs.Common.{◌≡◌, ℕ, zero, suc, ◌+◌, ◌<◌, ◌≤◌, ◌∙◌, List, [], ◌∷◌, ◌++◌, length, take, drop, map}
-use Rattle.std.proofs.Common.{get_or, refl, sym, ap, subst, arith, add-one}
+use Rattle.std.proofs.Common.{get_or, Bool, true, false, refl, sym, ap, subst, arith, add-one, append_assoc}
 use Rattle.std.specs.Prelude.{◌↔◌, All as Each}
 use Rattle.std.proofs.Math.Seq.{drop-cons, take-suc}
 use Rattle.swd_port.specs.declared.mark.Mark.{Mark}
@@ -14,11 +14,12 @@ use Rattle.swd_host.specs.Reports.{IsAtRest, host_due_at_end}
 use Rattle.swd_script.specs.Scripts.{ScriptListed, ScriptMeaning}
 use Rattle.swd_run.specs.GoingOn.{script_calls_in_all}
 use Rattle.swd_run.specs.Running.{RunsScript, ScriptSession, script_bus, none as no_run, then as then_run}
-use Rattle.swd_run.specs.Sessions.{batch_limit, ScriptRun, RunsBatch, RunsBatches, script_ended, none, then}
-use Rattle.swd_run.specs.Sessions.{script_requests}
+use Rattle.swd_run.specs.Sessions.{batch_limit, ScriptRun, RunsBatchFrom, RunsBatches, script_ended, none, then}
+use Rattle.swd_run.specs.Sessions.{script_is_open, script_requests}
+use Rattle.swd_run.specs.Starts.{ScriptStarts}
 use Rattle.swd_run.specs.Unfoldings.{BatchRuns, Unfolds, calls_of, runs_of}
 use Rattle.swd_run.proofs.RunLemmas.{IsRunTraceRecorded, script_target_at_rest}
-use Rattle.swd_run.proofs.WentLemmas.{asked, due_after, ending, law_before, plan_kept, rests, runs_on}
+use Rattle.swd_run.proofs.WentLemmas.{asked, due_after, ending, law_before, opens, plan_kept, runs_on}
 
 -- ---- lists of runs
 
@@ -27,6 +28,18 @@ pub script_ended_last : (runs : List ScriptRun) (run : ScriptRun) → script_end
 script_ended_last [] run = refl
 script_ended_last (first ∷ []) run = refl
 script_ended_last (first ∷ next ∷ runs) run = script_ended_last (next ∷ runs) run
+
+-- after a run the target is open
+pub script_open_last : (opened : Bool) (runs : List ScriptRun) (run : ScriptRun)
+    → script_is_open opened (runs ++ run ∷ []) ≡ true
+script_open_last opened [] run = refl
+script_open_last opened (first ∷ runs) run = refl
+
+-- and so it is after runs and a further one
+pub script_open_later : (opened : Bool) (runs more : List ScriptRun) (run : ScriptRun)
+    → script_is_open opened (runs ++ (more ++ run ∷ [])) ≡ true
+script_open_later opened runs more run =
+    ap (script_is_open opened) (sym (append_assoc runs more (run ∷ []))) ∙ script_open_last opened (runs ++ more) run
 
 requests_last : (runs : List ScriptRun) (run : ScriptRun)
     → script_requests (runs ++ run ∷ []) ≡ script_requests runs + (script_calls_in_all run.stops run.told).requests
@@ -64,8 +77,9 @@ batch_map_drop_next f xs i d low =
 
 module _ {W : Type 0} (port : W → Port) (plan : W → List Mark) (lawful : W → Type 0) (tries resumes : ℕ) (s : W) where
   -- nothing is due after a run that ended `All`
-  pub due_then : (batch : ScriptListed) (run : ScriptRun) (t u : W) → run.told.ended ≡ All
-      → RunsBatch port plan lawful (batch_limit batch) tries resumes batch t run u → (port u).link.due ≡ Nothing
+  pub due_then : {opened : Bool} (batch : ScriptListed) (run : ScriptRun) (t u : W) → run.told.ended ≡ All
+      → RunsBatchFrom port plan lawful opened (batch_limit batch) tries resumes batch t run u
+      → (port u).link.due ≡ Nothing
   due_then batch run t u all goes =
       due_after port plan lawful (batch_limit batch) batch.accesses tries t run.stops run.told u goes.went
       ∙ ap host_due_at_end all
@@ -74,17 +88,17 @@ module _ {W : Type 0} (port : W → Port) (plan : W → List Mark) (lawful : W �
   module _ (rest : IsAtRest (port s)) where
     pub record Ends (runs : List ScriptRun) (t : W) : Type 0 where
       pub law : lawful s
-      pub at_rest : script_ended runs ≡ All → IsAtRest (port t)
+      pub open_for : script_ended runs ≡ All → ScriptStarts (script_is_open false runs) (port t)
       pub counted : (port t).tally.asked ≡ (port s).tally.asked + script_requests runs
       pub ending : (recorded_due_count (port t).link.due ≡ 0)
           × (((port t).link.due ≡ DueLost) ↔ (script_ended runs ≡ Lost))
 
     -- after runs of a script that leave a lawful wire, all of this holds
     pub ends : (batches : List ScriptListed) (runs : List ScriptRun) (t : W)
-        → RunsBatches port plan lawful batch_limit tries resumes s batches runs t → lawful t → Ends runs t
+        → RunsBatches port plan lawful false batch_limit tries resumes s batches runs t → lawful t → Ends runs t
     ends batches runs t none law = record {
       law = law;
-      at_rest = λ all. rest;
+      open_for = λ all. rest;
       counted = omega arith;
       ending = (
         ap recorded_due_count rest.due,
@@ -99,7 +113,7 @@ module _ {W : Type 0} (port : W → Port) (plan : W → List Mark) (lawful : W �
         let n : ℕ = batch_limit batch in
         let back : lawful u = law_before port plan lawful n batch.accesses tries u run.stops run.told v goes.went law in
         let h : Ends earlier u = ends before earlier u runs_before back in
-        let r : IsAtRest (port u) = h.at_rest all in
+        let r : ScriptStarts (script_is_open false earlier) (port u) = h.open_for all in
         let last : script_ended (earlier ++ run ∷ []) ≡ run.told.ended = script_ended_last earlier run in
         let many = asked port plan lawful n batch.accesses tries u r run.stops run.told v goes.went law in
         let ending_is = ending port plan lawful n batch.accesses tries u r run.stops run.told v goes.went law in
@@ -107,8 +121,8 @@ module _ {W : Type 0} (port : W → Port) (plan : W → List Mark) (lawful : W �
         let sum = requests_last earlier run in
         record {
           law = h.law;
-          at_rest = λ e. rests port plan lawful n batch.accesses tries u r run.stops run.told v goes.went law
-              (sym last ∙ e);
+          open_for = λ e. subst (λ opened. ScriptStarts opened (port v)) (sym (script_open_last false earlier run))
+              (opens port plan lawful n batch.accesses tries u r run.stops run.told v goes.went law (sym last ∙ e));
           counted = omega (arith, many, before_counted, sum);
           ending = subst (λ x. (recorded_due_count (port v).link.due ≡ 0)
               × (((port v).link.due ≡ DueLost) ↔ (x ≡ Lost))) (sym last) ending_is;
@@ -117,7 +131,7 @@ module _ {W : Type 0} (port : W → Port) (plan : W → List Mark) (lawful : W �
     -- over a lawful wire, from a target at rest and a count of 0, the requests counted are those of the runs; no
     -- transaction is incomplete, and a line reset is due exactly if the runs ended `Lost`
     pub recorded : (batches : List ScriptListed) (runs : List ScriptRun) (t : W) → (port s).tally.asked ≡ 0
-        → RunsBatches port plan lawful batch_limit tries resumes s batches runs t → lawful t
+        → RunsBatches port plan lawful false batch_limit tries resumes s batches runs t → lawful t
         → IsRunTraceRecorded (script_requests runs) (script_ended runs) (port t)
     recorded batches runs t no_request all law =
         let h : Ends runs t = ends batches runs t all law in
@@ -129,7 +143,7 @@ module _ {W : Type 0} (port : W → Port) (plan : W → List Mark) (lawful : W �
         (marked : (w : W) → plan w ≡ marks
         → ((port w).tally.disturbed ≤ port_disturbed_among marks) × ((port w).tally.lost ≤ port_lost_among marks)) where
       pub sessions : (batches : List ScriptListed) (runs : List ScriptRun) (t : W)
-          → RunsBatches port plan lawful batch_limit tries resumes s batches runs t → lawful t
+          → RunsBatches port plan lawful false batch_limit tries resumes s batches runs t → lawful t
           → (plan t ≡ marks) × ScriptSession tries resumes marks (port s).target.memory batches runs
           (port t).target.memory
       sessions batches runs t none law = (planned, no_run)
@@ -139,9 +153,11 @@ module _ {W : Type 0} (port : W → Port) (plan : W → List Mark) (lawful : W �
           let back : lawful u = law_before port plan lawful n batch.accesses tries u run.stops run.told v goes.went
           law in
           let (same, session) = sessions before earlier u runs_before back in
-          let r : IsAtRest (port u) = (ends before earlier u runs_before back).at_rest all in (
+          let opened : Bool = script_is_open false earlier in
+          let r : ScriptStarts opened (port u) = (ends before earlier u runs_before back).open_for all in (
             plan_kept port plan lawful n batch.accesses tries u run.stops run.told v goes.went ∙ same,
-            then_run session all (runs_on port plan lawful tries resumes batch marks run u v r law goes same marked),
+            then_run session all
+                (runs_on port plan lawful opened tries resumes batch marks run u v r law goes same marked),
           )
 
 -- ---- batches and runs as they are kept
@@ -160,7 +176,7 @@ module _ {W : Type 0} (port : W → Port) (plan : W → List Mark) (lawful : W �
     (marked : (w : W) → plan w ≡ marks
     → ((port w).tally.disturbed ≤ port_disturbed_among marks) × ((port w).tally.lost ≤ port_lost_among marks))
     (law : lawful t) (unfolds : Unfolds (take (length made) script.batches) made)
-    (all : RunsBatches port plan lawful batch_limit tries resumes s (calls_of script.batches made) (runs_of made) t)
+    (all : RunsBatches port plan lawful false batch_limit tries resumes s (calls_of script.batches made) (runs_of made) t)
   where
     -- over a lawful wire the runs of a script's first batches are those from its initial memory, and leave the target's
     -- memory

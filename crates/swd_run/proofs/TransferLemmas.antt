@@ -18,10 +18,12 @@ use Rattle.swd_observer.specs.Explained.{ObservedByHow, ObservedLog, ObservedSin
 use Rattle.swd_observer.specs.Runs.{Accounted}
 use Rattle.swd_host.specs.declared.outcome.End.TheVariants.{All}
 use Rattle.swd_host.specs.Plain.{answers_of, memory_after}
-use Rattle.swd_host.specs.Reports.{HostEndsAt, IsAtRest, RunFits, HostReport}
+use Rattle.swd_host.specs.Reports.{HostEndsAt, IsAtRest, RunFitsFrom, HostReport}
 use Rattle.swd_host.specs.Sessions.{HostSession, none as no_call, then as one_call}
 use Rattle.swd_script.specs.Scripts.{ScriptListed}
-use Rattle.swd_run.specs.Sessions.{ScriptRun, RunsBatches, batch_limit, none as no_run, then as one_run}
+use Rattle.swd_run.specs.Sessions.{ScriptRun, RunsBatches, batch_limit, script_is_open, none as no_run}
+use Rattle.swd_run.specs.Sessions.{then as one_run}
+use Rattle.swd_run.specs.Starts.{ScriptStarts, script_opening_requests}
 use Rattle.swd_run.specs.Transfers.{AreReportAccessesKnown, AreReportTransfers, AreWholeRuns, ReportKnownIsExact}
 use Rattle.swd_run.specs.Transfers.{ReportExplainsSession, ReportSureIsExact, report_is_took, report_taken_in}
 use Rattle.swd_run.specs.Transfers.{report_transfer_by, report_known_transfer, report_transfers_by, report_transfers_in}
@@ -50,8 +52,8 @@ logged_after (a ∷ list) m =
 
 -- ---- a call that ended whole
 
-module _ (limit tries : ℕ) (list : List Access) (told : HostReport) (s t : Port)
-    (fits : RunFits limit list tries s.target.memory told s t) (all : told.ended ≡ All) where
+module _ (opening limit tries : ℕ) (list : List Access) (told : HostReport) (s t : Port)
+    (fits : RunFitsFrom opening limit list tries s.target.memory told s t) (all : told.ended ≡ All) where
   whole_list : take fits.now.0 list ≡ list
   whole_list = ap (λ n. take n list) (fits.now.1.all all) ∙ take_all (length list) list (omega arith)
 
@@ -95,27 +97,42 @@ joined : (start middle end first second : List Transfer) → middle ≡ start ++
 joined start middle end first second a b =
     b ∙ ap (λ log. log ++ second) a ∙ append_assoc start first second
 
-record SessionLogged (s : Port) (list : List Access) (answers : List Answer) (t : Port) : Type 0 where
-  rests : IsAtRest t
+-- what a target's memory logged from s to t is the transfers of these answers
+record HasLogged (s : Port) (list : List Access) (answers : List Answer) (t : Port) : Type 0 where
   same : length list ≡ length answers
   log : t.target.memory.log ≡ s.target.memory.log ++ report_transfers_by list answers
 
+nothing_logged : (s : Port) → HasLogged s [] [] s
+nothing_logged s = record { same = refl; log = sym (append-nil s.target.memory.log) }
+
+-- and those of a further list that ended whole
+logged_more : (s : Port) (before : List Access) (old : List Answer) (u v : Port) → HasLogged s before old u
+    → (opening limit tries : ℕ) (more : List Access) (told : HostReport)
+    → RunFitsFrom opening limit more tries u.target.memory told u v → told.ended ≡ All
+    → HasLogged s (before ++ more) (old ++ told.answers) v
+logged_more s before old u v h opening limit tries more told fits all = record {
+  same = (let a = length-append before more in let b = length-append old told.answers in
+      let c = h.same in let count = answered_all opening limit tries more told u v fits all in
+      omega (arith, a, b, c, count));
+  log = joined s.target.memory.log u.target.memory.log v.target.memory.log (report_transfers_by before old)
+      (report_transfers_by more told.answers) h.log (logged_call opening limit tries more told u v fits all)
+      ∙ ap (λ l. s.target.memory.log ++ l) (sym (transfers_more before old more told.answers h.same));
+}
+
+record SessionLogged (s : Port) (list : List Access) (answers : List Answer) (t : Port) : Type 0 where
+  rests : IsAtRest t
+  logged : HasLogged s list answers t
+
 session_logged : (s : Port) (list : List Access) (answers : List Answer) (t : Port) → IsAtRest s
     → HostSession s list answers t → SessionLogged s list answers t
-session_logged s list answers t rest no_call =
-    record { rests = rest; same = refl; log = sym (append-nil s.target.memory.log) }
+session_logged s list answers t rest no_call = record { rests = rest; logged = nothing_logged s }
 session_logged s list answers t rest
     (one_call {done = before} {answers = old} {t = u} {u = v} prior limit tries more told runs all) =
     let h : SessionLogged s before old u = session_logged s before old u rest prior in
     let fits = runs h.rests in
-    let count = answered_all limit tries more told u v fits all in
     record {
-      rests = rests_whole limit tries more told u v fits all;
-      same = (let a = length-append before more in let b = length-append old told.answers in
-          let c = h.same in omega (arith, a, b, c, count));
-      log = joined s.target.memory.log u.target.memory.log v.target.memory.log (report_transfers_by before old)
-          (report_transfers_by more told.answers) h.log (logged_call limit tries more told u v fits all)
-          ∙ ap (λ l. s.target.memory.log ++ l) (sym (transfers_more before old more told.answers h.same));
+      rests = rests_whole 9 limit tries more told u v fits all;
+      logged = logged_more s before old u v h.logged 9 limit tries more told fits all;
     }
 
 -- what explains the log since then explains these transfers
@@ -124,11 +141,17 @@ explained_since : (told : List Shown) (before now more : List Transfer) → now 
 explained_since told before now more is since =
     subst (ObservedLog told) (append_cancel_left before since.more more (sym since.is ∙ is)) since.explains
 
+explained_by : (s : Port) (list : List Access) (answers : List Answer) (t : Port) (told : List Shown)
+    → HasLogged s list answers t → Accounted s.target.memory.log told t
+    → ObservedLog told (report_transfers_by list answers)
+explained_by s list answers t told logged accounted =
+    explained_since told s.target.memory.log t.target.memory.log (report_transfers_by list answers) logged.log
+    accounted.now
+
 -- so it explains the transfers of the answers
 pub report_session_explained : ReportExplainsSession
 report_session_explained s list answers t told rest session accounted =
-    explained_since told s.target.memory.log t.target.memory.log (report_transfers_by list answers)
-    (session_logged s list answers t rest session).log accounted.now
+    explained_by s list answers t told (session_logged s list answers t rest session).logged accounted
 
 -- ---- successive calls of a script
 
@@ -154,32 +177,35 @@ answers_last (first ∷ runs) run =
 
 module _ {W : Type 0} (port : W → Port) (plan : W → List Mark) (lawful : W → Type 0) (tries resumes : ℕ) (s : W)
     (rest : IsAtRest (port s)) where
-  -- calls that each ended `All`, none resumed, are a session of the host
-  session_of : (batches : List ScriptListed) (runs : List ScriptRun) (t : W)
-      → RunsBatches port plan lawful batch_limit tries resumes s batches runs t → lawful t → AreWholeRuns runs
-      → HostSession (port s) (report_accesses_in batches) (report_answers_in runs) (port t)
-  session_of batches runs t no_run law whole = no_call
-  session_of batches runs t (one_run {batches = before} {runs = earlier} {t = u} {u = v} {batch = batch} {run = run}
+  -- calls that each ended `All`, none resumed, logged the transfers of their answers
+  calls_logged : (batches : List ScriptListed) (runs : List ScriptRun) (t : W)
+      → RunsBatches port plan lawful false batch_limit tries resumes s batches runs t → lawful t → AreWholeRuns runs
+      → HasLogged (port s) (report_accesses_in batches) (report_answers_in runs) (port t)
+  calls_logged batches runs t no_run law whole = nothing_logged (port s)
+  calls_logged batches runs t (one_run {batches = before} {runs = earlier} {t = u} {u = v} {batch = batch} {run = run}
       prior all goes) law whole =
       let n : ℕ = batch_limit batch in
       let (early, unstopped, ended) = whole_last earlier run whole in
       let back : lawful u = law_before port plan lawful n batch.accesses tries u run.stops run.told v goes.went law in
-      let r : IsAtRest (port u) =
-      (ends port plan lawful tries resumes s rest before earlier u prior back).at_rest all in
-      let over = (alone port plan lawful n batch.accesses tries u r run.stops run.told v goes.went law unstopped).1 in
-      subst (λ list. HostSession (port s) list (report_answers_in (earlier ++ run ∷ [])) (port v))
+      let starts : ScriptStarts (script_is_open false earlier) (port u) =
+      (ends port plan lawful tries resumes s rest before earlier u prior back).open_for all in
+      let over = (alone port plan lawful n batch.accesses tries u starts run.stops run.told v goes.went law unstopped).1
+      in
+      subst (λ list. HasLogged (port s) list (report_answers_in (earlier ++ run ∷ [])) (port v))
       (sym (accesses_last before batch))
-      (subst (λ answers. HostSession (port s) (report_accesses_in before ++ batch.accesses) answers (port v))
+      (subst (λ answers. HasLogged (port s) (report_accesses_in before ++ batch.accesses) answers (port v))
       (sym (answers_last earlier run))
-      (one_call (session_of before earlier u prior back early) n tries batch.accesses run.told over ended))
+      (logged_more (port s) (report_accesses_in before) (report_answers_in earlier) (port u) (port v)
+      (calls_logged before earlier u prior back early) (script_opening_requests (script_is_open false earlier)) n tries
+      batch.accesses run.told (over starts) ended))
 
   -- what explains the log explains the transfers that their reports state
   pub reported : (batches : List ScriptListed) (runs : List ScriptRun) (t : W) (told : List Shown)
-      → RunsBatches port plan lawful batch_limit tries resumes s batches runs t → lawful t → AreWholeRuns runs
+      → RunsBatches port plan lawful false batch_limit tries resumes s batches runs t → lawful t → AreWholeRuns runs
       → Accounted (port s).target.memory.log told (port t) → ObservedLog told (report_transfers_in batches runs)
   reported batches runs t told all law whole accounted =
-      report_session_explained (port s) (report_accesses_in batches) (report_answers_in runs) (port t) told rest
-      (session_of batches runs t all law whole) accounted
+      explained_by (port s) (report_accesses_in batches) (report_answers_in runs) (port t) told
+      (calls_logged batches runs t all law whole) accounted
 
 -- ---- where nothing is doubtful
 

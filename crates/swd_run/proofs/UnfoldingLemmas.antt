@@ -15,14 +15,14 @@ use Rattle.swd_script.specs.declared.batch.Until.{Until}
 use Rattle.swd_script.specs.Scripts.{ScriptListed}
 use Rattle.swd_script.specs.Laws.{IsScriptBatch, IsScriptUntil}
 use Rattle.swd_run.specs.declared.verified.Difference.{Difference}
-use Rattle.swd_run.specs.Sessions.{ScriptRun, RunsBatch, IsBatchRefused, RunsBatches, script_ended, batch_limit, none}
-use Rattle.swd_run.specs.Sessions.{then}
+use Rattle.swd_run.specs.Sessions.{ScriptRun, RunsBatchFrom, IsBatchRefused, RunsBatches, script_ended, batch_limit}
+use Rattle.swd_run.specs.Sessions.{script_is_open, none, then}
 use Rattle.swd_run.specs.Verified.{verify_difference_in, first_difference, report_has_bus_fault, runs_met_bus_fault}
 use Rattle.swd_run.specs.Verified.{verify_or_else}
 use Rattle.swd_run.specs.Unfoldings.{AreEarlierReads, AreRunsOfBatch, BatchRuns, IsCutShort, IsLastRead, Performs}
 use Rattle.swd_run.specs.Unfoldings.{Unfolds, batch_again, asks_again, calls_of, ends_until, is_other_until_word}
 use Rattle.swd_run.specs.Unfoldings.{until_never_came, no_batch, one_more, batch_reads_of, runs_of}
-use Rattle.swd_run.proofs.SessionLemmas.{script_ended_last}
+use Rattle.swd_run.proofs.SessionLemmas.{script_ended_last, script_open_last}
 
 -- of two tests that both passed, each passed
 pub until_and_left : (a b : Bool) → (a && b) ≡ true → a ≡ true
@@ -90,24 +90,35 @@ until_rereads_append until (first ∷ earlier) run e f =
 
 -- ---- runs after runs
 
-module _ {W : Type 0} (port : W → Port) (plan : W → List Mark) (lawful : W → Type 0) (most : ScriptListed → ℕ)
-    (tries resumes : ℕ) where
+-- whether the target is open after runs and others
+script_open_append : (opened : Bool) (first second : List ScriptRun)
+    → script_is_open (script_is_open opened first) second ≡ script_is_open opened (first ++ second)
+script_open_append opened [] [] = refl
+script_open_append opened [] (run ∷ second) = refl
+script_open_append opened (run ∷ first) [] = refl
+script_open_append opened (run ∷ first) (next ∷ second) = refl
+
+module _ {W : Type 0} (port : W → Port) (plan : W → List Mark) (lawful : W → Type 0) (opened : Bool)
+    (most : ScriptListed → ℕ) (tries resumes : ℕ) where
   -- runs after runs that all ended `All`
-  pub runs_append : (s t u : W) (xs ys : List ScriptListed) (first second : List ScriptRun)
-      → RunsBatches port plan lawful most tries resumes s xs first t → script_ended first ≡ All
-      → RunsBatches port plan lawful most tries resumes t ys second u
-      → RunsBatches port plan lawful most tries resumes s (xs ++ ys) (first ++ second) u
-  runs_append s t u xs ys first second before all none =
-      subst (λ z. RunsBatches port plan lawful most tries resumes s z (first ++ []) u) (sym (append-nil xs))
-      (subst (λ z. RunsBatches port plan lawful most tries resumes s xs z u) (sym (append-nil first)) before)
-  runs_append s t u xs ys first second before all
+  pub runs_append : (s t : W) (xs : List ScriptListed) (first : List ScriptRun) (u : W) (ys : List ScriptListed)
+      (second : List ScriptRun)
+      → RunsBatches port plan lawful opened most tries resumes s xs first t → script_ended first ≡ All
+      → RunsBatches port plan lawful (script_is_open opened first) most tries resumes t ys second u
+      → RunsBatches port plan lawful opened most tries resumes s (xs ++ ys) (first ++ second) u
+  runs_append s t xs first u ys second before all none =
+      subst (λ z. RunsBatches port plan lawful opened most tries resumes s z (first ++ []) u) (sym (append-nil xs))
+      (subst (λ z. RunsBatches port plan lawful opened most tries resumes s xs z u) (sym (append-nil first)) before)
+  runs_append s t xs first u ys second before all
       (then {batches = front} {runs = earlier} {t = v} {u = w} {batch = batch} {run = run} prior ended goes) =
-      let whole = runs_append s t v xs front first earlier before all prior in
-      subst (λ z. RunsBatches port plan lawful most tries resumes s z (first ++ (earlier ++ run ∷ [])) w)
+      let whole = runs_append s t xs first v front earlier before all prior in
+      subst (λ z. RunsBatches port plan lawful opened most tries resumes s z (first ++ (earlier ++ run ∷ [])) w)
       (append_assoc xs front (batch ∷ []))
-      (subst (λ z. RunsBatches port plan lawful most tries resumes s ((xs ++ front) ++ batch ∷ []) z w)
+      (subst (λ z. RunsBatches port plan lawful opened most tries resumes s ((xs ++ front) ++ batch ∷ []) z w)
       (append_assoc first earlier (run ∷ []))
-      (then whole (ended_append first earlier all ended) goes))
+      (then whole (ended_append first earlier all ended)
+      (subst (λ o. RunsBatchFrom port plan lawful o (most batch) tries resumes batch v run w)
+      (script_open_append opened first earlier) goes)))
 
 -- a batch once more
 pub batch_again_append : (batch : ScriptListed) (earlier : List ScriptRun) (run : ScriptRun)
@@ -329,13 +340,13 @@ unfolded_bus_fault_last made until runs are =
 pub until_is_not_none : {until : Until} → Some until ≡ None → ⊥
 until_is_not_none e = cc
 
-module _ {W : Type 0} (port : W → Port) (plan : W → List Mark) (lawful : W → Type 0) (tries resumes : ℕ)
-    (batch : ScriptListed) (s : W) where
+module _ {W : Type 0} (port : W → Port) (plan : W → List Mark) (lawful : W → Type 0) (opened : Bool)
+    (tries resumes : ℕ) (batch : ScriptListed) (s : W) where
   -- the only run of a batch without `until`
   pub performed_once : (last : ScriptRun) (t : W) → batch.until ≡ None
-      → RunsBatch port plan lawful (batch_limit batch) tries resumes batch s last t
+      → RunsBatchFrom port plan lawful opened (batch_limit batch) tries resumes batch s last t
       → (runs : BatchRuns) × (runs.last ≡ last) × (batch_reads_of runs ≡ 1)
-      × Performs port plan lawful tries resumes batch s runs t
+      × Performs port plan lawful opened tries resumes batch s runs t
   performed_once last t plain goes = (
     record { earlier = []; last = last },
     refl,
@@ -353,8 +364,9 @@ module _ {W : Type 0} (port : W → Port) (plan : W → List Mark) (lawful : W �
 
   -- memory was refused for the first run
   pub cut_first : IsScriptBatch batch → (t : W)
-      → IsBatchRefused port plan lawful (batch_limit batch) tries resumes batch s t → (batch.until ≡ None → t ≡ s)
-      → IsCutShort port plan lawful tries resumes batch s t
+      → IsBatchRefused port plan lawful opened (batch_limit batch) tries resumes batch s t
+      → (batch.until ≡ None → t ≡ s)
+      → IsCutShort port plan lawful opened tries resumes batch s t
   cut_first is t refused unsent = record {
     runs = [];
     are = first batch.until is.waits;
@@ -375,12 +387,13 @@ module _ {W : Type 0} (port : W → Port) (plan : W → List Mark) (lawful : W �
       pub many : length earlier + 1 ≡ n
       pub asked : list_all (λ run. asks_again until run) earlier ≡ true
       pub between : W
-      pub runs : RunsBatches port plan lawful batch_limit tries resumes s (batch_again batch earlier) earlier between
-      pub goes : RunsBatch port plan lawful (batch_limit batch) tries resumes batch between last t
+      pub runs : RunsBatches port plan lawful opened batch_limit tries resumes s (batch_again batch earlier) earlier between
+      pub goes : RunsBatchFrom port plan lawful (script_is_open opened earlier) (batch_limit batch) tries resumes batch
+          between last t
 
     -- a first read of an `until`, before which there is none
     pub asking_first : (last : ScriptRun) (t : W)
-        → RunsBatch port plan lawful (batch_limit batch) tries resumes batch s last t → Asking 1 last t
+        → RunsBatchFrom port plan lawful opened (batch_limit batch) tries resumes batch s last t → Asking 1 last t
     asking_first last t goes = record {
       earlier = [];
       many = refl;
@@ -392,16 +405,17 @@ module _ {W : Type 0} (port : W → Port) (plan : W → List Mark) (lawful : W �
 
     module _ (n : ℕ) (last : ScriptRun) (t : W) (asking : Asking n last t) where
       -- the runs so far, and the last one among them
-      runs_more : RunsBatches port plan lawful batch_limit tries resumes s
+      runs_more : RunsBatches port plan lawful opened batch_limit tries resumes s
           (batch_again batch (asking.earlier ++ last ∷ [])) (asking.earlier ++ last ∷ []) t
       runs_more =
-          subst (λ z. RunsBatches port plan lawful batch_limit tries resumes s z (asking.earlier ++ last ∷ []) t)
+          subst (λ z. RunsBatches port plan lawful opened batch_limit tries resumes s z (asking.earlier ++ last ∷ []) t)
           (sym (batch_again_append batch asking.earlier last))
           (then asking.runs (until_rereads_ended_all until asking.earlier asking.asked) asking.goes)
 
       -- one read more of an `until`, after one that asked for another
       pub asking_more : asks_again until last ≡ true → (next : ScriptRun) (u : W)
-          → RunsBatch port plan lawful (batch_limit batch) tries resumes batch t next u → Asking (n + 1) next u
+          → RunsBatchFrom port plan lawful true (batch_limit batch) tries resumes batch t next u
+          → Asking (n + 1) next u
       asking_more again_asked next u goes =
           let many = asking.many in
           let longer = length-append asking.earlier (last ∷ []) in
@@ -411,7 +425,8 @@ module _ {W : Type 0} (port : W → Port) (plan : W → List Mark) (lawful : W �
             asked = until_rereads_append until asking.earlier last asking.asked again_asked;
             between = t;
             runs = runs_more;
-            goes = goes;
+            goes = subst (λ o. RunsBatchFrom port plan lawful o (batch_limit batch) tries resumes batch t next u)
+                (sym (script_open_last opened asking.earlier last)) goes;
           }
 
       module _ (waits : batch.until ≡ Some until) where
@@ -419,7 +434,7 @@ module _ {W : Type 0} (port : W → Port) (plan : W → List Mark) (lawful : W �
         -- last allowed
         pub performed : n ≤ until.most → (asks_again until last ≡ true → n ≡ until.most)
             → (runs : BatchRuns) × (runs.last ≡ last) × (batch_reads_of runs ≡ n)
-            × Performs port plan lawful tries resumes batch s runs t
+            × Performs port plan lawful opened tries resumes batch s runs t
         performed low ends =
             let many = asking.many in
             let runs : BatchRuns = record { earlier = asking.earlier; last = last } in
@@ -441,8 +456,8 @@ module _ {W : Type 0} (port : W → Port) (plan : W → List Mark) (lawful : W �
 
         -- memory was refused for the next one
         pub cut_later : asks_again until last ≡ true → n < until.most → (u : W)
-            → IsBatchRefused port plan lawful (batch_limit batch) tries resumes batch t u
-            → IsCutShort port plan lawful tries resumes batch s u
+            → IsBatchRefused port plan lawful true (batch_limit batch) tries resumes batch t u
+            → IsCutShort port plan lawful opened tries resumes batch s u
         cut_later again_asked low u refused =
             let many = asking.many in
             let longer = length-append asking.earlier (last ∷ []) in
@@ -455,6 +470,7 @@ module _ {W : Type 0} (port : W → Port) (plan : W → List Mark) (lawful : W �
               are = subst (λ x. AreEarlierReads x more) (sym waits) are;
               between = t;
               earlier = runs_more;
-              refused = refused;
+              refused = subst (λ o. IsBatchRefused port plan lawful o (batch_limit batch) tries resumes batch t u)
+                  (sym (script_open_last opened asking.earlier last)) refused;
               unsent = λ plain. absurd (until_is_not_none (sym waits ∙ plain));
             }

@@ -1,6 +1,6 @@
 -- What a run tells that was resumed at lost acknowledgements.
 use Rattle.std.proofs.Common.{◌≡◌, ℕ, zero, suc, ◌+◌, ◌-◌, ◌*◌, ◌<◌, ◌≤◌, ◌∙◌, List, [], ◌∷◌, ◌++◌, length, take, drop}
-use Rattle.std.proofs.Common.{min, false, refl, sym, ap, subst, arith}
+use Rattle.std.proofs.Common.{min, Bool, false, true, refl, sym, ap, subst, arith}
 use Rattle.std.proofs.lemmas.List.{length-append, length-drop, length-take-le, take-append-le, take_all}
 use Rattle.std.specs.Prelude.{◌↔◌, ◌≢◌, max, if◌then◌else◌}
 use Rattle.swd_port.specs.declared.access.Access.{Access}
@@ -10,7 +10,7 @@ use Rattle.swd_port.specs.declared.wire.Due.TheVariants.{Lost as DueLost}
 use Rattle.swd_port.specs.Bus.{Bus, bus_after}
 use Rattle.swd_port.specs.Port.{Port}
 use Rattle.swd_port.specs.Choices.{Choice, IsPortChoice, port_disturbed_among, port_lost_among}
-use Rattle.swd_port.specs.Completion.{port_completed}
+use Rattle.swd_port.specs.Completion.{MayBecome, port_completed}
 use Rattle.swd_port.proofs.CompletionLaws.{port_may_become_of_none}
 use Rattle.swd_recorder.specs.Steps.{recorded_due_count}
 use Rattle.swd_host.specs.declared.outcome.End.{End}
@@ -18,21 +18,24 @@ use Rattle.swd_host.specs.declared.outcome.End.TheVariants.{All, Lost, TriesOut,
 use Rattle.swd_port.specs.PlainBus.{plain_words_of}
 use Rattle.swd_host.specs.Plain.{answers_of}
 use Rattle.swd_host.specs.PlainRuns.{IsPlainWithRoom}
-use Rattle.swd_host.specs.Reports.{HostReport, Closes, HostEndsAt, host_due_at_end, Fits, IsAtRest, HostKnowsTarget}
-use Rattle.swd_host.specs.Reports.{RunsWithin, host_most_requests}
-use Rattle.swd_host.specs.Again.{ResumeCloses, ResumeFits, resume_added}
-use Rattle.swd_host.specs.Resuming.{host_end_is_all}
-use Rattle.swd_host.specs.Chains.{ResumedCalls, AreBlockReads, ran as first_call, resumed as next_call}
+use Rattle.swd_host.specs.Reports.{HostReport, HostEndsAt, HostIsOpen, host_due_at_end, FitsFrom, Fits, IsAtRest}
+use Rattle.swd_host.specs.Reports.{HostKnowsTarget, host_most_requests}
+use Rattle.swd_host.specs.Again.{Again, ResumeCloses, ResumeFits, resume_added, resume_own_report}
+use Rattle.swd_host.specs.Resuming.{host_end_is_all, resume_begun}
+use Rattle.swd_host.specs.Chains.{ResumeChain, AreBlockReads, first as first_call, again as next_call}
 use Rattle.swd_host.specs.Chains.{resume_chain_first_begun as first_begun}
-use Rattle.swd_host.proofs.Chains.{resume_target_known, chained, resume_chain_repeats}
+use Rattle.swd_host.proofs.Chains.{resume_target_known, resume_chain_repeats}
 use Rattle.swd_host.proofs.ReadChains.{resume_chain_reads}
 use Rattle.swd_script.specs.Scripts.{ScriptListed}
 use Rattle.swd_run.specs.declared.going_on.Stop.{Stop}
-use Rattle.swd_run.specs.GoingOn.{ScriptCalls, ran, resumed, script_stop_of, script_stops_of, script_requests_before}
+use Rattle.swd_run.specs.GoingOn.{ScriptCallsFrom, ran, resumed, script_stop_of, script_stops_of}
+use Rattle.swd_run.specs.GoingOn.{script_requests_before, script_chain_calls, script_chain_last, script_most_resumed}
 use Rattle.swd_run.specs.GoingOn.{IsScriptCall, AreScriptCalls, script_answered_first, script_begun_first}
 use Rattle.swd_run.specs.GoingOn.{ScriptCallsInTurn, ScriptCallsAgain, ScriptCallsOfReads, ScriptCallsReport}
 use Rattle.swd_run.specs.Running.{IsRunExcused, RunsOn}
-use Rattle.swd_run.specs.Sessions.{batch_limit, ScriptRun, RunsBatch}
+use Rattle.swd_run.specs.Sessions.{batch_limit, ScriptRun, RunsBatchFrom}
+use Rattle.swd_run.specs.Starts.{ScriptCallCloses, ScriptCallFits, ScriptStarts, script_most_requests}
+use Rattle.swd_run.specs.Starts.{script_opening_requests}
 use Rattle.swd_run.proofs.RunLemmas.{script_run_end_due, script_run_end_excused, batch_run_under_plan}
 
 -- ---- lists
@@ -56,16 +59,14 @@ lost_at : (ended : End) (tries : ℕ) (s t : Port) → ended ≡ Lost → HostEn
     → s.tally.lost < t.tally.lost
 lost_at ended tries s t is e = (subst (λ x. HostEndsAt x tries s t) is e).1
 
-rests_at : (ended : End) (tries : ℕ) (s t : Port) → ended ≡ All → HostEndsAt ended tries s t → IsAtRest t
-rests_at ended tries s t is e = (subst (λ x. HostEndsAt x tries s t) is e).0
+open_at : (ended : End) (tries : ℕ) (s t : Port) → ended ≡ All → HostEndsAt ended tries s t → HostIsOpen t
+open_at ended tries s t is e = subst (λ x. HostEndsAt x tries s t) is e
 
-spends_first : (n a r tries : ℕ) → r ≤ 0 + host_most_requests tries (min n (a + 1))
-    → r ≤ 0 + host_most_requests tries (min (n - 0) (a - 0 + 1))
-spends_first n a r tries h =
+spends_first : (most : ℕ → ℕ) (n a r : ℕ) → r ≤ most (min n (a + 1)) → r ≤ most (min (n - 0) (a - 0 + 1))
+spends_first most n a r h =
     let e : n ≡ n - 0 = omega arith in
     let f : a ≡ a - 0 = omega arith in
-    subst (λ x. r ≤ 0 + host_most_requests tries (min x (a - 0 + 1))) e
-    (subst (λ y. r ≤ 0 + host_most_requests tries (min n (y + 1))) f h)
+    subst (λ x. r ≤ most (min x (a - 0 + 1))) e (subst (λ y. r ≤ most (min n (y + 1))) f h)
 
 -- what a run tells as begun, it began itself
 open_first : (ended : End) (begun answered : ℕ) → (begun ≢ 0 → ended ≢ All)
@@ -78,10 +79,12 @@ open_first (WrongId word) begun answered never = omega arith
 open_first Confused begun answered never = omega arith
 
 -- a run
-call_ran : (limit tries : ℕ) (list : List Access) (m : Bus) (told : HostReport) (now : Bus) (due : _)
-    → Closes 0 limit list tries told due → Fits limit list m told now
-    → IsScriptCall 0 limit tries (length list) 0 0 (length told.answers) told.begun told.requests told.ended
-call_ran limit tries list m told now due closes (k, fit) =
+call_ran : (opened : Bool) (limit tries : ℕ) (list : List Access) (m : Bus) (told : HostReport) (now : Bus) (due : _)
+    → ScriptCallCloses opened limit list tries told due
+    → FitsFrom (script_opening_requests opened) limit list m told now
+    → IsScriptCall (script_opening_requests opened) (script_most_requests opened tries) limit (length list) 0 0
+    (length told.answers) told.begun told.requests told.ended
+call_ran opened limit tries list m told now due closes (k, fit) =
     let many : length told.answers ≡ k =
     ap length fit.answers ∙ script_calls_answer_count (take k list) m ∙ length-take-le k list fit.reported in
     record {
@@ -92,7 +95,8 @@ call_ran limit tries list m told now due closes (k, fit) =
       few = closes.begun;
       unanswered = open_first told.ended told.begun (length told.answers) (λ some. (fit.begun some).1);
       begins = λ some. let h = (fit.begun some).2 in omega (arith, h, many);
-      spends = spends_first (length list) (length told.answers) told.requests tries closes.spends;
+      spends = spends_first (script_most_requests opened tries) (length list) (length told.answers) told.requests
+          closes.spends;
     }
 
 abbrev any : Choice
@@ -112,8 +116,8 @@ is_any = record { address = omega arith; filler = omega arith; others = omega ar
 -- going on
 call_resumed : (tries : ℕ) (list : List Access) (earlier told : HostReport) (due : _) (s t : Port)
     → ResumeCloses list tries earlier told due → ResumeFits list tries earlier told s t
-    → IsScriptCall 5 1 tries (length list) (length earlier.answers) earlier.begun (length told.answers) told.begun
-    told.requests told.ended
+    → IsScriptCall 9 (script_most_resumed tries) 1 (length list) (length earlier.answers) earlier.begun
+    (length told.answers) told.begun told.requests told.ended
 call_resumed tries list earlier told due s t goes fits =
     let added : List Answer = resume_added earlier told in
     let many : length told.answers ≡ length earlier.answers + length added =
@@ -141,18 +145,21 @@ call_resumed tries list earlier told due s t goes fits =
           (min (length (drop (length earlier.answers) list)) (y + 1))) new goes.closes.spends);
     }
 
-calls_more : (spare limit tries n from left : ℕ) (stops : List Stop) (earlier told : HostReport) → earlier.ended ≡ Lost
-    → AreScriptCalls spare limit tries n from left stops earlier
-    → IsScriptCall 5 1 tries n (length earlier.answers) earlier.begun (length told.answers) told.begun told.requests
-    told.ended
-    → AreScriptCalls spare limit tries n from left (stops ++ script_stop_of earlier ∷ []) told
-calls_more spare limit tries n from left [] earlier told lost calls call = (
-  subst (λ x. IsScriptCall spare limit tries n from left (length earlier.answers) earlier.begun earlier.requests x) lost
-      calls,
+calls_more : (opening : ℕ) (most : ℕ → ℕ) (limit tries n from left : ℕ) (stops : List Stop)
+    (earlier told : HostReport) → earlier.ended ≡ Lost
+    → AreScriptCalls opening most limit tries n from left stops earlier
+    → IsScriptCall 9 (script_most_resumed tries) 1 n (length earlier.answers) earlier.begun (length told.answers)
+    told.begun told.requests told.ended
+    → AreScriptCalls opening most limit tries n from left (stops ++ script_stop_of earlier ∷ []) told
+calls_more opening most limit tries n from left [] earlier told lost calls call = (
+  subst (λ x. IsScriptCall opening most limit n from left (length earlier.answers) earlier.begun earlier.requests x)
+      lost calls,
   call,
 )
-calls_more spare limit tries n from left (stop ∷ stops) earlier told lost calls call =
-    (calls.0, calls_more 5 1 tries n stop.answered stop.begun stops earlier told lost calls.1 call)
+calls_more opening most limit tries n from left (stop ∷ stops) earlier told lost calls call = (
+  calls.0,
+  calls_more 9 (script_most_resumed tries) 1 tries n stop.answered stop.begun stops earlier told lost calls.1 call,
+)
 
 answered_same : (stops : List Stop) (earlier told : HostReport)
     → script_answered_first (stops ++ script_stop_of earlier ∷ []) told ≡ script_answered_first stops earlier
@@ -165,34 +172,114 @@ most_more base q r k x h l = omega (arith, h, l)
 -- ---- all calls
 
 -- whatever came back
-module _ {W : Type 0} (port : W → Port) (plan : W → List Mark) (lawful : W → Type 0) (limit : ℕ) (list : List Access)
-    (tries : ℕ) (s : W)
+module _ {W : Type 0} (port : W → Port) (plan : W → List Mark) (lawful : W → Type 0) {opened : Bool} (limit : ℕ)
+    (list : List Access) (tries : ℕ) (s : W)
   where
     -- what is due after a run is what its end says
     pub due_after : (stops : List Stop) (told : HostReport) (t : W)
-        → ScriptCalls port plan lawful limit list tries s stops told t → (port t).link.due ≡ host_due_at_end told.ended
+        → ScriptCallsFrom port plan lawful opened limit list tries s stops told t → (port t).link.due ≡ host_due_at_end told.ended
     due_after stops told t (ran same closes over) = closes.due
     due_after stops told t (resumed went lost same goes over) = goes.closes.due
 
     -- so it was lawful from the start
     pub law_before : (stops : List Stop) (told : HostReport) (t : W)
-        → ScriptCalls port plan lawful limit list tries s stops told t → lawful t → lawful s
+        → ScriptCallsFrom port plan lawful opened limit list tries s stops told t → lawful t → lawful s
     law_before stops told t (ran same closes over) law = (over law).0
     law_before stops told t (resumed {stops = before} {earlier = e} {t = u} went lost same goes over) law =
         law_before before e u went (over law).0
 
     -- a run and its resumed calls don't change the plan
     pub plan_kept : (stops : List Stop) (told : HostReport) (t : W)
-        → ScriptCalls port plan lawful limit list tries s stops told t → plan t ≡ plan s
+        → ScriptCallsFrom port plan lawful opened limit list tries s stops told t → plan t ≡ plan s
     plan_kept stops told t (ran same closes over) = same
     plan_kept stops told t (resumed went lost same goes over) = same
 
+-- ---- the calls, as `ResumeChain` counts them
+
+-- requests of an opening, which weren't sent, are added
+fits_with_opening : (limit : ℕ) (list : List Access) (m : Bus) (told : HostReport) (now : Bus)
+    → FitsFrom 0 limit list m told now → Fits limit list m (record told { requests = 9 + told.requests }) now
+fits_with_opening limit list m told now (k, fit) = (
+  k,
+  record {
+    reported = fit.reported;
+    answers = fit.answers;
+    memory = fit.memory;
+    few = fit.few;
+    begun = λ some. (let h = fit.begun some in let sent = h.2 in (h.0, h.1, omega (arith, sent)));
+    all = fit.all;
+  },
+)
+
+chain_first : (opened : Bool) (limit : ℕ) (list : List Access) (m : Bus) (told : HostReport) (now : Bus)
+    → FitsFrom (script_opening_requests opened) limit list m told now
+    → ResumeChain limit list m (script_chain_calls opened []) (script_chain_last opened [] told) now
+chain_first false limit list m told now fits = first_call fits
+chain_first true limit list m told now fits = first_call (fits_with_opening limit list m told now fits)
+
+chain_more : (opened : Bool) (limit : ℕ) (list : List Access) (m : Bus) (calls : List HostReport)
+    (earlier told : HostReport) (before now : Bus)
+    → ResumeChain limit list m (script_chain_calls opened calls) (script_chain_last opened calls earlier) before
+    → (own : ℕ) → told.answers ≡ earlier.answers ++ resume_added earlier told
+    → told.begun ≡ resume_begun earlier told own
+    → Fits 1 (drop (length earlier.answers) list) before (resume_own_report earlier told own) now
+    → ResumeChain limit list m (script_chain_calls opened (calls ++ earlier ∷ []))
+    (script_chain_last opened (calls ++ earlier ∷ []) told) now
+chain_more false limit list m calls earlier told before now chain own kept begun fits =
+    next_call chain own kept begun fits
+chain_more true limit list m [] earlier told before now chain own kept begun fits =
+    next_call chain own kept begun fits
+chain_more true limit list m (call ∷ calls) earlier told before now chain own kept begun fits =
+    next_call chain own kept begun fits
+
+chain_many : (opened : Bool) (calls : List HostReport) → length (script_chain_calls opened calls) ≡ length calls
+chain_many false calls = refl
+chain_many true [] = refl
+chain_many true (call ∷ calls) = refl
+
+chain_begun : (opened : Bool) (calls : List HostReport) (told : HostReport)
+    → first_begun (script_chain_calls opened calls) (script_chain_last opened calls told) ≡ first_begun calls told
+chain_begun false calls told = refl
+chain_begun true [] told = refl
+chain_begun true (call ∷ calls) told = refl
+
+-- what an added opening doesn't change
+chain_again : (opened : Bool) (calls : List HostReport) (told : HostReport) (places : List ℕ) (list : List Access)
+    (m now : Bus) → Again places list m (script_chain_last opened calls told) now → Again places list m told now
+chain_again false calls told places list m now again = again
+chain_again true [] told places list m now (k, at) = (
+  k,
+  record {
+    reported = at.reported;
+    answers = at.answers;
+    memory = at.memory;
+    few = at.few;
+    begun = at.begun;
+    all = at.all;
+  },
+)
+chain_again true (call ∷ calls) told places list m now again = again
+
+chain_answers : (opened : Bool) (calls : List HostReport) (told : HostReport)
+    → (script_chain_last opened calls told).answers ≡ told.answers
+chain_answers false calls told = refl
+chain_answers true [] told = refl
+chain_answers true (call ∷ calls) told = refl
+
+chain_ended : (opened : Bool) (calls : List HostReport) (told : HostReport)
+    → (script_chain_last opened calls told).ended ≡ told.ended
+chain_ended false calls told = refl
+chain_ended true [] told = refl
+chain_ended true (call ∷ calls) told = refl
+
 -- the calls, and what each of them told
-record InTurn (limit : ℕ) (list : List Access) (s : Port) (stops : List Stop) (told : HostReport) (t : Port) : Type 0
+record InTurn (opened : Bool) (limit : ℕ) (list : List Access) (m : Bus) (stops : List Stop) (told : HostReport)
+    (t : Port) : Type 0
   where
     calls : List HostReport
     are : stops ≡ script_stops_of calls
-    went : ResumedCalls limit list s calls told t
+    chained : (now : Bus) → MayBecome t now
+        → ResumeChain limit list m (script_chain_calls opened calls) (script_chain_last opened calls told) now
 
 stops_more : (calls : List HostReport) (told : HostReport)
     → script_stops_of (calls ++ told ∷ []) ≡ script_stops_of calls ++ script_stop_of told ∷ []
@@ -209,27 +296,26 @@ begun_there [] told = refl
 begun_there (call ∷ calls) told = refl
 
 -- the memory that the last call leaves: where it ended whole, the one that is there
-in_turn_at : (limit : ℕ) (list : List Access) (s : Port) (stops : List Stop) (told : HostReport) (t : Port)
-    (ended : End) → told.ended ≡ ended → IsAtRest s → (told.ended ≡ All → IsAtRest t) → InTurn limit list s stops told t
-    → ScriptCallsInTurn limit stops list s.target.memory told t.target.memory
-in_turn_at limit list s stops told t ended is rest at_rest h = by ended is
+in_turn_at : (opened : Bool) (limit : ℕ) (list : List Access) (m : Bus) (stops : List Stop) (told : HostReport)
+    (t : Port) (ended : End) → told.ended ≡ ended → (told.ended ≡ All → IsAtRest t)
+    → InTurn opened limit list m stops told t → ScriptCallsInTurn opened limit stops list m told t.target.memory
+in_turn_at opened limit list m stops told t ended is at_rest h = by ended is
   where
-    early : (told.ended ≡ All → ⊥) → ScriptCallsInTurn limit stops list s.target.memory told t.target.memory
+    early : (told.ended ≡ All → ⊥) → ScriptCallsInTurn opened limit stops list m told t.target.memory
     early never = record {
       calls = h.calls;
       are = h.are;
       memory = (port_completed any t).target.memory;
-      chain = chained limit list s rest h.calls told t h.went (port_completed any t).target.memory (any, is_any, refl);
+      chain = h.chained (port_completed any t).target.memory (any, is_any, refl);
       left = λ all. absurd (never all);
     }
 
-    by : (x : End) → told.ended ≡ x → ScriptCallsInTurn limit stops list s.target.memory told t.target.memory
+    by : (x : End) → told.ended ≡ x → ScriptCallsInTurn opened limit stops list m told t.target.memory
     by All all = record {
       calls = h.calls;
       are = h.are;
       memory = t.target.memory;
-      chain = chained limit list s rest h.calls told t h.went t.target.memory
-          (port_may_become_of_none.same t (at_rest all).settled);
+      chain = h.chained t.target.memory (port_may_become_of_none.same t (at_rest all).settled);
       left = λ all. refl;
     }
     by Lost x = early (λ all. absurd cc)
@@ -237,53 +323,59 @@ in_turn_at limit list s stops told t ended is rest at_rest h = by ended is
     by (WrongId word) x = early (λ all. absurd cc)
     by Confused x = early (λ all. absurd cc)
 
-again_in_turn : (limit : ℕ) (list : List Access) (m : Bus) (stops : List Stop) (told : HostReport)
+again_in_turn : (opened : Bool) (limit : ℕ) (list : List Access) (m : Bus) (stops : List Stop) (told : HostReport)
     (after : Bus)
-    → ScriptCallsInTurn limit stops list m told after → script_begun_first stops told ≤ 1
+    → ScriptCallsInTurn opened limit stops list m told after → script_begun_first stops told ≤ 1
     → IsPlainWithRoom (length stops) list m → ScriptCallsAgain stops list m told after
-again_in_turn limit list m stops told after h few room =
-    let many : length stops ≡ length h.calls = ap length h.are ∙ stops_many h.calls in
-    let begun : script_begun_first stops told ≡ first_begun h.calls told =
-    ap (λ l. script_begun_first l told) h.are ∙ begun_there h.calls told in
-    let r = resume_chain_repeats limit list m h.calls told h.memory (omega (arith, few, begun))
+again_in_turn opened limit list m stops told after h few room =
+    let many : length stops ≡ length (script_chain_calls opened h.calls) =
+    ap length h.are ∙ stops_many h.calls ∙ sym (chain_many opened h.calls) in
+    let begun : script_begun_first stops told
+    ≡ first_begun (script_chain_calls opened h.calls) (script_chain_last opened h.calls told) =
+    ap (λ l. script_begun_first l told) h.are ∙ begun_there h.calls told ∙ sym (chain_begun opened h.calls told) in
+    let r = resume_chain_repeats limit list m (script_chain_calls opened h.calls)
+    (script_chain_last opened h.calls told) h.memory (omega (arith, few, begun))
     (record { plain = room.plain; room = omega (arith, room.room, many) }) h.chain in
     let r_few = r.few in
     record {
       places = r.places;
       few = omega (arith, r_few, many);
       memory = h.memory;
-      again = r.again;
+      again = chain_again opened h.calls told r.places list m h.memory r.again;
       left = h.left;
-      words = λ all. ap plain_words_of (sym (h.left all)) ∙ r.words all;
+      words = λ all. ap plain_words_of (sym (h.left all)) ∙ r.words (chain_ended opened h.calls told ∙ all);
     }
 
-reads_in_turn : (limit : ℕ) (list : List Access) (m : Bus) (stops : List Stop) (told : HostReport)
+reads_in_turn : (opened : Bool) (limit : ℕ) (list : List Access) (m : Bus) (stops : List Stop) (told : HostReport)
     (after : Bus)
-    → ScriptCallsInTurn limit stops list m told after → 1 ≤ limit → AreBlockReads list
+    → ScriptCallsInTurn opened limit stops list m told after → 1 ≤ limit → AreBlockReads list
     → ScriptCallsOfReads limit stops list m told after
-reads_in_turn limit list m stops told after h some reads =
-    let many : length stops ≡ length h.calls = ap length h.are ∙ stops_many h.calls in
-    let r = resume_chain_reads limit list m h.calls told h.memory some reads h.chain in
+reads_in_turn opened limit list m stops told after h some reads =
+    let many : length stops ≡ length (script_chain_calls opened h.calls) =
+    ap length h.are ∙ stops_many h.calls ∙ sym (chain_many opened h.calls) in
+    let r = resume_chain_reads limit list m (script_chain_calls opened h.calls)
+    (script_chain_last opened h.calls told) h.memory some reads h.chain in
     record {
-      answers = λ room. r.answers (record { plain = room.plain; room = omega (arith, room.room, many) });
+      answers = λ room. subst (λ (l : List Answer). l ≡ answers_of (take (length l) list) m)
+          (chain_answers opened h.calls told)
+          (r.answers (record { plain = room.plain; room = omega (arith, room.room, many) }));
       words = λ plain all. ap plain_words_of (sym (h.left all)) ∙ r.words plain;
     }
 
-module _ {W : Type 0} (port : W → Port) (plan : W → List Mark) (lawful : W → Type 0) (limit : ℕ) (list : List Access)
-    (tries : ℕ) (s : W)
-    (rest : IsAtRest (port s)) where
-  known : (stops : List Stop) (told : HostReport) (t : W) → ScriptCalls port plan lawful limit list tries s stops told t
+module _ {W : Type 0} (port : W → Port) (plan : W → List Mark) (lawful : W → Type 0) {opened : Bool} (limit : ℕ)
+    (list : List Access) (tries : ℕ) (s : W) (starts : ScriptStarts opened (port s)) where
+  known : (stops : List Stop) (told : HostReport) (t : W) → ScriptCallsFrom port plan lawful opened limit list tries s stops told t
       → lawful t → HostKnowsTarget (port t).target
   known stops told t (ran {told = a} {t = u} same closes over) law =
-      resume_target_known a.ended tries (port s) (port u) ((over law).1 rest).ends
+      resume_target_known a.ended tries (port s) (port u) ((over law).1 starts).ends
   known stops told t (resumed {stops = before} {earlier = e} {told = a} {t = u} {u = v} went lost same goes over) law =
       resume_target_known a.ended tries (port u) (port v) ((over law).1 (known before e u went (over law).0)).ends
 
   -- over a lawful wire, from a target at rest, the count of requests grows by the requests of all calls
   pub asked : (stops : List Stop) (told : HostReport) (t : W)
-      → ScriptCalls port plan lawful limit list tries s stops told t → lawful t
+      → ScriptCallsFrom port plan lawful opened limit list tries s stops told t → lawful t
       → (port t).tally.asked ≡ (port s).tally.asked + (script_requests_before stops + told.requests)
-  asked stops told t (ran {told = a} {t = u} same closes over) law = let h = ((over law).1 rest).counted in omega
+  asked stops told t (ran {told = a} {t = u} same closes over) law = let h = ((over law).1 starts).counted in omega
       (arith, h)
   asked stops told t (resumed {stops = before} {earlier = e} {told = a} {t = u} {u = v} went lost same goes over) law =
       let h = asked before e u went (over law).0 in
@@ -294,18 +386,18 @@ module _ {W : Type 0} (port : W → Port) (plan : W → List Mark) (lawful : W �
   -- over a lawful wire, from a target at rest, no transaction is incomplete after all calls, and a line reset is due
   -- exactly if the last one ended `Lost`
   pub ending : (stops : List Stop) (told : HostReport) (t : W)
-      → ScriptCalls port plan lawful limit list tries s stops told t → lawful t
+      → ScriptCallsFrom port plan lawful opened limit list tries s stops told t → lawful t
       → (recorded_due_count (port t).link.due ≡ 0) × (((port t).link.due ≡ DueLost) ↔ (told.ended ≡ Lost))
   ending stops told t (ran {told = a} {t = u} same closes over) law = script_run_end_due a.ended tries (port s) (port u)
-      ((over law).1 rest).ends
+      ((over law).1 starts).ends
   ending stops told t (resumed {stops = before} {earlier = e} {told = a} {t = u} {u = v} went lost same goes over) law =
       script_run_end_due a.ended tries (port u) (port v) ((over law).1 (known before e u went (over law).0)).ends
 
   lost_more : (stops : List Stop) (told : HostReport) (t : W)
-      → ScriptCalls port plan lawful limit list tries s stops told t → lawful t → told.ended ≡ Lost
+      → ScriptCallsFrom port plan lawful opened limit list tries s stops told t → lawful t → told.ended ≡ Lost
       → (port s).tally.lost + length stops < (port t).tally.lost
   lost_more stops told t (ran {told = a} {t = u} same closes over) law is =
-      let h = lost_at a.ended tries (port s) (port u) is ((over law).1 rest).ends in omega (arith, h)
+      let h = lost_at a.ended tries (port s) (port u) is ((over law).1 starts).ends in omega (arith, h)
   lost_more stops told t (resumed {stops = before} {earlier = e} {told = a} {t = u} {u = v} went lost same goes over)
       law is =
       let h = lost_more before e u went (over law).0 lost in
@@ -313,16 +405,18 @@ module _ {W : Type 0} (port : W → Port) (plan : W → List Mark) (lawful : W �
       let l = one_more before (script_stop_of e) in
       omega (arith, h, g, l)
 
-  calls : (stops : List Stop) (told : HostReport) (t : W) → ScriptCalls port plan lawful limit list tries s stops told t
-      → lawful t → AreScriptCalls 0 limit tries (length list) 0 0 stops told
+  calls : (stops : List Stop) (told : HostReport) (t : W) → ScriptCallsFrom port plan lawful opened limit list tries s stops told t
+      → lawful t → AreScriptCalls (script_opening_requests opened) (script_most_requests opened tries) limit tries
+      (length list) 0 0 stops told
   calls stops told t (ran {told = a} {t = u} same closes over) law =
-      call_ran limit tries list (port s).target.memory a (port u).target.memory _ closes ((over law).1 rest).now
+      call_ran opened limit tries list (port s).target.memory a (port u).target.memory _ closes ((over law).1 starts).now
   calls stops told t (resumed {stops = before} {earlier = e} {told = a} {t = u} {u = v} went lost same goes over) law =
-      calls_more 0 limit tries (length list) 0 0 before e a lost (calls before e u went (over law).0)
+      calls_more (script_opening_requests opened) (script_most_requests opened tries) limit tries (length list) 0 0 before
+      e a lost (calls before e u went (over law).0)
       (call_resumed tries list e a _ (port u) (port v) goes ((over law).1 (known before e u went (over law).0)))
 
   first_within : (stops : List Stop) (told : HostReport) (t : W)
-      → ScriptCalls port plan lawful limit list tries s stops told t
+      → ScriptCallsFrom port plan lawful opened limit list tries s stops told t
       → script_answered_first stops told ≤ length told.answers
   first_within stops told t (ran same closes over) = omega arith
   first_within stops told t
@@ -333,15 +427,15 @@ module _ {W : Type 0} (port : W → Port) (plan : W → List Mark) (lawful : W �
       omega (arith, h, f, l)
 
   first_answers : (stops : List Stop) (told : HostReport) (t : W)
-      → ScriptCalls port plan lawful limit list tries s stops told t → lawful t
+      → ScriptCallsFrom port plan lawful opened limit list tries s stops told t → lawful t
       → take (script_answered_first stops told) told.answers ≡ answers_of (take (script_answered_first stops told) list)
       (port s).target.memory
-  first_answers stops told t (ran {told = a} {t = u} same closes over) law = whole ((over law).1 rest).now
+  first_answers stops told t (ran {told = a} {t = u} same closes over) law = whole ((over law).1 starts).now
     where
       m : Bus
       m = (port s).target.memory
 
-      whole : Fits limit list m a (port u).target.memory
+      whole : FitsFrom (script_opening_requests opened) limit list m a (port u).target.memory
           → take (length a.answers) a.answers ≡ answers_of (take (length a.answers) list) m
       whole (k, fit) =
           let many : length a.answers ≡ k = ap length fit.answers ∙ script_calls_answer_count (take k list) m
@@ -357,54 +451,69 @@ module _ {W : Type 0} (port : W → Port) (plan : W → List Mark) (lawful : W �
       ∙ first_answers before e u went (over law).0 ∙ ap (λ n. answers_of (take n list) m) (sym f)
 
   in_turn : (stops : List Stop) (told : HostReport) (t : W)
-      → ScriptCalls port plan lawful limit list tries s stops told t → lawful t
-      → InTurn limit list (port s) stops told (port t)
-  in_turn stops told t (ran {told = a} {t = u} same closes over) law =
-      record { calls = []; are = refl; went = first_call tries (over law).1 }
+      → ScriptCallsFrom port plan lawful opened limit list tries s stops told t → lawful t
+      → InTurn opened limit list (port s).target.memory stops told (port t)
+  in_turn stops told t (ran {told = a} {t = u} same closes over) law = record {
+    calls = [];
+    are = refl;
+    chained = λ now may. chain_first opened limit list (port s).target.memory a now
+        (subst (FitsFrom (script_opening_requests opened) limit list (port s).target.memory a) (sym may.2)
+        (((over law).1 starts).later may.0));
+  }
   in_turn stops told t (resumed {stops = before} {earlier = e} {told = a} {t = u} {u = v} went lost same goes over) law
       =
       let h = in_turn before e u went (over law).0 in
+      let fits = (over law).1 (known before e u went (over law).0) in
       record {
         calls = h.calls ++ e ∷ [];
         are = ap (λ l. l ++ script_stop_of e ∷ []) h.are ∙ sym (stops_more h.calls e);
-        went = next_call h.went tries goes.kept (over law).1;
+        chained = λ now may. (let from = fits.goes now may in
+            chain_more opened limit list (port s).target.memory h.calls e a from.before now
+            (h.chained from.before from.comes) fits.own goes.kept fits.begun from.fits);
       }
 
-  -- a run that ended all leaves a target at rest
-  pub rests : (stops : List Stop) (told : HostReport) (t : W)
-      → ScriptCalls port plan lawful limit list tries s stops told t → lawful t
-      → told.ended ≡ All → IsAtRest (port t)
-  rests stops told t (ran {told = a} {t = u} same closes over) law all =
-      rests_at a.ended tries (port s) (port u) all ((over law).1 rest).ends
-  rests stops told t (resumed {stops = before} {earlier = e} {told = a} {t = u} {u = v} went lost same goes over) law
+  -- a run that ended all leaves the target open
+  pub opens : (stops : List Stop) (told : HostReport) (t : W)
+      → ScriptCallsFrom port plan lawful opened limit list tries s stops told t → lawful t
+      → told.ended ≡ All → HostIsOpen (port t)
+  opens stops told t (ran {told = a} {t = u} same closes over) law all =
+      open_at a.ended tries (port s) (port u) all ((over law).1 starts).ends
+  opens stops told t (resumed {stops = before} {earlier = e} {told = a} {t = u} {u = v} went lost same goes over) law
       all =
-      rests_at a.ended tries (port u) (port v) all ((over law).1 (known before e u went (over law).0)).ends
+      open_at a.ended tries (port u) (port v) all ((over law).1 (known before e u went (over law).0)).ends
+
+  -- so it is at rest
+  pub rests : (stops : List Stop) (told : HostReport) (t : W)
+      → ScriptCallsFrom port plan lawful opened limit list tries s stops told t → lawful t
+      → told.ended ≡ All → IsAtRest (port t)
+  rests stops told t went law all = (opens stops told t went law all).0
 
   told_in_turn : (stops : List Stop) (told : HostReport) (t : W)
-      → ScriptCalls port plan lawful limit list tries s stops told t
-      → lawful t → ScriptCallsInTurn limit stops list (port s).target.memory told (port t).target.memory
+      → ScriptCallsFrom port plan lawful opened limit list tries s stops told t
+      → lawful t → ScriptCallsInTurn opened limit stops list (port s).target.memory told (port t).target.memory
   told_in_turn stops told t went law =
-      in_turn_at limit list (port s) stops told (port t) told.ended refl rest (rests stops told t went law)
-      (in_turn stops told t went law)
+      in_turn_at opened limit list (port s).target.memory stops told (port t) told.ended refl
+      (rests stops told t went law) (in_turn stops told t went law)
 
   -- over a lawful wire, from a target at rest, the reports of the calls state what `ScriptCallsReport` says of the plain memory
   pub tell_of : (stops : List Stop) (told : HostReport) (t : W)
-      → ScriptCalls port plan lawful limit list tries s stops told t → lawful t
-      → ScriptCallsReport limit tries list (port s).target.memory stops told (port t).target.memory
+      → ScriptCallsFrom port plan lawful opened limit list tries s stops told t → lawful t
+      → ScriptCallsReport opened limit tries list (port s).target.memory stops told (port t).target.memory
   tell_of stops told t went law = record {
     calls = calls stops told t went law;
     first = first_answers stops told t went law;
     turns = told_in_turn stops told t went law;
-    again = again_in_turn limit list (port s).target.memory stops told (port t).target.memory
+    again = again_in_turn opened limit list (port s).target.memory stops told (port t).target.memory
         (told_in_turn stops told t went law);
-    reads = reads_in_turn limit list (port s).target.memory stops told (port t).target.memory
+    reads = reads_in_turn opened limit list (port s).target.memory stops told (port t).target.memory
         (told_in_turn stops told t went law);
   }
 
   -- it was never resumed
   pub alone : (stops : List Stop) (told : HostReport) (t : W)
-      → ScriptCalls port plan lawful limit list tries s stops told t → lawful t → stops ≡ []
-      → Closes 0 limit list tries told (port t).link.due × RunsWithin limit list tries told (port s) (port t)
+      → ScriptCallsFrom port plan lawful opened limit list tries s stops told t → lawful t → stops ≡ []
+      → ScriptCallCloses opened limit list tries told (port t).link.due
+      × ScriptCallFits opened limit list tries told (port s) (port t)
   alone stops told t (ran same closes over) law none = (closes, (over law).1)
   alone stops told t (resumed {stops = before} {earlier = e} went lost same goes over) law none =
       let l = one_more before (script_stop_of e) in let z = ap length none in absurd (omega (arith, l, z))
@@ -414,18 +523,18 @@ module _ {W : Type 0} (port : W → Port) (plan : W → List Mark) (lawful : W �
       (bounded : (w : W) → plan w ≡ plan s → ((port w).tally.disturbed ≤ port_disturbed_among marks)
       × ((port w).tally.lost ≤ port_lost_among marks)) where
     pub excused_by : (stops : List Stop) (told : HostReport) (t : W)
-        → ScriptCalls port plan lawful limit list tries s stops told t → lawful t
+        → ScriptCallsFrom port plan lawful opened limit list tries s stops told t → lawful t
         → IsRunExcused told.ended tries marks
     excused_by stops told t (ran {told = a} {t = u} same closes over) law =
         script_run_end_excused a.ended tries marks (port s) (port u) (bounded u same).0 (bounded u same).1
-        ((over law).1 rest).ends
+        ((over law).1 starts).ends
     excused_by stops told t (resumed {stops = before} {earlier = e} {told = a} {t = u} {u = v} went lost same goes over)
         law =
         script_run_end_excused a.ended tries marks (port u) (port v) (bounded v same).0 (bounded v same).1
         ((over law).1 (known before e u went (over law).0)).ends
 
     pub stops_lost : (stops : List Stop) (told : HostReport) (t : W)
-        → ScriptCalls port plan lawful limit list tries s stops told t → lawful t
+        → ScriptCallsFrom port plan lawful opened limit list tries s stops told t → lawful t
         → length stops ≤ port_lost_among marks
     stops_lost stops told t (ran same closes over) law = omega arith
     stops_lost stops told t (resumed {stops = before} {earlier = e} {told = a} {t = u} {u = v} went lost same goes over)
@@ -436,7 +545,7 @@ module _ {W : Type 0} (port : W → Port) (plan : W → List Mark) (lawful : W �
         omega (arith, h, b, l)
 
     pub last_lost : (stops : List Stop) (told : HostReport) (t : W)
-        → ScriptCalls port plan lawful limit list tries s stops told t → lawful t
+        → ScriptCallsFrom port plan lawful opened limit list tries s stops told t → lawful t
         → told.ended ≡ Lost → length stops < port_lost_among marks
     last_lost stops told t went law is =
         let h = lost_more stops told t went law is in
@@ -444,15 +553,15 @@ module _ {W : Type 0} (port : W → Port) (plan : W → List Mark) (lawful : W �
         omega (arith, h, b)
 
     pub sends_most : (stops : List Stop) (told : HostReport) (t : W)
-        → ScriptCalls port plan lawful limit list tries s stops told t → lawful t
-        → script_requests_before stops + told.requests ≤ 9 + 6 * length list + 5 * port_disturbed_among marks
-        + length stops * (14 + 6 * length list + 5 * port_disturbed_among marks)
+        → ScriptCallsFrom port plan lawful opened limit list tries s stops told t → lawful t
+        → script_requests_before stops + told.requests ≤ script_opening_requests opened + 6 * length list
+        + 5 * port_disturbed_among marks + length stops * (14 + 6 * length list + 5 * port_disturbed_among marks)
     sends_most stops told t (ran {told = a} {t = u} same closes over) law =
-        let h = ((over law).1 rest).most in let b = (bounded u same).0 in omega (arith, h, b)
+        let h = ((over law).1 starts).most in let b = (bounded u same).0 in omega (arith, h, b)
     sends_most stops told t (resumed {stops = before} {earlier = e} {told = a} {t = u} {u = v} went lost same goes over)
         law =
         let x : ℕ = 14 + 6 * length list + 5 * port_disturbed_among marks in
-        let base : ℕ = 9 + 6 * length list + 5 * port_disturbed_among marks in
+        let base : ℕ = script_opening_requests opened + 6 * length list + 5 * port_disturbed_among marks in
         let h = sends_most before e u went (over law).0 in
         let g = ((over law).1 (known before e u went (over law).0)).most in
         let b = (bounded v same).0 in
@@ -477,22 +586,23 @@ whole_by TriesOut tries resumes marks e last lost few = absurd (omega (arith, e,
 whole_by (WrongId word) tries resumes marks e last lost few = absurd e
 whole_by Confused tries resumes marks e last lost few = absurd e
 
--- a run over a target at rest, under a plan of these marks
-module _ {W : Type 0} (port : W → Port) (plan : W → List Mark) (lawful : W → Type 0) (tries resumes : ℕ)
-    (batch : ScriptListed) (marks : List Mark) (run : ScriptRun) (s t : W) (rest : IsAtRest (port s)) (law : lawful t)
-    (goes : RunsBatch port plan lawful (batch_limit batch) tries resumes batch s run t) where
+-- a run over a target at rest or open, under a plan of these marks
+module _ {W : Type 0} (port : W → Port) (plan : W → List Mark) (lawful : W → Type 0) (opened : Bool)
+    (tries resumes : ℕ) (batch : ScriptListed) (marks : List Mark) (run : ScriptRun) (s t : W)
+    (starts : ScriptStarts opened (port s)) (law : lawful t)
+    (goes : RunsBatchFrom port plan lawful opened (batch_limit batch) tries resumes batch s run t) where
   -- over a lawful wire, from a target at rest and under a plan, a run that may be resumed states what `RunsOn` says
   -- of the plain memory
   pub runs_on : plan s ≡ marks
       → ((w : W) → plan w ≡ marks → ((port w).tally.disturbed ≤ port_disturbed_among marks)
       × ((port w).tally.lost ≤ port_lost_among marks))
-      → RunsOn tries resumes batch (port s).target.memory marks run.stops run.told (port t).target.memory
+      → RunsOn opened tries resumes batch (port s).target.memory marks run.stops run.told (port t).target.memory
   runs_on planned marked =
       let stops : List Stop = run.stops in
       let told : HostReport = run.told in
       let n : ℕ = batch_limit batch in
       let list : List Access = batch.accesses in
-      let went : ScriptCalls port plan lawful (batch_limit batch) batch.accesses tries s run.stops run.told t =
+      let went : ScriptCallsFrom port plan lawful opened (batch_limit batch) batch.accesses tries s run.stops run.told t =
       goes.went in
       let bounded : (w : W) → plan w ≡ plan s → ((port w).tally.disturbed ≤ port_disturbed_among marks)
       × ((port w).tally.lost ≤ port_lost_among marks) =
@@ -500,20 +610,20 @@ module _ {W : Type 0} (port : W → Port) (plan : W → List Mark) (lawful : W �
       let planned_at : plan t ≡ marks = plan_kept port plan lawful n list tries s stops told t went ∙ planned in
       let at_end = marked t planned_at in
       let at_start = marked s planned in
-      let excused : IsRunExcused told.ended tries marks = excused_by port plan lawful n list tries s rest marks bounded
+      let excused : IsRunExcused told.ended tries marks = excused_by port plan lawful n list tries s starts marks bounded
       stops told t went law in
       let lost : told.ended ≡ Lost → resumes < port_lost_among marks =
-      λ is. (let h = last_lost port plan lawful n list tries s rest marks bounded stops told t went law is in let e =
+      λ is. (let h = last_lost port plan lawful n list tries s starts marks bounded stops told t went law is in let e =
       goes.lost is in omega (arith, h, e)) in
       record {
-        alone = λ none. (let (closes, over) = alone port plan lawful n list tries s rest stops told t went law none in
-            batch_run_under_plan tries batch marks told (port s) (port t) _ rest at_start.1 at_end.0 at_end.1 closes
+        alone = λ none. (let (closes, over) = alone port plan lawful n list tries s starts stops told t went law none in
+            batch_run_under_plan opened tries batch marks told (port s) (port t) _ starts at_start.1 at_end.0 at_end.1 closes
             over);
-        tells = tell_of port plan lawful n list tries s rest stops told t went law;
+        tells = tell_of port plan lawful n list tries s starts stops told t went law;
         few = goes.few;
-        lost = stops_lost port plan lawful n list tries s rest marks bounded stops told t went law;
+        lost = stops_lost port plan lawful n list tries s starts marks bounded stops told t went law;
         excused = excused;
         last = λ is. (goes.lost is, lost is);
         whole = whole_by told.ended tries resumes marks excused lost;
-        most = sends_most port plan lawful n list tries s rest marks bounded stops told t went law;
+        most = sends_most port plan lawful n list tries s starts marks bounded stops told t went law;
       }

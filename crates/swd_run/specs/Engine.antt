@@ -25,20 +25,22 @@ use Rattle.swd_run.specs.declared.fault.EngineFault.TheVariants.{Memory, Write, 
 use Rattle.swd_run.specs.Records.{RunAccessesStop, AreRunFilesStarted, AreRunFilesLeft, AreRunFilesWritten, RunFiles}
 use Rattle.swd_run.specs.Records.{IfRunFiles, RunTraceStops, wants_run_files}
 use Rattle.swd_run.specs.Reports.{session_text}
-use Rattle.swd_run.specs.Sessions.{RunsBatches, script_ended, batch_limit, script_requests}
+use Rattle.swd_run.specs.Sessions.{RunsBatches, script_ended, batch_limit, script_is_open, script_requests}
 use Rattle.swd_run.specs.Transfers.{AreWholeRuns, report_transfers_in}
 use Rattle.swd_run.specs.Unfoldings.{AreBatchesDone, BatchRuns, IsCutShort, Unfolds, calls_of, ends_until, runs_of}
 use Rattle.swd_run.specs.Verified.{first_difference, runs_met_bus_fault}
 
 -- WHAT RAN
 -- Runs of the first of these batches over a wire, from its state `start` to `end`: of the calls that these unfold to,
--- in order. Each run but the last ended `All`. Whatever came back, `Closes` or `Continues` holds of each call. Where
--- the wire is lawful, the theorem of `run` or `resume` holds too.
+-- in order. Each run but the last ended `All`. The first run opens the target, and each later one goes over the target
+-- that the one before left open. Whatever came back, `ScriptCallCloses` or `ResumeCloses` holds of each call. Where the
+-- wire is lawful, the theorem of the host holds too.
 pub record RanBatches {W : Type 0} (port : W → Port) (plan : W → List Mark) (lawful : W → Type 0) (tries resumes : ℕ)
     (batches : List ScriptListed) (start end : W) : Type 0 where
   pub made : List BatchRuns
   pub unfolds : Unfolds (take (length made) batches) made
-  pub are : RunsBatches port plan lawful batch_limit tries resumes start (calls_of batches made) (runs_of made) end
+  pub are : RunsBatches port plan lawful false batch_limit tries resumes start (calls_of batches made) (runs_of made)
+      end
 
 -- Such runs, each of which ended `All`, and then one that ran out of memory. It may be a later read of an `until`.
 pub record RanBatchesShort {W : Type 0} (port : W → Port) (plan : W → List Mark) (lawful : W → Type 0)
@@ -50,7 +52,7 @@ pub record RanBatchesShort {W : Type 0} (port : W → Port) (plan : W → List M
   pub batch : ScriptListed
   pub later : List ScriptListed
   pub next : drop (length before.made) batches ≡ batch ∷ later
-  pub refused : IsCutShort port plan lawful tries resumes batch between end
+  pub refused : IsCutShort port plan lawful (script_is_open false (runs_of before.made)) tries resumes batch between end
 
 -- The port of a wire beside a count of requests. If the run is recorded, this count replaces the wire's own.
 abbrev pub run_port_seen : {W : Type 0} → Bool → (W → Port) → ℕ × W → Port

@@ -1,5 +1,6 @@
 -- A run that was resumed after lost acknowledgements: its calls, and what their reports state together.
-use Rattle.std.specs.Prelude.{ℕ, ◌≡◌, ◌≢◌, ◌+◌, ◌-◌, ◌≤◌, List, [], ◌∷◌, ◌++◌, length, take, min, max, if◌then◌else◌}
+use Rattle.std.specs.Prelude.{ℕ, ◌≡◌, ◌≢◌, ◌+◌, ◌-◌, ◌≤◌, Bool, true, false, List, [], ◌∷◌, ◌++◌, length, take, min}
+use Rattle.std.specs.Prelude.{max, if◌then◌else◌}
 use Rattle.swd_port.specs.declared.access.Access.{Access}
 use Rattle.swd_port.specs.declared.mark.Mark.{Mark}
 use Rattle.swd_port.specs.Bus.{Bus}
@@ -9,11 +10,12 @@ use Rattle.swd_host.specs.declared.outcome.End.TheVariants.{All, Lost}
 use Rattle.swd_port.specs.PlainBus.{IsPlain, plain_words_of}
 use Rattle.swd_host.specs.Plain.{memory_after, answers_of}
 use Rattle.swd_host.specs.PlainRuns.{IsPlainWithRoom}
-use Rattle.swd_host.specs.Reports.{HostReport, Closes, RunsWithin, host_most_requests}
+use Rattle.swd_host.specs.Reports.{HostReport, host_most_requests}
 use Rattle.swd_host.specs.Again.{Again, ResumeCloses, ResumesOver}
 use Rattle.swd_host.specs.Resuming.{host_end_is_all}
 use Rattle.swd_host.specs.Chains.{ResumeChain, AreBlockReads}
 use Rattle.swd_run.specs.declared.going_on.Stop.{Stop}
+use Rattle.swd_run.specs.Starts.{ScriptCallCloses, ScriptCallFits, script_most_requests, script_opening_requests}
 
 -- the place where a call with this report ended
 abbrev pub script_stop_of : HostReport → Stop
@@ -33,25 +35,35 @@ abbrev pub script_calls_in_all : List Stop → HostReport → HostReport
 script_calls_in_all stops told = record told { requests = script_requests_before stops + told.requests }
 
 -- THE CALLS
--- A run over a wire from s to t, and the calls of `resume` after it, each after a lost acknowledgement. Its arguments
--- are the places where it was resumed, and the report of the last call. Whatever came back, `Closes` or `ResumeCloses`
--- holds of each call. Where the wire is lawful, the theorem of `run` or `resume` holds too.
-pub data ScriptCalls {W : Type 0} (port : W → Port) (plan : W → List Mark) (lawful : W → Type 0) (limit : ℕ)
-    (list : List Access)
+-- A call over a wire from s to t, and the calls of `resume` after it, each after a lost acknowledgement. `opened` says
+-- that the target was open at s; else the call opens it. The other arguments are the places where it was resumed, and the
+-- report of the last call. Whatever came back, `ScriptCallCloses` or `ResumeCloses` holds of each call. Where the wire is
+-- lawful, the theorem of the host holds too.
+pub data ScriptCallsFrom {W : Type 0} (port : W → Port) (plan : W → List Mark) (lawful : W → Type 0) (opened : Bool)
+    (limit : ℕ) (list : List Access)
     (tries : ℕ) (s : W) : List Stop → HostReport → W → Type 0 where
-  ran : {told : HostReport} {t : W} → plan t ≡ plan s → Closes 0 limit list tries told (port t).link.due
-      → (lawful t → lawful s × RunsWithin limit list tries told (port s) (port t))
-      → ScriptCalls port plan lawful limit list tries s [] told t
+  ran : {told : HostReport} {t : W} → plan t ≡ plan s
+      → ScriptCallCloses opened limit list tries told (port t).link.due
+      → (lawful t → lawful s × ScriptCallFits opened limit list tries told (port s) (port t))
+      → ScriptCallsFrom port plan lawful opened limit list tries s [] told t
   resumed : {stops : List Stop} {earlier told : HostReport} {t u : W}
-      → ScriptCalls port plan lawful limit list tries s stops earlier t
+      → ScriptCallsFrom port plan lawful opened limit list tries s stops earlier t
       → earlier.ended ≡ Lost → plan u ≡ plan s → ResumeCloses list tries earlier told (port u).link.due
       → (lawful u → lawful t × ResumesOver list tries earlier told (port t) (port u))
-      → ScriptCalls port plan lawful limit list tries s (stops ++ script_stop_of earlier ∷ []) told u
+      → ScriptCallsFrom port plan lawful opened limit list tries s (stops ++ script_stop_of earlier ∷ []) told u
+
+-- the same where the first of them opens the target
+abbrev pub ScriptCalls : {W : Type 0} → (W → Port) → (W → List Mark) → (W → Type 0) → ℕ → List Access → ℕ → W
+    → List Stop → HostReport → W → Type 0
+ScriptCalls port plan lawful limit list tries s stops told t =
+    ScriptCallsFrom port plan lawful false limit list tries s stops told t
 
 -- WHAT THEY REPORT
 -- One call of a run over n accesses. The calls before it gave `from` answers, and left `left` accesses begun. After it
--- there are `answered` answers in all, and `begun` accesses begun. It sent `requests` requests.
-pub record IsScriptCall (spare limit tries n from left answered begun requests : ℕ) (ended : End) : Type 0 where
+-- there are `answered` answers in all, and `begun` accesses begun. It sent `requests` requests: before its list at least
+-- `opening`, and with so many accesses at most what `most` gives.
+pub record IsScriptCall (opening : ℕ) (most : ℕ → ℕ) (limit n from left answered begun requests : ℕ) (ended : End) :
+    Type 0 where
   pub grows : from ≤ answered
   pub number : answered ≤ n
   pub whole : ended ≡ All → answered ≡ n
@@ -60,19 +72,23 @@ pub record IsScriptCall (spare limit tries n from left answered begun requests :
   pub few : own ≤ limit
   -- accesses that earlier calls began stay begun until they are answered
   pub unanswered : begun ≡ if host_end_is_all ended then 0 else max own (left - (answered - from))
-  -- if it began unanswered accesses: at least ten requests, and one for each access that it answered or began
-  pub begins : own ≢ 0 → 10 + (answered - from) + own ≤ requests
-  -- at most what the tries allow for the opening, for the accesses that it answered, and for one more
-  pub spends : requests ≤ spare + host_most_requests tries (min (n - from) (answered - from + 1))
+  -- if it began unanswered accesses: a request for TAR, and one for each access that it answered or began
+  pub begins : own ≢ 0 → opening + 1 + (answered - from) + own ≤ requests
+  -- at most what the tries allow for the accesses that it answered, and for one more
+  pub spends : requests ≤ most (min (n - from) (answered - from + 1))
 
--- The successive calls. A call that resumes may take five more requests than a run. It begins at most one access that
--- it doesn't answer.
-abbrev pub AreScriptCalls : (spare limit tries n from left : ℕ) → List Stop → HostReport → Type 0
-AreScriptCalls spare limit tries n from left [] told =
-    IsScriptCall spare limit tries n from left (length told.answers) told.begun told.requests told.ended
-AreScriptCalls spare limit tries n from left (stop ∷ stops) told =
-    IsScriptCall spare limit tries n from left stop.answered stop.begun stop.requests Lost
-    × AreScriptCalls 5 1 tries n stop.answered stop.begun stops told
+-- the most requests of a call that resumes: five more than those of a run
+abbrev pub script_most_resumed : ℕ → ℕ → ℕ
+script_most_resumed tries n = 5 + host_most_requests tries n
+
+-- The successive calls. Each that resumes opens the target again, and begins at most one access that it doesn't answer.
+abbrev pub AreScriptCalls : (opening : ℕ) → (most : ℕ → ℕ) → (limit tries n from left : ℕ) → List Stop → HostReport
+    → Type 0
+AreScriptCalls opening most limit tries n from left [] told =
+    IsScriptCall opening most limit n from left (length told.answers) told.begun told.requests told.ended
+AreScriptCalls opening most limit tries n from left (stop ∷ stops) told =
+    IsScriptCall opening most limit n from left stop.answered stop.begun stop.requests Lost
+    × AreScriptCalls 9 (script_most_resumed tries) 1 tries n stop.answered stop.begun stops told
 
 -- the first call's number of answers, and of accesses begun after these
 abbrev pub script_answered_first : List Stop → HostReport → ℕ
@@ -83,14 +99,30 @@ abbrev pub script_begun_first : List Stop → HostReport → ℕ
 script_begun_first [] told = told.begun
 script_begun_first (stop ∷ stops) told = stop.begun
 
+-- the report of a call, with nine requests more, as of an opening
+abbrev pub script_with_opening : HostReport → HostReport
+script_with_opening told = record told { requests = 9 + told.requests }
+
+-- Reports of calls as `ResumeChain` counts them, which has an opening in each call: over an open target those of the
+-- opening are added to the first one. These are the calls before the last one, and the last one.
+abbrev pub script_chain_calls : Bool → List HostReport → List HostReport
+script_chain_calls false calls = calls
+script_chain_calls true [] = []
+script_chain_calls true (told ∷ calls) = script_with_opening told ∷ calls
+
+abbrev pub script_chain_last : Bool → List HostReport → HostReport → HostReport
+script_chain_last false calls told = told
+script_chain_last true [] told = script_with_opening told
+script_chain_last true (first ∷ calls) told = told
+
 -- The reports of the calls, where each call is a run over the rest of the list from the memory that the one before
 -- left. The last call left `memory`, which is `after` if the list is whole.
-pub record ScriptCallsInTurn (limit : ℕ) (stops : List Stop) (list : List Access) (m : Bus) (told : HostReport)
-    (after : Bus) : Type 0 where
+pub record ScriptCallsInTurn (opened : Bool) (limit : ℕ) (stops : List Stop) (list : List Access) (m : Bus)
+    (told : HostReport) (after : Bus) : Type 0 where
   pub calls : List HostReport
   pub are : stops ≡ script_stops_of calls
   pub memory : Bus
-  pub chain : ResumeChain limit list m calls told memory
+  pub chain : ResumeChain limit list m (script_chain_calls opened calls) (script_chain_last opened calls told) memory
   pub left : told.ended ≡ All → memory ≡ after
 
 -- The report is that of `Again`: the accesses at some places were repeated, at most one for each time that the run was
@@ -115,12 +147,13 @@ pub record ScriptCallsOfReads (limit : ℕ) (stops : List Stop) (list : List Acc
 -- What the reports of the calls state about the plain memory. The first call's answers are the plain memory's. So are
 -- all answers of a list of reads, if the log has room for the repeated reads. And so are those of any list of which the
 -- first call left at most one access begun, if the log has room for the repeated accesses.
-pub record ScriptCallsReport (limit tries : ℕ) (list : List Access) (m : Bus) (stops : List Stop)
+pub record ScriptCallsReport (opened : Bool) (limit tries : ℕ) (list : List Access) (m : Bus) (stops : List Stop)
     (told : HostReport) (after : Bus) : Type 0 where
-  pub calls : AreScriptCalls 0 limit tries (length list) 0 0 stops told
+  pub calls : AreScriptCalls (script_opening_requests opened) (script_most_requests opened tries) limit tries
+      (length list) 0 0 stops told
   pub first : take (script_answered_first stops told) told.answers
       ≡ answers_of (take (script_answered_first stops told) list) m
-  pub turns : ScriptCallsInTurn limit stops list m told after
+  pub turns : ScriptCallsInTurn opened limit stops list m told after
   pub again : script_begun_first stops told ≤ 1 → IsPlainWithRoom (length stops) list m
       → ScriptCallsAgain stops list m told after
   pub reads : 1 ≤ limit → AreBlockReads list → ScriptCallsOfReads limit stops list m told after

@@ -2,6 +2,7 @@ pub mod Records
 pub mod Recorded
 pub mod Engine
 pub mod Leads
+pub mod Starts
 pub mod GoingOn
 pub mod Sessions
 pub mod Transfers

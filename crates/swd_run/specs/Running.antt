@@ -1,6 +1,6 @@
 -- What the result for a script and a plan states: the theorem of the host, for files.
 use Rattle.std.specs.Prelude.{◌≡◌, ℕ, ◌+◌, ◌*◌, ◌<◌, ◌≤◌, List, [], ◌∷◌, ◌++◌, length, take, Option, Result, Ok, Err}
-use Rattle.std.specs.Prelude.{IfSome, ◌==◌, IsOk, None, Some, false, if◌then◌else◌, min}
+use Rattle.std.specs.Prelude.{IfSome, ◌==◌, IsOk, None, Some, Bool, false, if◌then◌else◌, min}
 use Rattle.swd_io.specs.Pieces.{IsReaderText}
 use Rattle.swd_io.specs.declared.pieces.Unread.{Unread}
 use Rattle.swd_io.specs.declared.pieces.Unread.TheVariants.{Reader, Consumer}
@@ -14,7 +14,7 @@ use Rattle.swd_port.specs.Bus.{Bus, bus_of}
 use Rattle.swd_target.specs.MemoryWords.{target_zero_memory}
 use Rattle.swd_host.specs.declared.outcome.End.{End}
 use Rattle.swd_host.specs.declared.outcome.End.TheVariants.{All, Lost, TriesOut, WrongId, Confused}
-use Rattle.swd_host.specs.Reports.{HostReport, Fits, host_most_requests}
+use Rattle.swd_host.specs.Reports.{HostReport, FitsFrom}
 use Rattle.swd_script.specs.Scripts.{ScriptListed, ScriptMeaning, script_of}
 use Rattle.swd_script.specs.Plans.{plan_of}
 use Rattle.swd_script.specs.Readers.{IsScriptFault, IsPlanFileFault}
@@ -29,7 +29,8 @@ use Rattle.swd_run.specs.declared.fault.TextsFault.TheVariants.{Script, Plan, Re
 use Rattle.swd_run.specs.Engine.{Answers, IsPartOfRunTrace, IsRunTraceOf}
 use Rattle.swd_run.specs.GoingOn.{ScriptCallsReport, script_calls_in_all}
 use Rattle.swd_run.specs.Records.{AreRunFilesLeft, RunFiles, IsRunFileLeft}
-use Rattle.swd_run.specs.Sessions.{ScriptRun, script_ended, batch_limit, script_requests}
+use Rattle.swd_run.specs.Sessions.{ScriptRun, script_ended, batch_limit, script_is_open, script_requests}
+use Rattle.swd_run.specs.Starts.{script_most_requests, script_opening_requests}
 use Rattle.swd_run.specs.Transfers.{AreWholeRuns, report_transfers_in}
 use Rattle.swd_run.specs.Unfoldings.{BatchRuns, Unfolds, calls_of, ends_until, runs_of}
 
@@ -48,42 +49,47 @@ IsRunExcused TriesOut tries marks = tries < port_disturbed_among marks
 IsRunExcused (WrongId word) tries marks = ⊥
 IsRunExcused Confused tries marks = ⊥
 
--- The result of a run over a memory with the marks of a plan. The report fits the memories before and after it.
-pub record RunsAs (tries : ℕ) (batch : ScriptListed) (before : Bus) (marks : List Mark) (told : HostReport)
-    (after : Bus)
+-- The result of a run over a memory with the marks of a plan. The report fits the memories before and after it. A run
+-- over a target that is open already (`opened`) has no request of an opening.
+pub record RunsAs (opened : Bool) (tries : ℕ) (batch : ScriptListed) (before : Bus) (marks : List Mark)
+    (told : HostReport) (after : Bus)
     : Type 0 where
-  pub fits : Fits (batch_limit batch) batch.accesses before told after
+  pub fits : FitsFrom (script_opening_requests opened) (batch_limit batch) batch.accesses before told after
   pub excused : IsRunExcused told.ended tries marks
   pub whole : port_lost_among marks ≡ 0 → port_disturbed_among marks ≤ tries → told.ended ≡ All
-  pub least : told.ended ≡ All → 9 + length batch.accesses ≤ told.requests
-  pub most : told.requests ≤ 9 + 6 * length batch.accesses + 5 * port_disturbed_among marks
+  pub least : told.ended ≡ All → script_opening_requests opened + length batch.accesses ≤ told.requests
+  pub most : told.requests ≤ script_opening_requests opened + 6 * length batch.accesses
+      + 5 * port_disturbed_among marks
   -- at most what the tries allow for the opening, for the answered accesses, and for one more
-  pub spends : told.requests ≤ host_most_requests tries (min (length batch.accesses) (length told.answers + 1))
+  pub spends : told.requests ≤ script_most_requests opened tries
+      (min (length batch.accesses) (length told.answers + 1))
 
 -- The result of a run that may be resumed `resumes` times. If it wasn't resumed, `RunsAs` holds of it. `ScriptCallsReport` holds
 -- of its calls in any case. It was resumed at most as often as marks of the plan lose a request. It ends at a lost
 -- acknowledgement only if more than `resumes` marks lose a request.
-pub record RunsOn (tries resumes : ℕ) (batch : ScriptListed) (before : Bus) (marks : List Mark)
+pub record RunsOn (opened : Bool) (tries resumes : ℕ) (batch : ScriptListed) (before : Bus) (marks : List Mark)
     (stops : List Stop) (told : HostReport) (after : Bus) : Type 0 where
-  pub alone : stops ≡ [] → RunsAs tries batch before marks told after
-  pub tells : ScriptCallsReport (batch_limit batch) tries batch.accesses before stops told after
+  pub alone : stops ≡ [] → RunsAs opened tries batch before marks told after
+  pub tells : ScriptCallsReport opened (batch_limit batch) tries batch.accesses before stops told after
   pub few : length stops ≤ resumes
   pub lost : length stops ≤ port_lost_among marks
   pub excused : IsRunExcused told.ended tries marks
   pub last : told.ended ≡ Lost → (length stops ≡ resumes) × (resumes < port_lost_among marks)
   pub whole : port_lost_among marks ≤ resumes → port_disturbed_among marks ≤ tries → told.ended ≡ All
   -- the requests of all calls
-  pub most : (script_calls_in_all stops told).requests ≤ 9 + 6 * length batch.accesses + 5 * port_disturbed_among marks
+  pub most : (script_calls_in_all stops told).requests ≤ script_opening_requests opened + 6 * length batch.accesses
+      + 5 * port_disturbed_among marks
       + length stops * (14 + 6 * length batch.accesses + 5 * port_disturbed_among marks)
 
 -- The successive runs of a script over the plain memory. `RunsOn` holds of each run, from the memory that the one
--- before left. A run starts only if the one before ended `All`.
+-- before left. The first one opens the target. A later one starts only if the one before ended `All`, and goes over the
+-- target that this left open.
 pub data ScriptSession (tries resumes : ℕ) (marks : List Mark) (m : Bus) : List ScriptListed → List ScriptRun
     → Bus → Type 0 where
   none : ScriptSession tries resumes marks m [] [] m
   then : {batches : List ScriptListed} {runs : List ScriptRun} {before after : Bus} {batch : ScriptListed}
       {run : ScriptRun} → ScriptSession tries resumes marks m batches runs before → script_ended runs ≡ All
-      → RunsOn tries resumes batch before marks run.stops run.told after
+      → RunsOn (script_is_open false runs) tries resumes batch before marks run.stops run.told after
       → ScriptSession tries resumes marks m (batches ++ batch ∷ []) (runs ++ run ∷ []) after
 
 -- The runs of a script's first batches from its initial memory, and the memory that they left: the session of the calls

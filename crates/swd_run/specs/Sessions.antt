@@ -1,5 +1,6 @@
 -- The successive runs of a script over one wire.
-use Rattle.std.specs.Prelude.{ℕ, ◌≡◌, ◌+◌, ◌<◌, ◌≤◌, List, [], ◌∷◌, ◌++◌, length, is_some, if◌then◌else◌}
+use Rattle.std.specs.Prelude.{ℕ, ◌≡◌, ◌+◌, ◌<◌, ◌≤◌, Bool, true, false, List, [], ◌∷◌, ◌++◌, length, is_some}
+use Rattle.std.specs.Prelude.{if◌then◌else◌}
 use Rattle.swd_port.specs.declared.mark.Mark.{Mark}
 use Rattle.swd_port.specs.Port.{Port}
 use Rattle.swd_host.specs.declared.outcome.End.{End}
@@ -8,7 +9,7 @@ use Rattle.swd_host.specs.Reports.{HostReport, host_report_of}
 use Rattle.swd_script.specs.Scripts.{ScriptListed}
 use Rattle.swd_run.specs.declared.going_on.Resumed.{Resumed}
 use Rattle.swd_run.specs.declared.going_on.Stop.{Stop}
-use Rattle.swd_run.specs.GoingOn.{ScriptCalls, script_calls_in_all}
+use Rattle.swd_run.specs.GoingOn.{ScriptCallsFrom, script_calls_in_all}
 
 -- the places where a run was resumed, and the report of its last call
 pub record ScriptRun : Type 0 where
@@ -33,27 +34,41 @@ abbrev pub script_requests : List ScriptRun → ℕ
 script_requests [] = 0
 script_requests (run ∷ runs) = (script_calls_in_all run.stops run.told).requests + script_requests runs
 
--- One run over a wire, resumed at most `resumes` times. At most `limit` accesses are begun and not answered.
-pub record RunsBatch {W : Type 0} (port : W → Port) (plan : W → List Mark) (lawful : W → Type 0)
+-- whether the target is open after these runs, each of which ended `All`; `opened` says whether it was before them
+abbrev pub script_is_open : Bool → List ScriptRun → Bool
+script_is_open opened [] = opened
+script_is_open opened (run ∷ runs) = true
+
+-- One run over a wire, resumed at most `resumes` times. At most `limit` accesses are begun and not answered. `opened` says
+-- whether the target is open already.
+pub record RunsBatchFrom {W : Type 0} (port : W → Port) (plan : W → List Mark) (lawful : W → Type 0) (opened : Bool)
     (limit tries resumes : ℕ) (batch : ScriptListed) (s : W) (run : ScriptRun) (t : W) : Type 0 where
-  pub went : ScriptCalls port plan lawful limit batch.accesses tries s run.stops run.told t
+  pub went : ScriptCallsFrom port plan lawful opened limit batch.accesses tries s run.stops run.told t
   pub few : length run.stops ≤ resumes
   pub lost : run.told.ended ≡ Lost → length run.stops ≡ resumes
 
--- Successive runs, from the wire s to the wire t. Each starts only if the one before ended `All`.
-pub data RunsBatches {W : Type 0} (port : W → Port) (plan : W → List Mark) (lawful : W → Type 0)
+-- the same for a run that opens the target
+abbrev pub RunsBatch : {W : Type 0} → (W → Port) → (W → List Mark) → (W → Type 0) → (limit tries resumes : ℕ)
+    → ScriptListed → W → ScriptRun → W → Type 0
+RunsBatch port plan lawful limit tries resumes batch s run t =
+    RunsBatchFrom port plan lawful false limit tries resumes batch s run t
+
+-- Successive runs, from the wire s to the wire t. Each starts only if the one before ended `All`, over the target that
+-- this left open. `opened` says whether the target is open at s; else the first run opens it.
+pub data RunsBatches {W : Type 0} (port : W → Port) (plan : W → List Mark) (lawful : W → Type 0) (opened : Bool)
     (most : ScriptListed → ℕ) (tries resumes : ℕ) (s : W) : List ScriptListed → List ScriptRun → W → Type 0 where
-  none : RunsBatches port plan lawful most tries resumes s [] [] s
+  none : RunsBatches port plan lawful opened most tries resumes s [] [] s
   then : {batches : List ScriptListed} {runs : List ScriptRun} {t u : W} {batch : ScriptListed} {run : ScriptRun}
-      → RunsBatches port plan lawful most tries resumes s batches runs t → script_ended runs ≡ All
-      → RunsBatch port plan lawful (most batch) tries resumes batch t run u
-      → RunsBatches port plan lawful most tries resumes s (batches ++ batch ∷ []) (runs ++ run ∷ []) u
+      → RunsBatches port plan lawful opened most tries resumes s batches runs t → script_ended runs ≡ All
+      → RunsBatchFrom port plan lawful (script_is_open opened runs) (most batch) tries resumes batch t run u
+      → RunsBatches port plan lawful opened most tries resumes s (batches ++ batch ∷ []) (runs ++ run ∷ []) u
 
 -- A run from the wire s to the wire t that ran out of memory: before its first bit, or when it was to be resumed after
 -- a lost acknowledgement.
-pub data IsBatchRefused {W : Type 0} (port : W → Port) (plan : W → List Mark) (lawful : W → Type 0)
+pub data IsBatchRefused {W : Type 0} (port : W → Port) (plan : W → List Mark) (lawful : W → Type 0) (opened : Bool)
     (limit tries resumes : ℕ) (batch : ScriptListed) (s t : W) : Type 0 where
-  unsent : t ≡ s → IsBatchRefused port plan lawful limit tries resumes batch s t
+  unsent : t ≡ s → IsBatchRefused port plan lawful opened limit tries resumes batch s t
   unresumed : {stops : List Stop} {told : HostReport}
-      → ScriptCalls port plan lawful limit batch.accesses tries s stops told t
-      → told.ended ≡ Lost → length stops < resumes → IsBatchRefused port plan lawful limit tries resumes batch s t
+      → ScriptCallsFrom port plan lawful opened limit batch.accesses tries s stops told t
+      → told.ended ≡ Lost → length stops < resumes
+      → IsBatchRefused port plan lawful opened limit tries resumes batch s t

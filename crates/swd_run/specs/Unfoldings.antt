@@ -12,7 +12,8 @@ use Rattle.swd_host.specs.Reports.{HostReport}
 use Rattle.swd_host.specs.Resuming.{host_end_is_all}
 use Rattle.swd_script.specs.declared.batch.Until.{Until}
 use Rattle.swd_script.specs.Scripts.{ScriptListed}
-use Rattle.swd_run.specs.Sessions.{ScriptRun, RunsBatch, IsBatchRefused, RunsBatches, script_ended, batch_limit}
+use Rattle.swd_run.specs.Sessions.{ScriptRun, RunsBatchFrom, IsBatchRefused, RunsBatches, script_ended, batch_limit}
+use Rattle.swd_run.specs.Sessions.{script_is_open}
 
 -- ONE UNTIL
 -- the word under the mask is the value
@@ -102,14 +103,15 @@ AreBatchesDone batches made = script_ended (runs_of made) ≡ All → ends_until
     → length made ≡ length batches
 
 -- OVER A WIRE
-module _ {W : Type 0} (port : W → Port) (plan : W → List Mark) (lawful : W → Type 0) (tries resumes : ℕ)
-    (batch : ScriptListed) where
-  -- the runs of one batch, from the wire s to the wire t
+module _ {W : Type 0} (port : W → Port) (plan : W → List Mark) (lawful : W → Type 0) (opened : Bool)
+    (tries resumes : ℕ) (batch : ScriptListed) where
+  -- the runs of one batch, from the wire s to the wire t; `opened` says whether the target is open at s
   pub record Performs (s : W) (runs : BatchRuns) (t : W) : Type 0 where
     pub between : W
-    pub earlier : RunsBatches port plan lawful batch_limit tries resumes s (batch_again batch runs.earlier) runs.earlier
-        between
-    pub last : RunsBatch port plan lawful (batch_limit batch) tries resumes batch between runs.last t
+    pub earlier : RunsBatches port plan lawful opened batch_limit tries resumes s (batch_again batch runs.earlier)
+        runs.earlier between
+    pub last : RunsBatchFrom port plan lawful (script_is_open opened runs.earlier) (batch_limit batch) tries resumes
+        batch between runs.last t
     pub are : AreRunsOfBatch batch runs
 
   -- The same, where the last run ran out of memory. Only the read of an `until` may do so once it started.
@@ -117,6 +119,7 @@ module _ {W : Type 0} (port : W → Port) (plan : W → List Mark) (lawful : W �
     pub runs : List ScriptRun
     pub are : AreEarlierReads batch.until runs
     pub between : W
-    pub earlier : RunsBatches port plan lawful batch_limit tries resumes s (batch_again batch runs) runs between
-    pub refused : IsBatchRefused port plan lawful (batch_limit batch) tries resumes batch between t
+    pub earlier : RunsBatches port plan lawful opened batch_limit tries resumes s (batch_again batch runs) runs between
+    pub refused : IsBatchRefused port plan lawful (script_is_open opened runs) (batch_limit batch) tries resumes batch
+        between t
     pub unsent : batch.until ≡ None → t ≡ s

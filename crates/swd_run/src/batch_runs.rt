@@ -8,11 +8,12 @@ ghost use Rattle.swd_script.specs.Readers.{script_batch_listed};
 ghost use Rattle.swd_script.specs.Laws.{IsScriptBatch};
 ghost use Rattle.swd_run.specs.declared.going_on.Stop.{Stop as StopType};
 ghost use Rattle.swd_run.specs.Reporting.{Goes};
-ghost use Rattle.swd_run.specs.Reports.{IsBatchReported, ReportsBatchRun, report_lines_from};
-ghost use Rattle.swd_run.specs.Sessions.{RunsBatch, batch_limit};
+ghost use Rattle.swd_run.specs.Reports.{IsBatchReported, ReportsBatchRun, ReportsBatchRunFrom, report_lines_from};
+ghost use Rattle.swd_run.specs.Sessions.{RunsBatchFrom, batch_limit};
 ghost use Rattle.swd_run.specs.Unfoldings.{IsCutShort};
 
-use crate::going_on::run_on_to;
+use crate::going_on::make_call_to;
+use crate::options::CallOptions;
 use crate::performing::perform;
 use crate::report::write_run;
 use crate::reporting::{Reporting, finish};
@@ -39,8 +40,7 @@ pub(crate) type Reported<A> = ReportedRun<A>;
 fn run_reporting<W: Wire, O: Write, A: Allocator>(
     wire: &mut W,
     batch: &Batch<A>,
-    tries: u32,
-    resumes: u32,
+    options: CallOptions,
     report: &mut Reporting<'_, '_, O, Vec<Answer, A>>,
 ) -> Ending
     requires batch { IsScriptBatch (script_batch_listed batch.now) }
@@ -52,12 +52,12 @@ fn run_reporting<W: Wire, O: Write, A: Allocator>(
     ensures writer { report.new.block.now.writer.ghost_name ≡ report.old.block.now.writer.ghost_name }
     ensures answers { report.new.answers.ghost_name ≡ report.old.answers.ghost_name }
     ensures goes { (stops : List StopType) × Goes O.contents (λ answers. answers.items) report.old stops report.new
-        × RunsBatch W.port W.plan W.lawful (batch_limit (script_batch_listed batch.now)) tries resumes
-        (script_batch_listed batch.now) wire.old
+        × RunsBatchFrom W.port W.plan W.lawful options.opened (batch_limit (script_batch_listed batch.now))
+        options.tries options.resumes (script_batch_listed batch.now) wire.old
         (record { stops = stops; told = host_report_to report.new.answers.now.items result }) wire.new }
     ensures plan { W.plan wire.new ≡ W.plan wire.old }
 {
-    match run_on_to(wire, batch, tries, resumes, report) {
+    match make_call_to(wire, batch, options, report) {
         Ok(ending) => ending,
         Err(never) => match never {},
     }
@@ -67,8 +67,7 @@ fn run_reporting<W: Wire, O: Write, A: Allocator>(
 fn put_run<W: Wire, O: Write, A: Allocator>(
     wire: &mut W,
     batch: &Batch<A>,
-    tries: u32,
-    resumes: u32,
+    options: CallOptions,
     block: &mut Block<'_, O>,
     answers: &mut Vec<Answer, A>,
 ) -> Ending
@@ -78,8 +77,8 @@ fn put_run<W: Wire, O: Write, A: Allocator>(
     requires room { length (script_batch_listed batch.now).accesses ≤ vec_capacity answers.old }
     ensures writer { block.new.writer.ghost_name ≡ block.old.writer.ghost_name }
     ensures goes { (stops : List StopType)
-        × RunsBatch W.port W.plan W.lawful (batch_limit (script_batch_listed batch.now)) tries resumes
-        (script_batch_listed batch.now) wire.old
+        × RunsBatchFrom W.port W.plan W.lawful options.opened (batch_limit (script_batch_listed batch.now))
+        options.tries options.resumes (script_batch_listed batch.now) wire.old
         (record { stops = stops; told = host_report_to answers.new.items result }) wire.new
         × ((start : Option (List ℕ)) → BlockBufferSends O.contents start block.old []
         → BlockBufferSends O.contents start block.new
@@ -91,7 +90,38 @@ fn put_run<W: Wire, O: Write, A: Allocator>(
         accesses: batch.accesses.as_slice(),
         answers,
     };
-    run_reporting(wire, batch, tries, resumes, &mut report)
+    run_reporting(wire, batch, options, &mut report)
+}
+
+// Performs the accesses of a batch that is no `until` over a wire as `run_on_reporting` does, with these options.
+fn report_call<W: Wire, O: Write, A: Allocator + Copy>(
+    alloc: A,
+    wire: &mut W,
+    batch: &Batch<A>,
+    options: CallOptions,
+    report: &mut O,
+) -> Option<Reported<A>>
+    requires batch { IsScriptBatch (script_batch_listed batch.now) }
+    requires plain { batch.now.until ≡ None }
+    requires due { (W.port wire.old).link.due ≡ Nothing }
+    ensures reports { IfSome result (λ reported. ReportsBatchRunFrom W.port W.plan W.lawful options.opened
+        options.tries options.resumes (script_batch_listed batch.now)
+        wire.old wire.new (O.contents report.old) (O.contents report.new) (host_report_of reported.report)
+        reported.written) }
+    ensures unsent { IfNone result (wire.new ≡ wire.old) }
+    ensures unwritten { IfNone result (O.contents report.new ≡ O.contents report.old) }
+    ensures plan { W.plan wire.new ≡ W.plan wire.old }
+{
+    let Ok(mut answers) = Vec::with_capacity(alloc, batch.accesses.len()) else {
+        return None;
+    };
+    let mut block = Block::new(report, 0);
+    let ending = put_run(wire, batch, options, &mut block, &mut answers);
+    let written = finish(&mut block, &ending, answers.len());
+    Some(ReportedRun {
+        report: ending.with(answers),
+        written,
+    })
 }
 
 /// Performs the accesses of a batch that is no `until` over a wire, as [`run_on`](crate::run_on) does, and writes their
@@ -116,16 +146,12 @@ pub fn run_on_reporting<W: Wire, O: Write, A: Allocator + Copy>(
     ensures unwritten { IfNone result (O.contents report.new ≡ O.contents report.old) }
     ensures plan { W.plan wire.new ≡ W.plan wire.old }
 {
-    let Ok(mut answers) = Vec::with_capacity(alloc, batch.accesses.len()) else {
-        return None;
+    let options = CallOptions {
+        tries,
+        resumes,
+        opened: false,
     };
-    let mut block = Block::new(report, 0);
-    let ending = put_run(wire, batch, tries, resumes, &mut block, &mut answers);
-    let written = finish(&mut block, &ending, answers.len());
-    Some(ReportedRun {
-        report: ending.with(answers),
-        written,
-    })
+    report_call(alloc, wire, batch, options, report)
 }
 
 // Performs the reads of an `until`. Writes the report of the last one at its end, since it has the number of reads.
@@ -134,23 +160,22 @@ fn report_until<W: Wire, O: Write, A: Allocator + Copy>(
     wire: &mut W,
     batch: &Batch<A>,
     until: Until,
-    tries: u32,
-    resumes: u32,
+    options: CallOptions,
     report: &mut O,
 ) -> Option<Reported<A>>
     requires batch { IsScriptBatch (script_batch_listed batch.now) }
     requires until { batch.now.until ≡ Some until }
     requires due { (W.port wire.old).link.due ≡ Nothing }
-    ensures reported { IfSome result (λ reported. IsBatchReported W.port W.plan W.lawful tries resumes
-        (script_batch_listed batch.now)
+    ensures reported { IfSome result (λ reported. IsBatchReported W.port W.plan W.lawful options.opened
+        options.tries options.resumes (script_batch_listed batch.now)
         wire.old wire.new (O.contents report.old) (O.contents report.new) (host_report_of reported.report)
         reported.written) }
-    ensures cut { IfNone result
-        (IsCutShort W.port W.plan W.lawful tries resumes (script_batch_listed batch.now) wire.old wire.new) }
+    ensures cut { IfNone result (IsCutShort W.port W.plan W.lawful options.opened options.tries options.resumes
+        (script_batch_listed batch.now) wire.old wire.new) }
     ensures unwritten { IfNone result (O.contents report.new ≡ O.contents report.old) }
     ensures plan { W.plan wire.new ≡ W.plan wire.old }
 {
-    let performed = perform(alloc, wire, batch, until, tries, resumes)?;
+    let performed = perform(alloc, wire, batch, until, options)?;
     let written = write_run(report, batch, &performed);
     Some(ReportedRun {
         report: performed.last.report,
@@ -158,31 +183,29 @@ fn report_until<W: Wire, O: Write, A: Allocator + Copy>(
     })
 }
 
-/// Performs a batch over a wire: one run, or the reads of an `until`, each a run of its own. Each run is resumed at most
-/// `resumes` times. Writes the batch's report: the lines of a run while it goes on, and those of an `until` after its
-/// last read. A run goes on to its end where the writer fails. Returns `None` if an allocation fails. Nothing of this
+/// Performs a batch over a wire: one run, or the reads of an `until`, each a run of its own. Writes the batch's report:
+/// the lines of a run while it goes on, and those of an `until` after its last read. A run goes on to its end where the writer fails. Returns `None` if an allocation fails. Nothing of this
 /// report was written then.
 pub(crate) fn report_batch<W: Wire, O: Write, A: Allocator + Copy>(
     alloc: A,
     wire: &mut W,
     batch: &Batch<A>,
-    tries: u32,
-    resumes: u32,
+    options: CallOptions,
     report: &mut O,
 ) -> Option<Reported<A>>
     requires batch { IsScriptBatch (script_batch_listed batch.now) }
     requires due { (W.port wire.old).link.due ≡ Nothing }
-    ensures reported { IfSome result (λ reported. IsBatchReported W.port W.plan W.lawful tries resumes
-        (script_batch_listed batch.now)
+    ensures reported { IfSome result (λ reported. IsBatchReported W.port W.plan W.lawful options.opened
+        options.tries options.resumes (script_batch_listed batch.now)
         wire.old wire.new (O.contents report.old) (O.contents report.new) (host_report_of reported.report)
         reported.written) }
-    ensures cut { IfNone result
-        (IsCutShort W.port W.plan W.lawful tries resumes (script_batch_listed batch.now) wire.old wire.new) }
+    ensures cut { IfNone result (IsCutShort W.port W.plan W.lawful options.opened options.tries options.resumes
+        (script_batch_listed batch.now) wire.old wire.new) }
     ensures unwritten { IfNone result (O.contents report.new ≡ O.contents report.old) }
     ensures plan { W.plan wire.new ≡ W.plan wire.old }
 {
     match batch.until {
-        Some(until) => report_until(alloc, wire, batch, until, tries, resumes, report),
-        None => run_on_reporting(alloc, wire, batch, tries, resumes, report),
+        Some(until) => report_until(alloc, wire, batch, until, options, report),
+        None => report_call(alloc, wire, batch, options, report),
     }
 }

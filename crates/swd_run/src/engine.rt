@@ -15,6 +15,7 @@ ghost use Rattle.swd_run.specs.TraceFiles.{IfRunTraceHasAll, run_trace_contents}
 
 use crate::batch_runs::{Reported, report_batch};
 use crate::fault::EngineFault;
+use crate::options::CallOptions;
 use crate::performing::never_came;
 use crate::records::{Records, write_accesses};
 use crate::trace_file::{TraceFile, sent_to, writer_of};
@@ -99,8 +100,14 @@ fn run_reported<W: Wire, O: Write, A: Allocator + Copy>(
 {
     let mut finished = Finished::NONE;
     let mut written = 0u64;
+    let mut opened = false;
     for batch in batches {
-        let Some(reported) = report_batch(alloc, wire, batch, tries, resumes, report) else {
+        let options = CallOptions {
+            tries,
+            resumes,
+            opened,
+        };
+        let Some(reported) = report_batch(alloc, wire, batch, options, report) else {
             return Err(EngineFault::Memory);
         };
         match reported.written {
@@ -117,6 +124,7 @@ fn run_reported<W: Wire, O: Write, A: Allocator + Copy>(
         if finished.never_came {
             return Ok(finished);
         }
+        opened = true;
     }
     Ok(finished)
 }
@@ -231,10 +239,13 @@ fn run_recorded<B: Origin, W: Wire, O: Write, T: Write + Drop, A: Allocator + Co
 /// The read of an `until` is made again, as a call of its own, until its word comes. If it never comes, no further call
 /// is made. Only the last of these calls has a report, which is written at its end, since it has the number of reads.
 ///
+/// The first call opens the target. Each later one, also each further read of an `until`, goes over the target that the
+/// call before left open. So between two calls nothing else may drive the wire, and the target may not be reset.
+///
 /// `tries` is the number of events that the opening, and each access, may meet. After a lost acknowledgement a call
-/// continues by `swd_host::resume`, at most `resumes` times. The report has a line for each time. A call allocates its
-/// answers before it starts, and nothing after that. Only the read of an `until` also allocates the places where it is
-/// resumed.
+/// continues by `swd_host::resume`, which opens the target again, at most `resumes` times. The report has a line for each
+/// time. A call allocates its answers before it starts, and nothing after that. Only the read of an `until` also allocates
+/// the places where it is resumed.
 ///
 /// The trace has the items that a `swd_recorder::Recorder` keeps, as bits in characters, one item a line. These bits
 /// decode to the same items. If the target conforms to the model and was at rest, a trace that isn't truncated has one
@@ -242,8 +253,8 @@ fn run_recorded<B: Origin, W: Wire, O: Write, T: Write + Drop, A: Allocator + Co
 /// ended `Lost`. The accesses are the lines that `swd decode --accesses` prints of this trace, with `--made` if
 /// `records.made`. If an allocation for an item fails, the run continues. Without such a file no items are kept.
 ///
-/// The lines of the trace's items are written at the line reset with which a run begins, after every 1,024 items, and
-/// after the last call. If the trace's writer fails, the calls go on, and nothing more is written to it.
+/// The lines of the trace's items are written at each line reset, as the first call and each resumed one begin with,
+/// after every 1,024 items, and after the last call. If the trace's writer fails, the calls go on, and nothing more is written to it.
 ///
 /// # Errors
 ///

@@ -1,16 +1,19 @@
 //! A run that is resumed after lost acknowledgements.
-ghost use Rattle.std.specs.Prelude.{◌≡◌, ◌≤◌, [], IfNone, IfOk, IfSome, List, OnErr, length};
+ghost use Rattle.std.specs.Prelude.{◌≡◌, ◌≤◌, [], false, IfNone, IfOk, IfSome, List, OnErr, length};
 ghost use Rattle.swd_port.specs.declared.wire.Due.TheVariants.{Nothing};
 ghost use Rattle.swd_script.specs.Readers.{script_batch_listed};
 ghost use Rattle.swd_script.specs.Laws.{IsScriptBatch};
+ghost use Rattle.swd_host.specs.Plain.{AreHostAccesses};
 ghost use Rattle.swd_host.specs.Reports.{host_report_to};
 ghost use Rattle.swd_host.specs.Tasks.{bursts_limit};
 ghost use Rattle.swd_run.specs.declared.going_on.Stop.{Stop as StopType};
-ghost use Rattle.swd_run.specs.Sessions.{RunsBatch, IsBatchRefused, script_run_of, batch_limit};
+ghost use Rattle.swd_run.specs.Sessions.{RunsBatch, RunsBatchFrom, IsBatchRefused, script_run_of, batch_limit};
+ghost use Rattle.swd_run.specs.Starts.{ScriptCallCloses, ScriptCallFits};
 
+use crate::options::CallOptions;
 use crate::run_sink::{KeptAnswers, RunSink};
 use std::alloc::Allocator;
-use swd_host::{Bursts, End, Ending, Report, resume_to, run_to};
+use swd_host::{AnswerSink, Bursts, End, Ending, Report, resume_to, run_open_to, run_to};
 use swd_port::Wire;
 use swd_script::Batch;
 
@@ -44,6 +47,79 @@ fn bursts_of<A: Allocator>(batch: &Batch<A>) -> Bursts
     }
 }
 
+// Performs the accesses of a batch once: over the open target, or opens it first.
+fn begin<W: Wire, K: AnswerSink, A: Allocator>(
+    wire: &mut W,
+    batch: &Batch<A>,
+    options: CallOptions,
+    sink: &mut K,
+) -> Ending
+    requires batch { IsScriptBatch (script_batch_listed batch.now) }
+    requires due { (W.port wire.old).link.due ≡ Nothing }
+    requires none { K.taken sink.old ≡ [] }
+    requires room { length (script_batch_listed batch.now).accesses ≤ K.most sink.old }
+    ensures accepted { (length (script_batch_listed batch.now).accesses ≤ 65536)
+        × AreHostAccesses (script_batch_listed batch.now).accesses }
+    ensures closes { ScriptCallCloses options.opened (batch_limit (script_batch_listed batch.now))
+        (script_batch_listed batch.now).accesses options.tries (host_report_to (K.taken sink.new) result)
+        (W.port wire.new).link.due }
+    ensures fits { W.lawful wire.new → W.lawful wire.old
+        × ScriptCallFits options.opened (batch_limit (script_batch_listed batch.now))
+        (script_batch_listed batch.now).accesses options.tries (host_report_to (K.taken sink.new) result)
+        (W.port wire.old) (W.port wire.new) }
+    ensures keeps { K.keeps sink.old sink.new }
+    ensures most { K.most sink.old ≤ K.most sink.new }
+    ensures plan { W.plan wire.new ≡ W.plan wire.old }
+{
+    let accesses = batch.accesses.as_slice();
+    if options.opened {
+        return match run_open_to(wire, accesses, bursts_of(batch), options.tries, sink) {
+            Ok(ending) => ending,
+            Err(_) => unreachable!(),
+        };
+    }
+    match run_to(wire, accesses, bursts_of(batch), options.tries, sink) {
+        Ok(ending) => ending,
+        Err(_) => unreachable!(),
+    }
+}
+
+/// Makes a call as [`run_on_to`] does, with these options.
+pub(crate) fn make_call_to<W: Wire, K: RunSink, A: Allocator>(
+    wire: &mut W,
+    batch: &Batch<A>,
+    options: CallOptions,
+    sink: &mut K,
+) -> Result<Ending, K::Refusal>
+    requires batch { IsScriptBatch (script_batch_listed batch.now) }
+    requires due { (W.port wire.old).link.due ≡ Nothing }
+    requires none { K.taken sink.old ≡ [] }
+    requires room { length (script_batch_listed batch.now).accesses ≤ K.most sink.old }
+    ensures goes { IfOk result (λ ending. (stops : List StopType) × K.follows sink.old stops sink.new
+        × RunsBatchFrom W.port W.plan W.lawful options.opened (batch_limit (script_batch_listed batch.now))
+        options.tries options.resumes (script_batch_listed batch.now) wire.old
+        (record { stops = stops; told = host_report_to (K.taken sink.new) ending }) wire.new) }
+    ensures refused { OnErr result (IsBatchRefused W.port W.plan W.lawful options.opened
+        (batch_limit (script_batch_listed batch.now)) options.tries options.resumes (script_batch_listed batch.now)
+        wire.old wire.new) }
+    ensures plan { W.plan wire.new ≡ W.plan wire.old }
+{
+    let mut ending = begin(wire, batch, options, sink);
+    let accesses = batch.accesses.as_slice();
+    for done in 0..options.resumes {
+        let End::Lost = ending.ended else {
+            return Ok(ending);
+        };
+        sink.stop(Stop {
+            answered: sink.count(),
+            begun: ending.begun,
+            requests: ending.requests,
+        })?;
+        ending = resume_to(wire, accesses, ending, options.tries, sink);
+    }
+    Ok(ending)
+}
+
 /// Performs the accesses of a batch over a wire, and resumes the run after a lost acknowledgement, at most `resumes`
 /// times. Hands each answer on once it is certain, and the place where the run is resumed before the next call. Allocates
 /// no memory itself.
@@ -66,28 +142,51 @@ pub fn run_on_to<W: Wire, K: RunSink, A: Allocator>(
         × RunsBatch W.port W.plan W.lawful (batch_limit (script_batch_listed batch.now)) tries resumes
         (script_batch_listed batch.now) wire.old
         (record { stops = stops; told = host_report_to (K.taken sink.new) ending }) wire.new) }
-    ensures refused { OnErr result (IsBatchRefused W.port W.plan W.lawful (batch_limit (script_batch_listed batch.now))
-        tries resumes
+    ensures refused { OnErr result (IsBatchRefused W.port W.plan W.lawful false
+        (batch_limit (script_batch_listed batch.now)) tries resumes
         (script_batch_listed batch.now) wire.old wire.new) }
     ensures plan { W.plan wire.new ≡ W.plan wire.old }
 {
-    let accesses = batch.accesses.as_slice();
-    let mut ending = match run_to(wire, accesses, bursts_of(batch), tries, sink) {
-        Ok(ending) => ending,
-        Err(_) => unreachable!(),
+    let options = CallOptions {
+        tries,
+        resumes,
+        opened: false,
     };
-    for done in 0..resumes {
-        let End::Lost = ending.ended else {
-            return Ok(ending);
-        };
-        sink.stop(Stop {
-            answered: sink.count(),
-            begun: ending.begun,
-            requests: ending.requests,
-        })?;
-        ending = resume_to(wire, accesses, ending, tries, sink);
-    }
-    Ok(ending)
+    make_call_to(wire, batch, options, sink)
+}
+
+/// Makes a call as [`run_on`] does, with these options.
+pub(crate) fn make_call<W: Wire, A: Allocator + Copy>(
+    alloc: A,
+    wire: &mut W,
+    batch: &Batch<A>,
+    options: CallOptions,
+) -> Option<Resumed<A>>
+    requires batch { IsScriptBatch (script_batch_listed batch.now) }
+    requires due { (W.port wire.old).link.due ≡ Nothing }
+    ensures goes { IfSome result (λ resumed. RunsBatchFrom W.port W.plan W.lawful options.opened
+        (batch_limit (script_batch_listed batch.now)) options.tries options.resumes
+        (script_batch_listed batch.now) wire.old (script_run_of resumed) wire.new) }
+    ensures refused { IfNone result (IsBatchRefused W.port W.plan W.lawful options.opened
+        (batch_limit (script_batch_listed batch.now)) options.tries options.resumes
+        (script_batch_listed batch.now) wire.old wire.new) }
+    ensures plan { W.plan wire.new ≡ W.plan wire.old }
+{
+    let Ok(answers) = Vec::with_capacity(alloc, batch.accesses.len()) else {
+        return None;
+    };
+    let mut kept = KeptAnswers {
+        answers,
+        stops: Vec::new(alloc),
+    };
+    let Ok(ending) = make_call_to(wire, batch, options, &mut kept) else {
+        return None;
+    };
+    let KeptAnswers { answers, stops } = kept;
+    Some(Resumed {
+        stops,
+        report: ending.with(answers),
+    })
 }
 
 /// Performs the accesses of a batch over a wire, and resumes the run after a lost acknowledgement, at most `resumes`
@@ -104,24 +203,15 @@ pub fn run_on<W: Wire, A: Allocator + Copy>(
     ensures goes { IfSome result (λ resumed. RunsBatch W.port W.plan W.lawful
         (batch_limit (script_batch_listed batch.now)) tries resumes
         (script_batch_listed batch.now) wire.old (script_run_of resumed) wire.new) }
-    ensures refused { IfNone result (IsBatchRefused W.port W.plan W.lawful (batch_limit (script_batch_listed batch.now))
-        tries resumes
+    ensures refused { IfNone result (IsBatchRefused W.port W.plan W.lawful false
+        (batch_limit (script_batch_listed batch.now)) tries resumes
         (script_batch_listed batch.now) wire.old wire.new) }
     ensures plan { W.plan wire.new ≡ W.plan wire.old }
 {
-    let Ok(answers) = Vec::with_capacity(alloc, batch.accesses.len()) else {
-        return None;
+    let options = CallOptions {
+        tries,
+        resumes,
+        opened: false,
     };
-    let mut kept = KeptAnswers {
-        answers,
-        stops: Vec::new(alloc),
-    };
-    let Ok(ending) = run_on_to(wire, batch, tries, resumes, &mut kept) else {
-        return None;
-    };
-    let KeptAnswers { answers, stops } = kept;
-    Some(Resumed {
-        stops,
-        report: ending.with(answers),
-    })
+    make_call(alloc, wire, batch, options)
 }

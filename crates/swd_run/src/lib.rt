@@ -10,6 +10,7 @@ mod engine;
 mod fault;
 mod going_on;
 pub mod laws;
+mod options;
 mod performing;
 mod records;
 mod report;

@@ -8,7 +8,8 @@ ghost use Rattle.swd_run.specs.Sessions.{script_run_of};
 ghost use Rattle.swd_run.specs.Unfoldings.{BatchRuns, IsCutShort, Performs, asks_again, until_word_came, is_until_word};
 ghost use Rattle.swd_run.specs.Unfoldings.{is_other_until_word, until_never_came, batch_reads_of};
 
-use crate::going_on::{Resumed, run_on};
+use crate::going_on::{Resumed, make_call};
+use crate::options::CallOptions;
 use std::alloc::Allocator;
 use swd_host::{End, Report};
 use swd_port::{Answer, Wire};
@@ -73,33 +74,37 @@ pub(crate) fn never_came<A: Allocator>(until: Option<Until>, report: &Report<A>)
     }
 }
 
-/// Performs the reads of an `until` over a wire, each a run of its own, until its word comes. A read that doesn't end
-/// `All`, and a bus error, are the last. Each run is resumed at most `resumes` times. Returns `None` if an allocation
-/// fails.
+/// Performs the reads of an `until` over a wire, each a run of its own, until its word comes. Each read but the first
+/// goes over the target that the read before left open. A read that doesn't end `All`, and a bus error, are the last.
+/// Returns `None` if an allocation fails.
 pub(crate) fn perform<W: Wire, A: Allocator + Copy>(
     alloc: A,
     wire: &mut W,
     batch: &Batch<A>,
     until: Until,
-    tries: u32,
-    resumes: u32,
+    options: CallOptions,
 ) -> Option<Performed<A>>
     requires batch { IsScriptBatch (script_batch_listed batch.now) }
     requires until { batch.now.until ≡ Some until }
     requires due { (W.port wire.old).link.due ≡ Nothing }
     ensures performs { IfSome result (λ performed. (runs : BatchRuns) × (runs.last ≡ script_run_of performed.last)
         × (batch_reads_of runs ≡ performed.runs)
-        × Performs W.port W.plan W.lawful tries resumes (script_batch_listed batch.now) wire.old runs wire.new) }
-    ensures cut { IfNone result
-        (IsCutShort W.port W.plan W.lawful tries resumes (script_batch_listed batch.now) wire.old wire.new) }
+        × Performs W.port W.plan W.lawful options.opened options.tries options.resumes
+        (script_batch_listed batch.now) wire.old runs wire.new) }
+    ensures cut { IfNone result (IsCutShort W.port W.plan W.lawful options.opened options.tries options.resumes
+        (script_batch_listed batch.now) wire.old wire.new) }
     ensures plan { W.plan wire.new ≡ W.plan wire.old }
 {
-    let mut last = run_on(alloc, wire, batch, tries, resumes)?;
+    let mut last = make_call(alloc, wire, batch, options)?;
     for runs in 1..until.most {
         if !asks_again(until, &last) {
             return Some(Performed { runs, last });
         }
-        last = run_on(alloc, wire, batch, tries, resumes)?;
+        let further = CallOptions {
+            opened: true,
+            ..options
+        };
+        last = make_call(alloc, wire, batch, further)?;
     }
     Some(Performed {
         runs: until.most,

@@ -92,8 +92,8 @@ of 4. WORDS, N and COUNT are 1 to 10 decimal digits.
                      bits under MASK are VALUE. Each read is a call of its own,
                      and so are the accesses after it
   next               begins another call at the same target, with at most 65536
-                     accesses. It connects anew, and only runs if the call
-                     before it ended all
+                     accesses, which only runs if the call before it ended
+                     all. The first call connects for all of them
 
 A plan has one mark per line, for the first request, the second and so on.
 Requests after its last line are undisturbed.

@@ -101,10 +101,10 @@ const ROWS: [(&str, &[u8], &[u8], &[u8]); 10] = [
         b"",
     ),
     (
-        "a second call opens anew, 8 idle cycles after the RDBUFF read of the first",
+        "a second call has no opening: it writes TAR, 8 idle cycles after the RDBUFF read of the first",
         b"memory 20000000 16\nw 20000000 1\nnext\nr 20000000\n",
         b"",
-        b"@590 w 20000000 00000001\n@1280 r 20000000 00000001\n",
+        b"@590 w 20000000 00000001\n@736 r 20000000 00000001\n",
     ),
 ];
 

@@ -214,7 +214,7 @@ fn no_call_is_made_after_a_failed_write(rt: HostRuntime) {
     }
 }
 
-// The same list as two calls, of which the second opens anew: it isn't what was recorded, so that nothing comes back.
+// The same list as two calls, of which the second was not recorded, so that nothing comes back.
 #[test]
 fn a_call_that_is_lost_is_the_last_one(rt: HostRuntime) {
     let mut sent = Vec::new(rt.alloc());

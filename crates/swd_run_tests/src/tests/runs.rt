@@ -344,12 +344,12 @@ const SESSIONS: [Row; 8] = [
     // Each call may be resumed as often as is told.
     (
         "each call is resumed by itself",
-        b"memory 20000000 1\nnext\n",
+        b"memory 20000000 1\nnext\nr 20000000\n",
         b"deaf\n.\n.\n.\n.\n.\n.\n.\n.\n.\ndeaf\n",
         TRIES,
         1,
         End::All,
-        b"resume 0 begun 0\nend all 0\nresume 0 begun 0\nend all 0\n",
+        b"resume 0 begun 0\nend all 0\nresume 0 begun 0\nr 20000000 00000000\nend all 1\n",
     ),
     // A word that wasn't read differs from none; the run tells that it wasn't.
     (

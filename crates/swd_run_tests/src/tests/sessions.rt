@@ -63,7 +63,7 @@ fn a_bus_error_is_not_the_word(rt: HostRuntime) {
     differs(&rt, &run, End::All, difference, report);
 }
 
-// The trace goes on from call to call: each has its opening.
+// The trace goes on from call to call: the first one opens the target for all.
 #[test]
 fn the_trace_is_that_of_all_calls(rt: HostRuntime) {
     let mut script = CALLS;
@@ -90,7 +90,7 @@ fn the_trace_is_that_of_all_calls(rt: HostRuntime) {
         .split(|byte| *byte == b'\n')
         .filter(|line| line.starts_with(b"switch"))
         .count();
-    expect_eq(&rt, &openings, &3);
+    expect_eq(&rt, &openings, &1);
 }
 
 // A writer that takes so many bytes, and then none, in whichever call's report.

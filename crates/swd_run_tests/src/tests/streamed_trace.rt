@@ -1,5 +1,6 @@
-//! Traces that are written while their calls go on. A call begins with a line reset, whose ones, switch, ones and zeros are
-//! four items. Each request is one item, after which no zeros come but those after the call's last one.
+//! Traces that are written while their calls go on. The first call and each resumed one begin with a line reset, whose ones,
+//! switch, ones and zeros are four items. Each request is one item, after which no zeros come but those after the call's
+//! last one.
 
 use super::TRIES;
 use super::expect::{expect_at, expect_eq_at};
@@ -108,7 +109,7 @@ const ROWS: [Row; 7] = [
         None,
         &[0, 1024, 2048, 3072, 4096, 5120, 6144, 7168, 7509],
     ),
-    ("two calls", 10, b"next\nr 0\n", None, &[0, 39, 51]),
+    ("two calls", 10, b"next\nr 0\n", None, &[0, 42]),
     (
         "a call that is resumed",
         1100,
@@ -173,7 +174,7 @@ fn a_trace_that_fails_in_a_call(rt: HostRuntime) -> Result<(), Fail> {
     let script = reads(rt.alloc(), 2500, b"next\nr 0\n".as_slice())?;
     let script = script.as_slice();
     let whole = run_at(rt.alloc(), script, b"".as_slice(), 0, NONE_FAILS)?;
-    expect_eq_at(&rt, &"whole", &whole.requests, &7521);
+    expect_eq_at(&rt, &"whole", &whole.requests, &7512);
     for fails_at in 0..whole.writes.len() {
         let run = run_at(
             rt.alloc(),
@@ -185,7 +186,7 @@ fn a_trace_that_fails_in_a_call(rt: HostRuntime) -> Result<(), Fail> {
         let written = run.trace.len() as u64;
         let fault = EngineFault::Write { written };
         expect_eq_at(&rt, &fails_at, &run.answer, &Err(fault));
-        expect_eq_at(&rt, &fails_at, &run.requests, &7521);
+        expect_eq_at(&rt, &fails_at, &run.requests, &7512);
         expect_eq_at(&rt, &fails_at, &run.report, &whole.report);
         expect_eq_at(
             &rt,

@@ -45,7 +45,8 @@ returns-in_default-clause-answer g c =
     (g.O.Write.contents c.args.report.now) now no_run_files no_run_files) (sym c.in_default.ensures.unwritten)
     (refused_next g.W.Wire.port g.W.Wire.plan g.W.Wire.lawful c.args.tries c.args.resumes
     (map script_batch_listed batches) c.args.wire.now (g.O.Write.contents c.args.report.now) i c.loop-batch.wire
-    (g.O.Write.contents c.loop-batch.report) c.loop-batch.finished c.loop-batch.written c.loop-batch.invariant.so_far
+    (g.O.Write.contents c.loop-batch.report) c.loop-batch.finished c.loop-batch.written c.loop-batch.opened
+    c.loop-batch.invariant.so_far
     c.loop-batch.invariant.all c.loop-batch.invariant.came (omega (arith, many, low)) (script_batch_listed batch)
     (drop (suc i) (map script_batch_listed batches)) (batch_map_drop_next script_batch_listed batches i batch low ∙ ap
     (λ b. script_batch_listed b ∷ drop (suc i) (map script_batch_listed batches)) (sym c.batch-item.is))
@@ -62,7 +63,8 @@ returns-in-Err-clause-answer g c =
     let done = c.in-Some.ensures.reported in
     stopped_in g.W.Wire.port g.W.Wire.plan g.W.Wire.lawful c.args.tries c.args.resumes (map script_batch_listed batches)
     c.args.wire.now (g.O.Write.contents c.args.report.now) i c.loop-batch.wire
-    (g.O.Write.contents c.loop-batch.report) c.loop-batch.finished c.loop-batch.written c.loop-batch.invariant.so_far
+    (g.O.Write.contents c.loop-batch.report) c.loop-batch.finished c.loop-batch.written c.loop-batch.opened
+    c.loop-batch.invariant.so_far
     c.loop-batch.invariant.all c.loop-batch.invariant.came (script_batch_listed batch)
     (batch_map_take_next script_batch_listed batches i batch low ∙ ap
     (λ b. take i (map script_batch_listed batches) ++ script_batch_listed b ∷ [])
@@ -87,7 +89,8 @@ returns-in_default-ended-clause-answer g c =
     let done = c.in-Some.ensures.reported in
     let so_far = one_more g.W.Wire.port g.W.Wire.plan g.W.Wire.lawful c.args.tries c.args.resumes
     (map script_batch_listed batches) c.args.wire.now (g.O.Write.contents c.args.report.now) i c.loop-batch.wire
-    (g.O.Write.contents c.loop-batch.report) c.loop-batch.finished c.loop-batch.written c.loop-batch.invariant.so_far
+    (g.O.Write.contents c.loop-batch.report) c.loop-batch.finished c.loop-batch.written c.loop-batch.opened
+    c.loop-batch.invariant.so_far
     c.loop-batch.invariant.all c.loop-batch.invariant.came (script_batch_listed batch)
     (batch_map_take_next script_batch_listed batches i batch low ∙ ap
     (λ b. take i (map script_batch_listed batches) ++ script_batch_listed b ∷ [])
@@ -100,7 +103,7 @@ returns-in_default-ended-clause-answer g c =
     c.saturating_add-written.ensures fits c.and-finished.result c.and-finished.ensures.finished in
     all_told g.W.Wire.port g.W.Wire.plan g.W.Wire.lawful c.args.tries c.args.resumes (map script_batch_listed batches)
     c.args.wire.now (g.O.Write.contents c.args.report.now) (i + 1) c.report_batch.new.wire
-    (g.O.Write.contents c.report_batch.new.report) c.and-finished.result c.saturating_add-written.result so_far
+    (g.O.Write.contents c.report_batch.new.report) c.and-finished.result c.saturating_add-written.result true so_far
     (omega (arith, many, low)) (λ all came. absurd (c.in_default-ended.not-All all))
 
 -- the word of an `until` never came
@@ -115,7 +118,8 @@ returns-then-finished-clause-answer g c =
     let done = c.in-Some.ensures.reported in
     let so_far = one_more g.W.Wire.port g.W.Wire.plan g.W.Wire.lawful c.args.tries c.args.resumes
     (map script_batch_listed batches) c.args.wire.now (g.O.Write.contents c.args.report.now) i c.loop-batch.wire
-    (g.O.Write.contents c.loop-batch.report) c.loop-batch.finished c.loop-batch.written c.loop-batch.invariant.so_far
+    (g.O.Write.contents c.loop-batch.report) c.loop-batch.finished c.loop-batch.written c.loop-batch.opened
+    c.loop-batch.invariant.so_far
     c.loop-batch.invariant.all c.loop-batch.invariant.came (script_batch_listed batch)
     (batch_map_take_next script_batch_listed batches i batch low ∙ ap
     (λ b. take i (map script_batch_listed batches) ++ script_batch_listed b ∷ [])
@@ -128,7 +132,7 @@ returns-then-finished-clause-answer g c =
     c.saturating_add-written.ensures fits c.and-finished.result c.and-finished.ensures.finished in
     all_told g.W.Wire.port g.W.Wire.plan g.W.Wire.lawful c.args.tries c.args.resumes (map script_batch_listed batches)
     c.args.wire.now (g.O.Write.contents c.args.report.now) (i + 1) c.report_batch.new.wire
-    (g.O.Write.contents c.report_batch.new.report) c.and-finished.result c.saturating_add-written.result so_far
+    (g.O.Write.contents c.report_batch.new.report) c.and-finished.result c.saturating_add-written.result true so_far
     (omega (arith, many, low)) (λ all came. apart c.and-finished.result.never_came c.if-finished.true came)
 
 pub returns-in_default-ended-clause-plan : goal.returns-in_default-ended-clause-plan
@@ -145,7 +149,7 @@ loop-batch-preserved g c =
     record {
       so_far = one_more g.W.Wire.port g.W.Wire.plan g.W.Wire.lawful c.args.tries c.args.resumes
           (map script_batch_listed batches) c.args.wire.now (g.O.Write.contents c.args.report.now) i c.loop-batch.wire
-          (g.O.Write.contents c.loop-batch.report) c.loop-batch.finished c.loop-batch.written
+          (g.O.Write.contents c.loop-batch.report) c.loop-batch.finished c.loop-batch.written c.loop-batch.opened
           c.loop-batch.invariant.so_far
           c.loop-batch.invariant.all c.loop-batch.invariant.came (script_batch_listed batch)
           (batch_map_take_next script_batch_listed batches i batch low ∙ ap
@@ -175,5 +179,6 @@ returns-clause-answer g c =
     let end = c.loop-batch-test.false in
     all_told g.W.Wire.port g.W.Wire.plan g.W.Wire.lawful c.args.tries c.args.resumes (map script_batch_listed batches)
     c.args.wire.now (g.O.Write.contents c.args.report.now) i c.loop-batch.wire
-    (g.O.Write.contents c.loop-batch.report) c.loop-batch.finished c.loop-batch.written c.loop-batch.invariant.so_far
+    (g.O.Write.contents c.loop-batch.report) c.loop-batch.finished c.loop-batch.written c.loop-batch.opened
+    c.loop-batch.invariant.so_far
     (omega (arith, many, low)) (λ all came. omega (arith, many, low, end))

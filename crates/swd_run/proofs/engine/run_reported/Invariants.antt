@@ -9,7 +9,7 @@ abbrev pub invariant-loop-batch : goal.invariant-loop-batch
 invariant-loop-batch g l = record {
   so_far : SoFar g.W.Wire.port g.W.Wire.plan g.W.Wire.lawful l.tries l.resumes (map script_batch_listed l.batches)
       l.fn.wire (g.O.Write.contents l.fn.report) l.batch-index l.wire (g.O.Write.contents l.report) l.finished
-      l.written;
+      l.written l.opened;
   all : l.finished.ended ≡ All;
   came : l.finished.never_came ≡ false;
   low : l.batch-index ≤ length l.batches;

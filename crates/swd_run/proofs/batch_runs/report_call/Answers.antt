@@ -2,11 +2,11 @@ use Rattle.std.proofs.Common.{rules, ◌≡◌, ◌∷◌, ◌++◌, [], None, f
 use Rattle.std.proofs.KnownBytes.{Appends-nil}
 use Rattle.swd_host.specs.Reports.{host_report_of, host_report_to}
 use Rattle.swd_script.specs.Readers.{script_batch_listed}
-use Rattle.swd_run.specs.Reports.{ReportsBatchRun, ReportWritesOn, report_last_line, report_lines_from, report_text}
+use Rattle.swd_run.specs.Reports.{ReportsBatchRunFrom, ReportWritesOn, report_last_line, report_lines_from, report_text}
 use Rattle.swd_run.specs.Reports.{script_run_report, report_shown_reads}
 use Rattle.swd_run.specs.Sessions.{ScriptRun}
 use Rattle.swd_run.specs.Unfoldings.{until_never_came}
-use Rattle.swd_run.proofs.batch_runs.run_on_reporting.Goals as goal
+use Rattle.swd_run.proofs.batch_runs.report_call.Goals as goal
 
 pub returns-clause-reports : goal.returns-clause-reports
 returns-clause-reports g c =
@@ -22,8 +22,8 @@ returns-clause-reports g c =
     (sym c.requires.plain) in
     let lines = report_lines_from None 0 stops batch.accesses answers in
     let number : c.len-2.result ≡ length answers = search rules in
-    let done : ReportsBatchRun g.W.Wire.port g.W.Wire.plan g.W.Wire.lawful c.args.tries c.args.resumes batch
-    c.args.wire.now
+    let done : ReportsBatchRunFrom g.W.Wire.port g.W.Wire.plan g.W.Wire.lawful c.args.options.opened
+    c.args.options.tries c.args.options.resumes batch c.args.wire.now
     c.put_run-ending.new.wire start now (host_report_of c.with.result) c.finish-written.result = record {
       run = run;
       last = sym c.with.ensures;

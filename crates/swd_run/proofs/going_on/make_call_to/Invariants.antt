@@ -3,8 +3,8 @@ use Rattle.swd_host.specs.Reports.{host_report_to}
 use Rattle.swd_script.specs.Readers.{script_batch_listed}
 use Rattle.swd_run.specs.declared.going_on.Stop.{Stop}
 use Rattle.swd_run.specs.Sessions.{batch_limit}
-use Rattle.swd_run.specs.GoingOn.{ScriptCalls}
-use Rattle.swd_run.proofs.going_on.run_on_to.Given as goal
+use Rattle.swd_run.specs.GoingOn.{ScriptCallsFrom}
+use Rattle.swd_run.proofs.going_on.make_call_to.Given as goal
 
 abbrev pub invariant-loop-done : goal.invariant-loop-done
 invariant-loop-done g l =
@@ -14,6 +14,6 @@ invariant-loop-done g l =
       room : length batch.accesses ≤ g.K.AnswerSink.most l.sink;
       plan : g.W.Wire.plan l.wire ≡ g.W.Wire.plan l.fn.wire;
       went : (stops : List Stop) × (length stops ≡ l.done) × g.K.RunSink.follows l.fn.sink stops l.sink
-          × ScriptCalls g.W.Wire.port g.W.Wire.plan g.W.Wire.lawful (batch_limit batch) batch.accesses l.tries l.fn.wire
-          stops (host_report_to (g.K.AnswerSink.taken l.sink) l.ending) l.wire;
+          × ScriptCallsFrom g.W.Wire.port g.W.Wire.plan g.W.Wire.lawful l.options.opened (batch_limit batch)
+          batch.accesses l.options.tries l.fn.wire stops (host_report_to (g.K.AnswerSink.taken l.sink) l.ending) l.wire;
     }

@@ -1,16 +1,17 @@
-use Rattle.std.proofs.Common.{◌≡◌, ◌∙◌, ℕ, List, [], ◌∷◌, ◌++◌, Result, Ok, Err, length, refl, ap, subst, arith}
+use Rattle.std.proofs.Common.{◌≡◌, ◌∙◌, ℕ, List, [], ◌∷◌, ◌++◌, Result, Ok, Err, length, refl, sym, ap}
+use Rattle.std.proofs.Common.{◌≤◌, subst, arith}
 use Rattle.std.specs.Prelude.{OnErr}
 use Rattle.std.proofs.lemmas.List.{length-append}
 use Rattle.swd_port.specs.declared.access.Access.{Access}
 use Rattle.swd_port.specs.declared.access.Answer.{Answer}
 use Rattle.swd_host.specs.Again.{ResumeCloses, ResumesOver}
-use Rattle.swd_host.specs.Reports.{Closes, RunsWithin, host_report_to}
-use Rattle.swd_host.specs.Tasks.{bursts_limit}
+use Rattle.swd_host.specs.Plain.{AreHostAccesses}
+use Rattle.swd_host.specs.Reports.{host_report_to}
 use Rattle.swd_script.specs.Readers.{script_batch_listed}
 use Rattle.swd_run.specs.declared.going_on.Stop.{Stop}
 use Rattle.swd_run.specs.GoingOn.{ran, resumed, script_stop_of}
 use Rattle.swd_run.specs.Sessions.{unresumed}
-use Rattle.swd_run.proofs.going_on.run_on_to.Goals as goal
+use Rattle.swd_run.proofs.going_on.make_call_to.Goals as goal
 
 -- what holds anyway
 on_err : {X E P : Type 0} (answer : Result X E) → P → OnErr answer P
@@ -19,35 +20,19 @@ on_err (Err e) p = p
 
 pub loop-done-init : goal.loop-done-init
 loop-done-init g c =
-    let batch = script_batch_listed c.args.batch.now in
-    let tries = c.args.tries in
-    let start = c.args.wire.now in
-    let end = c.run_to.new.wire in
-    let told = host_report_to (g.K.AnswerSink.taken c.run_to.new.sink) c.in-Ok.ending in
-    let list = c.as_slice-accesses.ensures.value in
-    let limit = c.bursts_of.ensures in
-    let ensures = c.in-Ok.ensures in
+    let ensures = c.begin-ending.ensures in
     let number = ensures.closes.number in
-    let same = ap length list in
     let room = c.requires.room in
     let most = ensures.most in
     record {
-      number = omega (arith, number, same);
+      number = number;
       room = omega (arith, room, most);
       plan = ensures.plan;
       went = (
         [],
         refl,
-        g.met.K.RunSink.answers_follow c.args.sink.now c.run_to.new.sink ensures.keeps,
-        ran ensures.plan
-            (subst (λ n. Closes 0 n batch.accesses tries told (g.W.Wire.port end).link.due) limit
-            (subst (λ (l : List Access). Closes 0 (bursts_limit c.bursts_of.result) l tries told
-            (g.W.Wire.port end).link.due) list ensures.closes))
-            (subst (λ n. g.W.Wire.lawful end → g.W.Wire.lawful start
-            × RunsWithin n batch.accesses tries told (g.W.Wire.port start) (g.W.Wire.port end)) limit
-            (subst (λ (l : List Access). g.W.Wire.lawful end → g.W.Wire.lawful start
-            × RunsWithin (bursts_limit c.bursts_of.result) l tries told (g.W.Wire.port start) (g.W.Wire.port end)) list
-            ensures.fits)),
+        g.met.K.RunSink.answers_follow c.args.sink.now c.begin-ending.new.sink ensures.keeps,
+        ran ensures.plan ensures.closes ensures.fits,
       );
     }
 
@@ -57,10 +42,15 @@ returns-in_err-stop-clause-refused g c =
     let low = c.loop-done-test.true in
     on_err c.from_residual.result (unresumed went c.in-Lost.is (omega (arith, count, low)))
 
+pub resume_to-ending-requires-clause-accepted : goal.resume_to-ending-requires-clause-accepted
+resume_to-ending-requires-clause-accepted g c =
+    subst (λ (l : List Access). (length l ≤ 65536) × AreHostAccesses l) (sym c.as_slice-accesses.ensures.value)
+    c.begin-ending.ensures.accepted
+
 pub loop-done-preserved : goal.loop-done-preserved
 loop-done-preserved g c =
     let batch = script_batch_listed c.args.batch.now in
-    let tries = c.args.tries in
+    let tries = c.args.options.tries in
     let (stops, count, follows, went) = c.loop-done.invariant.went in
     let before = g.K.AnswerSink.taken c.loop-done.sink in
     let earlier = host_report_to before c.loop-done.ending in

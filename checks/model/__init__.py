@@ -1,0 +1,1 @@
+"""An independent model of host and target, for `checks/until-model`."""
