@@ -1,7 +1,7 @@
 # Completions of swd for bash, written by checks/help: `. completions/swd.bash` in a shell, or for each one a copy at
 # ~/.local/share/bash-completion/completions/swd.
 _swd() {
-    local word=${COMP_WORDS[COMP_CWORD]} before=${COMP_WORDS[COMP_CWORD - 1]} words=
+    local word=${COMP_WORDS[COMP_CWORD]} before=${COMP_WORDS[COMP_CWORD - 1]} words= formats=
     COMPREPLY=()
     if ((COMP_CWORD == 1)); then
         case $word in
@@ -36,12 +36,15 @@ _swd() {
         ;;
     load)
         words='--format --tries --resume --report --remote --memory --base --plan --help -h'
+        formats='bin hex srec elf'
         ;;
     verify)
         words='--format --tries --resume --report --remote --memory --base --plan --help -h'
+        formats='bin hex srec elf'
         ;;
     dump)
         words='--format --tries --resume --report --remote --memory --base --plan --help -h'
+        formats='bin hex srec'
         ;;
     esac
     case $before in
@@ -53,7 +56,7 @@ _swd() {
         return
         ;;
     --format)
-        COMPREPLY=($(compgen -W 'bin hex srec' -- "$word"))
+        COMPREPLY=($(compgen -W "$formats" -- "$word"))
         return
         ;;
     esac

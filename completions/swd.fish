@@ -48,7 +48,7 @@ complete -c swd -n '__fish_seen_subcommand_from draw' -l resync -d 'Read a captu
 complete -c swd -n '__fish_seen_subcommand_from draw' -l overrun -d 'With --resync, WAIT and FAULT have a data phase'
 complete -c swd -n '__fish_seen_subcommand_from draw' -s h -l help -d 'Print help'
 complete -c swd -n '__fish_seen_subcommand_from load' -F
-complete -c swd -n '__fish_seen_subcommand_from load' -l format -x -a 'bin hex srec' -d 'bin, hex or srec; by FILE\'s name without it'
+complete -c swd -n '__fish_seen_subcommand_from load' -l format -x -a 'bin hex srec elf' -d 'bin, hex, srec or elf; by FILE itself without it'
 complete -c swd -n '__fish_seen_subcommand_from load' -l tries -x -d 'Retries per access, from 0 to 1000 [default: 8]'
 complete -c swd -n '__fish_seen_subcommand_from load' -l resume -x -d 'Resumptions per call, from 0 to 1000 [default: 0]'
 complete -c swd -n '__fish_seen_subcommand_from load' -l report -r -F -d 'Write the report of the calls to FILE, - is stderr'
@@ -58,7 +58,7 @@ complete -c swd -n '__fish_seen_subcommand_from load' -l base -x -d 'With --memo
 complete -c swd -n '__fish_seen_subcommand_from load' -l plan -r -F -d 'Inject faults by the plan in FILE'
 complete -c swd -n '__fish_seen_subcommand_from load' -s h -l help -d 'Print help'
 complete -c swd -n '__fish_seen_subcommand_from verify' -F
-complete -c swd -n '__fish_seen_subcommand_from verify' -l format -x -a 'bin hex srec' -d 'bin, hex or srec; by FILE\'s name without it'
+complete -c swd -n '__fish_seen_subcommand_from verify' -l format -x -a 'bin hex srec elf' -d 'bin, hex, srec or elf; by FILE itself without it'
 complete -c swd -n '__fish_seen_subcommand_from verify' -l tries -x -d 'Retries per access, from 0 to 1000 [default: 8]'
 complete -c swd -n '__fish_seen_subcommand_from verify' -l resume -x -d 'Resumptions per call, from 0 to 1000 [default: 0]'
 complete -c swd -n '__fish_seen_subcommand_from verify' -l report -r -F -d 'Write the report of the calls to FILE, - is stderr'

@@ -12,7 +12,7 @@ use Rattle.swd_image.specs.declared.fault.ImageFault.TheVariants.{Range, Memory,
 use Rattle.swd_image.specs.declared.verifying.ByteDifference.{ByteDifference}
 use Rattle.swd_image.specs.Reports.{DumpReports, image_fault_of}
 use Rattle.swd_image_files.specs.declared.format.Format.{Format}
-use Rattle.swd_image_files.specs.Files.{IsImage}
+use Rattle.swd_image_files.specs.Files.{IsImageOrElf}
 use Rattle.swd_image_files.specs.Images.{ImageFileBytes, ImageFileContents, image_file_pieces}
 use Rattle.swd_image_files.specs.Texts.{image_file_of_piece}
 use Rattle.swd_image_ends.specs.PieceReports.{LoadsReported, VerifiesReported}
@@ -69,11 +69,11 @@ abbrev pub IsCommandDumped : Format → ℕ → Result (List ℕ) ℕ → ℕ �
 IsCommandDumped format addr (Ok bytes) status = IsCommandWritten status (image_file_of_piece format addr bytes)
 IsCommandDumped format addr (Err error) status = status ≡ error
 
--- The pieces of the image of a file, in its format. No contract knows the contents of a file.
+-- The pieces of the image of a file, in its format or ELF. No contract knows the contents of a file.
 pub record AreCommandPieces (image : ImageLine) (pieces : List ImageFileBytes) : Type 0 where
   pub file : List ℕ
   pub whole : ImageFileContents
-  pub is : IsImage image.format image.addr file whole
+  pub is : IsImageOrElf image.elf image.format image.addr file whole
   pub are : pieces ≡ image_file_pieces whole.ranges whole.bytes
 
 module _ {R W : Type 0} (story : ℕ → Port) (image : ImageLine) (status : ℕ) (remaining : R → Option (List ℕ))

@@ -12,14 +12,16 @@ use crate::watched::{KeepsError, Watched};
 use std::alloc::Allocator;
 use std::io::{Read, Write};
 use swd_image_ends::read_file;
-use swd_image_files::{Format, Image, read_image, write_image};
+use swd_image_files::{ElfChoice, Format, Image, read_image_or_elf, write_image};
 use swd_words::ImageLine;
 
-// Returns the most bytes that the file of an image may have: a binary ends at ffffffff.
+// Returns the most bytes that the file of an image may have. A binary ends at ffffffff. What may be ELF has its own
+// addresses, and if it is a binary that is too long, it is refused once it was read.
 fn most_bytes(image: &ImageLine) -> u64 {
-    match image.format {
-        Format::Binary => (1 << 32) - image.addr as u64,
-        Format::IntelHex | Format::SRecord => u64::MAX,
+    match (image.format, image.elf) {
+        (Format::Binary, ElfChoice::Never) => (1 << 32) - image.addr as u64,
+        (Format::Binary, ElfChoice::Auto) => 1 << 32,
+        _ => u64::MAX,
     }
 }
 
@@ -62,7 +64,8 @@ pub fn read_opened_image<R: Read + Drop, E: Write, A: Allocator + Copy>(
             return Err(streams_status(errors, Err(unread), streams.as_slice()));
         }
     };
-    match read_image(alloc, image.format, bytes.as_slice(), image.addr) {
+    let (elf, format) = (image.elf, image.format);
+    match read_image_or_elf(alloc, elf, format, bytes.as_slice(), image.addr) {
         Ok(file) => Ok(Opened { file, identity }),
         Err(fault) => Err(cannot_use(errors, name, &fault)),
     }

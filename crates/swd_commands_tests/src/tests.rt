@@ -97,6 +97,18 @@ const BAD_HEX: &[u8] = b":020000042000DA\n:050002001122334455FA\n:02001100AABB89
 // Two bytes from 0 on, and one at 1.
 const TWICE_HEX: &[u8] = b":020000001122CB\n:0100010033CB\n:00000001FF\n";
 
+// An ELF file: an executable for Arm, whose one segment has no bytes.
+const EMPTY_ELF: &[u8] = b"\x7fELF\x01\x01\x01\x00\x00\x00\x00\x00\x00\x00\x00\x00\
+\x02\x00\x28\x00\x01\x00\x00\x00\x01\x00\x00\x08\x34\x00\x00\x00\x00\x00\x00\x00\x00\x02\x00\x05\
+\x34\x00\x20\x00\x01\x00\x28\x00\x00\x00\x00\x00\
+\x01\x00\x00\x00\x54\x00\x00\x00\x00\x00\x00\x20\x00\x00\x00\x08\x00\x00\x00\x00\x40\x00\x00\x00\
+\x06\x00\x00\x00\x04\x00\x00\x00";
+
+// The beginning of one for another machine.
+const FOREIGN_ELF: &[u8] = b"\x7fELF\x02\x01\x01\x00\x00\x00\x00\x00\x00\x00\x00\x00\
+\x02\x00\x3e\x00\x01\x00\x00\x00\x00\x00\x00\x00\x00\x00\x00\x00\x40\x00\x00\x00\x00\x00\x00\x00\
+\x00\x00\x00\x00\x00\x00\x00\x00\x00\x00\x00\x00";
+
 // Files, by their names.
 #[derive(Drop)]
 struct Shelf<'a> {
@@ -142,6 +154,8 @@ fn text_of(name: &str) -> Option<&'static [u8]> {
         "bad.hex" => Some(BAD_HEX),
         "twice.hex" => Some(TWICE_HEX),
         "open.hex" => Some(b"\n"),
+        "elf" | "elf.hex" => Some(EMPTY_ELF),
+        "foreign.elf" => Some(FOREIGN_ELF),
         "end" | "end.hex" | "end.IHX" => Some(b":00000001FF\n"),
         "memory" => Some(b"memory 20000000 16\n"),
         "awaiting" => Some(b"memory 20000000 16\nuntil 20000000 1 1 3\n"),

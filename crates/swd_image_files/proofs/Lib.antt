@@ -1,4 +1,5 @@
 pub mod DigitLemmas
+pub mod ElfLemmas
 pub mod FileLemmas
 pub mod ImageLemmas
 pub mod LineLemmas

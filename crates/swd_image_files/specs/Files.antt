@@ -2,13 +2,17 @@
 use Rattle.std.specs.Prelude.{◌≡◌, ℕ, ◌+◌, ◌^◌, nat_le, Bool, List, [], ◌∷◌, length, Result, Ok, Err, IsOk}
 use Rattle.std.specs.Prelude.{if◌then◌else◌}
 use Rattle.swd_image_files.specs.declared.fault.ImageFileFault.{ImageFileFault}
-use Rattle.swd_image_files.specs.declared.fault.ImageFileFault.TheVariants.{Line, NoEnd, Range, Overlap, Memory}
+use Rattle.swd_image_files.specs.declared.fault.ImageFileFault.TheVariants.{Line, NoEnd, Range, Elf, Overlap, Memory}
+use Rattle.swd_image_files.specs.declared.elf.ElfChoice.{ElfChoice}
+use Rattle.swd_image_files.specs.declared.elf.ElfChoice.TheVariants.{Auto, Always, Never}
+use Rattle.swd_image_files.specs.declared.fault.ElfFlaw.{ElfFlaw}
 use Rattle.swd_image_files.specs.declared.fault.LineFlaw.{LineFlaw}
 use Rattle.swd_image_files.specs.declared.format.Format.{Format}
 use Rattle.swd_image_files.specs.declared.format.Format.TheVariants.{Binary, IntelHex, SRecord}
 use Rattle.swd_image_files.specs.declared.kind.RecordFormat.{RecordFormat}
 use Rattle.swd_image_files.specs.declared.kind.RecordFormat.TheVariants.{Intel, Motorola}
 use Rattle.swd_image_files.specs.declared.place.RecordState.{RecordState}
+use Rattle.swd_image_files.specs.Elf.{elf_contents, is_elf_file}
 use Rattle.swd_image_files.specs.Images.{ImageFileContents, image_file_add_data, image_file_nothing}
 use Rattle.swd_image_files.specs.Lines.{image_file_lines}
 use Rattle.swd_image_files.specs.Overlaps.{AreImageRangesApart, IsLowestImageOverlap}
@@ -50,16 +54,44 @@ image_file_contents Binary base bytes = image_file_of_binary base bytes
 image_file_contents IntelHex base bytes = image_file_of_lines Intel base bytes
 image_file_contents SRecord base bytes = image_file_of_lines Motorola base bytes
 
--- a file has this image, in which no two pieces have an address
-pub record IsImage (format : Format) (base : ℕ) (bytes : List ℕ) (image : ImageFileContents) : Type 0 where
-  pub is : image_file_contents format base bytes ≡ Ok image
+-- the image of an ELF file, addresses that two segments have left aside
+abbrev pub image_file_elf_result : Result ImageFileContents ElfFlaw → Result ImageFileContents ImageFileFault
+image_file_elf_result (Ok image) = Ok image
+image_file_elf_result (Err flaw) = Err (Elf flaw)
+
+abbrev pub image_file_of_elf : ℕ → List ℕ → Result ImageFileContents ImageFileFault
+image_file_of_elf base bytes = image_file_elf_result (elf_contents base bytes)
+
+-- the image of a file that may be ELF: with Auto it is where it begins as such a file
+abbrev pub image_file_or_elf : ElfChoice → Format → ℕ → List ℕ → Result ImageFileContents ImageFileFault
+image_file_or_elf Auto format base bytes =
+    if is_elf_file bytes then image_file_of_elf base bytes else image_file_contents format base bytes
+image_file_or_elf Always format base bytes = image_file_of_elf base bytes
+image_file_or_elf Never format base bytes = image_file_contents format base bytes
+
+-- a result is this image, in which no two pieces have an address
+pub record IsImageIn (meaning : Result ImageFileContents ImageFileFault) (image : ImageFileContents) : Type 0 where
+  pub is : meaning ≡ Ok image
   pub apart : AreImageRangesApart image.ranges
+
+-- a file has this image
+abbrev pub IsImage : Format → ℕ → List ℕ → ImageFileContents → Type 0
+IsImage format base bytes image = IsImageIn (image_file_contents format base bytes) image
+
+-- an ELF file has this image
+abbrev pub IsElfImage : ℕ → List ℕ → ImageFileContents → Type 0
+IsElfImage base bytes image = IsImageIn (image_file_of_elf base bytes) image
+
+-- a file that may be ELF has this image
+abbrev pub IsImageOrElf : ElfChoice → Format → ℕ → List ℕ → ImageFileContents → Type 0
+IsImageOrElf elf format base bytes image = IsImageIn (image_file_or_elf elf format base bytes) image
 
 -- the first error by a result, the addresses that two pieces have last; or memory ran out, which leaves those open
 abbrev pub IsImageFileFaultIn : Result ImageFileContents ImageFileFault → ImageFileFault → Type 0
 IsImageFileFaultIn meaning (Line line flaw) = meaning ≡ Err (Line line flaw)
 IsImageFileFaultIn meaning NoEnd = meaning ≡ Err NoEnd
 IsImageFileFaultIn meaning Range = meaning ≡ Err Range
+IsImageFileFaultIn meaning (Elf flaw) = meaning ≡ Err (Elf flaw)
 IsImageFileFaultIn meaning (Overlap addr) = (image : ImageFileContents) × (meaning ≡ Ok image)
     × IsLowestImageOverlap image.ranges addr
 IsImageFileFaultIn meaning Memory = IsOk meaning
@@ -67,3 +99,10 @@ IsImageFileFaultIn meaning Memory = IsOk meaning
 -- the first error of a file
 abbrev pub IsImageFileFault : Format → ℕ → List ℕ → ImageFileFault → Type 0
 IsImageFileFault format base bytes fault = IsImageFileFaultIn (image_file_contents format base bytes) fault
+
+-- the first error of an ELF file, and of a file that may be ELF
+abbrev pub IsElfFileFault : ℕ → List ℕ → ImageFileFault → Type 0
+IsElfFileFault base bytes fault = IsImageFileFaultIn (image_file_of_elf base bytes) fault
+
+abbrev pub IsImageOrElfFault : ElfChoice → Format → ℕ → List ℕ → ImageFileFault → Type 0
+IsImageOrElfFault elf format base bytes fault = IsImageFileFaultIn (image_file_or_elf elf format base bytes) fault

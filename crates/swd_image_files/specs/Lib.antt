@@ -5,6 +5,7 @@ pub mod Records
 pub mod Images
 pub mod Places
 pub mod Overlaps
+pub mod Elf
 pub mod Files
 pub mod Readings
 pub mod Texts

@@ -1,7 +1,9 @@
 //! Reads and writes image files as flash tools do: plain binaries, Intel HEX and Motorola S-records.
+//! It reads ELF files, too.
 #![tactic(auto)]
 
 mod digits;
+mod elf;
 mod fault;
 mod format;
 mod image;
@@ -13,10 +15,12 @@ mod parts;
 mod place;
 mod read;
 mod reading;
+mod segments;
 mod write;
 
-pub use fault::{ImageFileFault, LineFlaw};
+pub use elf::ElfChoice;
+pub use fault::{ElfFlaw, ImageFileFault, LineFlaw};
 pub use format::Format;
 pub use image::{Image, Piece, Pieces, Range};
-pub use read::read_image;
+pub use read::{read_elf, read_image, read_image_or_elf};
 pub use write::write_image;

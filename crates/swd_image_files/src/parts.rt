@@ -1,5 +1,5 @@
 //! Parts of slices.
-ghost use Rattle.std.specs.Prelude.{◌≡◌, ◌≤◌, drop, length, take};
+ghost use Rattle.std.specs.Prelude.{◌≡◌, ◌≤◌, drop, length, slice_range, take};
 
 /// Returns the first bytes, as many as `len` says.
 pub(crate) fn front(bytes: &[u8], len: usize) -> &[u8]
@@ -15,4 +15,13 @@ pub(crate) fn behind(bytes: &[u8], at: usize) -> &[u8]
     ensures { result.now ≡ drop at bytes.now }
 {
     &bytes[at..]
+}
+
+/// Returns the bytes from a place up to another.
+pub(crate) fn between(bytes: &[u8], start: usize, end: usize) -> &[u8]
+    requires order { start ≤ end }
+    requires within { end ≤ length bytes.now }
+    ensures { result.now ≡ slice_range bytes.now start end }
+{
+    &bytes[start..end]
 }

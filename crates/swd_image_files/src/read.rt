@@ -1,6 +1,7 @@
 //! Reads image files.
 ghost use Rattle.std.specs.Prelude.{◌≡◌, All, IfErr, IfOk, Ok, position};
 ghost use Rattle.swd_image_files.specs.Files.{IsImageFileFaultIn, IsImageFileFault, IsImage, image_file_of_binary};
+ghost use Rattle.swd_image_files.specs.Files.{IsElfImage, IsElfFileFault, IsImageIn, IsImageOrElf, IsImageOrElfFault};
 ghost use Rattle.swd_image_files.specs.Files.{image_file_contents, image_file_at_end, image_file_of_lines};
 ghost use Rattle.swd_image_files.specs.Images.{ImageFileContents, contents_of_image};
 ghost use Rattle.swd_image_files.specs.Overlaps.{IsSoundImageRange};
@@ -8,6 +9,7 @@ ghost use Rattle.swd_image_files.specs.Readings.{ImageFileHolds};
 ghost use Rattle.swd_image_files.specs.Lines.{is_image_file_feed, image_file_line_len as line_len_in};
 ghost use Rattle.swd_image_files.specs.Lines.{image_file_without_return as without_return_in};
 
+use crate::elf::{ElfChoice, is_elf};
 use crate::fault::ImageFileFault;
 use crate::format::Format;
 use crate::image::Image;
@@ -15,10 +17,12 @@ use crate::kind::RecordFormat;
 use crate::overlap::first_overlap;
 use crate::parts::{behind, front};
 use crate::reading::{HeldPieces, RecordReading};
+use crate::segments::read_segments;
 use std::alloc::Allocator;
 
-/// Reads an image file. A binary is one piece at `base`. In the other formats `base` is added to each address. Its work
-/// is linear in the length of the file, but for a sort of the pieces' ranges, and its memory is linear.
+/// Reads an image file that isn't ELF. A binary is one piece at `base`. In the other formats `base` is added to each
+/// address. Its work is linear in the length of the file, but for a sort of the pieces' ranges, and its memory is
+/// linear.
 ///
 /// # Errors
 ///
@@ -33,7 +37,61 @@ pub fn read_image<A: Allocator + Copy>(
     ensures ok { IfOk result (λ image. IsImage format base bytes.now (contents_of_image image)) }
     ensures err { IfErr result (IsImageFileFault format base bytes.now) }
 {
-    let image = read_pieces(alloc, format, bytes, base)?;
+    apart(alloc, read_pieces(alloc, format, bytes, base)?)
+}
+
+/// Reads an ELF file: a 32-bit little-endian executable for Arm. The pieces are the bytes of its `PT_LOAD` segments in
+/// the file, each at its physical address, to which `base` is added. A segment without bytes in the file adds none.
+///
+/// # Errors
+///
+/// The first error of the file: of its header, of its first invalid segment, or the lowest address for which two
+/// segments have a byte. `Memory` if memory ran out for the image; then each segment is valid.
+pub fn read_elf<A: Allocator + Copy>(
+    alloc: A,
+    bytes: &[u8],
+    base: u32,
+) -> Result<Image<A>, ImageFileFault>
+    ensures ok { IfOk result (λ image. IsElfImage base bytes.now (contents_of_image image)) }
+    ensures err { IfErr result (IsElfFileFault base bytes.now) }
+{
+    apart(alloc, read_segments(alloc, bytes, base)?)
+}
+
+/// Reads an image file that may be ELF, as `elf` says: as `read_elf` does, or in this format as `read_image` does.
+///
+/// # Errors
+///
+/// Those of these two.
+pub fn read_image_or_elf<A: Allocator + Copy>(
+    alloc: A,
+    elf: ElfChoice,
+    format: Format,
+    bytes: &[u8],
+    base: u32,
+) -> Result<Image<A>, ImageFileFault>
+    ensures ok { IfOk result (λ image. IsImageOrElf elf format base bytes.now (contents_of_image image)) }
+    ensures err { IfErr result (IsImageOrElfFault elf format base bytes.now) }
+{
+    match elf {
+        ElfChoice::Auto => {
+            if is_elf(bytes) {
+                read_elf(alloc, bytes, base)
+            } else {
+                read_image(alloc, format, bytes, base)
+            }
+        }
+        ElfChoice::Always => read_elf(alloc, bytes, base),
+        ElfChoice::Never => read_image(alloc, format, bytes, base),
+    }
+}
+
+// Returns an image if no two of its pieces have an address.
+fn apart<A: Allocator + Copy>(alloc: A, image: Image<A>) -> Result<Image<A>, ImageFileFault>
+    requires { All IsSoundImageRange image.ranges.items }
+    ensures ok { IfOk result (λ found. IsImageIn (Ok (contents_of_image image)) (contents_of_image found)) }
+    ensures err { IfErr result (IsImageFileFaultIn (Ok (contents_of_image image))) }
+{
     match first_overlap(alloc, &image.ranges) {
         Ok(None) => Ok(image),
         Ok(Some(addr)) => Err(ImageFileFault::Overlap { addr }),

@@ -1,5 +1,6 @@
 //! Image files, read and written.
 
+mod elf_files;
 mod expect;
 mod files;
 mod invalid;

@@ -1,8 +1,9 @@
 -- The program's command line, as the parser reads it, and the meaning of its arguments.
 use Rattle.std.specs.Prelude.{ℕ, ◌≡◌, ◌≢◌, ◌≤◌, ◌%◌, ◌↔◌, ◌⊎◌, List, [], ◌∷◌, Option, Some, None, IsSomeAnd, true}
-use Rattle.std.specs.Prelude.{codes, pos}
+use Rattle.std.specs.Prelude.{Bool, false, codes, pos, if◌then◌else◌}
 use Rattle.std.specs.Option.{option_and_then, option_map}
 use Rattle.std.specs.String.{string_bytes}
+use Rattle.std.specs.Str.{bytes_eq}
 use Rattle.std.specs.Str.Parse.{signed_digits_value}
 use Rattle.clap.specs.Words.{App, HasKind, Kinds, kind_of, Row, first_of, Rule, Text, new_app, new_rule, with_rule}
 use Rattle.clap.specs.Words.{with_subcommand}
@@ -21,6 +22,8 @@ use Rattle.swd_words.specs.declared.command.ServedMemory.TheVariants.{Script, Fi
 use Rattle.swd_words.specs.declared.command.TargetLine.{TargetLine}
 use Rattle.swd_words.specs.declared.command.LineFault.{LineFault}
 use Rattle.swd_words.specs.declared.command.LineFault.TheVariants.{Clap, Memory}
+use Rattle.swd_image_files.specs.declared.elf.ElfChoice.{ElfChoice}
+use Rattle.swd_image_files.specs.declared.elf.ElfChoice.TheVariants.{Auto, Always, Never}
 use Rattle.swd_image_files.specs.declared.format.Format.{Format}
 use Rattle.swd_image_files.specs.Formats.{image_format_of_name, image_format_of_word}
 use Rattle.swd_script.specs.Numerals.{script_decimal_number, script_hex_number}
@@ -278,10 +281,30 @@ IsActionArgument Verify name rows = name ≡ codes "verify"
 IsActionArgument (Dump count) name rows =
     (name ≡ codes "dump") × (Some count ≡ option_and_then script_decimal_number (first_of (codes "BYTES") rows))
 
--- the format of an image's file is that of the word after --format, and without it that of the file's name
+-- an image's file is ELF by its content, but after --format by the word there
+abbrev pub elf_choice_of_word : Option Text → ElfChoice
+elf_choice_of_word None = Auto
+elf_choice_of_word (Some word) = if bytes_eq word (codes "elf") then Always else Never
+
+-- the format of an image's file that isn't ELF is that of the word after --format, and without it, or with elf, that of
+-- the file's name
 abbrev pub IsFormatArgument : Format → Text → Option Text → Type 0
 IsFormatArgument format file None = format ≡ image_format_of_name file
-IsFormatArgument format file (Some word) = Some format ≡ image_format_of_word word
+IsFormatArgument format file (Some word) =
+    Some format ≡ (if bytes_eq word (codes "elf") then Some (image_format_of_name file) else image_format_of_word word)
+
+-- whether an image's file is read, not written
+abbrev pub is_image_read : ImageAction → Bool
+is_image_read Load = true
+is_image_read Verify = true
+is_image_read (Dump count) = false
+
+-- the format, and whether the file is ELF. A dump isn't written as ELF.
+pub record AreFormatArguments (action : ImageAction) (format : Format) (elf : ElfChoice) (file : Text)
+    (word : Option Text) : Type 0 where
+  pub format : IsFormatArgument format file word
+  pub elf : elf ≡ elf_choice_of_word word
+  pub read : elf ≡ Always → is_image_read action ≡ true
 
 -- the address of a simulated memory is that of the argument, a multiple of 4; 20000000 without an argument
 abbrev pub IsBaseArgument : ℕ → Option Text → Type 0
@@ -330,7 +353,8 @@ pub record AreImageArguments (image : ImageLine) (name : Text) (rows : List Row)
   pub resumes : IsResumeArgument image.resumes (first_of (codes "resume") rows)
   pub report : option_map string_bytes image.report ≡ first_of (codes "report") rows
   pub target : IsTargetArgument image.memory rows
-  pub format : IsFormatArgument image.format (string_bytes image.file) (first_of (codes "format") rows)
+  pub format : AreFormatArguments image.action image.format image.elf (string_bytes image.file)
+      (first_of (codes "format") rows)
 
 -- an error of this kind, or out of memory
 abbrev pub IsArgumentsErrorKind : ErrorKind → LineFault → Type 0

@@ -2,7 +2,7 @@
 ghost use Rattle.std.specs.Prelude.{◌≡◌, ◌%◌};
 
 use clap::Error;
-use swd_image_files::Format;
+use swd_image_files::{ElfChoice, Format};
 
 /// A command of the program, with its arguments.
 #[derive(Drop)]
@@ -146,8 +146,10 @@ pub struct ImageLine {
     pub addr: u32,
     /// The file of the bytes. For a dump it is overwritten.
     pub file: String,
-    /// The format of the file: that of `--format`, or of its name.
+    /// The format of the file if it isn't ELF: that of `--format`, or of its name.
     pub format: Format,
+    /// Whether the file is read as ELF. A dump isn't ELF.
+    pub elf: ElfChoice,
     /// The number of events that an access may meet, at most 1,000.
     pub tries: u32,
     /// How often a call is resumed after a lost acknowledgement, at most 1,000 times.

@@ -1,34 +1,94 @@
 //! The format of an image's file, by an option or by the file's name.
-ghost use Rattle.std.specs.Prelude.{◌≡◌, IfSome, false};
+ghost use Rattle.std.specs.Prelude.{◌≡◌, IfSome, codes, false};
 ghost use Rattle.std.specs.Option.{option_map};
+ghost use Rattle.std.specs.Str.{bytes_eq};
 ghost use Rattle.clap.specs.Words.{rule_of};
-ghost use Rattle.swd_words.specs.Commands.{format_rule, IsFormatArgument};
+ghost use Rattle.swd_words.specs.Commands.{format_rule, AreFormatArguments, IsFormatArgument, elf_choice_of_word};
+ghost use Rattle.swd_words.specs.Commands.{is_image_read as is_read_in};
 
+use crate::command::ImageAction;
 use clap::Arg;
 use std::alloc::Global;
-use swd_image_files::Format;
+use swd_image_files::{ElfChoice, Format};
 
-/// The error of a word after `--format`.
-pub(crate) const FORMAT_FORM: &str = "the value of '--format <FORMAT>' is not bin, hex or srec";
+/// The help of `--format` for a file that is read.
+pub(crate) const READ_FORMATS: &str = "bin, hex, srec or elf; by FILE itself without it";
+
+/// The help of `--format` for a file that is written.
+pub(crate) const WRITTEN_FORMATS: &str = "bin, hex or srec; by FILE's name without it";
 
 /// Returns the option for the format of an image's file.
-pub(crate) fn format_arg<'a>(alloc: Global) -> Arg<'a>
+pub(crate) fn format_arg<'a>(alloc: Global, help: &'a str) -> Arg<'a>
     ensures rule { rule_of result ≡ format_rule }
     ensures local { result.global ≡ false }
 {
     Arg::new(alloc, "format")
         .long("format")
         .value_name("FORMAT")
-        .help("bin, hex or srec; by FILE's name without it")
+        .help(help)
 }
 
-/// Returns the format of the word after `--format`, if there is one, and otherwise that of the file's name. Returns
-/// `None` for a word that is no format.
-pub(crate) fn format_in(word: Option<&str>, file: &str) -> Option<Format>
+/// Returns the error of a word after `--format`.
+pub(crate) fn format_form(action: ImageAction) -> &'static str {
+    if is_read(action) {
+        "the value of '--format <FORMAT>' is not bin, hex, srec or elf"
+    } else {
+        "the value of '--format <FORMAT>' is not bin, hex or srec"
+    }
+}
+
+/// Returns the format of the file if it isn't ELF, and whether it is ELF. Returns `None` for a word that is no format,
+/// or not one of a file that is written.
+pub(crate) fn formats_in(
+    action: ImageAction,
+    word: Option<&str>,
+    file: &str,
+) -> Option<(Format, ElfChoice)>
+    ensures { IfSome result (λ found. AreFormatArguments action found.0 found.1 file.now
+        (option_map (λ s. s.now) word.entry)) }
+{
+    let elf = elf_in(word);
+    if elf == ElfChoice::Always && !is_read(action) {
+        return None;
+    }
+    match format_in(word, file) {
+        Some(format) => Some((format, elf)),
+        None => None,
+    }
+}
+
+// Returns whether the file is read, not written.
+fn is_read(action: ImageAction) -> bool
+    ensures { result ≡ is_read_in action }
+{
+    !matches!(action, ImageAction::Dump(_))
+}
+
+// Returns whether the file is ELF, by the word after `--format`.
+fn elf_in(word: Option<&str>) -> ElfChoice
+    ensures { result ≡ elf_choice_of_word (option_map (λ s. s.now) word.entry) }
+{
+    match word {
+        Some(word) if is_elf_word(word) => ElfChoice::Always,
+        Some(_) => ElfChoice::Never,
+        None => ElfChoice::Auto,
+    }
+}
+
+// Returns whether a word after `--format` is `elf`.
+fn is_elf_word(word: &str) -> bool
+    ensures { result ≡ bytes_eq word.now (codes "elf") }
+{
+    matches!(word.as_bytes(), b"elf")
+}
+
+// Returns the format of the file that isn't ELF: that of the word after `--format`, if there is one but `elf`, and
+// otherwise that of the file's name. Returns `None` for a word that is no format.
+fn format_in(word: Option<&str>, file: &str) -> Option<Format>
     ensures { IfSome result (λ format. IsFormatArgument format file.now (option_map (λ s. s.now) word.entry)) }
 {
     match word {
-        Some(word) => Format::of_word(word),
-        None => Some(Format::of_name(file)),
+        Some(word) if !is_elf_word(word) => Format::of_word(word),
+        _ => Some(Format::of_name(file)),
     }
 }

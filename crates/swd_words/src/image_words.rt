@@ -9,7 +9,7 @@ ghost use Rattle.swd_words.specs.Commands.{with_image_args, with_image_args_apps
 ghost use Rattle.swd_words.specs.Commands.{AreImageArguments};
 
 use crate::command::{ImageAction, ImageLine, LineFault};
-use crate::format_words::{FORMAT_FORM, format_arg, format_in};
+use crate::format_words::{READ_FORMATS, WRITTEN_FORMATS, format_arg, format_form, formats_in};
 use crate::memory_words::{target_in, with_target_options};
 use crate::words::{
     RESUMES_RANGE, TRIES_RANGE, owned, refused, report_arg, resume_arg, resumes_in, tries_arg,
@@ -23,13 +23,17 @@ use swd_script::{decimal_of, hex_of};
 const LOAD_ABOUT: &str = "Load a file into a target's memory";
 
 const LOAD_AFTER: &str = "\
-FILE is Intel HEX (hex) if its name ends in .hex, .ihex or .ihx, S-records
-(srec) if it ends in .srec, .s19, .s28, .s37 or .mot, and otherwise the bytes
-themselves (bin). --format overrides its name.
+FILE is ELF (elf) if it begins with 7f 45 4c 46. Otherwise it is Intel HEX (hex)
+if its name ends in .hex, .ihex or .ihx, S-records (srec) if it ends in .srec,
+.s19, .s28, .s37 or .mot, and else the bytes themselves (bin). --format
+overrides its content and its name.
+
+Of an ELF file, a 32-bit little-endian executable for Arm, the bytes of each
+PT_LOAD segment are taken, at the segment's physical address.
 
 ADDR is 1 to 8 hexadecimal digits, after an optional 0x, and need not be a
-multiple of 4. It is the address of a bin file. To each address of a hex or srec
-file it is added, so 0 leaves these as they are.
+multiple of 4. It is the address of a bin file. It is added to each address of
+a hex, srec or elf file, so 0 leaves these as they are.
 
 The pieces of FILE are loaded in its order, over one connection. The bytes of a
 word are the least significant first. Words of which FILE has only some bytes
@@ -52,6 +56,7 @@ A line on standard error has the result, or the first error of FILE:
   swd: loaded 65536 bytes at 20000000
   swd: loaded 1234 bytes in 3 pieces
   swd: image.hex: line 3: wrong checksum
+  swd: a.elf: ELF: machine 62, not 40 (Arm)
 
 Status: 0 if all was loaded, 1 if the run ended early, an access met a bus error
 or the other end went away, 2 at an error.";
@@ -78,8 +83,9 @@ const DUMP_ABOUT: &str = "Dump a target's memory to a file";
 const DUMP_AFTER: &str = "\
 BYTES is 1 to 10 decimal digits, and ADDR 1 to 8 hexadecimal digits, after an
 optional 0x. --remote and --memory are as for swd load; the memory's FILE is
-only read. --report is as for swd verify. FILE has the format of its name or of
---format, as for swd load. In a hex or srec file the addresses are the target's.
+only read. --report is as for swd verify. FILE is hex, srec or bin by its name,
+as for swd load, or by --format. In a hex or srec file the addresses are the
+target's.
 
 FILE is overwritten once all bytes are read; otherwise it is unchanged. A line
 on standard error has the result:
@@ -119,12 +125,16 @@ fn image_arg<'a>(alloc: Global, help: &'a str) -> Arg<'a>
 }
 
 // Adds the options of each command over an image.
-fn with_options<'a>(alloc: Global, command: Command<'a>) -> Result<Command<'a>, AllocError>
+fn with_options<'a>(
+    alloc: Global,
+    command: Command<'a>,
+    formats: &'a str,
+) -> Result<Command<'a>, AllocError>
     requires local { (out-Command command).has_globals ≡ false }
     ensures app { IfOk result (λ c. app_of c ≡ with_image_args (app_of command.entry)) }
     ensures local { IfOk result (λ c. (out-Command c).has_globals ≡ false) }
 {
-    let format = with_arg(command, format_arg(alloc))?;
+    let format = with_arg(command, format_arg(alloc, formats))?;
     let tries = with_arg(format, tries_arg(alloc))?;
     let resume = with_arg(tries, resume_arg(alloc))?;
     let help = "Write the report of the calls to FILE, - is stderr";
@@ -151,7 +161,7 @@ fn over_an_image<'a>(
         ),
     )?;
     let file = with_arg(addr, image_arg(alloc, "The file of the bytes"))?;
-    with_options(alloc, file)
+    with_options(alloc, file, READ_FORMATS)
 }
 
 // Returns the command `dump`.
@@ -168,7 +178,7 @@ fn dump_command<'a>(alloc: Global) -> Result<Command<'a>, AllocError>
     )?;
     let bytes = with_arg(addr, bytes_arg(alloc))?;
     let file = with_arg(bytes, image_arg(alloc, "The file to write (overwrites it)"))?;
-    with_options(alloc, file)
+    with_options(alloc, file, WRITTEN_FORMATS)
 }
 
 /// Adds the commands over an image.
@@ -253,14 +263,15 @@ pub(crate) fn image_line(
         return Err(LineFault::Memory);
     };
     let memory = target_in(alloc, matches)?;
-    let Some(format) = format_in(matches.get_str("format"), file.as_str()) else {
-        return Err(refused(alloc, ErrorKind::InvalidValue, FORMAT_FORM));
+    let Some(formats) = formats_in(action, matches.get_str("format"), file.as_str()) else {
+        return Err(refused(alloc, ErrorKind::InvalidValue, format_form(action)));
     };
     Ok(ImageLine {
         action,
         addr,
         file,
-        format,
+        format: formats.0,
+        elf: formats.1,
         tries,
         resumes,
         report,

@@ -2,13 +2,13 @@
 use super::expect::{expect_eq, expect_eq_at};
 use super::run_on;
 use std::test::Fail;
-use swd_image_files::Format;
+use swd_image_files::{ElfChoice, Format};
 use swd_words::{CommandLine, line};
 
 // Only Q is sent for a file without bytes, and a dump of no bytes is the end record alone.
 #[test]
 fn an_image_file_without_bytes_takes_no_call(rt: HostRuntime) {
-    let rows: [(&[&str], &[u8], usize); 6] = [
+    let rows: [(&[&str], &[u8], usize); 9] = [
         (
             &["swd", "load", "0", "end.hex", "--remote"],
             b"swd: loaded 0 bytes at 00000000\n",
@@ -22,6 +22,21 @@ fn an_image_file_without_bytes_takes_no_call(rt: HostRuntime) {
         (
             &["swd", "load", "8", "end", "--remote", "--format", "hex"],
             b"swd: loaded 0 bytes at 00000008\n",
+            0,
+        ),
+        (
+            &["swd", "load", "0", "elf", "--remote"],
+            b"swd: loaded 0 bytes at 00000000\n",
+            0,
+        ),
+        (
+            &["swd", "verify", "10", "elf.hex", "--remote"],
+            b"swd: verified 0 bytes at 00000010\n",
+            0,
+        ),
+        (
+            &["swd", "load", "0", "elf", "--remote", "--format", "elf"],
+            b"swd: loaded 0 bytes at 00000000\n",
             0,
         ),
         (
@@ -63,7 +78,7 @@ fn an_image_file_without_bytes_takes_no_call(rt: HostRuntime) {
 // Nothing is sent: the file isn't valid in its format, or there is no such format.
 #[test]
 fn an_invalid_image_file_is_named_with_its_line(rt: HostRuntime) {
-    let rows: [(&[&str], &[u8]); 8] = [
+    let rows: [(&[&str], &[u8]); 13] = [
         (
             &["swd", "load", "0", "bad.hex", "--remote"],
             b"swd: bad.hex: line 3: wrong checksum\n",
@@ -95,7 +110,31 @@ fn an_invalid_image_file_is_named_with_its_line(rt: HostRuntime) {
             b"swd: twice.hex: two bytes for address 00000001\n",
         ),
         (
+            &["swd", "load", "0", "foreign.elf", "--remote"],
+            b"swd: foreign.elf: ELF: class 2, not 1 (32-bit)\n",
+        ),
+        (
             &["swd", "load", "0", "two.hex", "--remote", "--format", "elf"],
+            b"swd: two.hex: ELF: it doesn't begin with 7f 45 4c 46\n",
+        ),
+        (
+            &["swd", "verify", "0", "elf", "--remote", "--format", "srec"],
+            b"swd: elf: line 1: no record mark at the beginning (nor is a byte order mark allowed)\n",
+        ),
+        (
+            &["swd", "load", "0", "two.hex", "--remote", "--format", "ELF"],
+            b"error: the value of '--format <FORMAT>' is not bin, hex, srec or elf\n",
+        ),
+        (
+            &[
+                "swd", "verify", "0", "two.hex", "--remote", "--format", "s19",
+            ],
+            b"error: the value of '--format <FORMAT>' is not bin, hex, srec or elf\n",
+        ),
+        (
+            &[
+                "swd", "dump", "0", "1", "traced", "--remote", "--format", "elf",
+            ],
             b"error: the value of '--format <FORMAT>' is not bin, hex or srec\n",
         ),
     ];
@@ -117,14 +156,35 @@ fn an_invalid_image_file_is_named_with_its_line(rt: HostRuntime) {
 
 #[test]
 fn the_format_of_a_file_is_that_of_its_name_or_of_the_option(rt: HostRuntime) -> Result<(), Fail> {
-    for (name, word, format) in [
-        ("a.hex", None, Format::IntelHex),
-        ("a.S37", None, Format::SRecord),
-        ("a.bin", None, Format::Binary),
-        ("hex", None, Format::Binary),
-        ("a.hex", Some("--format=bin"), Format::Binary),
-        ("a.hex", Some("--format=srec"), Format::SRecord),
-        ("a", Some("--format=hex"), Format::IntelHex),
+    for (name, word, format, elf) in [
+        ("a.hex", None, Format::IntelHex, ElfChoice::Auto),
+        ("a.S37", None, Format::SRecord, ElfChoice::Auto),
+        ("a.bin", None, Format::Binary, ElfChoice::Auto),
+        ("hex", None, Format::Binary, ElfChoice::Auto),
+        (
+            "a.hex",
+            Some("--format=bin"),
+            Format::Binary,
+            ElfChoice::Never,
+        ),
+        (
+            "a.hex",
+            Some("--format=srec"),
+            Format::SRecord,
+            ElfChoice::Never,
+        ),
+        (
+            "a",
+            Some("--format=hex"),
+            Format::IntelHex,
+            ElfChoice::Never,
+        ),
+        (
+            "a.hex",
+            Some("--format=elf"),
+            Format::IntelHex,
+            ElfChoice::Always,
+        ),
     ] {
         let words = [
             "swd",
@@ -135,7 +195,10 @@ fn the_format_of_a_file_is_that_of_its_name_or_of_the_option(rt: HostRuntime) ->
             word.unwrap_or("--tries=8"),
         ];
         match line(rt.alloc(), words.as_slice()) {
-            Ok(CommandLine::Image(image)) => expect_eq_at(&rt, &name, &image.format, &format),
+            Ok(CommandLine::Image(image)) => {
+                expect_eq_at(&rt, &name, &image.format, &format);
+                expect_eq_at(&rt, &name, &image.elf, &elf);
+            }
             _ => return Err(Fail::from("another command")),
         }
     }

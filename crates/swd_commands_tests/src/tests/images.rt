@@ -85,7 +85,7 @@ fn a_file_that_is_refused_leaves_the_line_unused(rt: HostRuntime) {
         ),
         (
             &["swd", "load", "fffffffc", "image", "--remote"],
-            b"swd: the image extends past ffffffff\n",
+            b"swd: image: the image extends past ffffffff\n",
         ),
         (
             &["swd", "load", "0", "-", "--remote"],

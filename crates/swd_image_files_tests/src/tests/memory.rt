@@ -1,8 +1,9 @@
 //! Memory that is refused at each place.
+use super::elf_files;
 use super::expect::{expect_eq, expect_eq_at};
 use linked_list_allocator::LocalHeap;
 use std::test::Fail;
-use swd_image_files::{Format, ImageFileFault, LineFlaw, read_image};
+use swd_image_files::{ElfChoice, Format, ImageFileFault, LineFlaw, read_image, read_image_or_elf};
 
 const FILE: &[u8] = b":01000000AA55\n:02000400CCDD51\n:01000100BB43\n:00000001FF\n";
 
@@ -17,12 +18,13 @@ fn memory_ends_while_a_file_is_read(rt: HostRuntime) -> Result<(), Fail> {
             b"S104000001FA\nS104000202F7\nS104000603F2\nS9030000FC\n".as_slice(),
             3,
         ),
+        ("elf", Format::Binary, elf_files::FILE, 6),
     ];
     let mut counts = (0u32, 0u32);
     for size in 1..64usize {
         for (name, format, file, len) in files {
             let heap = LocalHeap::new(rt.alloc(), size * 8)?;
-            match read_image(&heap, format, file, 0) {
+            match read_image_or_elf(&heap, ElfChoice::Auto, format, file, 0) {
                 Ok(image) => {
                     expect_eq_at(&rt, &name, &image.bytes.len(), &len);
                     counts.1 = counts.1.saturating_add(1);

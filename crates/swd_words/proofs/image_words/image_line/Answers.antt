@@ -4,7 +4,7 @@ use Rattle.std.specs.String.{string_bytes}
 use Rattle.clap.specs.Words.{Text, first_of, found_of, rows_of}
 use Rattle.clap.proofs.WalkLemmas.{first_value-rows}
 use Rattle.swd_script.specs.Numerals.{script_hex_number}
-use Rattle.swd_words.specs.Commands.{IsResumeArgument, IsTriesArgument, IsFormatArgument}
+use Rattle.swd_words.specs.Commands.{IsResumeArgument, IsTriesArgument, AreFormatArguments}
 use Rattle.swd_words.proofs.image_words.image_line.Goals as goal
 
 pub returns : goal.returns
@@ -23,9 +23,12 @@ returns c = record {
       c.in-Some-resumes_in.ensures;
   report = c.in-Ok.ensures ∙ c.get_str-5.ensures ∙ first_value-rows (found_of c.args.matches.now) (codes "report");
   target = c.in_ok-memory.ensures;
-  format = subst (λ (file : Text). IsFormatArgument c.in-Some-format_in.format file
+  format =
+      let formats = c.in-Some-formats_in.formats in
+      subst (λ (file : Text). AreFormatArguments c.in_ok-action.action formats.0 formats.1 file
       (first_of (codes "format") (rows_of (found_of c.args.matches.now)))) c.as_str.ensures.value
-      (subst (λ (word : Option Text). IsFormatArgument c.in-Some-format_in.format c.as_str.result.now word)
+      (subst (λ (word : Option Text). AreFormatArguments c.in_ok-action.action formats.0 formats.1
+      c.as_str.result.now word)
       (c.get_str-6.ensures ∙ first_value-rows (found_of c.args.matches.now) (codes "format"))
-      c.in-Some-format_in.ensures);
+      c.in-Some-formats_in.ensures);
 }
