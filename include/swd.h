@@ -190,6 +190,10 @@ struct swd_cue swd_run_opened(struct swd_run *run, const struct swd_access *acce
  * run alone, whose opening may take five requests more. An access that was in flight may take effect again. After
  * swd_run_blocks, the rest of the block is read one by one.
  *
+ * If the line failed inside a cue, the target may be at a turnaround or inside an acknowledgement, and then drives for up
+ * to four clocks more than the lead of the new run releases: release the line for four clocks before that lead. If it
+ * failed inside the bits of SWD_GIVE, make the rest of them before these four, or the target may write another word.
+ *
  * Returns false: *run is invalid, or didn't end so.
  */
 bool swd_run_again(struct swd_run *run, uint32_t tries);

@@ -8,6 +8,8 @@ from ._errors import (
 )
 
 MOST_ACCESSES = 65_536
+# The bits that an address may have.
+_ADDRESSES = 0xFFFF_FFFC
 
 
 @dataclass(frozen=True)
@@ -144,6 +146,18 @@ class Report:
         return f" ({self.accesses[index]})" if index < len(self.accesses) else ""
 
 
+def made_report(
+    answers: Tuple[Answer, ...], begun: int, requests: int, ended: End, identification: Optional[int],
+    accesses: Tuple[Access, ...],
+) -> Report:
+    """Makes a report in half the time that the constructor takes, which sets each frozen field by a call."""
+    report = Report.__new__(Report)
+    report.__dict__.update(
+        answers=answers, begun=begun, requests=requests, ended=ended, identification=identification, accesses=accesses,
+    )
+    return report
+
+
 def counts(report: Report) -> str:
     """Says how far a run came, for messages."""
     return report._counts()  # pylint: disable=protected-access
@@ -172,7 +186,17 @@ def listed_accesses(accesses: Iterable[Access]) -> Tuple[Access, ...]:
     return tuple(listed)
 
 
+def _is_plain(access: Access) -> bool:
+    """Whether the access is itself what a check would make of it. Most are, and checks with messages take longer."""
+    if type(access) is Read:
+        return type(access.addr) is int and not access.addr & ~_ADDRESSES
+    return type(access) is Write and type(access.addr) is int and not access.addr & ~_ADDRESSES \
+        and type(access.word) is int and not access.word >> 32
+
+
 def _checked_access(index: int, access: Access) -> Access:
+    if _is_plain(access):
+        return access
     if not isinstance(access, (Read, Write)):
         raise NotAnAccess(f"accesses[{index}] is {access!r}: it has to be a Read or a Write")
     addr = checked_word(f"accesses[{index}].addr", access.addr)

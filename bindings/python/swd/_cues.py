@@ -1,11 +1,12 @@
 """Cues: what a run has to send next, and as which sequences of clocks."""
-import functools
 from dataclasses import dataclass
-from typing import Any, Callable, Dict, List, Tuple, Union
+from typing import Any, Callable, ClassVar, Dict, List, Tuple, Union
 
 from ._library import ASK, GIVE, LEAD, PASS, TAKE
 
 _SWITCH_BITS = 0xE79E
+# The bits of a data phase: a word and its parity.
+DATA_BITS = 33
 
 
 @dataclass(frozen=True)
@@ -32,91 +33,126 @@ class Sample:
 
 
 Sequence = Union[Drive, Release, Sample]
-_TURNAROUND = Release(1)
-_ACKNOWLEDGEMENT = Sample(3)
-_TAKEN: Tuple[Sequence, ...] = (Sample(33), _TURNAROUND)
-_PASSED: Tuple[Sequence, ...] = (_TURNAROUND,)
+
+
+class Performer:
+    """Performs cues by calls of several clocks each."""
+
+    def __init__(
+        self, drive: Callable[[int, int], object], release: Callable[[int], object], sample: Callable[[int], int],
+    ) -> None:
+        self.drive, self.release, self.sample = drive, release, sample
+
+    def perform(self, kind: int, cue: Any) -> int:
+        """Performs a cue of this kind, which isn't at rest, with the fields of the library's struct. Returns the reply.
+        Nothing else says which clocks a cue is made of."""
+        if kind == ASK:
+            self.drive(cue.request, 8)
+            self.release(1)
+            return self.sample(3)
+        if kind == TAKE:
+            reply = self.sample(DATA_BITS)
+            self.release(1)
+            return reply
+        if kind == LEAD:
+            self._lead(cue)
+        else:
+            self.release(1)
+            if kind == GIVE:
+                self.drive(cue.bits, DATA_BITS)
+        return 0
+
+    def _lead(self, cue: Any) -> None:
+        undriven = min(cue.undriven, cue.ones)
+        if undriven > 0:
+            self.release(undriven)
+        self._drive_ones(cue.ones - undriven)
+        if cue.with_switch:
+            self.drive(_SWITCH_BITS, 16)
+            self._drive_ones(cue.ones)
+        if cue.zeros > 0:
+            self.drive(0, cue.zeros)
+
+    def _drive_ones(self, count: int) -> None:
+        if count > 0:
+            self.drive((1 << count) - 1, count)
+
+
+class _Cue:
+    """What cues share."""
+
+    _kind: ClassVar[int]
+
+    def sequences(self) -> Tuple[Sequence, ...]:
+        """Returns the sequences of clocks of this cue, in order."""
+        steps: List[Sequence] = []
+
+        def sample(count: int) -> int:
+            steps.append(Sample(count))
+            return 0
+
+        performer = Performer(
+            lambda bits, count: steps.append(Drive(bits, count)), lambda count: steps.append(Release(count)), sample,
+        )
+        performer.perform(self._kind, self)
+        return tuple(steps)
 
 
 @dataclass(frozen=True)
-class Lead:
+class Lead(_Cue):
     """`ones` ones, of which the first `undriven` are released, since the target may be driving; with `switch` the
     sixteen bits of the switch from JTAG, and the ones again; then `zeros` zeros. A line reset, or idle cycles."""
 
+    _kind = LEAD
     ones: int
     undriven: int
     switch: bool
     zeros: int
 
-    def sequences(self) -> Tuple[Sequence, ...]:
-        """Returns the sequences of clocks of this cue, in order."""
-        undriven = min(self.undriven, self.ones)
-        steps: List[Sequence] = [Release(undriven), _ones(self.ones - undriven)]
-        if self.switch:
-            steps += [Drive(_SWITCH_BITS, 16), _ones(self.ones)]
-        steps.append(Drive(0, self.zeros))
-        return tuple(step for step in steps if step.count > 0)
-
-
-def _ones(count: int) -> Drive:
-    return Drive((1 << count) - 1, count)
+    @property
+    def with_switch(self) -> bool:
+        """`switch`, by the name that the library's struct has for it."""
+        return self.switch
 
 
 @dataclass(frozen=True)
-class Ask:
+class Ask(_Cue):
     """The eight bits of a request, and a turnaround. The reply is the acknowledgement: three bits."""
 
+    _kind = ASK
     request: int
 
-    def sequences(self) -> Tuple[Sequence, ...]:
-        """Returns the sequences of clocks of this cue, in order."""
-        return _request_sequences(self.request)
-
-
-@functools.lru_cache(maxsize=256)
-def _request_sequences(request: int) -> Tuple[Sequence, ...]:
-    return Drive(request, 8), _TURNAROUND, _ACKNOWLEDGEMENT
-
 
 @dataclass(frozen=True)
-class Take:
+class Take(_Cue):
     """A read's data phase, and a turnaround. The reply is the 33 bits of the data phase."""
 
-    def sequences(self) -> Tuple[Sequence, ...]:
-        """Returns the sequences of clocks of this cue, in order."""
-        return _TAKEN
+    _kind = TAKE
 
 
 @dataclass(frozen=True)
-class Give:
+class Give(_Cue):
     """A turnaround, and the 33 bits of a write's data phase. There is no reply."""
 
+    _kind = GIVE
     bits: int
-
-    def sequences(self) -> Tuple[Sequence, ...]:
-        """Returns the sequences of clocks of this cue, in order."""
-        return _TURNAROUND, Drive(self.bits, 33)
 
 
 @dataclass(frozen=True)
-class Pass:
+class Pass(_Cue):
     """A turnaround, after WAIT or FAULT. There is no reply."""
 
-    def sequences(self) -> Tuple[Sequence, ...]:
-        """Returns the sequences of clocks of this cue, in order."""
-        return _PASSED
+    _kind = PASS
 
 
 Cue = Union[Lead, Ask, Take, Give, Pass]
 _CUES: Dict[int, Callable[[Any], Cue]] = {
     LEAD: lambda cue: Lead(cue.ones, cue.undriven, bool(cue.with_switch), cue.zeros),
-    ASK: lambda cue: _ask(cue.request),
-    TAKE: lambda cue: _TAKE,
+    ASK: lambda cue: Ask(cue.request),
+    TAKE: lambda cue: Take(),
     GIVE: lambda cue: Give(cue.bits),
-    PASS: lambda cue: _PASS,
+    PASS: lambda cue: Pass(),
 }
-_ask = functools.lru_cache(maxsize=256)(Ask)
-_TAKE, _PASS = Take(), Pass()
 
 
 def cue_of(struct: Any) -> Cue:

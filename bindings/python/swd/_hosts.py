@@ -3,44 +3,44 @@ import contextlib
 import threading
 import time
 from types import TracebackType
-from typing import Any, Iterable, Iterator, Optional, Set, Type
+from typing import Any, Callable, Iterable, Optional, Set, Tuple, Type
 
 from . import _images
-from ._accesses import Access, End, Read, Report, Write, block, counts
+from ._accesses import Access, Answer, End, Read, Report, Write, block, counts, listed_accesses
 from ._errors import (
     CallbackFailed, ConditionNotMet, Interrupted, LineFailed, Reentered, RunFailed, fail, number, word as checked_word,
 )
 from ._images import Buffer, OnProgress
-from ._library import LibraryOrPath, library_functions
+from ._library import REFUSED, REST, LibraryOrPath, library_functions
 from ._lines import AnyLine, Wire
-from ._runs import OnAnswer, Run
+from ._runs import OnAnswer, Run, accepted
 
 # The lines that calls use now, and what guards that set.
 _in_use: Set[int] = set()
 _guard = threading.Lock()
 
 
-@contextlib.contextmanager
-def _alone(line: Any) -> Iterator[None]:
-    """Has the line for one call."""
+def _claim(line: Any) -> None:
+    """Takes the line for one call, which discards it from the set in the end."""
     with _guard:
         if id(line) in _in_use:
             raise Reentered("the line is in use by another call, which would lose its place on it")
         _in_use.add(id(line))
-    try:
-        yield
-    finally:
-        _in_use.discard(id(line))
 
 
-def _attempt(run: Run, kind: Type[RunFailed], call: Any, *arguments: Any) -> Any:
-    """Calls what the caller gave."""
+def _failed(run: Run, kind: Type[RunFailed], failure: Exception) -> RunFailed:
+    """Returns what is raised if a call of the line, or the callback, raised this."""
+    report = run.report()
+    what = "the callback" if kind is CallbackFailed else "the line"
+    return kind(f"{what} failed: {failure!r}: {counts(report)}", report)
+
+
+def _attempt(run: Run, call: Callable[[], object]) -> None:
+    """Makes a call to the line aside from its cues."""
     try:
-        return call(*arguments)
+        call()
     except Exception as failure:  # pylint: disable=broad-except
-        report = run.report()
-        what = "the callback" if kind is CallbackFailed else "the line"
-        raise kind(f"{what} failed: {failure!r}: {counts(report)}", report) from failure
+        raise _failed(run, LineFailed, failure) from failure
 
 
 class _Driver:
@@ -127,12 +127,11 @@ class _Driver:
 
     def _made(self, accesses: Iterable[Access], of_block: bool) -> Run:
         """Returns a run of a list, over a target that is at rest from here on."""
-        run = Run(accesses, self.tries, block=of_block, library=self._library)
+        checked = listed_accesses(accesses)
         if self._last is not None and self._last is not End.ALL:
             self._settle()
-        if self._opens_each or self._last is None:
-            return run
-        return Run(run.accesses, self.tries, block=of_block, opened=True, library=self._library)
+        opened = not self._opens_each and self._last is not None
+        return Run.of_checked(checked, self.tries, of_block, opened, self._library)
 
     def _settle(self) -> None:
         """Brings a target to rest, and opens it, after a run that ended early: it may be inside a transaction. This is
@@ -142,35 +141,54 @@ class _Driver:
 
     def _perform(self, run: Run, on_answer: OnAnswer) -> Report:
         """Performs a run over the line. Nothing else does."""
-        with _alone(self._wire.over):
-            try:
-                self._last = End.LOST
-                if run.continues and self._inside:
-                    _attempt(run, LineFailed, self._wire.leave)
-                self._inside = True
-                self._follow(run, on_answer)
-                report = run.report()
-                self._last, self._inside = report.ended, False
-                return report
-            except RunFailed:
-                raise
-            except KeyboardInterrupt as stop:
-                report = run.report()
-                raise Interrupted(f"interrupted: {counts(report)}", report) from stop
-            except BaseException as failure:
-                with contextlib.suppress(AttributeError):
-                    failure.report = run.report()  # type: ignore[attr-defined]
-                raise
+        line = self._wire.over
+        _claim(line)
+        try:
+            self._last = End.LOST
+            if run.continues and self._inside:
+                _attempt(run, self._wire.leave)
+            self._inside = True
+            self._follow(run, on_answer)
+            report = run.report()
+            self._last, self._inside = report.ended, False
+            return report
+        except RunFailed:
+            raise
+        except KeyboardInterrupt as stop:
+            report = run.report()
+            raise Interrupted(f"interrupted: {counts(report)}", report) from stop
+        except BaseException as failure:
+            with contextlib.suppress(AttributeError):
+                failure.report = run.report()  # type: ignore[attr-defined]
+            raise
+        finally:
+            _in_use.discard(id(line))
 
     def _follow(self, run: Run, on_answer: OnAnswer) -> None:
-        cue, perform, told = run.cue(), self._wire.perform, run.answered
-        while cue is not None:
-            cue = run.advance(_attempt(run, LineFailed, perform, cue))
+        wire, step, cue, told = self._wire, run.step, run.first(), run.answered
+        perform, kind = wire.perform, cue.kind
+        while kind != REST:
+            try:
+                reply = perform(kind, cue)
+            except Exception as failure:  # pylint: disable=broad-except
+                raise _failed(run, LineFailed, failure) from failure
+            cue = step(reply)
+            kind = cue.kind
+            if kind == REFUSED:
+                accepted(cue, reply)
             if on_answer is not None and run.answered > told:
-                for index, answer in enumerate(run.answers(told), told):
-                    _attempt(run, CallbackFailed, on_answer, index, answer)
-                told = run.answered
-        _attempt(run, LineFailed, self._wire.flush)
+                told = self._tell(run, told, on_answer)
+        _attempt(run, wire.flush)
+
+    @staticmethod
+    def _tell(run: Run, told: int, on_answer: Callable[[int, Answer], object]) -> int:
+        """Calls back for each answer from this index on. Returns how many were told."""
+        for index, answer in enumerate(run.answers(told), told):
+            try:
+                on_answer(index, answer)
+            except Exception as failure:  # pylint: disable=broad-except
+                raise _failed(run, CallbackFailed, failure) from failure
+        return run.answered
 
     @staticmethod
     def _checked(report: Report, check: bool, bus_errors: bool) -> Report:
@@ -204,6 +222,8 @@ class Session(_Driver):
     early; it begins by bringing the target to rest."""
 
     _opens_each = False
+    # The address of the last `read` over an open target, and its run.
+    _polled: Tuple[object, Optional[Run]] = None, None
 
     def __enter__(self) -> "Session":
         self.open()
@@ -231,7 +251,7 @@ class Session(_Driver):
 
     def read(self, addr: int) -> int:
         """Returns the word at an address. Raises what `run` raises."""
-        return self.run([Read(addr)]).words()[0]
+        return self._poll(addr).words()[0]
 
     def write(self, addr: int, word: int) -> None:
         """Writes a word at an address, once. Raises what `run` raises."""
@@ -249,10 +269,21 @@ class Session(_Driver):
         if number("reads", reads, 0xFFFF_FFFF) == 0:
             fail("reads", reads, "1 or more")
         for left in range(reads - 1, -1, -1):
-            report = self.run([Read(addr)])
+            report = self._poll(addr)
             found = report.words()[0]
             if found & mask == value:
                 return found
             if left > 0 and interval > 0:
                 time.sleep(interval)
         raise ConditionNotMet(f"r {addr:08x} was {found:08x} at the last of {reads} reads", report)
+
+    def _poll(self, addr: int) -> Report:
+        """Reads the word at an address. A read like the last one takes its run once more."""
+        at, run = self._polled
+        if run is not None and self.is_open and type(addr) is int and addr == at and run.tries == self.tries:
+            run.reopen()
+        else:
+            run = self._made([Read(addr)], False)
+            # A run with an opening can't be taken once more.
+            self._polled = (addr, run) if run.opened else (None, None)
+        return self._perform(run, None).check()

@@ -78,16 +78,18 @@ WANTS_READ, WANTS_WRITE = 1, 2
 # Three bits and 33 bits of a line that nobody drives.
 SILENCE = {ASK: 0x7, TAKE: 0x1_FFFF_FFFF}
 
-_run, _accesses, _size = ctypes.POINTER(RunStruct), ctypes.POINTER(AccessStruct), ctypes.c_size_t
-_FUNCTIONS: Dict[str, Tuple[Any, Tuple[Any, ...]]] = {
+_run = ctypes.POINTER(RunStruct)
+# The result and the arguments of each function. Where the second is None, the arguments are passed as objects of ctypes:
+# to convert others would take longer than the call, and these are called at each cue or list.
+_FUNCTIONS: Dict[str, Tuple[Any, Optional[Tuple[Any, ...]]]] = {
     "swd_layout": (None, (ctypes.c_void_p,)),
     "swd_run_layout": (None, (ctypes.c_void_p,)),
     "swd_run_new": (None, (_run, _u32)),
     "swd_run_blocks": (None, (_run, _u32)),
-    "swd_run_opened": (CueStruct, (_run, _accesses, _size, _u8, _u32)),
+    "swd_run_opened": (CueStruct, None),
     "swd_run_again": (ctypes.c_bool, (_run, _u32)),
     "swd_run_cue": (CueStruct, (_run,)),
-    "swd_run_next": (CueStruct, (_run, _accesses, _size, ctypes.POINTER(OutcomeStruct), _size, _u64)),
+    "swd_run_next": (CueStruct, None),
     "swd_decoder_new": (None, (ctypes.POINTER(DecoderStruct),)),
     "swd_decoder_take": (_u8, (ctypes.POINTER(DecoderStruct), _u64, _u8)),
     "swd_decoder_due": (ctypes.c_bool, (ctypes.POINTER(DecoderStruct), ctypes.POINTER(ItemStruct))),
@@ -154,7 +156,7 @@ def leaves(path: str, value: Any) -> Iterator[Tuple[str, int, int]]:
             yield f"{path}.{name}", ctypes.sizeof(kind), field
 
 
-def _load(path: Union[None, str, "os.PathLike[str]"]) -> Tuple[str, ctypes.CDLL]:
+def _load(path: Union[None, str, "os.PathLike[str]"]) -> Tuple[str, ctypes.PyDLL]:
     if path is None:
         path = os.environ.get("SWD_LIBRARY")
     beside = os.path.join(os.path.dirname(os.path.abspath(__file__)), NAME)
@@ -163,7 +165,8 @@ def _load(path: Union[None, str, "os.PathLike[str]"]) -> Tuple[str, ctypes.CDLL]
     reasons = []
     for name in tried:
         try:
-            return name, ctypes.CDLL(name)
+            # A call takes less than a microsecond, and leaves the interpreter to no other thread.
+            return name, ctypes.PyDLL(name)
         except OSError as reason:
             reasons.append(str(reason))
     raise LibraryNotFound(f"no library; SWD_LIBRARY may name one. Tried: {'; '.join(reasons)}")

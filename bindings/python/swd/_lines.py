@@ -1,13 +1,13 @@
 """Lines to a target: of clocks, and of sequences of clocks."""
 import inspect
-from typing import Any, Callable, Optional, Protocol, Tuple, Union
+import operator
+from dataclasses import dataclass
+from typing import Any, Callable, List, Optional, Protocol, Sequence, Tuple, Union
 
-from ._cues import Cue, Drive, Release
+from ._cues import DATA_BITS, Performer
 from ._errors import NotABit, NotALine, OutOfRange
 
 _CALLS = ("drive", "release", "sample")
-# The bits of a write's data phase. No other cue drives as many.
-_DATA_BITS = 33
 # The clocks from a turnaround to the end of an acknowledgement. A run that continues releases the line for the clocks
 # of a data phase; one that was broken off may be that far before it.
 _REQUEST_REST = 4
@@ -62,18 +62,39 @@ LineFunctions = Tuple[Callable[[int], object], Callable[[], int]]
 AnyLine = Union[Line, LineFunctions, Sequences]
 
 
-def _spoiling(bits: int, place: int) -> Tuple[int, int]:
-    """Returns the bits after which a target drops the data phase of a write, and their number. The first `place` of its
-    33 bits were made, and the next one was made or wasn't: the parity is wrong in both cases. If it was the last
-    one, and made, the write took effect."""
-    count = _DATA_BITS - place
-    failed = bits >> place & 1
-    made = bin(bits & (1 << place) - 1).count("1") & 1
-    if count == 1:
-        return made ^ 1, 1
-    # All but the last one make the parity wrong if the next bit was made, and the last one if it wasn't.
-    first = made ^ failed ^ 1 ^ count & 1
-    return first | ((1 << count - 2) - 1) << 1 | failed << count - 1, count
+def _parity(bits: int) -> int:
+    return bin(bits).count("1") & 1
+
+
+@dataclass(frozen=True)
+class Cut:
+    """A write's data phase inside which a line of clocks failed. Of its bits `made` were certainly made, of this
+    `parity`. In each of `failed` clocks the host drove `level`, and the clock was made or wasn't."""
+
+    made: int
+    parity: int
+    level: int
+    failed: int = 1
+
+    @classmethod
+    def at(cls, bits: int, made: int) -> "Cut":
+        """Returns that of a line that failed once, after so many of these bits."""
+        return cls(made, _parity(bits & (1 << made) - 1), bits >> made & 1)
+
+    def rest(self) -> Tuple[int, int]:
+        """Returns the bits after which the target drops the data phase, and their number. However many of the clocks
+        that failed were made, the parity of the whole is wrong. One of these bits decides that. It is the last one that
+        the target takes into the data phase in any case, and the others have the level of the clocks that failed."""
+        count = DATA_BITS - self.made
+        place = max(count - self.failed - 1, 0)
+        deciding = 1 ^ self.parity ^ self.level & count - 1
+        levels = self.level * ((1 << count) - 1)
+        return levels & ~(1 << place) | deciding << place, count
+
+    def again(self, made: int) -> "Cut":
+        """Returns that of a line that failed once more, after so many bits of the rest."""
+        parity = self.parity ^ _parity(self.rest()[0] & (1 << made) - 1)
+        return Cut(self.made + made, parity, self.level, self.failed + 1)
 
 
 def _check_calls(line: Any) -> None:
@@ -89,77 +110,117 @@ def _check_call(name: str, call: Any) -> None:
         raise NotALine(f"{name} is a coroutine, which nobody would await: use swd.Run in async code")
 
 
-class Wire:
+class Wire(Performer):
     """Performs cues over any line."""
 
     def __init__(self, line: AnyLine) -> None:
         if isinstance(line, Sequences):
             self.over: Any = line.line
-            self._drive, self._release = line.line.drive, line.line.release
-            self._sample: Callable[[int], int] = self._sample_sequence
+            self._clocks: Optional[_Clocks] = None
+            super().__init__(line.line.drive, line.line.release, _checked(line.line.sample))
             self._flush: Any = getattr(line.line, "flush", None)
         else:
             self.over, self._flush = line, None
-            self._bit, self._skip, self._level = _clock_calls(line)
-            self._drive, self._release, self._sample = self._drive_clocks, self._release_clocks, self._sample_clocks
-        # The bits of a write's data phase inside which the line failed, and the place of the one that failed.
-        self._broken: Optional[Tuple[int, int]] = None
+            self._clocks = _Clocks(line)
+            super().__init__(self._clocks.drive, self._clocks.release, self._clocks.sample)
 
     def leave(self) -> None:
-        """Leaves the cue inside which the line failed, before a run that continues: spoils the data phase of a write,
-        and releases SWDIO up to the end of an acknowledgement."""
-        if self._broken is not None:
-            self._drive(*_spoiling(*self._broken))
-            self._broken = None
-        self._release(_REQUEST_REST)
-
-    def perform(self, cue: Cue) -> int:
-        """Performs a cue, and returns the reply."""
-        reply = 0
-        for step in cue.sequences():
-            kind = type(step)
-            if kind is Drive:
-                self._drive(step.bits, step.count)  # type: ignore[union-attr]
-            elif kind is Release:
-                self._release(step.count)
-            else:
-                reply = self._sample(step.count)
-        return reply
+        """Leaves the cue inside which the line failed, before a run that continues: has the target drop the data phase
+        of a write, and releases SWDIO up to the end of an acknowledgement."""
+        if self._clocks is not None:
+            self._clocks.leave()
+        self.release(_REQUEST_REST)
 
     def flush(self) -> None:
         """Has a line of sequences make what it queued."""
         if self._flush is not None:
             self._flush()
 
-    def _sample_sequence(self, count: int) -> int:
-        bits = self.over.sample(count)
-        if isinstance(bits, bool) or not isinstance(bits, int) or not 0 <= bits < 1 << count:
+
+def _checked(sample: Callable[[int], int]) -> Callable[[int], int]:
+    """Returns the call, with a check of what it returns."""
+    def checked(count: int) -> int:
+        bits = sample(count)
+        if isinstance(bits, bool) or not isinstance(bits, int) or bits >> count:
             raise OutOfRange(f"sample({count}) returned {bits!r}: it has to be a number of {count} bits")
         return bits
 
-    def _drive_clocks(self, bits: int, count: int) -> None:
-        drive, place = self._bit, 0
+    return checked
+
+
+# The levels of each byte, and each three levels with their number; the least significant bit is first.
+_LEVELS = tuple(tuple(byte >> place & 1 for place in range(8)) for byte in range(256))
+_THREE = {levels[:3]: number for number, levels in enumerate(_LEVELS[:8])}
+# The digits of levels, for `int`. A level that is none has a digit that is none.
+_DIGITS = b"01" + b"?" * 254
+
+
+def _levels(bits: int, count: int) -> List[int]:
+    """Returns the low bits, the least significant one first."""
+    levels: List[int] = []
+    for byte in bits.to_bytes((count + 7) // 8, "little"):
+        levels += _LEVELS[byte]
+    return levels[:count]
+
+
+def _number_of(levels: Sequence[Any]) -> int:
+    """Returns the number with these bits, the least significant one first."""
+    try:
+        return int(bytes(levels).translate(_DIGITS)[::-1], 2)
+    except (TypeError, ValueError):
+        # A level that is neither, or one that only equals 0 or 1.
+        for level in levels:
+            if level != 0 and level != 1:
+                raise NotABit(f"sample() returned {level!r}: a level is 0 or 1") from None
+        return sum(1 << place for place, level in enumerate(levels) if level)
+
+
+class _Clocks:
+    """A line of clocks, by calls of several clocks."""
+
+    def __init__(self, line: Union[Line, LineFunctions]) -> None:
+        self._drive, self._release, self._sample = _clock_calls(line)
+        self._cut: Optional[Cut] = None
+
+    def drive(self, bits: int, count: int) -> None:
+        """Drives the low bits, in so many clocks."""
+        drive, levels = self._drive, iter(_LEVELS[bits] if count == 8 else _levels(bits, count))
         try:
-            for place in range(count):
-                drive(bits >> place & 1)
+            for level in levels:
+                drive(level)
         except BaseException:
-            if count == _DATA_BITS and self._broken is None:
-                self._broken = bits, place
+            # Of the level that was taken last, the clock was made or wasn't.
+            made = max(count - operator.length_hint(levels) - 1, 0)
+            if self._cut is not None:
+                self._cut = self._cut.again(made)
+            elif count == DATA_BITS:
+                # No other call drives as many.
+                self._cut = Cut.at(bits, made)
             raise
 
-    def _release_clocks(self, count: int) -> None:
+    def release(self, count: int) -> None:
+        """Releases the line for so many clocks."""
+        if count == 1:
+            self._release()
+            return
+        release = self._release
         for _ in range(count):
-            self._skip()
+            release()
 
-    def _sample_clocks(self, count: int) -> int:
-        sample, bits = self._level, 0
-        for place in range(count):
-            level = sample()
-            if level != 0 and level != 1:
-                raise NotABit(f"sample() returned {level!r}: a level is 0 or 1")
-            if level:
-                bits |= 1 << place
-        return bits
+    def sample(self, count: int) -> int:
+        """Samples the levels of so many clocks."""
+        sample = self._sample
+        if count != 3:
+            return _number_of([sample() for _ in range(count)])
+        levels = sample(), sample(), sample()
+        number = _THREE.get(levels)
+        return _number_of(levels) if number is None else number
+
+    def leave(self) -> None:
+        """Has the target drop the write's data phase inside which the line failed."""
+        if self._cut is not None:
+            self.drive(*self._cut.rest())
+            self._cut = None
 
 
 def _clock_calls(line: Union[Line, LineFunctions]) -> Tuple[Callable[[int], object], Callable[[], object], Any]:

@@ -1,8 +1,9 @@
 """A run without I/O: it says what to send next, and takes what was seen."""
 import ctypes
+import struct
 from typing import Any, Callable, Iterable, Optional, Tuple
 
-from ._accesses import Access, Answer, BusFault, End, Report, Value, Written, listed_accesses, since
+from ._accesses import Access, Answer, BusFault, End, Report, Value, Write, Written, listed_accesses, made_report, since
 from ._cues import Cue, cue_of
 from ._errors import LibraryRefused, NotResumable, OutOfRange, RunEnded, number
 from ._library import (
@@ -12,6 +13,10 @@ from ._library import (
 
 _ENDS = {5: End.ALL, 6: End.LOST, 7: End.TRIES, WRONG_ID: End.WRONG_ID, 9: End.CONFUSED}
 _BAD_REPLY = 2
+
+# Makes an argument of a reply, which is 64 bits. Those of acknowledgements are made once.
+_argument = ctypes.c_uint64.from_param
+_SHORT = tuple(map(_argument, range(8)))
 
 
 class Run:
@@ -37,21 +42,46 @@ class Run:
         self, accesses: Iterable[Access], tries: int = 8, *, block: bool = False, opened: bool = False,
         library: LibraryOrPath = None,
     ) -> None:
-        self.accesses: Tuple[Access, ...] = listed_accesses(accesses)
-        self.tries = number("tries", tries, 0xFFFF_FFFF)
+        self._begin(listed_accesses(accesses), number("tries", tries, 0xFFFF_FFFF), block, opened, library)
+
+    @classmethod
+    def of_checked(
+        cls, accesses: Tuple[Access, ...], tries: int, block: bool, opened: bool, library: LibraryOrPath,
+    ) -> "Run":
+        """Makes the same run from accesses and tries that were checked."""
+        run = cls.__new__(cls)
+        run._begin(accesses, tries, block, opened, library)
+        return run
+
+    def _begin(
+        self, accesses: Tuple[Access, ...], tries: int, block: bool, opened: bool, library: LibraryOrPath,
+    ) -> None:
+        self.accesses, self.tries, self.opened = accesses, tries, opened
         self._functions = library_functions(library)
         self._earlier: Optional[Report] = None
-        count = len(self.accesses)
-        self._listed = (AccessStruct * max(count, 1))(*(_crossing(access) for access in self.accesses))
+        count = len(accesses)
+        # An array may not be empty, to be passed.
+        packed = b"".join(map(_packed, accesses)) or bytes(_ACCESS.size)
+        self._listed = (AccessStruct * max(count, 1)).from_buffer_copy(packed)
         self._answers = (OutcomeStruct * max(count, 1))()
         self._run = RunStruct()
+        here, listed, size = ctypes.byref(self._run), ctypes.byref(self._listed), ctypes.c_size_t.from_param(count)
+        # The arguments of swd_run_next but for the reply, and those of swd_run_opened.
+        self._passed = (here, listed, size, ctypes.byref(self._answers), size)
+        self._opened = (here, listed, size, ctypes.c_uint8(bool(block)), ctypes.c_uint32(tries))
+        self.step = _stepper(self._functions.swd_run_next, self._passed)
+        # The struct of the first cue, where it is known.
+        self._first: Any = None
         if opened:
-            here = ctypes.byref(self._run)
-            _accepted(self._functions.swd_run_opened(here, self._listed, count, bool(block), self.tries))
+            self.reopen()
         elif block:
-            self._functions.swd_run_blocks(ctypes.byref(self._run), self.tries)
+            self._functions.swd_run_blocks(here, tries)
         else:
-            self._functions.swd_run_new(ctypes.byref(self._run), self.tries)
+            self._functions.swd_run_new(here, tries)
+
+    def reopen(self) -> None:
+        """Makes this run the one of its list over a target that is open."""
+        self._first = accepted(self._functions.swd_run_opened(*self._opened))
 
     @classmethod
     def resumed(
@@ -82,7 +112,7 @@ class Run:
 
     def cue(self) -> Optional[Cue]:
         """Returns what to send next, or None once the run has ended."""
-        cue = _accepted(self._functions.swd_run_cue(ctypes.byref(self._run)))
+        cue = self._cue_struct()
         return None if cue.kind == REST else cue_of(cue)
 
     def next(self, reply: int = 0) -> Tuple[Answer, ...]:
@@ -94,26 +124,21 @@ class Run:
         then."""
         if self.ended is not None:
             raise RunEnded(f"the run has ended with '{self.ended}'")
-        first = self.answered
-        self.advance(number("reply", reply, 0xFFFF_FFFF_FFFF_FFFF))
+        first, reply = self.answered, number("reply", reply, 0xFFFF_FFFF_FFFF_FFFF)
+        accepted(self.step(reply), reply)
         return self.answers(first)
 
-    def advance(self, reply: int) -> Optional[Cue]:
-        """Takes a reply, as `next` does, but for the check that it is a number. Returns the next cue."""
-        cue = self._take(self._run, self._answers, reply)
-        return None if cue.kind == REST else cue_of(cue)
+    def first(self) -> Any:
+        """Returns the struct of the first cue, before any step."""
+        return self._cue_struct() if self._first is None else self._first
+
+    def _cue_struct(self) -> Any:
+        """Returns the struct of the cue, which is at rest once the run has ended."""
+        return accepted(self._functions.swd_run_cue(ctypes.byref(self._run)))
 
     def answers(self, first: int) -> Tuple[Answer, ...]:
         """Returns the answers so far, from this index on."""
         return self._answered(first, self.answered, self._answers)
-
-    def _take(self, run: Any, answers: Any, reply: int) -> Any:
-        """Passes a reply to a struct of this run. Returns the next cue."""
-        count = len(self.accesses)
-        cue = self._functions.swd_run_next(ctypes.byref(run), self._listed, count, answers, count, reply)
-        if cue.kind == REFUSED and cue.outcome.kind == _BAD_REPLY:
-            raise OutOfRange(f"reply is {reply:#x}: it has to be below 8 after a request, below 2**33 for a data phase")
-        return _accepted(cue)
 
     @property
     def continues(self) -> bool:
@@ -133,51 +158,76 @@ class Run:
     def report(self) -> Report:
         """Returns the report of the run. Before its end it is what is certain so far: the report of the run as if no
         further acknowledgement came."""
-        run, answers = RunStruct.from_buffer_copy(self._run), self._answers
-        if self.ended is None:
-            answers = type(answers).from_buffer_copy(answers)
-            self._fall_silent(run, answers)
-        ended = _ENDS[run.end.kind]
-        if self.ended is None and ended is not End.ALL:
-            # With few tries the silence of a data phase ends a run before that of an acknowledgement.
-            ended = End.LOST
-        identification = int(run.end.word) if ended is End.WRONG_ID else None
+        ended = self.ended
+        if ended is not None:
+            return self._reported(self._run, self._answers, ended)
+        run, answers = RunStruct.from_buffer_copy(self._run), type(self._answers).from_buffer_copy(self._answers)
+        self._fall_silent(run, answers)
+        # With few tries the silence of a data phase ends a run before that of an acknowledgement.
+        return self._reported(run, answers, End.ALL if _ENDS[run.end.kind] is End.ALL else End.LOST)
+
+    def _reported(self, run: Any, answers: Any, ended: End) -> Report:
+        identification = run.end.word if ended is End.WRONG_ID else None
         told = self._answered(0, run.answered, answers)
-        report = Report(told, int(run.begun), int(run.requests), ended, identification, self.accesses)
+        report = made_report(told, run.begun, run.requests, ended, identification, self.accesses)
         return report if self._earlier is None else since(report, self._earlier)
 
     def _fall_silent(self, run: Any, answers: Any) -> None:
         """Takes a struct of this run to its end, over a line that nobody drives and on which nothing is sent."""
-        cue = _accepted(self._functions.swd_run_cue(ctypes.byref(run)))
+        here, there = ctypes.byref(run), ctypes.byref(answers)
+        _, listed, count, _, room = self._passed
+        cue = accepted(self._functions.swd_run_cue(here))
         while cue.kind != REST:
-            cue = self._take(run, answers, SILENCE.get(cue.kind, 0))
+            reply = _argument(SILENCE.get(cue.kind, 0))
+            cue = accepted(self._functions.swd_run_next(here, listed, count, there, room, reply))
 
     def _answered(self, first: int, end: int, structs: Any) -> Tuple[Answer, ...]:
         """Returns the answers of these accesses. Those of the run that this one continues are from its report."""
-        kept: Tuple[Answer, ...] = () if self._earlier is None else self._earlier.answers
-        return tuple(kept[index] if index < len(kept) else _answer(structs[index]) for index in range(first, end))
+        if self._earlier is not None and first < len(self._earlier.answers):
+            kept = self._earlier.answers[first:end]
+            return kept + self._answered(first + len(kept), end, structs)
+        return tuple([_answer(*_outcome(structs, index * _OUTCOME_SIZE)) for index in range(first, end)])
 
 
 OnAnswer = Optional[Callable[[int, Answer], object]]
 
 
-def _accepted(cue: Any) -> Any:
-    """Returns a cue that the library didn't refuse. A refusal says that something else wrote into a struct."""
-    if cue.kind == REFUSED:
-        raise LibraryRefused(f"the library refused its run, for reason {cue.outcome.kind}")
-    return cue
+def _stepper(call: Any, passed: Tuple[Any, ...]) -> Callable[[int], Any]:
+    """Returns what takes a reply of 64 bits, and returns the struct of the next cue, which `accepted` has to check."""
+    here, listed, count, answers, room = passed
+    return lambda reply: call(here, listed, count, answers, room, _SHORT[reply] if reply < 8 else _argument(reply))
 
 
-def _answer(outcome: Any) -> Answer:
-    if outcome.kind == VALUE:
-        return Value(int(outcome.word))
-    if outcome.kind == WRITTEN:
-        return Written()
-    if outcome.kind == BUS_FAULT:
-        return BusFault()
-    raise LibraryRefused(f"an answer is of kind {outcome.kind}")
+def accepted(cue: Any, reply: int = 0) -> Any:
+    """Returns a cue that the library didn't refuse. It refuses a reply that no cue has. Else a refusal says that something
+    else wrote into a struct."""
+    if cue.kind != REFUSED:
+        return cue
+    if cue.outcome.kind == _BAD_REPLY:
+        raise OutOfRange(f"reply is {reply:#x}: it has to be below 8 after a request, below 2**33 for a data phase")
+    raise LibraryRefused(f"the library refused its run, for reason {cue.outcome.kind}")
 
 
-def _crossing(access: Access) -> Tuple[int, int, int]:
-    """Returns the fields of a `swd_access`."""
-    return access.addr, getattr(access, "word", 0), int(hasattr(access, "word"))
+_WRITTEN, _BUS_FAULT = Written(), BusFault()
+
+
+# The fields of an access: the address, the word and whether it is written.
+_ACCESS = struct.Struct("=IIB3x")
+# Takes the word and the kind out of an outcome, which is so many bytes.
+_outcome, _OUTCOME_SIZE = struct.Struct("=IB3x").unpack_from, ctypes.sizeof(OutcomeStruct)
+
+
+def _answer(word: int, kind: int) -> Answer:
+    if kind == VALUE:
+        return Value(word)
+    if kind == WRITTEN:
+        return _WRITTEN
+    if kind == BUS_FAULT:
+        return _BUS_FAULT
+    raise LibraryRefused(f"an answer is of kind {kind}")
+
+
+def _packed(access: Access) -> bytes:
+    if isinstance(access, Write):
+        return _ACCESS.pack(access.addr, access.word, 1)
+    return _ACCESS.pack(access.addr, 0, 0)

@@ -28,13 +28,17 @@ def damaged(marks=None, words=16):
 
 
 class Breaking:
-    """A line that fails once, after `left` clocks more. The clock that fails is made or isn't."""
+    """A line that fails after each of these numbers of clocks. A clock that fails is made or isn't."""
 
     def __init__(self, line, made):
-        self.line, self.made, self.left = line, made, None
+        self.line, self.made, self.left = line, made, []
 
     def _clock(self, call, *bits):
-        fails, self.left = self.left == 0, self.left - 1 if self.left else None
+        fails = self.left[:1] == [0]
+        if fails:
+            self.left.pop(0)
+        elif self.left:
+            self.left[0] -= 1
         if fails and not self.made:
             raise OSError("unplugged")
         level = call(*bits)
@@ -104,6 +108,25 @@ class Sessions(unittest.TestCase):
                 self.assertEqual(session.run([Read(BASE)]).requests, POLL_REQUESTS)
                 self.assertLessEqual(len(line.levels) - before, POLL_CLOCKS)
         self.assertEqual(memory.log, [("r", BASE, 0)] * 20)
+
+    def test_a_read_like_the_last(self):
+        """Its run is taken once more. Other words, addresses, lists, bus errors, tries and openings come between."""
+        line, memory = damaged()
+        with swd.Session(line) as session:
+            for word in (1, 2):
+                memory.words[BASE] = word
+                self.assertEqual([session.read(BASE), session.read(BASE)], [word, word])
+            self.assertEqual([session.read(BASE + 4), session.read(BASE)], [0, 2])
+            memory.words[BASE] = 3
+            session.write(BASE + 4, 9)
+            self.assertEqual(session.run_block(BASE, 2).words(), [3, 9])
+            self.assertEqual([session.read(BASE), session.read(BASE + 4)], [3, 9])
+            for _ in range(2):
+                self.assertRaises(swd.AccessFaulted, session.read, 0x30000000)
+            session.tries = 0
+            self.assertEqual([session.read(BASE), session.read(BASE)], [3, 3])
+            session.close()
+            self.assertEqual([session.read(BASE) for _ in range(3)], [3, 3, 3])
 
     def test_until(self):
         line, memory = damaged()
@@ -284,11 +307,30 @@ class Failures(unittest.TestCase):
                 session = swd.Session(line)
                 session.open()
                 # TAR, and the request for the word, come before.
-                line.left = 46 + 12 + at
+                line.left = [46 + 12 + at]
                 self.assertRaises(swd.LineFailed, session.write, BASE, word)
                 session.open()
                 self.assertEqual(memory.log, [("w", BASE, word)] if made and at == 33 else [])
                 self.assertEqual(line.line.target.contended, 0)
+
+    def test_a_data_phase_that_is_broken_off_twice(self):
+        """The line fails again while the rest is driven, at any bit but the 32nd of the data phase, which decides that the
+        target drops the word."""
+        for word, made, first in itertools.product((0, WORD), (False, True), range(0, 33, 4)):
+            for second in range(33 - first):
+                if first + second == 31:
+                    continue
+                with self.subTest(word=word, made=made, first=first, second=second):
+                    memory = PlainMemory(BASE, 4, 100)
+                    line = Breaking(Damaged(library_target(memory), []), made)
+                    session = swd.Session(line)
+                    session.open()
+                    line.left = [46 + 13 + first, second]
+                    self.assertRaises(swd.LineFailed, session.write, BASE, word)
+                    self.assertRaises(swd.LineFailed, session.open)
+                    session.open()
+                    self.assertEqual(line.left, [])
+                    self.assertEqual(memory.log, [("w", BASE, word)] if made and first == 32 else [])
 
     def test_signals(self):
         """Ctrl-C at any place of the code, and not only inside the line. Before the run, nothing was sent."""

@@ -1,5 +1,6 @@
 //! Hosts, which drive a line through runs.
 
+use crate::cut::Cut;
 use crate::ffi::{listed, stored};
 use crate::wire::{silence, Wire, REST};
 use crate::{ffi, Access, Answer, End, Error, Line, Refused, Report, Slot, MOST_ACCESSES};
@@ -29,11 +30,13 @@ struct Driver {
     opens_each: bool,
     /// Whether the line isn't known to be between two cues.
     inside: bool,
+    /// The write's data phase inside which the line failed.
+    cut: Option<Cut>,
 }
 
 impl Driver {
     fn new(tries: u32, opens_each: bool) -> Driver {
-        Driver { tries, bus_errors: false, standing: Standing::Fresh, opens_each, inside: true }
+        Driver { tries, bus_errors: false, standing: Standing::Fresh, opens_each, inside: true, cut: None }
     }
 
     fn run<L: Line>(
@@ -90,9 +93,22 @@ impl Driver {
     /// Leaves the cue in which a run may have been broken off, before a run that continues it.
     fn leave<L: Line>(&mut self, line: &mut L, run: &ffi::Run) -> Result<(), Error<L::Error>> {
         self.standing = Standing::Astray;
+        let report = Report { answered: run.answered as usize, begun: 0, requests: 0, ended: End::Lost };
+        self.leave_cue(line).map_err(|error| Error::Line { error, report })
+    }
+
+    /// Has the target drop the data phase that was cut, and releases the line up to the end of an acknowledgement.
+    fn leave_cue<L: Line>(&mut self, line: &mut L) -> Result<(), L::Error> {
+        if let Some(cut) = self.cut {
+            let (bits, count) = cut.rest();
+            line.drive_bits(bits, count).map_err(|broken| {
+                self.cut = Some(cut.again(broken.made));
+                broken.error
+            })?;
+            self.cut = None;
+        }
         if self.inside {
-            let report = Report { answered: run.answered as usize, begun: 0, requests: 0, ended: End::Lost };
-            line.release_for(REQUEST_REST).map_err(|error| Error::Line { error, report })?;
+            line.release_for(REQUEST_REST)?;
         }
         Ok(())
     }
@@ -107,13 +123,14 @@ impl Driver {
     ) -> Result<Report, Error<L::Error>> {
         self.standing = Standing::Astray;
         self.inside = true;
-        let mut wire = Wire { line, failure: None };
+        let mut wire = Wire::new(line);
         let mut cue = run.cue();
         while cue.kind != REST {
             let reply = wire.reply(&cue);
             cue = run.next(listed(accesses), stored(slots), reply);
         }
         wire.flush();
+        self.cut = wire.cut;
         let mut report = Report::of(run);
         if let Some(error) = wire.failure {
             if report.ended != End::All {

@@ -94,6 +94,7 @@
 extern crate std;
 
 mod access;
+mod cut;
 mod decoder;
 mod error;
 #[allow(unsafe_code)]
@@ -107,7 +108,7 @@ pub use access::{block, Access, Answer, End, Report, Slot};
 pub use decoder::{decode, Ack, Decoder, Item, Items, Transaction};
 pub use error::{Error, Refused};
 pub use host::{Host, Session};
-pub use line::Line;
+pub use line::{Broken, Line};
 pub use target::{Bus, BusError, Target};
 
 /// The most accesses of one run.

@@ -1,5 +1,29 @@
 //! The wire.
 
+use core::fmt;
+
+/// Why driving several bits failed, and where.
+#[derive(Clone, Copy, Debug, PartialEq, Eq)]
+pub struct Broken<E> {
+    /// How many of the clocks were made. The next one was made or wasn't, and no other was.
+    pub made: u32,
+    /// Why it failed.
+    pub error: E,
+}
+
+impl<E> fmt::Display for Broken<E> {
+    fn fmt(&self, f: &mut fmt::Formatter<'_>) -> fmt::Result {
+        write!(f, "the line failed after {} clocks", self.made)
+    }
+}
+
+/// Its source is why the line failed.
+impl<E: core::error::Error + 'static> core::error::Error for Broken<E> {
+    fn source(&self) -> Option<&(dyn core::error::Error + 'static)> {
+        Some(&self.error)
+    }
+}
+
 /// A wire to a target, one clock of SWCLK per call.
 ///
 /// It has a pull-up: where nobody drives it, it reads 1. The target samples SWDIO at the rising edge of SWCLK, and
@@ -10,6 +34,11 @@
 /// [`drive_bits`](Line::drive_bits) and [`release_for`](Line::release_for) may be queued until the next
 /// [`sample_bits`](Line::sample_bits) or [`flush`](Line::flush), so that a request costs one exchange with the probe. A
 /// host calls nothing else.
+///
+/// A clock that fails may have been made or not. A line that fails inside a write's data phase leaves the target there: the
+/// next run of the same host drives the rest of it so that the parity is wrong, and the target drops the word. That is
+/// certain unless the line fails in that phase again, at its 32nd bit. A line that queues makes each of its calls as a whole
+/// or not at all, also where the queue fails.
 pub trait Line {
     /// Why a clock could not be made.
     type Error;
@@ -23,10 +52,11 @@ pub trait Line {
     /// Makes one clock in which the host doesn't drive SWDIO. Returns its level from before the rising edge.
     fn sample(&mut self) -> Result<bool, Self::Error>;
 
-    /// Makes `count` clocks, at most 64, in which the host drives the low bits of `bits`, the least significant first.
-    fn drive_bits(&mut self, bits: u64, count: u32) -> Result<(), Self::Error> {
-        for place in 0..count {
-            self.drive(bits >> place & 1 == 1)?;
+    /// Makes `count` clocks, at most 64, in which the host drives the low bits of `bits`, the least significant first. Where
+    /// it fails, the error says how many clocks were made before.
+    fn drive_bits(&mut self, bits: u64, count: u32) -> Result<(), Broken<Self::Error>> {
+        for made in 0..count {
+            self.drive(bits >> made & 1 == 1).map_err(|error| Broken { made, error })?;
         }
         Ok(())
     }
@@ -70,7 +100,7 @@ impl<L: Line + ?Sized> Line for &mut L {
         (**self).sample()
     }
 
-    fn drive_bits(&mut self, bits: u64, count: u32) -> Result<(), L::Error> {
+    fn drive_bits(&mut self, bits: u64, count: u32) -> Result<(), Broken<L::Error>> {
         (**self).drive_bits(bits, count)
     }
 

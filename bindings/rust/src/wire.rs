@@ -1,6 +1,7 @@
 //! What cues say, over a line.
 
-use crate::{ffi, Line};
+use crate::cut::{Cut, DATA_CLOCKS};
+use crate::{ffi, Broken, Line};
 
 /// Kinds of cues.
 pub(crate) const REST: u8 = 0;
@@ -24,11 +25,17 @@ pub(crate) fn silence(cue: &ffi::Cue) -> u64 {
 
 /// Performs cues over a line, as far as it doesn't fail.
 pub(crate) struct Wire<'l, L: Line> {
-    pub line: &'l mut L,
+    line: &'l mut L,
     pub failure: Option<L::Error>,
+    /// The write's data phase inside which the line failed.
+    pub cut: Option<Cut>,
 }
 
-impl<L: Line> Wire<'_, L> {
+impl<'l, L: Line> Wire<'l, L> {
+    pub fn new(line: &'l mut L) -> Self {
+        Wire { line, failure: None, cut: None }
+    }
+
     /// Performs the cue, and returns the reply. Once the line has failed it makes no clock, and returns what an
     /// undriven line shows.
     pub fn reply(&mut self, cue: &ffi::Cue) -> u64 {
@@ -51,18 +58,21 @@ impl<L: Line> Wire<'_, L> {
         match cue.kind {
             LEAD => self.lead(cue)?,
             ASK => {
-                self.line.drive_bits(u64::from(cue.request), 8)?;
+                self.drive(u64::from(cue.request), 8)?;
                 self.line.release_for(1)?;
                 return self.line.sample_bits(3);
             }
             TAKE => {
-                let bits = self.line.sample_bits(33)?;
+                let bits = self.line.sample_bits(DATA_CLOCKS)?;
                 self.line.release_for(1)?;
                 return Ok(bits);
             }
             GIVE => {
                 self.line.release_for(1)?;
-                self.line.drive_bits(cue.bits, 33)?;
+                self.line.drive_bits(cue.bits, DATA_CLOCKS).map_err(|broken| {
+                    self.cut = Some(Cut::new(cue.bits, broken.made));
+                    broken.error
+                })?;
             }
             PASS => self.line.release_for(1)?,
             kind => unreachable!("cue {kind}"),
@@ -77,7 +87,7 @@ impl<L: Line> Wire<'_, L> {
         }
         self.hold(u64::MAX, cue.ones - undriven)?;
         if cue.with_switch != 0 {
-            self.line.drive_bits(SWITCH_BITS, 16)?;
+            self.drive(SWITCH_BITS, 16)?;
             self.hold(u64::MAX, cue.ones)?;
         }
         self.hold(0, cue.zeros)
@@ -88,9 +98,14 @@ impl<L: Line> Wire<'_, L> {
         let mut left = count;
         while left > 0 {
             let now = left.min(64);
-            self.line.drive_bits(bits, now)?;
+            self.drive(bits, now)?;
             left -= now;
         }
         Ok(())
+    }
+
+    /// Drives bits outside the data phase of a write, where no target takes part of them for a word.
+    fn drive(&mut self, bits: u64, count: u32) -> Result<(), L::Error> {
+        self.line.drive_bits(bits, count).map_err(|broken: Broken<L::Error>| broken.error)
     }
 }

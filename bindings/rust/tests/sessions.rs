@@ -4,10 +4,12 @@ mod common;
 
 use common::{answers, plan_of, report_of, Call, Damaged, Mark, PlainMemory, Transfer, Unplugged, BASE, WORD};
 use std::error::Error as _;
-use swd::{block, Access, Answer, End, Error, Host, Line, Refused, Session, Slot};
+use swd::{block, Access, Answer, Broken, End, Error, Host, Line, Refused, Session, Slot, Target};
 
 const POLL_REQUESTS: u64 = 3;
 const POLL_CLOCKS: usize = 160;
+/// A run ends with as many idle cycles.
+const IDLE_CLOCKS: usize = 8;
 
 fn line_with(marks: &[(usize, Mark)]) -> Damaged {
     Damaged::new(PlainMemory::new(BASE, 16, 65_536), plan_of(marks))
@@ -145,6 +147,106 @@ impl Line for Plug {
     }
 }
 
+/// A line that fails after so many clocks, as often as there are numbers. A clock that fails is made or isn't.
+struct Breaking {
+    target: Target<PlainMemory>,
+    made: bool,
+    /// The clocks to each failure, the next one last.
+    left: Vec<usize>,
+}
+
+impl Breaking {
+    fn new(made: bool, left: &[usize]) -> Breaking {
+        let target = Target::new(PlainMemory::new(BASE, 4, 100));
+        Breaking { target, made, left: left.iter().rev().copied().collect() }
+    }
+
+    fn cycle(&mut self, drive: Option<bool>) -> Result<bool, Unplugged> {
+        let fails = self.left.last() == Some(&0);
+        if fails {
+            self.left.pop();
+        } else if let Some(left) = self.left.last_mut() {
+            *left -= 1;
+        }
+        if fails && !self.made {
+            return Err(Unplugged);
+        }
+        let level = self.target.cycle(drive);
+        if fails {
+            return Err(Unplugged);
+        }
+        Ok(level)
+    }
+}
+
+impl Line for Breaking {
+    type Error = Unplugged;
+
+    fn drive(&mut self, bit: bool) -> Result<(), Unplugged> {
+        self.cycle(Some(bit)).map(|_| ())
+    }
+
+    fn release(&mut self) -> Result<(), Unplugged> {
+        self.cycle(None).map(|_| ())
+    }
+
+    fn sample(&mut self) -> Result<bool, Unplugged> {
+        self.cycle(None)
+    }
+}
+
+/// Words of both parities, whose last bits are zeros or ones.
+const WRITTEN_WORDS: [u32; 3] = [0, WORD, 0x7fff_ffff];
+
+// Each clock of a run of one write, from its opening on.
+#[test]
+fn no_other_word_is_written_wherever_the_line_fails() {
+    let mut whole = line_with(&[]);
+    Session::new(&mut whole, 8).write(BASE, WORD).unwrap();
+    for (word, made) in WRITTEN_WORDS.iter().flat_map(|word| [(*word, false), (*word, true)]) {
+        for at in 0..whole.calls.len() {
+            let mut line = Breaking::new(made, &[at]);
+            let mut session = Session::new(&mut line, 8);
+            let error = session.write(BASE, word).unwrap_err();
+            assert!(matches!(error, Error::Line { .. }));
+            session.open().unwrap();
+            let once = [Transfer::Write(BASE, word)];
+            let log = &line.target.bus().log;
+            assert!(log.is_empty() || *log == once, "{word:08x} at {at}, made: {made}: {log:x?}");
+        }
+    }
+}
+
+// The line fails inside a data phase, and again while the rest of it is driven, but for the bit that decides there. If all
+// bits were made at first, the word was written.
+#[test]
+fn no_other_word_is_written_where_the_line_fails_twice() {
+    let opening = opening_clocks();
+    for (word, made) in WRITTEN_WORDS.iter().flat_map(|word| [(*word, false), (*word, true)]) {
+        for first in 0..33 {
+            for second in (0..33 - first).filter(|second| first + second != 31) {
+                // The opening, TAR, and the request for the word and a turnaround come before.
+                let mut line = Breaking::new(made, &[opening + 46 + 13 + first, second]);
+                let mut session = Session::new(&mut line, 8);
+                assert!(matches!(session.write(BASE, word), Err(Error::Line { .. })));
+                assert!(matches!(session.open(), Err(Error::Line { .. })));
+                session.open().unwrap();
+                assert!(line.left.is_empty());
+                let once = [Transfer::Write(BASE, word)];
+                let wanted = if made && first == 32 { &once[..] } else { &[] };
+                assert_eq!(line.target.bus().log, wanted, "{word:08x} at {first} and {second}, made: {made}");
+            }
+        }
+    }
+}
+
+/// The clocks of an opening, in front of the first access.
+fn opening_clocks() -> usize {
+    let mut line = line_with(&[]);
+    Session::new(&mut line, 8).open().unwrap();
+    line.calls.len() - IDLE_CLOCKS
+}
+
 #[test]
 fn a_line_to_nobody() {
     let mut line = line_with(&[(1, Mark::Deaf)]);
@@ -212,7 +314,7 @@ impl Line for Probe {
         panic!("a host has nothing to do with single clocks");
     }
 
-    fn drive_bits(&mut self, bits: u64, count: u32) -> Result<(), Unplugged> {
+    fn drive_bits(&mut self, bits: u64, count: u32) -> Result<(), Broken<Unplugged>> {
         self.queue.push((Some(bits), count));
         Ok(())
     }
@@ -231,7 +333,7 @@ impl Line for Probe {
     fn flush(&mut self) -> Result<(), Unplugged> {
         for (bits, count) in std::mem::take(&mut self.queue) {
             match bits {
-                Some(bits) => self.line.drive_bits(bits, count)?,
+                Some(bits) => self.line.drive_bits(bits, count).map_err(|broken| broken.error)?,
                 None => self.line.release_for(count)?,
             }
         }
