@@ -300,11 +300,11 @@ is_image_read Verify = true
 is_image_read (Dump count) = false
 
 -- the format, and whether the file is ELF. A dump isn't written as ELF.
-pub record AreFormatArguments (action : ImageAction) (format : Format) (elf : ElfChoice) (file : Text)
+pub record AreFormatArguments (action : ImageAction) (named : Format) (choice : ElfChoice) (file : Text)
     (word : Option Text) : Type 0 where
-  pub format : IsFormatArgument format file word
-  pub elf : elf ≡ elf_choice_of_word word
-  pub read : elf ≡ Always → is_image_read action ≡ true
+  pub format : IsFormatArgument named file word
+  pub elf : choice ≡ elf_choice_of_word word
+  pub read : choice ≡ Always → is_image_read action ≡ true
 
 -- the address of a simulated memory is that of the argument, a multiple of 4; 20000000 without an argument
 abbrev pub IsBaseArgument : ℕ → Option Text → Type 0
