@@ -5,7 +5,8 @@ use Rattle.swd_console.specs.declared.in_use.InUse.{InUse}
 use Rattle.swd_console.specs.declared.in_use.ReadRole.{ReadRole}
 use Rattle.swd_console.specs.declared.in_use.ReadRole.TheVariants.{Script, Plan, Memory, Image}
 use Rattle.swd_console.specs.declared.in_use.WriteRole.{WriteRole}
-use Rattle.swd_console.specs.declared.in_use.WriteRole.TheVariants.{Report, Trace, Accesses, Calls, Dump, Memory as Back}
+use Rattle.swd_console.specs.declared.in_use.WriteRole.TheVariants.{Report, Trace, Accesses, Calls, Dump}
+use Rattle.swd_console.specs.declared.in_use.WriteRole.TheVariants.{Memory as Back}
 
 -- A file to read. A plan is neither the script nor the memory; an image is neither the memory nor its plan.
 abbrev pub MayReadFile : ReadRole → Identity → InUse → Type 0
@@ -27,8 +28,8 @@ pub record IsConsoleFileBeside (file : Identity) (used : InUse) : Type 0 where
   pub report : used.report ≢ Some file
   pub trace : used.trace ≢ Some file
 
--- A file to write. The report of an image's calls is neither the image's file, nor the memory's, nor its plan's; a dump's is
--- neither of these two. A memory is written to the file that it was read from.
+-- A file to write. The report of an image's calls is neither the image's file, nor the memory's, nor its plan's; a
+-- dump's is neither of these two. A memory is written to the file that it was read from.
 abbrev pub MayWriteFile : WriteRole → Identity → InUse → Type 0
 MayWriteFile Report file used = IsConsoleFileBeside file used
 MayWriteFile Trace file used = IsConsoleFileBeside file used

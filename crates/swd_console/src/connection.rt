@@ -28,7 +28,8 @@ pub fn line_streams<R: KeepsError, W: KeepsError>(
     ]
 }
 
-/// Prints a line with the reason why the other end is gone. `streams` are those of the connection. Returns the status 1.
+/// Prints a line with the reason why the other end is gone. `streams` are those of the connection. Returns the status
+/// 1.
 pub fn gone_status<E: Write>(errors: &mut E, fault: Fault, streams: &[Stream<'_>]) -> u8
     ensures { result ≡ 1 }
 {

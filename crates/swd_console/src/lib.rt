@@ -1,5 +1,5 @@
-//! The machine that a command of `swd` works at: the files that it opens, each in a role, the streams that say why they failed,
-//! its lines on standard error, and the status that it ends with.
+//! The machine that a command of `swd` works at: the files that it opens, each in a role, the streams that keep why
+//! they failed, its lines on standard error, and the status that it ends with.
 #![tactic(auto)]
 
 mod clock;

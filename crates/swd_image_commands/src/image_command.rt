@@ -15,8 +15,8 @@ use swd_remote::RemoteStreams;
 use swd_words::{ImageAction, ImageLine};
 
 /// Makes the one call of an image, at the target behind the streams or at a simulated one. Prints a line with the
-/// result on standard error. Returns the status and the connection. If the target is simulated, if the image's file can't be
-/// read or is no image, or if a dump's can't be opened, the connection wasn't used.
+/// result on standard error. Returns the status and the connection. If the target is simulated, if the image's file
+/// can't be read or is no image, or if a dump's can't be opened, the connection wasn't used.
 pub fn perform_image<
     P: Story,
     I: Read + KeepsError + Drop,
