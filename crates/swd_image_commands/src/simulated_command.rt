@@ -48,8 +48,8 @@ fn simulate_action<A: Allocator + Copy, F: Files, C, E: Write>(
     console: &mut Console<'_, A, F, C, E>,
 ) -> u8
     requires { IsLegalPlan held.marks.items }
-    ensures { SimulatesAction A image.now image.now.action held.memory.now.base held.bytes.items held.marks.items
-        result }
+    ensures { SimulatesAction A image.now image.now.action held.entry.memory.now.base held.entry.bytes.items
+        held.entry.marks.items result }
 {
     match image.action {
         ImageAction::Load => simulate_load(image, held, in_use, console),
@@ -77,7 +77,8 @@ fn target_of<A: Allocator + Copy, F, C, E: Write>(
     console: &mut Console<'_, A, F, C, E>,
 ) -> Result<Bench<Memory<A>, A>, u8>
     requires { IsLegalPlan held.marks.items }
-    ensures target { IfOk result (SimulatesCommandTarget held.memory.now.base held.bytes.items held.marks.items) }
+    ensures target { IfOk result (SimulatesCommandTarget held.entry.memory.now.base held.entry.bytes.items
+        held.entry.marks.items) }
     ensures status { IfErr result (λ status. status ≡ 2) }
 {
     let HeldMemory {
@@ -99,7 +100,8 @@ fn simulate_load<A: Allocator + Copy, F: Files, C, E: Write>(
     console: &mut Console<'_, A, F, C, E>,
 ) -> u8
     requires { IsLegalPlan held.marks.items }
-    ensures { SimulatesLoad A image.now held.memory.now.base held.bytes.items held.marks.items result }
+    ensures { SimulatesLoad A image.now held.entry.memory.now.base held.entry.bytes.items held.entry.marks.items
+        result }
 {
     let whole = match read_image_file(image, in_use, console) {
         Ok(whole) => whole,
@@ -143,7 +145,7 @@ fn load_over<A: Allocator + Copy, F: Files, C, E: Write>(
     requires fits { back.memory.now.base + back.count ≤ 2 ^ 32 }
     requires named { is_some opened ≡ is_some image.now.report }
     ensures { (new : Option (List ℕ)) × LoadCommandSimulated image.now (pieces_to_load whole.now) bench
-        back.memory.now.base back.count result (F.Made.Write.contents back.file) new }
+        back.entry.memory.now.base back.entry.count result (F.Made.Write.contents back.entry.file) new }
 {
     let (tries, resumes) = (image.tries, image.resumes);
     let mut report = report_writer(opened, &mut *console.errors);
@@ -178,7 +180,8 @@ fn simulate_verify<A: Allocator + Copy, F: Files, C, E: Write>(
     console: &mut Console<'_, A, F, C, E>,
 ) -> u8
     requires { IsLegalPlan held.marks.items }
-    ensures { SimulatesVerify A image.now held.memory.now.base held.bytes.items held.marks.items result }
+    ensures { SimulatesVerify A image.now held.entry.memory.now.base held.entry.bytes.items held.entry.marks.items
+        result }
 {
     let whole = match read_image_file(image, in_use, console) {
         Ok(whole) => whole,
@@ -242,7 +245,8 @@ fn simulate_dump<A: Allocator + Copy, F: Files, C, E: Write>(
     console: &mut Console<'_, A, F, C, E>,
 ) -> u8
     requires { IsLegalPlan held.marks.items }
-    ensures { SimulatesDump A image.now count held.memory.now.base held.bytes.items held.marks.items result }
+    ensures { SimulatesDump A image.now count held.entry.memory.now.base held.entry.bytes.items held.entry.marks.items
+        result }
 {
     let mut file = match in_use.open_write(image.file.as_str(), WriteRole::Dump, console) {
         Ok(opened) => opened.file,

@@ -70,17 +70,18 @@ fn serve_held<
 ) -> u8
     requires { IsLegalPlan held.marks.items }
     ensures { ServesBytes A result (I.remaining input.old) (I.remaining input.new) (O.contents output.old)
-        (O.contents output.new) held.memory.now.base held.bytes.items held.marks.items }
+        (O.contents output.new) held.entry.memory.now.base held.entry.bytes.items held.entry.marks.items }
 {
     let HeldMemory {
         memory,
         bytes,
         marks,
     } = held;
+    let slice = bytes.as_slice();
     let mut in_use = in_use;
     let name = memory.file.as_str();
-    let room = session_room((bytes.len() / 4) as u32);
-    let Some(words) = memory_with(console.alloc, memory.base, bytes.as_slice(), room) else {
+    let room = session_room((slice.len() / 4) as u32);
+    let Some(words) = memory_with(console.alloc, memory.base, slice, room) else {
         return cannot_use(console.errors, name, &"no memory");
     };
     let file = match in_use.open_write(name, WriteRole::Memory, console) {
@@ -94,7 +95,7 @@ fn serve_held<
     let pins = target_pins(words, marks, files.empty_trace(console.alloc));
     let back = MemoryFile {
         memory,
-        count: bytes.len() as u64,
+        count: slice.len() as u64,
         file,
     };
     let session = Session { pins, files, back };
@@ -125,9 +126,10 @@ fn serve_session<
     console: &mut Console<'_, A, F, C, E>,
 ) -> u8
     requires { session.back.memory.now.base + session.back.count ≤ 2 ^ 32 }
-    ensures { (new : Option (List ℕ)) × TargetCommandServes session.pins session.back.memory.now.base session.back.count
+    ensures { (new : Option (List ℕ)) × TargetCommandServes session.entry.pins session.entry.back.memory.now.base
+        session.entry.back.count
         result (I.remaining input.old) (I.remaining input.new) (O.contents output.old) (O.contents output.new)
-        (F.Made.Write.contents session.back.file) new }
+        (F.Made.Write.contents session.entry.back.file) new }
 {
     let Session {
         pins,

@@ -68,7 +68,7 @@ pub(crate) fn perform_remote<
     console: &mut Console<'_, A, F, C, E>,
 ) -> (u8, RemoteStreams<I, O>)
     ensures { PerformsRemoteCommand P.at run.now result.0 I.remaining O.contents (O.contents output) (I.remaining input)
-        result.1 (S.remaining script.reader) }
+        result.1 (S.remaining script.entry.reader) }
 {
     let mut in_use = in_use;
     let Some(name) = &run.report else {
@@ -126,15 +126,15 @@ fn report_to_file<
 ) -> (u8, RemoteStreams<I, O>)
     requires { AreRunCommandFiles run.now false (run_files_of T.contents files.records) }
     ensures { PerformsRemoteRun P.at run.now result.0 I.remaining O.contents (O.contents output) (I.remaining input)
-        result.1 (S.remaining script.reader) }
+        result.1 (S.remaining script.entry.reader) }
 {
-    let (mut script, mut files) = (script, files);
-    let (answer, line) = run_paced::<P, _, _, _, _, _, _, _, _, _>(
+    let mut script = script;
+    let (answer, line, files) = run_paced::<P, _, _, _, _, _, _, _, _, _>(
         run,
         &mut script,
         input,
         output,
-        &mut files,
+        files,
         console,
     );
     let report = Stream::written(name_or_nothing(&run.report), &files.report);
@@ -168,29 +168,34 @@ fn run_paced<
     script: &mut S,
     input: I,
     output: O,
-    files: &mut RemoteFiles<M, T>,
+    files: RemoteFiles<M, T>,
     console: &mut Console<'_, A, F, C, E>,
-) -> (Result<Finished, RemoteFault>, RemoteStreams<I, O>)
+) -> (
+    Result<Finished, RemoteFault>,
+    RemoteStreams<I, O>,
+    RemoteFiles<M, T>,
+)
     ensures { (old : Option (List ℕ)) × (new : Option (List ℕ)) × RunsRemote P.at run.now.tries run.now.resumes
         (CommandWentOver I.remaining O.contents (O.contents output) (I.remaining input) result.1)
         (IsUnusedRemote I.remaining O.contents (O.contents output) (I.remaining input) result.1)
-        result.0 (S.remaining script.old) old new (run_files_of T.contents files.old.records)
-        (run_files_of T.contents files.new.records) }
+        result.0 (S.remaining script.old) old new (run_files_of T.contents files.records)
+        (run_files_of T.contents result.2.records) }
 {
     let script = match read_script(console.alloc, script) {
         Ok(script) => script,
         Err(unread) => return (
             Err(RemoteFault::unread(unread)),
             RemoteStreams::unused(input, output),
+            files,
         ),
     };
+    let RemoteFiles {
+        report: mut file,
+        mut records,
+    } = files;
     let total = wanted_total(run, script.batches.as_slice());
-    let mut report = Progress::new(
-        &mut files.report,
-        &mut *console.errors,
-        console.clock,
-        total,
-    );
+    let errors = &mut *console.errors;
+    let mut report = Progress::new(&mut file, &mut *errors, console.clock, total);
     let (answer, line) = run_remote_script::<P, _, _, _, _, _>(
         console.alloc,
         &script,
@@ -199,11 +204,15 @@ fn run_paced<
         run.tries,
         run.resumes,
         &mut report,
-        &mut files.records,
+        &mut records,
     );
+    let files = RemoteFiles {
+        report: file,
+        records,
+    };
     match answer {
-        Ok(finished) => (Ok(finished), line),
-        Err(fault) => (Err(RemoteFault::Engine(fault)), line),
+        Ok(finished) => (Ok(finished), line, files),
+        Err(fault) => (Err(RemoteFault::Engine(fault)), line, files),
     }
 }
 
@@ -228,11 +237,12 @@ fn report_to_errors<
 ) -> (u8, RemoteStreams<I, O>)
     requires { AreRunCommandFiles run.now false (run_files_of T.contents records) }
     ensures { PerformsRemoteRun P.at run.now result.0 I.remaining O.contents (O.contents output) (I.remaining input)
-        result.1 (S.remaining script.reader) }
+        result.1 (S.remaining script.entry.reader) }
 {
     let (mut script, mut records) = (script, records);
     let (tries, resumes) = (run.tries, run.resumes);
-    let mut report = Watched::new(&mut *console.errors);
+    let errors = &mut *console.errors;
+    let mut report = Watched::new(&mut *errors);
     let (answer, line) = run_remote::<P, _, _, _, _, _, _>(
         console.alloc,
         &mut script,

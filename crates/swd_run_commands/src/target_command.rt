@@ -103,16 +103,20 @@ fn serve_under<
     output: &mut O,
     console: &mut Console<'_, A, F, C, E>,
 ) -> u8
-    ensures { TargetCommandServesHost A result (S.remaining texts.script.reader) (P.remaining texts.plan.reader)
+    ensures { TargetCommandServesHost A result (S.remaining texts.entry.script.reader) (P.remaining texts.entry.plan.reader)
         (I.remaining input.old) (I.remaining input.new) (O.contents output.old) (O.contents output.new) }
 {
-    let (mut texts, mut in_use) = (texts, in_use);
+    let TargetTexts {
+        mut script,
+        mut plan,
+    } = texts;
+    let mut in_use = in_use;
     let files = match open_session(target, &mut in_use, console) {
         Ok(files) => files,
         Err(status) => return status,
     };
     let kept = files.empty_trace(console.alloc);
-    match read_target(console.alloc, &mut texts.script, &mut texts.plan, kept) {
+    match read_target(console.alloc, &mut script, &mut plan, kept) {
         Ok(pins) => {
             let SessionFiles { log, trace } = files;
             let (served, pins, files) = serve_logged(input, output, pins, log, trace);
@@ -122,7 +126,7 @@ fn serve_under<
             let streams = served_streams(target, input, output, &files);
             served_status(console.errors, served, done, streams.as_slice())
         }
-        Err(fault) => target_status(console.errors, fault, &texts),
+        Err(fault) => target_status(console.errors, fault, &script, &plan),
     }
 }
 
@@ -130,18 +134,17 @@ fn serve_under<
 fn target_status<S: KeepsError, P: KeepsError, E: Write>(
     errors: &mut E,
     fault: TargetFault,
-    texts: &TargetTexts<'_, S, P>,
+    script: &TrackedReader<'_, S>,
+    plan: &TrackedReader<'_, P>,
 ) -> u8
     ensures { result ≡ 2 }
 {
-    let streams = [texts.script.stream(), texts.plan.stream()];
+    let streams = [script.stream(), plan.stream()];
     if tell_failure(errors, streams.as_slice()) {
         return FAULT;
     }
     match fault {
-        TargetFault::Texts(fault) => {
-            texts_status(errors, fault, &texts.script.seen, &texts.plan.seen)
-        }
+        TargetFault::Texts(fault) => texts_status(errors, fault, &script.seen, &plan.seen),
         TargetFault::Memory => tell(errors, "no memory"),
         TargetFault::Accesses => tell(errors, "a target's script has no accesses and no next"),
     }

@@ -2,6 +2,7 @@ use Rattle.std.proofs.Common.{◌∙◌, None, ap, refl, subst, sym}
 use Rattle.swd_port.specs.Bus.{plain_of}
 use Rattle.swd_run.proofs.EngineLemmas.{run_file_is_some}
 use Rattle.swd_image_commands.specs.Images.{command_status_of_image, command_status_loaded}
+use Rattle.swd_console.specs.MemoryFiles.{CommandWritesBack}
 use Rattle.swd_image_commands.specs.Simulated.{IsSimulatedCommandStatus}
 use Rattle.swd_image_commands.proofs.simulated_command.load_over.Goals as goal
 

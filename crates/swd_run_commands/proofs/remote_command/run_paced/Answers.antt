@@ -26,7 +26,7 @@ returns-in-Ok-answer g c =
             (CommandWentOver g.I.Read.remaining g.O.Write.contents (g.O.Write.contents c.args.output)
             (g.I.Read.remaining c.args.input) ran.result.1) (read_script_meaning c.in-Ok.script).batches answer
             (g.M.Write.contents c.new-report.result.report.now) (g.M.Write.contents ran.new.report.report.now)
-            (run_files_of g.T.Write.contents c.args.files.now.records)
+            (run_files_of g.T.Write.contents c.args.files.records)
             (run_files_of g.T.Write.contents ran.new.records))
             c.in-Ok-answer.is ran.ensures;
       },
@@ -47,7 +47,7 @@ returns g c =
             (CommandWentOver g.I.Read.remaining g.O.Write.contents (g.O.Write.contents c.args.output)
             (g.I.Read.remaining c.args.input) ran.result.1) (read_script_meaning c.in-Ok.script).batches answer
             (g.M.Write.contents c.new-report.result.report.now) (g.M.Write.contents ran.new.report.report.now)
-            (run_files_of g.T.Write.contents c.args.files.now.records)
+            (run_files_of g.T.Write.contents c.args.files.records)
             (run_files_of g.T.Write.contents ran.new.records))
             c.in-Err-answer.is ran.ensures;
       },

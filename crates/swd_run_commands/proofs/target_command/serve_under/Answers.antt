@@ -18,5 +18,5 @@ returns-in-Ok-read_target g c =
           c.served_status.ensures,
     )
 
-pub returns-in-Err-read_target : goal.returns-in-Err-read_target
-returns-in-Err-read_target g c = inl (c.target_status.ensures, Appends-nil _)
+pub returns : goal.returns
+returns g c = inl (c.target_status.ensures, Appends-nil _)
