@@ -7,7 +7,7 @@ use std::io::ErrorKind;
 use std::os::fd::{AsFd, AsRawFd};
 use std::os::unix::fs::MetadataExt;
 use std::{fs, io};
-use swd_commands::{Files, Identity, Opened};
+use swd_console::{Files, Identity, Opened};
 
 /// The machine's file system and standard streams.
 #[derive(Drop)]

@@ -9,6 +9,7 @@ use std::process::ExitCode;
 use std::{env, io};
 use stopwatch::Stopwatch;
 use swd_commands::run_arguments;
+use swd_console::Console;
 
 // Reads the arguments behind the program's name.
 fn arguments(rt: &HostRuntime) -> io::Result<Vec<String>> {
@@ -17,14 +18,17 @@ fn arguments(rt: &HostRuntime) -> io::Result<Vec<String>> {
 
 // Runs the program with its arguments, its standard streams, and the machine's files and clock.
 fn main(rt: HostRuntime) -> ExitCode {
+    let mut console = Console {
+        alloc: rt.alloc(),
+        files: &Disk { rt: &rt },
+        clock: &Stopwatch::start(&rt),
+        errors: &mut rt.stderr(),
+    };
     ExitCode::from(run_arguments(
-        rt.alloc(),
         rt.alloc(),
         arguments(&rt),
         &mut rt.stdin(),
-        &Disk { rt: &rt },
         &mut rt.stdout(),
-        &Stopwatch::start(&rt),
-        &mut rt.stderr(),
+        &mut console,
     ))
 }

@@ -1,7 +1,7 @@
 //! Tells the time by the machine's clock.
 
 use std::time::Instant;
-use swd_commands::Clock;
+use swd_console::Clock;
 
 /// The machine's clock from some start on.
 #[derive(Drop)]

@@ -25,3 +25,7 @@ command_named_file (Image image) = Some (string_bytes image.file)
 -- standard input is read: no file is named, or `-` is
 abbrev pub CommandReadsStdin : CommandLine → Type 0
 CommandReadsStdin line = (command_named_file line ≡ None) ⊎ (command_named_file line ≡ Some (codes "-"))
+
+-- the same of the name of a file that may be left out
+abbrev pub IsStandardInput : Option String → Type 0
+IsStandardInput name = (option_map string_bytes name ≡ None) ⊎ (option_map string_bytes name ≡ Some (codes "-"))

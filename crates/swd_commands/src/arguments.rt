@@ -1,41 +1,36 @@
 //! Takes the program's arguments as the system gives them.
 ghost use Rattle.std.specs.Prelude.{◌≡◌, IfErr};
 
-use crate::clock::Clock;
-use crate::open_files::Files;
 use crate::program::run_words;
-use crate::report::tell;
 use std::alloc::{AllocError, Allocator, Global};
 use std::io;
 use std::io::{ErrorKind, Read, Write};
+use swd_console::{Clock, Console, Files, tell};
 
 /// Carries out the arguments behind the program's name, as [`run_words`] does, or prints why they could not be read.
 /// Returns the status.
 ///
 /// The help calls the program `swd`, whatever the name of its file. `list` is the allocator of the list of words; all
-/// else is allocated in `alloc`.
-pub fn run_arguments<A: Allocator, I: Read, F: Files, O: Write, C: Clock, E: Write>(
-    alloc: Global,
+/// else is allocated in the console's.
+pub fn run_arguments<A: Allocator, I: Read, O: Write, F: Files, C: Clock, E: Write>(
     list: A,
     arguments: io::Result<Vec<String>>,
     input: &mut I,
-    files: &F,
     output: &mut O,
-    clock: &C,
-    errors: &mut E,
+    console: &mut Console<'_, Global, F, C, E>,
 ) -> u8
     ensures unread { IfErr arguments (λ _. result ≡ 2) }
 {
     let arguments = match arguments {
         Ok(arguments) => arguments,
         Err(error) if error.kind() == ErrorKind::InvalidData => {
-            return tell(errors, "a word is not UTF-8");
+            return tell(console.errors, "a word is not UTF-8");
         }
-        Err(_) => return tell(errors, "no memory"),
+        Err(_) => return tell(console.errors, "no memory"),
     };
     match words_of(list, arguments.as_slice()) {
-        Ok(words) => run_words(alloc, words.as_slice(), input, files, output, clock, errors),
-        Err(_) => tell(errors, "no memory"),
+        Ok(words) => run_words(words.as_slice(), input, output, console),
+        Err(_) => tell(console.errors, "no memory"),
     }
 }
 

@@ -6,7 +6,8 @@ use std::fmt::Display;
 use std::io;
 use std::io::{ErrorKind, Read, Write};
 use std::process::Abort;
-use swd_commands::{Clock, Files, Identity, Opened, cannot_open, engine_status, run_words};
+use swd_commands::run_words;
+use swd_console::{Clock, Console, Files, Identity, Opened, cannot_open, engine_status};
 use swd_ends::RemoteFault;
 use swd_fakes::CountingWriter;
 use swd_run::{EngineFault, RunFault, TextsFault};
@@ -268,15 +269,13 @@ where
         written: &written,
         cuts: &cuts,
     };
-    let status = run_words(
+    let mut console = Console {
         alloc,
-        words,
-        &mut input,
-        &shelf,
-        &mut output,
+        files: &shelf,
         clock,
-        &mut errors,
-    );
+        errors: &mut errors,
+    };
+    let status = run_words(words, &mut input, &mut output, &mut console);
     Ran {
         status,
         output,
@@ -398,15 +397,13 @@ fn a_trace_that_may_be_standard_output_is_refused(rt: HostRuntime) {
     let mut errors = Vec::new(rt.alloc());
     let words = ["swd", "run", "script", "--trace", "traced"];
     let mut input = b"".as_slice();
-    let status = run_words(
-        rt.alloc(),
-        words.as_slice(),
-        &mut input,
-        &files,
-        &mut output,
-        &Still,
-        &mut errors,
-    );
+    let mut console = Console {
+        alloc: rt.alloc(),
+        files: &files,
+        clock: &Still,
+        errors: &mut errors,
+    };
+    let status = run_words(words.as_slice(), &mut input, &mut output, &mut console);
     expect_eq(&rt, &status, &2);
     expect_eq(
         &rt,

@@ -8,6 +8,7 @@ use std::io;
 use std::io::ErrorKind;
 use std::test::Fail;
 use swd_commands::run_arguments;
+use swd_console::Console;
 
 // What comes of these arguments, where the list of words is allocated so.
 fn ran_on<A: Allocator>(alloc: Global, list: A, arguments: io::Result<Vec<String>>) -> Ran {
@@ -18,15 +19,18 @@ fn ran_on<A: Allocator>(alloc: Global, list: A, arguments: io::Result<Vec<String
         written: &written,
         cuts: &cuts,
     };
-    let status = run_arguments(
+    let mut console = Console {
         alloc,
+        files: &shelf,
+        clock: &Still,
+        errors: &mut errors,
+    };
+    let status = run_arguments(
         list,
         arguments,
         &mut b"".as_slice(),
-        &shelf,
         &mut output,
-        &Still,
-        &mut errors,
+        &mut console,
     );
     Ran {
         status,

@@ -7,7 +7,8 @@ use std::cell::Cell;
 use std::io;
 use std::io::ErrorKind;
 use std::test::Fail;
-use swd_commands::{Files, Identity, Opened, run_words};
+use swd_commands::run_words;
+use swd_console::{Console, Files, Identity, Opened};
 use swd_words::{CommandLine, LineFault, ServedMemory, line};
 
 // A host in another language, against a target in another language: deadbeef is written at 20000000, and read back.
@@ -151,15 +152,13 @@ fn run_at(alloc: Global, words: &[&str], ram: &'static [u8], session: &[u8]) -> 
     };
     let (mut output, mut errors) = (Vec::new(alloc), Vec::new(alloc));
     let mut input = session;
-    let status = run_words(
+    let mut console = Console {
         alloc,
-        words,
-        &mut input,
-        &shelf,
-        &mut output,
-        &Still,
-        &mut errors,
-    );
+        files: &shelf,
+        clock: &Still,
+        errors: &mut errors,
+    };
+    let status = run_words(words, &mut input, &mut output, &mut console);
     Ran {
         status,
         output,

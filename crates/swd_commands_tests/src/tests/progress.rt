@@ -2,7 +2,8 @@
 use super::expect::{expect_at, expect_eq, expect_eq_at};
 use super::{RESUMED, Shelf, run_by};
 use std::cell::Cell;
-use swd_commands::{Clock, run_words};
+use swd_commands::run_words;
+use swd_console::{Clock, Console};
 use swd_fakes::{OneByteWriter, ShortWriter};
 
 // A clock with these readings, one after the other, and then always the last one.
@@ -209,15 +210,13 @@ fn a_line_is_counted_where_it_ends(rt: HostRuntime) {
     };
     let words = ["swd", "run", "-", "--progress"];
     let mut input = TWO;
-    let status = run_words(
-        rt.alloc(),
-        words.as_slice(),
-        &mut input,
-        &files,
-        &mut output,
-        &Tenths(Cell::new(0)),
-        &mut errors,
-    );
+    let mut console = Console {
+        alloc: rt.alloc(),
+        files: &files,
+        clock: &Tenths(Cell::new(0)),
+        errors: &mut errors,
+    };
+    let status = run_words(words.as_slice(), &mut input, &mut output, &mut console);
     expect_eq(&rt, &status, &0);
     expect_eq(&rt, &output.taken.as_slice(), &TWO_REPORT);
     expect_eq(
@@ -247,15 +246,13 @@ fn a_failed_report_is_counted_as_far_as_it_went(rt: HostRuntime) {
         };
         let words = ["swd", "run", "-", "--progress"];
         let mut input = TWO;
-        let status = run_words(
-            rt.alloc(),
-            words.as_slice(),
-            &mut input,
-            &files,
-            &mut output,
-            &Readings::new([Some(0), Some(1000)].as_slice()),
-            &mut errors,
-        );
+        let mut console = Console {
+            alloc: rt.alloc(),
+            files: &files,
+            clock: &Readings::new([Some(0), Some(1000)].as_slice()),
+            errors: &mut errors,
+        };
+        let status = run_words(words.as_slice(), &mut input, &mut output, &mut console);
         expect_eq_at(&rt, &room, &status, &141);
         expect_eq_at(&rt, &room, &output.taken(), &&TWO_REPORT[..room]);
         expect_eq_at(&rt, &room, &errors.as_slice(), &lines);
@@ -273,15 +270,13 @@ fn standard_error_may_fail(rt: HostRuntime) {
     };
     let words = ["swd", "run", "-", "--progress"];
     let mut input = FIVE;
-    let status = run_words(
-        rt.alloc(),
-        words.as_slice(),
-        &mut input,
-        &files,
-        &mut output,
-        &Readings::new([Some(0), Some(1000)].as_slice()),
-        &mut errors,
-    );
+    let mut console = Console {
+        alloc: rt.alloc(),
+        files: &files,
+        clock: &Readings::new([Some(0), Some(1000)].as_slice()),
+        errors: &mut errors,
+    };
+    let status = run_words(words.as_slice(), &mut input, &mut output, &mut console);
     expect_eq(&rt, &status, &0);
     expect_eq(&rt, &output.as_slice(), &FIVE_REPORTS);
 }

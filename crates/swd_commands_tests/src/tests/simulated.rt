@@ -6,7 +6,8 @@ use std::cell::Cell;
 use std::io;
 use std::io::{ErrorKind, Read, Write};
 use std::test::Fail;
-use swd_commands::{Files, Identity, Opened, run_words};
+use swd_commands::run_words;
+use swd_console::{Console, Files, Identity, Opened};
 use swd_words::{CommandLine, ImageAction, line};
 
 // Five bytes from 20000002 on, and two from 20000011 on.
@@ -218,15 +219,13 @@ pub(super) fn run_at(
         cuts: &cuts,
     };
     let (mut output, mut errors) = (Vec::new(alloc), Vec::new(alloc));
-    let status = run_words(
+    let mut console = Console {
         alloc,
-        words,
-        &mut Deaf,
-        &desk,
-        &mut output,
-        &Still,
-        &mut errors,
-    );
+        files: &desk,
+        clock: &Still,
+        errors: &mut errors,
+    };
+    let status = run_words(words, &mut Deaf, &mut output, &mut console);
     Ran {
         status,
         errors,

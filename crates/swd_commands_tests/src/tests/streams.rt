@@ -6,6 +6,7 @@ use std::cell::Cell;
 use std::io;
 use std::io::{ErrorKind, Read, Write};
 use swd_commands::run_words;
+use swd_console::Console;
 
 // Gives a text, and then fails.
 #[derive(Drop)]
@@ -74,15 +75,13 @@ fn run_short(
         written: &Cell::new(0),
         cuts: &Cell::new(0),
     };
-    let status = run_words(
+    let mut console = Console {
         alloc,
-        words,
-        &mut input,
-        &files,
-        &mut output,
-        &Still,
-        &mut errors,
-    );
+        files: &files,
+        clock: &Still,
+        errors: &mut errors,
+    };
+    let status = run_words(words, &mut input, &mut output, &mut console);
     Cut {
         status,
         taken: output.taken,
@@ -208,15 +207,13 @@ fn help_that_is_interrupted_goes_on(rt: HostRuntime) {
         };
         let words = ["swd", "--version"];
         let mut input = b"".as_slice();
-        let found = run_words(
-            rt.alloc(),
-            words.as_slice(),
-            &mut input,
-            &files,
-            &mut output,
-            &Still,
-            &mut errors,
-        );
+        let mut console = Console {
+            alloc: rt.alloc(),
+            files: &files,
+            clock: &Still,
+            errors: &mut errors,
+        };
+        let found = run_words(words.as_slice(), &mut input, &mut output, &mut console);
         expect_eq_at(&rt, &room, &found, &status);
         expect_eq_at(&rt, &room, &output.then.taken.as_slice(), &taken);
         expect_at(&rt, &room, errors.is_empty());

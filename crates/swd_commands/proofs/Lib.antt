@@ -1,4 +1,0 @@
-pub mod RecordLemmas
-pub mod ImageLemmas
-pub mod SimulatedLemmas
-mod ServedLemmas

@@ -1,0 +1,152 @@
+//! Converts an input to standard output: `swd one`, `swd encode`, `swd decode` and `swd draw`.
+ghost use Rattle.std.specs.Prelude.{◌≡◌, ◌≢◌, IfSome, Some, codes};
+ghost use Rattle.std.specs.Option.{option_map};
+ghost use Rattle.std.specs.String.{string_bytes};
+ghost use Rattle.swd_console.specs.Streams.{CommandEndsOver};
+ghost use Rattle.swd_commands.specs.Inputs.{IsStandardInput};
+ghost use Rattle.swd_commands.specs.Conversions.{ConvertsCommandInput, command_capture_reading};
+ghost use Rattle.swd_commands.specs.Conversions.{decode_command_conversion};
+
+use std::alloc::Allocator;
+use std::io::{Read, Write};
+use swd_bits::one_text;
+use swd_capture::{LineForm, Printed};
+use swd_capture_text::{Reading, print_capture};
+use swd_console::{
+    Console, Files, INPUT, KeepsError, Watched, cannot_open, conversion_status, named_file_of,
+    status_after,
+};
+use swd_draw::draw_capture;
+use swd_text::{decode_text, encode_text};
+use swd_words::DecodeLine;
+
+/// What an input is converted to.
+#[derive(Clone, Copy)]
+pub(crate) enum Conversion {
+    /// The bits of one transaction.
+    One,
+    /// The bits of a list.
+    Encode,
+    /// The listing of a trace.
+    Listing,
+    /// What is printed of a trace or a capture instead.
+    Print(Reading, Printed),
+    /// A drawing.
+    Draw(Reading),
+}
+
+/// Returns how bits are read: a capture may begin in mid-session and lose bits, and `over` says whether a data phase
+/// then follows WAIT and FAULT.
+pub(crate) fn reading(resync: bool, over: bool) -> Reading
+    ensures { result ≡ command_capture_reading resync over }
+{
+    if resync {
+        Reading::Capture { over }
+    } else {
+        Reading::Trace
+    }
+}
+
+/// Returns what the arguments of `swd decode` ask for.
+pub(crate) fn decode_conversion(decode: &DecodeLine) -> Conversion
+    ensures { result ≡ decode_command_conversion decode.now }
+{
+    let reading = reading(decode.resync, decode.overrun);
+    if decode.accesses {
+        return Conversion::Print(reading, Printed::Accesses { made: decode.made });
+    }
+    if decode.count {
+        return Conversion::Print(reading, Printed::Counts);
+    }
+    if decode.places || decode.names || decode.resync {
+        let form = LineForm {
+            places: decode.places,
+            names: decode.names,
+        };
+        return Conversion::Print(reading, Printed::Lines(form));
+    }
+    Conversion::Listing
+}
+
+/// Converts a file, or standard input without a name and for `-`. Returns the status: 0, or 2 at an error, or 141 if
+/// the reader of standard output is gone.
+pub(crate) fn convert<
+    I: Read + KeepsError,
+    O: Write + KeepsError,
+    A: Allocator + Copy,
+    F: Files,
+    C,
+    E: Write,
+>(
+    conversion: Conversion,
+    file: &Option<String>,
+    input: &mut I,
+    output: &mut O,
+    console: &mut Console<'_, A, F, C, E>,
+) -> u8
+    ensures { IsStandardInput file.now → CommandEndsOver (O.kept output.new)
+        (λ status. ConvertsCommandInput conversion status (I.remaining input.old) (I.remaining input.new)
+        (O.contents output.old) (O.contents output.new)) result }
+{
+    let Some(name) = source_of(file) else {
+        let own = convert_read(conversion, INPUT, input, output, console);
+        return status_after(output.kept_error(), own);
+    };
+    let opened = match console.files.open(name) {
+        Ok(opened) => opened,
+        Err(why) => return cannot_open(console.errors, name, &why),
+    };
+    let own = convert_read(
+        conversion,
+        name,
+        &mut Watched::new(opened.file),
+        output,
+        console,
+    );
+    status_after(output.kept_error(), own)
+}
+
+// Returns the name of a file, or `None` for standard input.
+fn source_of(file: &Option<String>) -> Option<&str>
+    ensures { IfSome result (λ name. (option_map string_bytes file.now ≡ Some name.now) × (name.now ≢ codes "-")) }
+{
+    match file {
+        Some(name) => named_file_of(name.as_str()),
+        None => None,
+    }
+}
+
+// Converts what the reader has. `name` is the input's. Returns the status: 0, or 2 at an error.
+fn convert_read<R: Read + KeepsError, O: Write + KeepsError, A: Allocator + Copy, F, C, E: Write>(
+    conversion: Conversion,
+    name: &str,
+    input: &mut R,
+    output: &mut O,
+    console: &mut Console<'_, A, F, C, E>,
+) -> u8
+    ensures { ConvertsCommandInput conversion result (R.remaining input.old) (R.remaining input.new)
+        (O.contents output.old) (O.contents output.new) }
+{
+    match conversion {
+        Conversion::One => {
+            let answer = one_text(input, output);
+            conversion_status(console.errors, answer, name, input, output)
+        }
+        Conversion::Encode => {
+            let answer = encode_text(console.alloc, input, output);
+            conversion_status(console.errors, answer, name, input, output)
+        }
+        Conversion::Listing => {
+            let answer = decode_text(input, output);
+            conversion_status(console.errors, answer, name, input, output)
+        }
+        Conversion::Print(reading, printed) => {
+            let answer = print_capture(reading, printed, input, output);
+            conversion_status(console.errors, answer, name, input, output)
+        }
+        Conversion::Draw(reading) => {
+            let answer = draw_capture(reading, input, output);
+            conversion_status(console.errors, answer, name, input, output)
+        }
+    }
+}

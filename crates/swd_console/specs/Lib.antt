@@ -1,0 +1,6 @@
+pub mod Connections
+pub mod Destinations
+pub mod MemoryFiles
+pub mod Roles
+pub mod Statuses
+pub mod Streams

@@ -1,0 +1,34 @@
+//! The machine that a command of `swd` works at: the files that it opens, each in a role, the streams that keep why
+//! they failed, its lines on standard error, and the status that it ends with.
+#![tactic(auto)]
+
+mod clock;
+mod connection;
+mod destination;
+mod in_use;
+mod machine;
+mod memory_file;
+mod noted;
+mod open_files;
+mod reason;
+mod report;
+mod streams;
+mod watched;
+
+pub use clock::Clock;
+pub use connection::{Untold, gone_status, line_streams};
+pub use destination::Destination;
+pub use in_use::{InUse, ReadRole, StreamsInUse, WriteRole, named_file_of};
+pub use machine::Console;
+pub use memory_file::{HeldMemory, MemoryFile, read_target_files, write_back};
+pub use noted::{LineStart, Seen, TrackedReader};
+pub use open_files::{Files, Identity, Opened};
+pub use reason::{script_status, texts_status};
+pub use report::{
+    DONE, FAULT, STOPPED, cannot_open, cannot_use, engine_status, run_status, tell, tell_used_up,
+};
+pub use streams::{
+    ERRORS, INPUT, Stream, conversion_status, name_or_nothing, status_after, streams_status,
+    tell_failure, tell_failure_or,
+};
+pub use watched::{KeepsError, Watched};

@@ -1,0 +1,150 @@
+//! Prints the program's errors, and returns its status.
+ghost use Rattle.std.specs.Prelude.{◌≡◌, is_ok};
+ghost use Rattle.swd_console.specs.Statuses.{command_run_failed, command_status_of, command_status_of_end};
+ghost use Rattle.swd_console.specs.Statuses.{command_status_of_run};
+
+use std::fmt::{Display, Formatter};
+use std::io::Write;
+use std::{fmt, io};
+use swd_host::End;
+use swd_port::Answer;
+use swd_run::{Difference, Finished};
+
+/// The status if all was done.
+pub const DONE: u8 = 0;
+
+/// The status of a run that ended early, read a word that differs from the script's, never read the word of an
+/// `until`, or met a bus error although it is strict. Also of a command over an image that ended early, met a bus
+/// error, or found a byte that differs.
+pub const STOPPED: u8 = 1;
+
+/// The status at a usage, input, I/O or out-of-memory error.
+pub const FAULT: u8 = 2;
+
+/// The status if the reader of standard output is gone: what a shell shows of a program that was ended by SIGPIPE,
+/// signal 13.
+pub const CLOSED: u8 = 128 + 13;
+
+/// A name, displayed on one line: control characters are escaped.
+#[derive(Drop)]
+pub struct Escaped<'a>(pub &'a str);
+
+impl Display for Escaped<'_> {
+    fn fmt<W: fmt::Write>(&self, f: &mut Formatter<W>) -> fmt::Result {
+        for c in self.0.chars() {
+            if c.is_control() {
+                write!(f, "{}", c.escape_default())?;
+            } else {
+                write!(f, "{c}")?;
+            }
+        }
+        Ok(())
+    }
+}
+
+/// Prints an error as one line on standard error, and returns the status 2, whether or not the line could be
+/// written.
+pub fn tell<E: Write>(errors: &mut E, what: &str) -> u8
+    ensures { result ≡ 2 }
+{
+    let _ = writeln!(errors, "swd: {what}");
+    FAULT
+}
+
+/// Prints that a file can't be opened or created, and why, and returns the status 2.
+pub fn cannot_open<E: Write>(errors: &mut E, name: &str, why: &io::Error) -> u8
+    ensures { result ≡ 2 }
+{
+    let _ = writeln!(errors, "swd: cannot open {}: {why}", Escaped(name));
+    FAULT
+}
+
+/// Prints what is wrong with the contents of a file, and returns the status 2.
+pub fn cannot_use<E: Write, F: Display>(errors: &mut E, name: &str, why: &F) -> u8
+    ensures { result ≡ 2 }
+{
+    let _ = writeln!(errors, "swd: {}: {why}", Escaped(name));
+    FAULT
+}
+
+/// Prints the error of a conversion, if there is one, and returns the status: 0 or 2.
+pub fn engine_status<E: Write, F: Display + Drop>(errors: &mut E, answer: Result<(), F>) -> u8
+    ensures { result ≡ command_status_of (is_ok answer) }
+{
+    match answer {
+        Ok(()) => DONE,
+        Err(fault) => {
+            let _ = writeln!(errors, "swd: {fault}");
+            FAULT
+        }
+    }
+}
+
+/// Prints what went wrong in a run, and returns the status: 2 at an error, else that of `finished_status`.
+pub fn run_status<E: Write, F: Display + Drop>(
+    errors: &mut E,
+    answer: Result<Finished, F>,
+    strict: bool,
+) -> u8
+    ensures { result ≡ command_status_of_run strict answer }
+{
+    match answer {
+        Ok(finished) => finished_status(errors, finished, strict),
+        Err(fault) => engine_status(errors, Err(fault)),
+    }
+}
+
+/// Returns the status of a run that has a report: 0, or 1 if it ended early, a word differs from the script's, the word
+/// of an `until` never came, or a strict run met a bus error. Prints a line for the word that differs. If an access met
+/// a bus error and the simulated target's room is used up, prints a line for that first.
+pub fn finished_status<E: Write>(errors: &mut E, finished: Finished, strict: bool) -> u8
+    ensures { result ≡ command_status_of_end (command_run_failed strict finished) finished.ended }
+{
+    tell_full(errors, finished);
+    if let Some(difference) = finished.differs {
+        tell_difference(errors, difference);
+        return STOPPED;
+    }
+    let failed = strict && finished.bus_fault || finished.never_came;
+    match finished.ended {
+        End::All if !failed => DONE,
+        _ => STOPPED,
+    }
+}
+
+// Prints that the simulated target's room is used up, if an access met a bus error.
+fn tell_full<E: Write>(errors: &mut E, finished: Finished) {
+    if let Some(room) = finished.full
+        && finished.bus_fault
+    {
+        tell_used_up(errors, room as usize);
+    }
+}
+
+/// Prints that a simulated target's room for so many transfers is used up.
+pub fn tell_used_up<E: Write>(errors: &mut E, room: usize) {
+    let _ = writeln!(
+        errors,
+        "swd: the target's room of {room} transfers is used up: later accesses meet a bus error"
+    );
+}
+
+// Prints the script's line number, the address, and both words.
+fn tell_difference<E: Write>(errors: &mut E, difference: Difference) {
+    let Difference {
+        line,
+        addr,
+        expected,
+        found,
+    } = difference;
+    let _ = match found {
+        Answer::Value(word) => writeln!(
+            errors,
+            "swd: script line {line}: {addr:08x} has {word:08x}, not {expected:08x}"
+        ),
+        Answer::Written | Answer::BusFault => writeln!(
+            errors,
+            "swd: script line {line}: {addr:08x} gave a bus error, not {expected:08x}"
+        ),
+    };
+}

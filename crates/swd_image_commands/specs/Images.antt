@@ -1,0 +1,130 @@
+-- The status of a load, a verification or a dump at a remote target.
+use Rattle.std.specs.Prelude.{◌≡◌, ◌<◌, ◌⊎◌, ℕ, List, [], length, take, Option, Some, None, Result, Ok, Err, is_some}
+use Rattle.std.specs.Prelude.{if◌then◌else◌}
+use Rattle.std.specs.Io.KnownBytes.{Appends}
+use Rattle.swd_port.specs.Port.{Port}
+use Rattle.swd_port.specs.Stories.{FitsStory, port_at}
+use Rattle.swd_remote.specs.declared.kept.RemoteStreams.{RemoteStreams}
+use Rattle.swd_remote.specs.declared.remote.Fault.{Fault}
+use Rattle.swd_remote.specs.WholeRuns.{IsUnusedRemote}
+use Rattle.swd_image.specs.declared.fault.ImageFault.{ImageFault}
+use Rattle.swd_image.specs.declared.fault.ImageFault.TheVariants.{Range, Memory, Stopped, Report, BusFault as FaultAt}
+use Rattle.swd_image.specs.declared.verifying.ByteDifference.{ByteDifference}
+use Rattle.swd_image.specs.Reports.{DumpReports, image_fault_of}
+use Rattle.swd_image_files.specs.declared.format.Format.{Format}
+use Rattle.swd_image_files.specs.Files.{IsImageOrElf}
+use Rattle.swd_image_files.specs.Images.{ImageFileBytes, ImageFileContents, image_file_pieces}
+use Rattle.swd_image_files.specs.Texts.{image_file_of_piece}
+use Rattle.swd_image_ends.specs.PieceReports.{LoadsReported, VerifiesReported}
+use Rattle.swd_image_ends.specs.RemoteImages.{DumpsRemote}
+use Rattle.swd_image_ends.specs.RemotePieces.{LoadsPiecesRemote, VerifiesPiecesRemote}
+use Rattle.swd_words.specs.declared.command.ImageAction.{ImageAction}
+use Rattle.swd_words.specs.declared.command.ImageAction.TheVariants.{Load, Verify, Dump}
+use Rattle.swd_words.specs.declared.command.ImageLine.{ImageLine}
+use Rattle.swd_console.specs.Connections.{CommandWentOver}
+
+-- 1 if a call ended early or met a bus error, 2 if the image doesn't fit the addresses, memory ran out, or the report
+-- couldn't be written
+abbrev pub command_status_of_fault : ImageFault → ℕ
+command_status_of_fault Range = 2
+command_status_of_fault Memory = 2
+command_status_of_fault (Stopped end) = 1
+command_status_of_fault (FaultAt at) = 1
+command_status_of_fault Report = 2
+
+-- a result, or the status at an error; the status is 1 if the call succeeded but the other end is gone
+abbrev pub command_result_reached : {V : Type 0} → Option Fault → Result V ImageFault → Result V ℕ
+command_result_reached (Some gone) (Ok value) = Err 1
+command_result_reached None (Ok value) = Ok value
+command_result_reached _ (Err fault) = Err (command_status_of_fault fault)
+
+-- the status of a call by its value, or by its error
+abbrev pub command_status_in : {V : Type 0} → (V → ℕ) → Result V ℕ → ℕ
+command_status_in of (Ok value) = of value
+command_status_in of (Err status) = status
+
+abbrev pub command_status_of_image : {V : Type 0} → (V → ℕ) → Option Fault → Result V ImageFault → ℕ
+command_status_of_image of gone answer = command_status_in of (command_result_reached gone answer)
+
+-- 0 if all was loaded; 0 if no byte differs, and otherwise 1
+abbrev pub command_status_loaded : Unit {0} → ℕ
+command_status_loaded done = 0
+
+abbrev pub command_status_verified : Option ByteDifference → ℕ
+command_status_verified difference = if is_some difference then 1 else 0
+
+-- the bytes were written with the status 0, or not all of them with the status 2
+abbrev pub CommandWritesBytes : ℕ → Option (List ℕ) → Option (List ℕ) → List ℕ → Type 0
+CommandWritesBytes status old new bytes =
+    ((status ≡ 0) × Appends old new bytes)
+    ⊎ ((status ≡ 2) × (sent : ℕ) × (sent < length bytes) × Appends old new (take sent bytes))
+
+-- They were written to a file so, or the file couldn't be truncated. Nothing else is known of it.
+abbrev pub IsCommandWritten : ℕ → List ℕ → Type 0
+IsCommandWritten status bytes =
+    (status ≡ 2) ⊎ ((old : Option (List ℕ)) × (new : Option (List ℕ)) × CommandWritesBytes status old new bytes)
+
+-- what was read is written to a file in its format; at an error no file is changed
+abbrev pub IsCommandDumped : Format → ℕ → Result (List ℕ) ℕ → ℕ → Type 0
+IsCommandDumped format addr (Ok bytes) status = IsCommandWritten status (image_file_of_piece format addr bytes)
+IsCommandDumped format addr (Err error) status = status ≡ error
+
+-- The pieces of the image of a file, in its format or ELF. No contract knows the contents of a file.
+pub record AreCommandPieces (image : ImageLine) (pieces : List ImageFileBytes) : Type 0 where
+  pub file : List ℕ
+  pub whole : ImageFileContents
+  pub is : IsImageOrElf image.elf image.format image.addr file whole
+  pub are : pieces ≡ image_file_pieces whole.ranges whole.bytes
+
+module _ {R W : Type 0} (story : ℕ → Port) (image : ImageLine) (status : ℕ) (remaining : R → Option (List ℕ))
+    (contents : W → Option (List ℕ)) (sent left : Option (List ℕ)) (line : RemoteStreams R W) where
+  -- a file can't be read or opened, or is no image: nothing was sent or read
+  abbrev pub IsLeft : Type 0
+  IsLeft = (status ≡ 2) × IsUnusedRemote remaining contents sent left line
+
+  -- The pieces of a file are loaded over a line. The reports of the calls are written if a file is named for them.
+  -- Nothing else is known of this file. Only tests show that the line is over the standard streams.
+  abbrev pub PerformsLoad : Type 0
+  PerformsLoad =
+      IsLeft
+      ⊎ ((pieces : List ImageFileBytes) × (answer : Result (Unit {0}) ImageFault) × AreCommandPieces image pieces
+      × (before : Option (Option (List ℕ))) × (after : Option (Option (List ℕ)))
+      × (is_some before ≡ is_some image.report)
+      × LoadsPiecesRemote story image.tries image.resumes
+      (λ calls. CommandWentOver remaining contents sent left line calls
+      × LoadsReported (port_at story) (λ calls. []) (FitsStory story) image.tries image.resumes pieces
+      (image_fault_of answer) [] calls before after) pieces answer
+      × (status ≡ command_status_of_image command_status_loaded line.fault answer))
+
+  -- the memory is compared with the pieces of a file
+  abbrev pub PerformsVerify : Type 0
+  PerformsVerify =
+      IsLeft
+      ⊎ ((pieces : List ImageFileBytes) × (answer : Result (Option ByteDifference) ImageFault)
+      × AreCommandPieces image pieces
+      × (before : Option (Option (List ℕ))) × (after : Option (Option (List ℕ)))
+      × (is_some before ≡ is_some image.report)
+      × VerifiesPiecesRemote story image.tries image.resumes
+      (λ calls. CommandWentOver remaining contents sent left line calls
+      × VerifiesReported (port_at story) (λ calls. []) (FitsStory story) image.tries image.resumes pieces answer []
+      calls before after) pieces answer
+      × (status ≡ command_status_of_image command_status_verified line.fault answer))
+
+  -- `count` bytes of the memory are written to a file
+  abbrev pub PerformsDump : ℕ → Type 0
+  PerformsDump count =
+      IsLeft
+      ⊎ ((answer : Result (List ℕ) ImageFault)
+      × (before : Option (Option (List ℕ))) × (after : Option (Option (List ℕ)))
+      × (is_some before ≡ is_some image.report)
+      × DumpsRemote story image.tries image.resumes image.addr
+      (λ calls. CommandWentOver remaining contents sent left line calls
+      × DumpReports (port_at story) (λ calls. []) (FitsStory story) image.tries image.resumes image.addr count
+      (image_fault_of answer) [] calls before after) count answer
+      (λ bytes. bytes) × IsCommandDumped image.format image.addr (command_result_reached line.fault answer) status)
+
+  -- what the arguments ask for
+  abbrev pub PerformsAction : ImageAction → Type 0
+  PerformsAction Load = PerformsLoad
+  PerformsAction Verify = PerformsVerify
+  PerformsAction (Dump count) = PerformsDump count

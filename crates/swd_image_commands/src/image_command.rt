@@ -1,0 +1,217 @@
+//! Performs `swd load`, `swd verify` and `swd dump`, at a remote target on the standard streams or at a simulated one.
+ghost use Rattle.swd_image_commands.specs.Images.{PerformsDump, PerformsLoad, PerformsVerify};
+ghost use Rattle.swd_image_commands.specs.Targeted.{PerformsImage};
+
+use crate::image_file::{read_image_file, write_image_file};
+use crate::image_report::{open_report, report_writer};
+use crate::result::{loaded_status, reached, verified_status};
+use crate::simulated_command::perform_simulated;
+use std::alloc::Allocator;
+use std::io::{Read, Write};
+use swd_console::{Console, Files, INPUT, InUse, KeepsError, Stream, StreamsInUse, WriteRole};
+use swd_image_ends::{dump_remote, load_pieces_remote, verify_pieces_remote};
+use swd_port::Story;
+use swd_remote::RemoteStreams;
+use swd_words::{ImageAction, ImageLine};
+
+/// Makes the one call of an image, at the target behind the streams or at a simulated one. Prints a line with the
+/// result on standard error. Returns the status and the connection. If the target is simulated, if the image's file
+/// can't be read or is no image, or if a dump's can't be opened, the connection wasn't used.
+pub fn perform_image<
+    P: Story,
+    I: Read + KeepsError + Drop,
+    O: Write + KeepsError + Drop,
+    A: Allocator + Copy,
+    F: Files,
+    C,
+    E: Write,
+>(
+    image: &ImageLine,
+    input: I,
+    output: O,
+    console: &mut Console<'_, A, F, C, E>,
+) -> (u8, RemoteStreams<I, O>)
+    ensures { PerformsImage A P.at image.now result.0 I.remaining O.contents (O.contents output) (I.remaining input)
+        result.1 }
+{
+    match &image.memory {
+        Some(memory) => {
+            let status = perform_simulated(image, memory, console);
+            (status, RemoteStreams::unused(input, output))
+        }
+        None => match image.action {
+            ImageAction::Load => perform_load::<P, _, _, _, _, _, _>(image, input, output, console),
+            ImageAction::Verify => {
+                perform_verify::<P, _, _, _, _, _, _>(image, input, output, console)
+            }
+            ImageAction::Dump(count) => {
+                perform_dump::<P, _, _, _, _, _, _>(image, count, input, output, console)
+            }
+        },
+    }
+}
+
+// Loads the file's pieces.
+fn perform_load<
+    P: Story,
+    I: Read + KeepsError + Drop,
+    O: Write + KeepsError + Drop,
+    A: Allocator + Copy,
+    F: Files,
+    C,
+    E: Write,
+>(
+    image: &ImageLine,
+    input: I,
+    output: O,
+    console: &mut Console<'_, A, F, C, E>,
+) -> (u8, RemoteStreams<I, O>)
+    ensures { PerformsLoad P.at image.now result.0 I.remaining O.contents (O.contents output) (I.remaining input)
+        result.1 }
+{
+    let mut in_use = InUse::new(StreamsInUse::Both);
+    let whole = match read_image_file(image, &mut in_use, console) {
+        Ok(whole) => whole,
+        Err(status) => return (status, RemoteStreams::unused(input, output)),
+    };
+    let opened = match open_report(image, &mut in_use, console) {
+        Ok(opened) => opened,
+        Err(status) => return (status, RemoteStreams::unused(input, output)),
+    };
+    let mut report = report_writer(opened, &mut *console.errors);
+    let (answer, line) = load_pieces_remote::<P, _, _, _, _>(
+        console.alloc,
+        input,
+        output,
+        &whole,
+        image.tries,
+        image.resumes,
+        &mut report,
+    );
+    let streams = call_streams(image, &report, &line);
+    drop(report);
+    let streams = streams.as_slice();
+    let status = loaded_status(
+        console.errors,
+        answer,
+        line.fault,
+        streams,
+        image.addr,
+        &whole,
+    );
+    (status, line)
+}
+
+// Compares the memory with the file's pieces.
+fn perform_verify<
+    P: Story,
+    I: Read + KeepsError + Drop,
+    O: Write + KeepsError + Drop,
+    A: Allocator + Copy,
+    F: Files,
+    C,
+    E: Write,
+>(
+    image: &ImageLine,
+    input: I,
+    output: O,
+    console: &mut Console<'_, A, F, C, E>,
+) -> (u8, RemoteStreams<I, O>)
+    ensures { PerformsVerify P.at image.now result.0 I.remaining O.contents (O.contents output) (I.remaining input)
+        result.1 }
+{
+    let mut in_use = InUse::new(StreamsInUse::Both);
+    let whole = match read_image_file(image, &mut in_use, console) {
+        Ok(whole) => whole,
+        Err(status) => return (status, RemoteStreams::unused(input, output)),
+    };
+    let opened = match open_report(image, &mut in_use, console) {
+        Ok(opened) => opened,
+        Err(status) => return (status, RemoteStreams::unused(input, output)),
+    };
+    let mut report = report_writer(opened, &mut *console.errors);
+    let (answer, line) = verify_pieces_remote::<P, _, _, _, _>(
+        console.alloc,
+        input,
+        output,
+        &whole,
+        image.tries,
+        image.resumes,
+        &mut report,
+    );
+    let streams = call_streams(image, &report, &line);
+    drop(report);
+    let streams = streams.as_slice();
+    let status = verified_status(
+        console.errors,
+        answer,
+        line.fault,
+        streams,
+        image.addr,
+        &whole,
+    );
+    (status, line)
+}
+
+// Opens the file, and reads bytes of the memory. Then truncates the file, and writes the bytes.
+fn perform_dump<
+    P: Story,
+    I: Read + KeepsError + Drop,
+    O: Write + KeepsError + Drop,
+    A: Allocator + Copy,
+    F: Files,
+    C,
+    E: Write,
+>(
+    image: &ImageLine,
+    count: u32,
+    input: I,
+    output: O,
+    console: &mut Console<'_, A, F, C, E>,
+) -> (u8, RemoteStreams<I, O>)
+    ensures { PerformsDump P.at image.now result.0 I.remaining O.contents (O.contents output) (I.remaining input)
+        result.1 count }
+{
+    let mut in_use = InUse::new(StreamsInUse::Both);
+    let mut file = match in_use.open_write(image.file.as_str(), WriteRole::Dump, console) {
+        Ok(opened) => opened.file,
+        Err(status) => return (status, RemoteStreams::unused(input, output)),
+    };
+    let opened = match open_report(image, &mut in_use, console) {
+        Ok(opened) => opened,
+        Err(status) => return (status, RemoteStreams::unused(input, output)),
+    };
+    let mut report = report_writer(opened, &mut *console.errors);
+    let (answer, line) = dump_remote::<P, _, _, _, _>(
+        console.alloc,
+        input,
+        output,
+        image.addr,
+        count as u64,
+        image.tries,
+        image.resumes,
+        &mut report,
+    );
+    let streams = call_streams(image, &report, &line);
+    drop(report);
+    match reached(console.errors, answer, line.fault, streams.as_slice()) {
+        Ok(bytes) => {
+            let status = write_image_file(image, bytes.as_slice(), &mut file, console);
+            (status, line)
+        }
+        Err(status) => (status, line),
+    }
+}
+
+// Returns the streams of the calls: that of the report, and those of the connection.
+fn call_streams<'a, S: KeepsError, R: KeepsError, W: KeepsError>(
+    image: &'a ImageLine,
+    report: &Option<S>,
+    line: &RemoteStreams<R, W>,
+) -> [Stream<'a>; 3] {
+    [
+        Stream::record(&image.report, report),
+        Stream::sent(&line.writer),
+        Stream::read(INPUT, &line.reader),
+    ]
+}

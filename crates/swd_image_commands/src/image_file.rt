@@ -1,0 +1,108 @@
+//! Reads and writes the files of images.
+ghost use Rattle.std.specs.Prelude.{◌≡◌, ◌+◌, ◌≤◌, ◌^◌, IfErr, IfOk, length};
+ghost use Rattle.swd_image_ends.specs.Pieces.{pieces_to_load};
+ghost use Rattle.swd_image_files.specs.Texts.{image_file_of_piece};
+ghost use Rattle.swd_image_commands.specs.Images.{AreCommandPieces, IsCommandWritten, CommandWritesBytes};
+
+use std::alloc::Allocator;
+use std::io::{Read, Write};
+use swd_console::{
+    Console, DONE, Files, InUse, KeepsError, ReadRole, Stream, Watched, cannot_open, cannot_use,
+    streams_status, tell_failure_or,
+};
+use swd_image_ends::read_file;
+use swd_image_files::{ElfChoice, Format, Image, read_image_or_elf, write_image};
+use swd_words::ImageLine;
+
+// Returns the most bytes that the file of an image may have. A binary ends at ffffffff. What may be ELF has its own
+// addresses, and if it is a binary that is too long, it is refused once it was read.
+fn most_bytes(image: &ImageLine) -> u64 {
+    match (image.format, image.elf) {
+        (Format::Binary, ElfChoice::Never) => (1 << 32) - image.addr as u64,
+        (Format::Binary, ElfChoice::Auto) => 1 << 32,
+        _ => u64::MAX,
+    }
+}
+
+/// Reads the file of an image, in its format. At an error it prints a line and returns the status 2.
+pub(crate) fn read_image_file<A: Allocator + Copy, F: Files, C, E: Write>(
+    image: &ImageLine,
+    in_use: &mut InUse,
+    console: &mut Console<'_, A, F, C, E>,
+) -> Result<Image<A>, u8>
+    ensures pieces { IfOk result (λ whole. AreCommandPieces image.now (pieces_to_load whole)) }
+    ensures status { IfErr result (λ status. status ≡ 2) }
+{
+    let name = image.file.as_str();
+    match in_use.open_read(name, ReadRole::Image, console) {
+        Ok(opened) => read_opened_image(image, Watched::new(opened.file), console),
+        Err(status) => Err(status),
+    }
+}
+
+// Reads the open file of an image, in its format. At an error it prints a line and returns the status 2.
+fn read_opened_image<R: Read + Drop, A: Allocator + Copy, F, C, E: Write>(
+    image: &ImageLine,
+    reader: Watched<R>,
+    console: &mut Console<'_, A, F, C, E>,
+) -> Result<Image<A>, u8>
+    ensures pieces { IfOk result (λ whole. AreCommandPieces image.now (pieces_to_load whole)) }
+    ensures status { IfErr result (λ status. status ≡ 2) }
+{
+    let name = image.file.as_str();
+    let mut reader = reader;
+    let bytes = match read_file(console.alloc, &mut reader, most_bytes(image)) {
+        Ok(bytes) => bytes,
+        Err(unread) => {
+            let streams = [Stream::read(name, &reader)];
+            return Err(streams_status(console.errors, Err(unread), streams.as_slice()));
+        }
+    };
+    let (elf, format) = (image.elf, image.format);
+    match read_image_or_elf(console.alloc, elf, format, bytes.as_slice(), image.addr) {
+        Ok(whole) => Ok(whole),
+        Err(fault) => Err(cannot_use(console.errors, name, &fault)),
+    }
+}
+
+/// Truncates the file of a dump, and writes the bytes in its format. Returns the status: 0 or 2.
+pub(crate) fn write_image_file<A, F: Files, C, E: Write>(
+    image: &ImageLine,
+    bytes: &[u8],
+    file: &mut F::Made,
+    console: &mut Console<'_, A, F, C, E>,
+) -> u8
+    requires { image.now.addr + length bytes.now ≤ 2 ^ 32 }
+    ensures { IsCommandWritten result (image_file_of_piece image.now.format image.now.addr bytes.now) }
+{
+    if let Err(why) = console.files.cut_off(file) {
+        return cannot_open(console.errors, image.file.as_str(), &why);
+    }
+    let mut file = Watched::new(file);
+    write_bytes(image, bytes, &mut file, console.errors)
+}
+
+// Writes the bytes of a dump in its format, and prints a line with the result. Returns the status: 0 or 2.
+fn write_bytes<M: Write + KeepsError, E: Write>(
+    image: &ImageLine,
+    bytes: &[u8],
+    file: &mut M,
+    errors: &mut E,
+) -> u8
+    requires { image.now.addr + length bytes.now ≤ 2 ^ 32 }
+    ensures { CommandWritesBytes result (M.contents file.old) (M.contents file.new)
+        (image_file_of_piece image.now.format image.now.addr bytes.now) }
+{
+    let addr = image.addr;
+    match write_image(image.format, addr, bytes, file) {
+        Ok(()) => {
+            let _ = writeln!(errors, "swd: dumped {} bytes at {addr:08x}", bytes.len());
+            DONE
+        }
+        Err(_) => tell_failure_or(
+            errors,
+            [Stream::written(image.file.as_str(), file)].as_slice(),
+            "write failed",
+        ),
+    }
+}

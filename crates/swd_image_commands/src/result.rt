@@ -1,0 +1,120 @@
+//! Prints the result of a command over an image, and returns its status.
+ghost use Rattle.std.specs.Prelude.{◌≡◌};
+ghost use Rattle.swd_image_commands.specs.Images.{command_result_reached as reached_by, command_status_of_fault};
+ghost use Rattle.swd_image_commands.specs.Images.{command_status_of_image, command_status_loaded};
+ghost use Rattle.swd_image_commands.specs.Images.{command_status_verified};
+
+use std::alloc::Allocator;
+use std::io::Write;
+use swd_console::{DONE, STOPPED, Stream, engine_status, gone_status, tell_failure_or};
+use swd_image::{ByteDifference, ImageFault};
+use swd_image_files::Image;
+use swd_remote::Fault;
+
+// Prints how many bytes were loaded or verified, and where. `offset` stands for the address of an image without bytes.
+fn tell_done<E: Write, A: Allocator>(errors: &mut E, done: &str, offset: u32, whole: &Image<A>) {
+    let count = whole.bytes.len();
+    let pieces = whole.ranges.len();
+    let addr = match whole.ranges.first() {
+        Some(range) => range.addr,
+        None => offset,
+    };
+    let _ = if pieces > 1 {
+        writeln!(errors, "swd: {done} {count} bytes in {pieces} pieces")
+    } else {
+        writeln!(errors, "swd: {done} {count} bytes at {addr:08x}")
+    };
+}
+
+/// Returns the status of a load with these streams, and prints a line with its result.
+pub(crate) fn loaded_status<E: Write, A: Allocator>(
+    errors: &mut E,
+    answer: Result<(), ImageFault>,
+    gone: Option<Fault>,
+    streams: &[Stream<'_>],
+    offset: u32,
+    whole: &Image<A>,
+) -> u8
+    ensures { result ≡ command_status_of_image command_status_loaded gone answer }
+{
+    match reached(errors, answer, gone, streams) {
+        Ok(()) => {
+            tell_done(errors, "loaded", offset, whole);
+            DONE
+        }
+        Err(status) => status,
+    }
+}
+
+/// Returns the status of a verification with these streams, and prints a line with its result.
+pub(crate) fn verified_status<E: Write, A: Allocator>(
+    errors: &mut E,
+    answer: Result<Option<ByteDifference>, ImageFault>,
+    gone: Option<Fault>,
+    streams: &[Stream<'_>],
+    offset: u32,
+    whole: &Image<A>,
+) -> u8
+    ensures { result ≡ command_status_of_image command_status_verified gone answer }
+{
+    match reached(errors, answer, gone, streams) {
+        Ok(None) => {
+            tell_done(errors, "verified", offset, whole);
+            DONE
+        }
+        Ok(Some(difference)) => {
+            let ByteDifference {
+                addr,
+                found,
+                expected,
+            } = difference;
+            let _ = writeln!(
+                errors,
+                "swd: {addr:08x} has {found:02x}, not {expected:02x}"
+            );
+            STOPPED
+        }
+        Err(status) => status,
+    }
+}
+
+/// Returns the value of a result if the other end isn't gone. Otherwise prints a line with the reason, and returns the
+/// status: 1 or 2.
+pub(crate) fn reached<V: Drop, E: Write>(
+    errors: &mut E,
+    answer: Result<V, ImageFault>,
+    gone: Option<Fault>,
+    streams: &[Stream<'_>],
+) -> Result<V, u8>
+    ensures { result ≡ reached_by gone answer }
+{
+    match answer {
+        Ok(value) => match gone {
+            Some(fault) => Err(gone_status(errors, fault, streams)),
+            None => Ok(value),
+        },
+        Err(fault) => Err(fault_status(errors, fault, gone, streams)),
+    }
+}
+
+// Prints a line for the error of an image's call, or for the end of the connection behind it. Returns the status.
+fn fault_status<E: Write>(
+    errors: &mut E,
+    fault: ImageFault,
+    gone: Option<Fault>,
+    streams: &[Stream<'_>],
+) -> u8
+    ensures { result ≡ command_status_of_fault fault }
+{
+    match fault {
+        ImageFault::Range | ImageFault::Memory => engine_status(errors, Err(fault)),
+        ImageFault::Report => tell_failure_or(errors, streams, "write failed"),
+        ImageFault::Stopped(_) | ImageFault::BusFault(_) => match gone {
+            Some(gone) => gone_status(errors, gone, streams),
+            None => {
+                let _ = writeln!(errors, "swd: {fault}");
+                STOPPED
+            }
+        },
+    }
+}

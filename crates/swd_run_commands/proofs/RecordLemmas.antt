@@ -1,0 +1,19 @@
+-- The files that a run writes beside its report, by their writers.
+use Rattle.std.proofs.Common.{◌≡◌, ℕ, Bool, List, Option, ◌∙◌}
+use Rattle.std.specs.Prelude.{is_some}
+use Rattle.swd_run.specs.declared.records.Records.{Records}
+use Rattle.swd_run.specs.Records.{run_files_of}
+use Rattle.swd_run.proofs.EngineLemmas.{run_file_is_some}
+use Rattle.swd_words.specs.declared.command.RunLine.{RunLine}
+use Rattle.swd_run_commands.specs.Runs.{AreRunCommandFiles}
+
+-- there are writers for the files that are named
+pub run_command_files_named : {T : Type 0} (contents : T → Option (List ℕ)) (run : RunLine) (made : Bool)
+    (records : Records T)
+    → (is_some records.trace ≡ is_some run.trace) × (is_some records.accesses ≡ is_some run.accesses)
+    × (records.made ≡ made) → AreRunCommandFiles run made (run_files_of contents records)
+run_command_files_named contents run made records is = record {
+  trace = run_file_is_some contents records.trace ∙ is.0;
+  accesses = run_file_is_some contents records.accesses ∙ is.1;
+  reset = is.2;
+}

@@ -1,0 +1,4 @@
+pub mod MemoryTargets
+pub mod Remotes
+pub mod Runs
+pub mod Targets

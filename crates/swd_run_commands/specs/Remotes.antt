@@ -1,0 +1,38 @@
+-- The status of a run at a remote target.
+use Rattle.std.specs.Prelude.{◌≡◌, ◌⊎◌, ℕ, Bool, false, List, Option, Some, Result, Ok}
+use Rattle.swd_port.specs.Port.{Port}
+use Rattle.swd_remote.specs.declared.kept.RemoteStreams.{RemoteStreams}
+use Rattle.swd_remote.specs.declared.remote.Fault.{Fault}
+use Rattle.swd_remote.specs.WholeRuns.{IsUnusedRemote}
+use Rattle.swd_run.specs.declared.engine.Finished.{Finished}
+use Rattle.swd_run.specs.Records.{RunFiles}
+use Rattle.swd_ends.specs.declared.remote.RemoteFault.{RemoteFault}
+use Rattle.swd_ends.specs.RemoteRuns.{RunsRemote}
+use Rattle.swd_words.specs.declared.command.RunLine.{RunLine}
+use Rattle.swd_console.specs.Connections.{CommandWentOver}
+use Rattle.swd_console.specs.Statuses.{command_status_of_run}
+use Rattle.swd_run_commands.specs.Runs.{AreRunCommandFiles}
+
+-- the status is 1 if the run has a report but the other end is gone, and otherwise that of the run
+abbrev pub remote_command_status : Bool → Option Fault → Result Finished RemoteFault → ℕ
+remote_command_status strict (Some fault) (Ok finished) = 1
+remote_command_status strict _ answer = command_status_of_run strict answer
+
+-- The script is run over a line. Its report is written to a file or to standard error, and its trace and accesses to
+-- the files that are named for them. Nothing else is known of these files. Only tests show that the line is over the
+-- standard streams.
+abbrev pub PerformsRemoteRun : {R W : Type 0} → (ℕ → Port) → RunLine → ℕ → (R → Option (List ℕ)) → (W → Option (List ℕ))
+    → Option (List ℕ) → Option (List ℕ) → RemoteStreams R W → Option (List ℕ) → Type 0
+PerformsRemoteRun story run status remaining contents sent left line script =
+    (answer : Result Finished RemoteFault) × (before : Option (List ℕ)) × (after : Option (List ℕ))
+    × (unwritten : RunFiles) × (written : RunFiles) × AreRunCommandFiles run false unwritten
+    × RunsRemote story run.tries run.resumes (CommandWentOver remaining contents sent left line)
+    (IsUnusedRemote remaining contents sent left line)
+    answer script before after unwritten written × (status ≡ remote_command_status run.strict line.fault answer)
+
+-- or a file can't be opened: the status is 2, and nothing was sent or read
+abbrev pub PerformsRemoteCommand : {R W : Type 0} → (ℕ → Port) → RunLine → ℕ → (R → Option (List ℕ))
+    → (W → Option (List ℕ)) → Option (List ℕ) → Option (List ℕ) → RemoteStreams R W → Option (List ℕ) → Type 0
+PerformsRemoteCommand story run status remaining contents sent left line script =
+    ((status ≡ 2) × IsUnusedRemote remaining contents sent left line)
+    ⊎ PerformsRemoteRun story run status remaining contents sent left line script

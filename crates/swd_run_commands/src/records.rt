@@ -1,0 +1,34 @@
+//! Opens the files that a run writes beside its report.
+ghost use Rattle.std.specs.Prelude.{◌≡◌, IfErr, IfOk, is_some, true};
+ghost use Rattle.swd_run_commands.specs.Runs.{run_command_names_file};
+
+use std::io::Write;
+use swd_console::{Console, Files, InUse, Watched, WriteRole};
+use swd_run::Records;
+use swd_words::RunLine;
+
+/// Opens the files that a run writes beside its report, as far as they are named. `made` says that the target begins in
+/// its reset state. At an error it prints a line and returns the status 2.
+pub(crate) fn open_records<A, F: Files, C, E: Write>(
+    run: &RunLine,
+    made: bool,
+    in_use: &mut InUse,
+    console: &mut Console<'_, A, F, C, E>,
+) -> Result<Records<Watched<F::Made>>, u8>
+    ensures ok { IfOk result (λ records. (is_some records.trace ≡ is_some run.now.trace)
+        × (is_some records.accesses ≡ is_some run.now.accesses) × (records.made ≡ made)) }
+    ensures err { IfErr result (λ status. (status ≡ 2) × (run_command_names_file run.now ≡ true)) }
+{
+    let trace = match in_use.open_named(&run.trace, WriteRole::Trace, console) {
+        Ok(trace) => trace,
+        Err(status) => return Err(status),
+    };
+    match in_use.open_named(&run.accesses, WriteRole::Accesses, console) {
+        Ok(accesses) => Ok(Records {
+            trace,
+            accesses,
+            made,
+        }),
+        Err(status) => Err(status),
+    }
+}

@@ -1,0 +1,308 @@
+//! Performs `swd run --remote`: a run at a remote target on the standard streams.
+ghost use Rattle.std.specs.Prelude.{◌≡◌, IfErr, List, Option, false, ℕ};
+ghost use Rattle.swd_remote.specs.WholeRuns.{IsUnusedRemote};
+ghost use Rattle.swd_run.specs.Records.{run_files_of};
+ghost use Rattle.swd_ends.specs.RemoteRuns.{RunsRemote};
+ghost use Rattle.swd_console.specs.Connections.{CommandWentOver};
+ghost use Rattle.swd_run_commands.specs.Remotes.{PerformsRemoteRun, PerformsRemoteCommand, remote_command_status};
+ghost use Rattle.swd_run_commands.specs.Runs.{AreRunCommandFiles};
+
+use crate::progress::{Progress, wanted_total};
+use crate::records::open_records;
+use std::alloc::Allocator;
+use std::io::{Read, Write};
+use swd_console::{
+    Clock, Console, Destination, ERRORS, FAULT, Files, InUse, KeepsError, Seen, Stream,
+    TrackedReader, Watched, WriteRole, cannot_open, gone_status, line_streams, name_or_nothing,
+    run_status, script_status, tell, tell_failure,
+};
+use swd_ends::{RemoteFault, run_remote, run_remote_script};
+use swd_port::Story;
+use swd_remote::RemoteStreams;
+use swd_run::{Finished, Records};
+use swd_script::read_script;
+use swd_words::RunLine;
+
+// Opens the file of the report. `-` is standard error, which isn't truncated. At an error it prints a line and returns
+// the status 2.
+fn open_report<A, F: Files, C, E: Write>(
+    name: &str,
+    in_use: &mut InUse,
+    console: &mut Console<'_, A, F, C, E>,
+) -> Result<Destination<F::Made, ()>, u8>
+    ensures { IfErr result (λ status. status ≡ 2) }
+{
+    if name == "-" {
+        return match console.files.standard_error() {
+            Ok(identity) => {
+                in_use.report = identity;
+                Ok(Destination::Errors(()))
+            }
+            Err(why) => Err(cannot_open(console.errors, name, &why)),
+        };
+    }
+    match in_use.open_write(name, WriteRole::Report, console) {
+        Ok(opened) => Ok(Destination::File(opened.file)),
+        Err(status) => Err(status),
+    }
+}
+
+/// Opens the report's file, and those of the trace and the accesses if they are named. Then runs the script at the
+/// target behind the streams. Returns the status, and the streams with the error that ended the connection, if any. If
+/// a file can't be opened, the streams weren't used.
+pub(crate) fn perform_remote<
+    P: Story,
+    S: Read + KeepsError + Drop,
+    I: Read + KeepsError + Drop,
+    O: Write + KeepsError + Drop,
+    A: Allocator + Copy,
+    F: Files,
+    C: Clock,
+    E: Write,
+>(
+    run: &RunLine,
+    script: TrackedReader<'_, S>,
+    in_use: InUse,
+    input: I,
+    output: O,
+    console: &mut Console<'_, A, F, C, E>,
+) -> (u8, RemoteStreams<I, O>)
+    ensures { PerformsRemoteCommand P.at run.now result.0 I.remaining O.contents (O.contents output) (I.remaining input)
+        result.1 (S.remaining script.entry.reader) }
+{
+    let mut in_use = in_use;
+    let Some(name) = &run.report else {
+        let status = tell(console.errors, "--remote and --report FILE go together");
+        return (status, RemoteStreams::unused(input, output));
+    };
+    let report = match open_report(name.as_str(), &mut in_use, console) {
+        Ok(report) => report,
+        Err(status) => return (status, RemoteStreams::unused(input, output)),
+    };
+    let records = match open_records(run, false, &mut in_use, console) {
+        Ok(records) => records,
+        Err(status) => return (status, RemoteStreams::unused(input, output)),
+    };
+    match report {
+        Destination::File(file) => {
+            let report = Watched::new(file);
+            let files = RemoteFiles { report, records };
+            report_to_file::<P, _, _, _, _, _, _, _, _, _>(
+                run, script, input, output, files, console,
+            )
+        }
+        Destination::Errors(()) => report_to_errors::<P, _, _, _, _, _, _, _, _>(
+            run, script, input, output, records, console,
+        ),
+    }
+}
+
+// The files that a run at a remote target writes.
+#[derive(Drop)]
+struct RemoteFiles<M, T> {
+    report: M,
+    records: Records<T>,
+}
+
+// Runs the script, and writes its report to a file.
+fn report_to_file<
+    P: Story,
+    S: Read + KeepsError + Drop,
+    I: Read + KeepsError + Drop,
+    O: Write + KeepsError + Drop,
+    M: Write + KeepsError + Drop,
+    T: Write + KeepsError + Drop,
+    A: Allocator + Copy,
+    F,
+    C: Clock,
+    E: Write,
+>(
+    run: &RunLine,
+    script: TrackedReader<'_, S>,
+    input: I,
+    output: O,
+    files: RemoteFiles<M, T>,
+    console: &mut Console<'_, A, F, C, E>,
+) -> (u8, RemoteStreams<I, O>)
+    requires { AreRunCommandFiles run.now false (run_files_of T.contents files.records) }
+    ensures { PerformsRemoteRun P.at run.now result.0 I.remaining O.contents (O.contents output) (I.remaining input)
+        result.1 (S.remaining script.entry.reader) }
+{
+    let mut script = script;
+    let (answer, line, files) = run_paced::<P, _, _, _, _, _, _, _, _, _>(
+        run,
+        &mut script,
+        input,
+        output,
+        files,
+        console,
+    );
+    let report = Stream::written(name_or_nothing(&run.report), &files.report);
+    let streams = remote_streams(run, report, &files.records, &script);
+    let status = reached_status(
+        console.errors,
+        run,
+        answer,
+        &line,
+        streams.as_slice(),
+        &script.seen,
+    );
+    (status, line)
+}
+
+// Reads the script and runs it, as `swd_ends::run_remote` does. If the arguments ask for that, says on standard error
+// how far the run is. No contract knows what the report's file has.
+fn run_paced<
+    P: Story,
+    S: Read,
+    I: Read + Drop,
+    O: Write + Drop,
+    M: Write,
+    T: Write + Drop,
+    A: Allocator + Copy,
+    F,
+    C: Clock,
+    E: Write,
+>(
+    run: &RunLine,
+    script: &mut S,
+    input: I,
+    output: O,
+    files: RemoteFiles<M, T>,
+    console: &mut Console<'_, A, F, C, E>,
+) -> (
+    Result<Finished, RemoteFault>,
+    RemoteStreams<I, O>,
+    RemoteFiles<M, T>,
+)
+    ensures { (old : Option (List ℕ)) × (new : Option (List ℕ)) × RunsRemote P.at run.now.tries run.now.resumes
+        (CommandWentOver I.remaining O.contents (O.contents output) (I.remaining input) result.1)
+        (IsUnusedRemote I.remaining O.contents (O.contents output) (I.remaining input) result.1)
+        result.0 (S.remaining script.old) old new (run_files_of T.contents files.records)
+        (run_files_of T.contents result.2.records) }
+{
+    let script = match read_script(console.alloc, script) {
+        Ok(script) => script,
+        Err(unread) => return (
+            Err(RemoteFault::unread(unread)),
+            RemoteStreams::unused(input, output),
+            files,
+        ),
+    };
+    let RemoteFiles {
+        report: mut file,
+        mut records,
+    } = files;
+    let total = wanted_total(run, script.batches.as_slice());
+    let errors = &mut *console.errors;
+    let mut report = Progress::new(&mut file, &mut *errors, console.clock, total);
+    let (answer, line) = run_remote_script::<P, _, _, _, _, _>(
+        console.alloc,
+        &script,
+        input,
+        output,
+        run.tries,
+        run.resumes,
+        &mut report,
+        &mut records,
+    );
+    let files = RemoteFiles {
+        report: file,
+        records,
+    };
+    match answer {
+        Ok(finished) => (Ok(finished), line, files),
+        Err(fault) => (Err(RemoteFault::Engine(fault)), line, files),
+    }
+}
+
+// Runs the script, and writes its report to standard error.
+fn report_to_errors<
+    P: Story,
+    S: Read + KeepsError + Drop,
+    I: Read + KeepsError + Drop,
+    O: Write + KeepsError + Drop,
+    T: Write + KeepsError + Drop,
+    A: Allocator + Copy,
+    F,
+    C,
+    E: Write,
+>(
+    run: &RunLine,
+    script: TrackedReader<'_, S>,
+    input: I,
+    output: O,
+    records: Records<T>,
+    console: &mut Console<'_, A, F, C, E>,
+) -> (u8, RemoteStreams<I, O>)
+    requires { AreRunCommandFiles run.now false (run_files_of T.contents records) }
+    ensures { PerformsRemoteRun P.at run.now result.0 I.remaining O.contents (O.contents output) (I.remaining input)
+        result.1 (S.remaining script.entry.reader) }
+{
+    let (mut script, mut records) = (script, records);
+    let (tries, resumes) = (run.tries, run.resumes);
+    let errors = &mut *console.errors;
+    let mut report = Watched::new(&mut *errors);
+    let (answer, line) = run_remote::<P, _, _, _, _, _, _>(
+        console.alloc,
+        &mut script,
+        input,
+        output,
+        tries,
+        resumes,
+        &mut report,
+        &mut records,
+    );
+    let report = Stream::written(ERRORS, &report);
+    let streams = remote_streams(run, report, &records, &script);
+    let status = reached_status(
+        console.errors,
+        run,
+        answer,
+        &line,
+        streams.as_slice(),
+        &script.seen,
+    );
+    (status, line)
+}
+
+// Returns the streams of a remote run beside its connection, in the order of their lines.
+fn remote_streams<'a, T: KeepsError, S: KeepsError>(
+    run: &'a RunLine,
+    report: Stream<'a>,
+    records: &Records<T>,
+    script: &TrackedReader<'a, S>,
+) -> [Stream<'a>; 4] {
+    [
+        report,
+        Stream::record(&run.trace, &records.trace),
+        Stream::record(&run.accesses, &records.accesses),
+        script.stream(),
+    ]
+}
+
+// Returns the status of a run over a line: 1 if a report was made but the other end is gone, else the run's status.
+// `streams` are those beside the connection.
+fn reached_status<R: KeepsError, W: KeepsError, E: Write>(
+    errors: &mut E,
+    run: &RunLine,
+    answer: Result<Finished, RemoteFault>,
+    line: &RemoteStreams<R, W>,
+    streams: &[Stream<'_>],
+    script: &Seen,
+) -> u8
+    ensures { result ≡ remote_command_status run.now.strict line.now.fault answer }
+{
+    if answer.is_err() && tell_failure(errors, streams) {
+        return FAULT;
+    }
+    if let Err(RemoteFault::Script(fault)) = answer {
+        return script_status(errors, fault, script);
+    }
+    let reached = answer.is_ok();
+    let status = run_status(errors, answer, run.strict);
+    match line.fault {
+        Some(fault) if reached => gone_status(errors, fault, line_streams(line).as_slice()),
+        _ => status,
+    }
+}

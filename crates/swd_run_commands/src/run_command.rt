@@ -1,0 +1,172 @@
+//! Performs `swd run`.
+ghost use Rattle.std.specs.Prelude.{◌≡◌, codes};
+ghost use Rattle.std.specs.String.{string_bytes};
+ghost use Rattle.swd_console.specs.Statuses.{command_status_of_run};
+ghost use Rattle.swd_console.specs.Streams.{CommandEndsOver};
+ghost use Rattle.swd_run_commands.specs.Runs.{PerformsRunCommand, PerformsRunCommandUnder, PerformsRunCommandWhere};
+
+use crate::paced_run::run_paced;
+use crate::records::open_records;
+use crate::remote_command::perform_remote;
+use std::alloc::Allocator;
+use std::io::{Read, Write};
+use swd_console::{
+    Clock, Console, FAULT, Files, INPUT, InUse, KeepsError, ReadRole, Seen, Stream, StreamsInUse,
+    TrackedReader, Untold, Watched, named_file_of, run_status, status_after, tell, tell_failure,
+    texts_status,
+};
+use swd_run::{Finished, RunFault};
+use swd_words::RunLine;
+
+/// Runs a script, from its file or from standard input, at a simulated target or at one behind the streams. Returns the
+/// status.
+pub fn perform_run<
+    I: Read + KeepsError,
+    O: Write + KeepsError,
+    A: Allocator + Copy,
+    F: Files,
+    C: Clock,
+    E: Write,
+>(run: &RunLine, input: &mut I, output: &mut O, console: &mut Console<'_, A, F, C, E>) -> u8
+    ensures { string_bytes run.now.script ≡ codes "-" → CommandEndsOver (O.kept output.new)
+        (λ status. PerformsRunCommandWhere run.now.remote run.now status (I.remaining input.old)
+        (O.contents output.old) (O.contents output.new)) result }
+{
+    let Some(name) = named_file_of(run.script.as_str()) else {
+        let own = run_standard_input(run, input, output, console);
+        return status_after(output.kept_error(), own);
+    };
+    let mut in_use = InUse::new(StreamsInUse::Output);
+    let script = match in_use.open_read(name, ReadRole::Script, console) {
+        Ok(opened) => opened.file,
+        Err(status) => return status,
+    };
+    let mut script = TrackedReader::new(name, Watched::new(script));
+    if run.remote {
+        let (status, _) = perform_remote::<Untold, _, _, _, _, _, _, _>(
+            run, script, in_use, input, output, console,
+        );
+        return status;
+    }
+    let own = run_planned(run, &mut script, in_use, output, console);
+    status_after(output.kept_error(), own)
+}
+
+// Runs the script on standard input, which a run at a remote target has for that target.
+fn run_standard_input<
+    I: Read + KeepsError,
+    O: Write + KeepsError,
+    A: Allocator + Copy,
+    F: Files,
+    C: Clock,
+    E: Write,
+>(run: &RunLine, input: &mut I, output: &mut O, console: &mut Console<'_, A, F, C, E>) -> u8
+    ensures { PerformsRunCommandWhere run.now.remote run.now result (I.remaining input.old) (O.contents output.old)
+        (O.contents output.new) }
+{
+    if run.remote {
+        return tell(
+            console.errors,
+            "SCRIPT is a file: standard input is the target's",
+        );
+    }
+    let mut script = TrackedReader::new(INPUT, input);
+    let in_use = InUse::new(StreamsInUse::Both);
+    run_planned(run, &mut script, in_use, output, console)
+}
+
+// Opens the plan, and runs the script under it. Without a plan no faults are injected.
+fn run_planned<
+    S: Read + KeepsError,
+    O: Write + KeepsError,
+    A: Allocator + Copy,
+    F: Files,
+    C: Clock,
+    E: Write,
+>(
+    run: &RunLine,
+    script: &mut TrackedReader<'_, S>,
+    in_use: InUse,
+    output: &mut O,
+    console: &mut Console<'_, A, F, C, E>,
+) -> u8
+    ensures { PerformsRunCommand run.now.plan run.now result (S.remaining script.old.reader) (O.contents output.old)
+        (O.contents output.new) }
+{
+    let mut in_use = in_use;
+    let Some(name) = &run.plan else {
+        let mut nothing = TrackedReader::new("", Watched::new([].as_slice()));
+        return run_under(run, script, &mut nothing, in_use, output, console);
+    };
+    match in_use.open_read(name.as_str(), ReadRole::Plan, console) {
+        Ok(opened) => {
+            let mut plan = TrackedReader::new(name.as_str(), Watched::new(opened.file));
+            run_under(run, script, &mut plan, in_use, output, console)
+        }
+        Err(status) => status,
+    }
+}
+
+// Opens the files of the trace and the accesses, if they are named, and runs the script under the plan.
+fn run_under<
+    S: Read + KeepsError,
+    P: Read + KeepsError,
+    O: Write + KeepsError,
+    A: Allocator + Copy,
+    F: Files,
+    C: Clock,
+    E: Write,
+>(
+    run: &RunLine,
+    script: &mut TrackedReader<'_, S>,
+    plan: &mut TrackedReader<'_, P>,
+    in_use: InUse,
+    output: &mut O,
+    console: &mut Console<'_, A, F, C, E>,
+) -> u8
+    ensures { PerformsRunCommandUnder run.now result (S.remaining script.old.reader) (P.remaining plan.old.reader)
+        (O.contents output.old) (O.contents output.new) }
+{
+    let mut in_use = in_use;
+    let mut records = match open_records(run, true, &mut in_use, console) {
+        Ok(records) => records,
+        Err(status) => return status,
+    };
+    let answer = run_paced(run, script, plan, output, &mut records, console);
+    let streams = [
+        Stream::output(output),
+        Stream::record(&run.trace, &records.trace),
+        Stream::record(&run.accesses, &records.accesses),
+        script.stream(),
+        plan.stream(),
+    ];
+    let (script, plan) = (&script.seen, &plan.seen);
+    answer_status(
+        console.errors,
+        answer,
+        run.strict,
+        script,
+        plan,
+        streams.as_slice(),
+    )
+}
+
+// Prints what went wrong in a run of these texts, and returns the status.
+fn answer_status<E: Write>(
+    errors: &mut E,
+    answer: Result<Finished, RunFault>,
+    strict: bool,
+    script: &Seen,
+    plan: &Seen,
+    streams: &[Stream<'_>],
+) -> u8
+    ensures { result ≡ command_status_of_run strict answer }
+{
+    if answer.is_err() && tell_failure(errors, streams) {
+        return FAULT;
+    }
+    match answer {
+        Err(RunFault::Texts(fault)) => texts_status(errors, fault, script, plan),
+        answer => run_status(errors, answer, strict),
+    }
+}

@@ -1,0 +1,110 @@
+//! A session of a host at a simulated target: its files, its streams, and its status.
+ghost use Rattle.std.specs.Prelude.{◌≡◌, IfErr, IfOk, is_some, true, false};
+ghost use Rattle.swd_bitbang.specs.Traces.{is_pins_trace_cut_off};
+ghost use Rattle.swd_run_commands.specs.Targets.{IsServedCommandStatus};
+
+use std::alloc::Allocator;
+use std::io::Write;
+use swd_bitbang::{Served, Trace};
+use swd_console::{
+    Console, DONE, FAULT, Files, INPUT, InUse, KeepsError, Stream, Watched, WriteRole,
+    tell_failure_or,
+};
+use swd_ends::LiveFiles;
+use swd_words::TargetLine;
+
+/// The files of a session, as far as they are named.
+#[derive(Drop)]
+pub(crate) struct SessionFiles<M> {
+    pub(crate) log: Option<M>,
+    pub(crate) trace: Option<M>,
+}
+
+impl<M> SessionFiles<M> {
+    /// Returns an empty trace for the bits of the session. It keeps them if there is a file for them.
+    pub(crate) fn empty_trace<A: Allocator>(&self, alloc: A) -> Trace<A> {
+        match self.trace {
+            Some(_) => Trace::new(alloc),
+            None => Trace::none(alloc),
+        }
+    }
+}
+
+/// Opens the files of a session, as far as they are named, and truncates them. At an error it prints a line and returns
+/// the status 2.
+pub(crate) fn open_session<A, F: Files, C, E: Write>(
+    target: &TargetLine,
+    in_use: &mut InUse,
+    console: &mut Console<'_, A, F, C, E>,
+) -> Result<SessionFiles<Watched<F::Made>>, u8>
+    ensures ok { IfOk result (λ opened. (is_some opened.log ≡ is_some target.now.log)
+        × (is_some opened.trace ≡ is_some target.now.trace)) }
+    ensures err { IfErr result (λ status. status ≡ 2) }
+{
+    let log = match in_use.open_named(&target.log, WriteRole::Report, console) {
+        Ok(log) => log,
+        Err(status) => return Err(status),
+    };
+    match in_use.open_named(&target.trace, WriteRole::Trace, console) {
+        Ok(trace) => Ok(SessionFiles { log, trace }),
+        Err(status) => Err(status),
+    }
+}
+
+/// Returns the streams of a session, in the order of their lines.
+pub(crate) fn served_streams<'a, I: KeepsError, O: KeepsError, M: KeepsError>(
+    target: &'a TargetLine,
+    input: &I,
+    output: &O,
+    files: &SessionFiles<M>,
+) -> [Stream<'a>; 4] {
+    [
+        Stream::sent(output),
+        Stream::read(INPUT, input),
+        Stream::record(&target.log, &files.log),
+        Stream::record(&target.trace, &files.trace),
+    ]
+}
+
+/// Returns whether both files were written completely, and the trace isn't truncated.
+pub(crate) fn are_complete<M, A: Allocator>(files: &LiveFiles<M>, kept: &Trace<A>) -> bool
+    ensures { result ≡ true → is_pins_trace_cut_off kept.now ≡ false }
+{
+    files.are_whole() && !kept.is_cut()
+}
+
+/// Returns the status of a session, and prints what failed. `done`: its log and its trace were written completely, and
+/// the trace isn't truncated.
+pub(crate) fn served_status<E: Write>(
+    errors: &mut E,
+    served: Served,
+    done: bool,
+    streams: &[Stream<'_>],
+) -> u8
+    ensures { IsServedCommandStatus served (done ≡ true) result }
+{
+    match served {
+        Served::Quit | Served::Ended => {
+            if done {
+                DONE
+            } else {
+                tell_failure_or(errors, streams, "trace cut")
+            }
+        }
+        Served::Bad { place, byte } => bad_status(errors, place, byte),
+        Served::Read => tell_failure_or(errors, streams, "read failed"),
+        Served::Write { written: _ } => tell_failure_or(errors, streams, "write failed"),
+    }
+}
+
+// Prints that a byte isn't of the protocol, and returns the status 2.
+fn bad_status<E: Write>(errors: &mut E, place: u64, byte: u8) -> u8
+    ensures { result ≡ 2 }
+{
+    let what = match byte {
+        b'0'..=b'7' | b'R' => "a character of JTAG: set the debugger to serial wire",
+        _ => "bad character",
+    };
+    let _ = writeln!(errors, "swd: byte {place}: {what}");
+    FAULT
+}

@@ -1,0 +1,151 @@
+//! Performs `swd target`: a simulated target on the standard streams.
+ghost use Rattle.std.specs.Prelude.{◌≡◌, ℕ, List, Option};
+ghost use Rattle.swd_run_commands.specs.MemoryTargets.{CommandServesTarget};
+ghost use Rattle.swd_run_commands.specs.Targets.{TargetCommandServesHost};
+
+use crate::memory_target::perform_memory_target;
+use crate::session::{SessionFiles, are_complete, open_session, served_status, served_streams};
+use std::alloc::Allocator;
+use std::io::{Read, Write};
+use swd_console::{
+    Console, FAULT, Files, InUse, KeepsError, ReadRole, StreamsInUse, TrackedReader, Watched, tell,
+    tell_failure, texts_status,
+};
+use swd_ends::{TargetFault, read_target, serve_logged};
+use swd_words::{ScriptLine, ServedMemory, TargetLine};
+
+/// Serves a host at a simulated target. Returns the status: 0 or 2.
+pub fn perform_target<
+    I: Read + KeepsError,
+    O: Write + KeepsError,
+    A: Allocator + Copy,
+    F: Files,
+    C,
+    E: Write,
+>(target: &TargetLine, input: &mut I, output: &mut O, console: &mut Console<'_, A, F, C, E>) -> u8
+    ensures { CommandServesTarget A result (I.remaining input.old) (I.remaining input.new) (O.contents output.old)
+        (O.contents output.new) target.now.memory }
+{
+    match &target.memory {
+        ServedMemory::Script(texts) => perform_script_target(target, texts, input, output, console),
+        ServedMemory::File(memory) => perform_memory_target(target, memory, input, output, console),
+    }
+}
+
+// The script of a target, and its plan.
+#[derive(Drop)]
+struct TargetTexts<'a, S, P> {
+    script: TrackedReader<'a, S>,
+    plan: TrackedReader<'a, P>,
+}
+
+// Opens the script and the plan, and serves a host at the script's target. Without a plan no faults are injected.
+fn perform_script_target<
+    I: Read + KeepsError,
+    O: Write + KeepsError,
+    A: Allocator + Copy,
+    F: Files,
+    C,
+    E: Write,
+>(
+    target: &TargetLine,
+    texts: &ScriptLine,
+    input: &mut I,
+    output: &mut O,
+    console: &mut Console<'_, A, F, C, E>,
+) -> u8
+    ensures { (script : Option (List ℕ)) × (plan : Option (List ℕ)) × TargetCommandServesHost A result script plan
+        (I.remaining input.old) (I.remaining input.new) (O.contents output.old) (O.contents output.new) }
+{
+    let name = texts.script.as_str();
+    let mut in_use = InUse::new(StreamsInUse::Output);
+    let opened = match in_use.open_read(name, ReadRole::Script, console) {
+        Ok(opened) => opened,
+        Err(status) => return status,
+    };
+    let script = TrackedReader::new(name, Watched::new(opened.file));
+    let Some(name) = &texts.plan else {
+        let plan = TrackedReader::new("", Watched::new([].as_slice()));
+        let texts = TargetTexts { script, plan };
+        return serve_under(target, texts, in_use, input, output, console);
+    };
+    // Standard input comes from the debugger.
+    let mut debugger = InUse::new(StreamsInUse::Both);
+    match debugger.open_read(name.as_str(), ReadRole::Plan, console) {
+        Ok(opened) => {
+            let in_use = InUse {
+                plan: Some(opened.identity),
+                ..in_use
+            };
+            let plan = TrackedReader::new(name.as_str(), Watched::new(opened.file));
+            let texts = TargetTexts { script, plan };
+            serve_under(target, texts, in_use, input, output, console)
+        }
+        Err(status) => status,
+    }
+}
+
+// Opens the files of the log and the trace, and serves a host. Writes both files while it does.
+fn serve_under<
+    S: Read + KeepsError + Drop,
+    P: Read + KeepsError + Drop,
+    I: Read + KeepsError,
+    O: Write + KeepsError,
+    A: Allocator + Copy,
+    F: Files,
+    C,
+    E: Write,
+>(
+    target: &TargetLine,
+    texts: TargetTexts<'_, S, P>,
+    in_use: InUse,
+    input: &mut I,
+    output: &mut O,
+    console: &mut Console<'_, A, F, C, E>,
+) -> u8
+    ensures { TargetCommandServesHost A result (S.remaining texts.entry.script.reader) (P.remaining texts.entry.plan.reader)
+        (I.remaining input.old) (I.remaining input.new) (O.contents output.old) (O.contents output.new) }
+{
+    let TargetTexts {
+        mut script,
+        mut plan,
+    } = texts;
+    let mut in_use = in_use;
+    let files = match open_session(target, &mut in_use, console) {
+        Ok(files) => files,
+        Err(status) => return status,
+    };
+    let kept = files.empty_trace(console.alloc);
+    match read_target(console.alloc, &mut script, &mut plan, kept) {
+        Ok(pins) => {
+            let SessionFiles { log, trace } = files;
+            let (served, pins, files) = serve_logged(input, output, pins, log, trace);
+            let done = are_complete(&files, pins.trace());
+            let (log, trace) = files.into_writers();
+            let files = SessionFiles { log, trace };
+            let streams = served_streams(target, input, output, &files);
+            served_status(console.errors, served, done, streams.as_slice())
+        }
+        Err(fault) => target_status(console.errors, fault, &script, &plan),
+    }
+}
+
+// Prints why there is no target, and returns the status 2.
+fn target_status<S: KeepsError, P: KeepsError, E: Write>(
+    errors: &mut E,
+    fault: TargetFault,
+    script: &TrackedReader<'_, S>,
+    plan: &TrackedReader<'_, P>,
+) -> u8
+    ensures { result ≡ 2 }
+{
+    let streams = [script.stream(), plan.stream()];
+    if tell_failure(errors, streams.as_slice()) {
+        return FAULT;
+    }
+    match fault {
+        TargetFault::Texts(fault) => texts_status(errors, fault, &script.seen, &plan.seen),
+        TargetFault::Memory => tell(errors, "no memory"),
+        TargetFault::Accesses => tell(errors, "a target's script has no accesses and no next"),
+    }
+}
