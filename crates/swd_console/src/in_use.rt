@@ -213,8 +213,8 @@ impl InUse {
 
     /// Opens a file for writing, or creates it. It is truncated then, but for a dump and a memory. At an error it
     /// prints a line and returns the status 2, and an existing file isn't truncated: also for `-`, and if the file is
-    /// in use in another role, under any name, or may be, or is a standard stream that is in use. The contract leaves out the
-    /// streams. A memory's file has to be the one that was read.
+    /// in use in another role, under any name, or may be, or is a standard stream that is in use. The contract leaves
+    /// out the streams. A memory's file has to be the one that was read.
     pub fn open_write<A, F: Files, C, E: Write>(
         &mut self,
         name: &str,

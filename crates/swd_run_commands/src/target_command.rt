@@ -103,7 +103,8 @@ fn serve_under<
     output: &mut O,
     console: &mut Console<'_, A, F, C, E>,
 ) -> u8
-    ensures { TargetCommandServesHost A result (S.remaining texts.entry.script.reader) (P.remaining texts.entry.plan.reader)
+    ensures { TargetCommandServesHost A result (S.remaining texts.entry.script.reader)
+        (P.remaining texts.entry.plan.reader)
         (I.remaining input.old) (I.remaining input.new) (O.contents output.old) (O.contents output.new) }
 {
     let TargetTexts {

@@ -1,4 +1,5 @@
-//! Scripts run under plans: worked texts, texts at fault, and readers and writers that fail; and the two ends of a line.
+//! Scripts run under plans: worked texts, texts at fault, and readers and writers that fail; and the two ends of a
+//! line.
 use expect::{expect_eq, expect_eq_at};
 use std::test::Fail;
 use swd_fakes::{FailingReader, ShortWriter};

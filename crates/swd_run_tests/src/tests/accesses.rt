@@ -166,8 +166,8 @@ fn taken_effect(rt: &HostRuntime, accesses: &[u8]) -> Result<Vec<u8>, Fail> {
     Ok(shown)
 }
 
-// Whichever request is answered WAIT or has a bit of its data changed: all that took effect is shown, with addresses and
-// words.
+// Whichever request is answered WAIT or has a bit of its data changed: all that took effect is shown, with addresses
+// and words.
 #[test]
 fn accesses_where_one_request_is_disturbed(rt: HostRuntime) -> Result<(), Fail> {
     for mark in [b"wait".as_slice(), b"flip 0", b"flip 7", b"flip 32"] {

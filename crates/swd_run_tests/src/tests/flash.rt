@@ -1,5 +1,5 @@
-//! A script that programs flash, over a controller with keys, a busy flag and errors, also where the target says WAIT or a
-//! bit of a data phase is corrupted.
+//! A script that programs flash, over a controller with keys, a busy flag and errors, also where the target says WAIT
+//! or a bit of a data phase is corrupted.
 ghost use Rattle.std.specs.Prelude.{IfOk};
 ghost use Rattle.swd_port.specs.Choices.{IsPortMark};
 ghost use Rattle.swd_target.specs.Marks.{IsLegalPlan};

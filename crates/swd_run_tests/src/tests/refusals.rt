@@ -254,8 +254,8 @@ fn a_traced_run_where_memory_ends(rt: HostRuntime) -> Result<(), Fail> {
 const TRACED_CALLS: &[u8] =
     b"memory 20000000 256\nroom 300\nw 20000000 deadbeef\nnext\nrn 20000000 200\n";
 
-// Where memory is refused for a call, the trace has the items of the call before it. Where they were all kept, these are 4
-// of its line reset, 12 requests, and the zeros at its end.
+// Where memory is refused for a call, the trace has the items of the call before it. Where they were all kept, these
+// are 4 of its line reset, 12 requests, and the zeros at its end.
 #[test]
 fn a_second_traced_call_where_memory_ends(rt: HostRuntime) -> Result<(), Fail> {
     let whole = traced_on(&rt, rt.alloc(), TRACED_CALLS, b"".as_slice());

@@ -57,8 +57,8 @@ fn a_script_sends_what_was_recorded(rt: HostRuntime) {
     expect_eq(&rt, &sent.as_slice(), &UNDISTURBED.characters);
 }
 
-// The trace is that of a run over the simulated target, which shows the same words. The opening shows SELECT and CSW, so
-// that the accesses are known.
+// The trace is that of a run over the simulated target, which shows the same words. The opening shows SELECT and CSW,
+// so that the accesses are known.
 #[test]
 fn a_remote_run_is_traced(rt: HostRuntime) {
     let mut sent = Vec::new(rt.alloc());
@@ -186,8 +186,8 @@ fn a_report_is_written_before_the_next_call(rt: HostRuntime) {
     expect_eq(&rt, &taken.get(), &BOTH_REPORTS.len());
 }
 
-// Where the report of a call can't be written, no other call is made: what goes out is the first call, and that the host
-// is done.
+// Where the report of a call can't be written, no other call is made: what goes out is the first call, and that the
+// host is done.
 #[test]
 fn no_call_is_made_after_a_failed_write(rt: HostRuntime) {
     for room in 0..REPORT.len() {

@@ -103,8 +103,8 @@ fn is_refused(answer: &Result<Finished, RunFault>) -> bool {
     matches!(answer, Err(RunFault::Engine(EngineFault::Memory)))
 }
 
-// Nothing of a call is written where memory is refused for it. Where there is enough to start it, there is enough to resume
-// it.
+// Nothing of a call is written where memory is refused for it. Where there is enough to start it, there is enough to
+// resume it.
 #[test]
 fn a_resumed_run_where_memory_ends(rt: HostRuntime) -> Result<(), Fail> {
     let whole = b"resume 0 begun 1\nw 20000000 written\nend all 1\n".as_slice();

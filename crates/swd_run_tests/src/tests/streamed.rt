@@ -1,5 +1,5 @@
-//! Reports that are written while their calls go on. Each read of address 0 is three requests after the nine of the opening,
-//! and its line has 20 bytes.
+//! Reports that are written while their calls go on. Each read of address 0 is three requests after the nine of the
+//! opening, and its line has 20 bytes.
 ghost use Rattle.std.specs.Prelude.{IfOk};
 ghost use Rattle.swd_target.specs.Marks.{IsLegalPlan};
 
@@ -42,8 +42,8 @@ impl<'a, W: Wire> Wire for Asked<'a, W> {
     }
 }
 
-// Notes at each write how many requests there were, and how many bytes it was given. Fails at one write, and takes all at
-// the others.
+// Notes at each write how many requests there were, and how many bytes it was given. Fails at one write, and takes all
+// at the others.
 #[derive(Drop)]
 pub(super) struct Watching<'a> {
     pub(super) asked: &'a Cell<u64>,
@@ -176,8 +176,8 @@ fn the_lines_of_1024_answers_are_written_while_the_call_goes_on(
     Ok(())
 }
 
-// The acknowledgement of the DRW request of the read at index 1050 is lost. The call is resumed with an opening, and with
-// this read.
+// The acknowledgement of the DRW request of the read at index 1050 is lost. The call is resumed with an opening, and
+// with this read.
 #[test]
 fn a_resumed_call_is_written_while_it_goes_on(rt: HostRuntime) -> Result<(), Fail> {
     let script = reads(rt.alloc(), 1100, b"".as_slice())?;

@@ -1,6 +1,6 @@
-//! Traces that are written while their calls go on. The first call and each resumed one begin with a line reset, whose ones,
-//! switch, ones and zeros are four items. Each request is one item, after which no zeros come but those after the call's
-//! last one.
+//! Traces that are written while their calls go on. The first call and each resumed one begin with a line reset, whose
+//! ones, switch, ones and zeros are four items. Each request is one item, after which no zeros come but those after the
+//! call's last one.
 
 use super::TRIES;
 use super::expect::{expect_at, expect_eq_at};
@@ -86,8 +86,8 @@ fn run_at(
     })
 }
 
-// How many reads the first call has, what follows it in the script, how many requests the plan leaves clean before a lost
-// acknowledgement, and after how many requests the trace is written.
+// How many reads the first call has, what follows it in the script, how many requests the plan leaves clean before a
+// lost acknowledgement, and after how many requests the trace is written.
 type Row = (
     &'static str,
     usize,
@@ -202,8 +202,8 @@ fn a_trace_that_fails_in_a_call(rt: HostRuntime) -> Result<(), Fail> {
     Ok(())
 }
 
-// No further call is made, and the trace has the call whose report fails: 4 items of its line reset, 39 requests, and the
-// zeros at its end.
+// No further call is made, and the trace has the call whose report fails: 4 items of its line reset, 39 requests, and
+// the zeros at its end.
 #[test]
 fn the_trace_of_a_call_whose_report_fails(rt: HostRuntime) -> Result<(), Fail> {
     let script = reads(rt.alloc(), 10, b"next\nr 0\n".as_slice())?;

@@ -42,8 +42,8 @@ const PLAIN: Row = Row {
     report: b"",
 };
 
-// The first read takes twelve requests: the nine of the opening, TAR, DRW and RDBUFF. A further one takes the last three.
-// The eleventh request is the DRW request of the first read, the fourteenth that of the second.
+// The first read takes twelve requests: the nine of the opening, TAR, DRW and RDBUFF. A further one takes the last
+// three. The eleventh request is the DRW request of the first read, the fourteenth that of the second.
 const LOST_FIRST: &[u8] = b".\n.\n.\n.\n.\n.\n.\n.\n.\n.\nmute 0\n";
 
 const LOST_SECOND: &[u8] = b".\n.\n.\n.\n.\n.\n.\n.\n.\n.\n.\n.\n.\nmute 0\n";
