@@ -120,11 +120,27 @@ pub(crate) fn wanted_total<A: Allocator>(run: &RunLine, batches: &[Batch<A>]) ->
     }
 }
 
+// The pace of a run, and where it is said.
+#[derive(Drop)]
+struct ToldPace<'a, E, C> {
+    errors: &'a mut E,
+    clock: &'a C,
+    pace: Pace,
+}
+
 // Returns the pace of a run that starts now with so many accesses. Returns `None` without a number, or if the clock
 // can't be read.
-fn pace_from<C: Clock>(clock: &C, total: Option<u64>) -> Option<Pace> {
-    let total = total?;
-    Some(Pace::new(total, clock.millis()?))
+fn pace_from<'a, E, C: Clock>(
+    errors: &'a mut E,
+    clock: &'a C,
+    total: Option<u64>,
+) -> Option<ToldPace<'a, E, C>> {
+    let pace = Pace::new(total?, clock.millis()?);
+    Some(ToldPace {
+        errors,
+        clock,
+        pace,
+    })
 }
 
 /// A writer of a run's report, which passes it on to another writer. It says on standard error, at most once a second,
@@ -132,10 +148,8 @@ fn pace_from<C: Clock>(clock: &C, total: Option<u64>) -> Option<Pace> {
 #[derive(Drop)]
 pub(crate) struct Progress<'a, O, E, C> {
     pub(crate) report: &'a mut O,
-    errors: &'a mut E,
-    clock: &'a C,
     // The pace of the run, if it is to be said, and the clock can be read.
-    pace: Option<Pace>,
+    told: Option<ToldPace<'a, E, C>>,
 }
 
 impl<'a, O: Write, E: Write, C: Clock> Progress<'a, O, E, C> {
@@ -149,13 +163,8 @@ impl<'a, O: Write, E: Write, C: Clock> Progress<'a, O, E, C> {
         ensures same { result.report.ghost_name ≡ report.entry.ghost_name }
         ensures report { result.report.now ≡ report.old }
     {
-        let pace = pace_from(clock, total);
-        Progress {
-            report,
-            errors,
-            clock,
-            pace,
-        }
+        let told = pace_from(errors, clock, total);
+        Progress { report, told }
     }
 
     // Passes the next bytes of the report, and prints a line if a second has passed since the last one.
@@ -163,17 +172,17 @@ impl<'a, O: Write, E: Write, C: Clock> Progress<'a, O, E, C> {
         ensures same { self.new.report.ghost_name ≡ self.old.report.ghost_name }
         ensures report { self.new.report.now ≡ self.old.report.now }
     {
-        let Some(pace) = &mut self.pace else {
+        let Some(told) = &mut self.told else {
             return;
         };
-        pace.lines.pass(bytes);
-        let Some(time) = self.clock.millis() else {
+        told.pace.lines.pass(bytes);
+        let Some(time) = told.clock.millis() else {
             return;
         };
-        if let Some(Said { done, rate }) = pace.say(time) {
-            let total = pace.total;
+        if let Some(Said { done, rate }) = told.pace.say(time) {
+            let total = told.pace.total;
             let _ = writeln!(
-                self.errors,
+                told.errors,
                 "swd: {done} of {total} accesses, {rate} a second"
             );
         }

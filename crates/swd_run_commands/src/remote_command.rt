@@ -194,8 +194,7 @@ fn run_paced<
         mut records,
     } = files;
     let total = wanted_total(run, script.batches.as_slice());
-    let errors = &mut *console.errors;
-    let mut report = Progress::new(&mut file, &mut *errors, console.clock, total);
+    let mut report = Progress::new(&mut file, &mut *console.errors, console.clock, total);
     let (answer, line) = run_remote_script::<P, _, _, _, _, _>(
         console.alloc,
         &script,
@@ -206,6 +205,7 @@ fn run_paced<
         &mut report,
         &mut records,
     );
+    drop(report);
     let files = RemoteFiles {
         report: file,
         records,
@@ -214,6 +214,11 @@ fn run_paced<
         Ok(finished) => (Ok(finished), line, files),
         Err(fault) => (Err(RemoteFault::Engine(fault)), line, files),
     }
+}
+
+// Returns the writer of a report to standard error.
+fn errors_writer<M, E: Write>(errors: &mut E) -> Watched<Destination<M, &mut E>> {
+    Watched::new(Destination::Errors(errors))
 }
 
 // Runs the script, and writes its report to standard error.
@@ -241,8 +246,7 @@ fn report_to_errors<
 {
     let (mut script, mut records) = (script, records);
     let (tries, resumes) = (run.tries, run.resumes);
-    let errors = &mut *console.errors;
-    let mut report = Watched::new(&mut *errors);
+    let mut report = errors_writer::<T, E>(&mut *console.errors);
     let (answer, line) = run_remote::<P, _, _, _, _, _, _>(
         console.alloc,
         &mut script,
@@ -253,8 +257,9 @@ fn report_to_errors<
         &mut report,
         &mut records,
     );
-    let report = Stream::written(ERRORS, &report);
-    let streams = remote_streams(run, report, &records, &script);
+    let written = Stream::written(ERRORS, &report);
+    drop(report);
+    let streams = remote_streams(run, written, &records, &script);
     let status = reached_status(
         console.errors,
         run,
