@@ -120,27 +120,11 @@ pub(crate) fn wanted_total<A: Allocator>(run: &RunLine, batches: &[Batch<A>]) ->
     }
 }
 
-// The pace of a run, and where it is said.
-#[derive(Drop)]
-struct ToldPace<'a, E, C> {
-    errors: &'a mut E,
-    clock: &'a C,
-    pace: Pace,
-}
-
 // Returns the pace of a run that starts now with so many accesses. Returns `None` without a number, or if the clock
 // can't be read.
-fn pace_from<'a, E, C: Clock>(
-    errors: &'a mut E,
-    clock: &'a C,
-    total: Option<u64>,
-) -> Option<ToldPace<'a, E, C>> {
-    let pace = Pace::new(total?, clock.millis()?);
-    Some(ToldPace {
-        errors,
-        clock,
-        pace,
-    })
+fn pace_from<C: Clock>(clock: &C, total: Option<u64>) -> Option<Pace> {
+    let total = total?;
+    Some(Pace::new(total, clock.millis()?))
 }
 
 /// A writer of a run's report, which passes it on to another writer. It says on standard error, at most once a second,
@@ -148,8 +132,10 @@ fn pace_from<'a, E, C: Clock>(
 #[derive(Drop)]
 pub(crate) struct Progress<'a, O, E, C> {
     pub(crate) report: &'a mut O,
+    errors: &'a mut E,
+    clock: &'a C,
     // The pace of the run, if it is to be said, and the clock can be read.
-    told: Option<ToldPace<'a, E, C>>,
+    pace: Option<Pace>,
 }
 
 impl<'a, O: Write, E: Write, C: Clock> Progress<'a, O, E, C> {
@@ -163,8 +149,13 @@ impl<'a, O: Write, E: Write, C: Clock> Progress<'a, O, E, C> {
         ensures same { result.report.ghost_name ≡ report.entry.ghost_name }
         ensures report { result.report.now ≡ report.old }
     {
-        let told = pace_from(errors, clock, total);
-        Progress { report, told }
+        let pace = pace_from(clock, total);
+        Progress {
+            report,
+            errors,
+            clock,
+            pace,
+        }
     }
 
     // Passes the next bytes of the report, and prints a line if a second has passed since the last one.
@@ -172,17 +163,17 @@ impl<'a, O: Write, E: Write, C: Clock> Progress<'a, O, E, C> {
         ensures same { self.new.report.ghost_name ≡ self.old.report.ghost_name }
         ensures report { self.new.report.now ≡ self.old.report.now }
     {
-        let Some(told) = &mut self.told else {
+        let Some(pace) = &mut self.pace else {
             return;
         };
-        told.pace.lines.pass(bytes);
-        let Some(time) = told.clock.millis() else {
+        pace.lines.pass(bytes);
+        let Some(time) = self.clock.millis() else {
             return;
         };
-        if let Some(Said { done, rate }) = told.pace.say(time) {
-            let total = told.pace.total;
+        if let Some(Said { done, rate }) = pace.say(time) {
+            let total = pace.total;
             let _ = writeln!(
-                told.errors,
+                self.errors,
                 "swd: {done} of {total} accesses, {rate} a second"
             );
         }

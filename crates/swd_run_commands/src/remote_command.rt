@@ -150,6 +150,16 @@ fn report_to_file<
     (status, line)
 }
 
+// Returns the writer of a report to a file, which says on standard error how far the run is.
+fn paced_writer<'a, M: Write, T, E: Write, C: Clock>(
+    file: &'a mut M,
+    errors: &'a mut E,
+    clock: &'a C,
+    total: Option<u64>,
+) -> Destination<Progress<'a, M, E, C>, T> {
+    Destination::File(Progress::new(file, errors, clock, total))
+}
+
 // Reads the script and runs it, as `swd_ends::run_remote` does. If the arguments ask for that, says on standard error
 // how far the run is. No contract knows what the report's file has.
 fn run_paced<
@@ -194,7 +204,12 @@ fn run_paced<
         mut records,
     } = files;
     let total = wanted_total(run, script.batches.as_slice());
-    let mut report = Progress::new(&mut file, &mut *console.errors, console.clock, total);
+    let mut report = paced_writer::<M, T, E, C>(
+        &mut file,
+        &mut *console.errors,
+        console.clock,
+        total,
+    );
     let (answer, line) = run_remote_script::<P, _, _, _, _, _>(
         console.alloc,
         &script,

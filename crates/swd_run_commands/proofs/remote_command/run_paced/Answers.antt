@@ -25,7 +25,7 @@ returns-in-Ok-answer g c =
         ran = subst (λ answer. RanRemoteEndScript g.P.Story.at c.args.run.now.tries c.args.run.now.resumes
             (CommandWentOver g.I.Read.remaining g.O.Write.contents (g.O.Write.contents c.args.output)
             (g.I.Read.remaining c.args.input) ran.result.1) (read_script_meaning c.in-Ok.script).batches answer
-            (g.M.Write.contents c.new-report.result.report.now) (g.M.Write.contents ran.new.report.report.now)
+            _ _
             (run_files_of g.T.Write.contents c.args.files.records)
             (run_files_of g.T.Write.contents ran.new.records))
             c.in-Ok-answer.is ran.ensures;
@@ -46,7 +46,7 @@ returns g c =
         ran = subst (λ answer. RanRemoteEndScript g.P.Story.at c.args.run.now.tries c.args.run.now.resumes
             (CommandWentOver g.I.Read.remaining g.O.Write.contents (g.O.Write.contents c.args.output)
             (g.I.Read.remaining c.args.input) ran.result.1) (read_script_meaning c.in-Ok.script).batches answer
-            (g.M.Write.contents c.new-report.result.report.now) (g.M.Write.contents ran.new.report.report.now)
+            _ _
             (run_files_of g.T.Write.contents c.args.files.records)
             (run_files_of g.T.Write.contents ran.new.records))
             c.in-Err-answer.is ran.ensures;
