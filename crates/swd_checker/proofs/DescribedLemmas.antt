@@ -1,5 +1,5 @@
 -- What a world describes remains described: completion, idle cycles, line resets, WAIT and FAULT.
-use Rattle.std.proofs.Common.{◌≡◌, ◌≢◌, ◌+◌, ◌*◌, ◌%◌, ◌<◌, ◌≤◌, ℕ, Bool, true, false, refl, sym, ap, subst, inl, inr}
+use Rattle.std.proofs.Common.{◌≡◌, ◌≢◌, ◌+◌, ◌*◌, ◌%◌, ◌≤◌, ℕ, Bool, true, false, refl, sym, ap, subst, inl, inr}
 use Rattle.std.proofs.Common.{arith, ◌∙◌}
 use Rattle.std.specs.Prelude.{Option, Some, None, ◌||◌, ◌&&◌, ◌==◌, not, is_some, if◌then◌else◌, nat_lt, unwrap_or}
 use Rattle.std.specs.Option.{option_map, option_and_then}
@@ -10,7 +10,7 @@ use Rattle.swd_port.specs.Completion.{port_completion, port_tar_next_address, pe
 use Rattle.swd_port.specs.Completion.{tar_after_pending, buffer_after_pending}
 use Rattle.swd_port.specs.Leading.{PortLeads, port_after_lead, port_line_awaits}
 use Rattle.swd_port.specs.Answers.{is_port_power_there, is_port_unpowered}
-use Rattle.swd_port.specs.Asking.{is_port_posted, port_has_power, port_after_wait, port_after_fault}
+use Rattle.swd_port.specs.Asking.{is_port_posted, port_after_wait, port_after_fault}
 use Rattle.swd_port.proofs.CompletionLaws.{no_pending_same_target, port_completion_keeps_fact, port_kept}
 use Rattle.swd_checker.specs.Worlds.{World, Transfer, Tar, TarUnknown, TarFrom, Held, checked_tar_incremented}
 use Rattle.swd_checker.specs.Worlds.{checked_buffer_moved, world_success_of, world_succeeded, world_failed}

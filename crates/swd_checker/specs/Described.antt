@@ -1,6 +1,6 @@
 -- The states of the port model that a world describes.
 use Rattle.std.specs.Prelude.{ℕ, ◌≡◌, ◌≢◌, ◌<◌, ◌≤◌, ◌+◌, ◌*◌, ◌^◌, ◌==◌, Bool, true, false, if◌then◌else◌, Option}
-use Rattle.std.specs.Prelude.{Some, None, is_some, bit_xor}
+use Rattle.std.specs.Prelude.{Some, is_some, bit_xor}
 use Rattle.std.specs.Option.{option_map}
 use Rattle.swd_port.specs.Registers.{register_bit, csw_of}
 use Rattle.swd_port.specs.Port.{Target, PowerUp, Late, Seen, Drw, Reads, Writes, port_selects_mem_ap}

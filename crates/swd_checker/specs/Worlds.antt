@@ -10,7 +10,7 @@ pub use Rattle.swd_checker.specs.declared.tar.Tar.TheVariants.{Unknown as TarUnk
 pub use Rattle.swd_checker.specs.declared.held.Held.{Held}
 pub use Rattle.swd_checker.specs.declared.held.Held.TheVariants.{Unknown as HeldUnknown, Word as HeldWord}
 pub use Rattle.swd_checker.specs.declared.held.Held.TheVariants.{Csw as HeldCsw, Seen as HeldSeen}
-use Rattle.std.specs.Prelude.{ℕ, ◌+◌, ◌*◌, ◌%◌, ◌&&◌, ◌||◌, not, Bool, true, false, if◌then◌else◌, Option, Some, None}
+use Rattle.std.specs.Prelude.{◌+◌, ◌*◌, ◌%◌, ◌&&◌, ◌||◌, not, Bool, true, false, if◌then◌else◌, Option, Some, None}
 use Rattle.std.specs.Prelude.{nat_lt}
 use Rattle.swd_port.specs.Port.{Register, Fresh}
 use Rattle.swd_port.specs.Answers.{is_port_unpowered}

@@ -41,7 +41,7 @@ impl Near {
         if changed == 0 {
             return self.places >> PARITY & 1 == 1;
         }
-        changed & (changed - 1) == 0 && self.places >> changed.trailing_zeros() & 1 == 1
+        changed & (changed - 1) == 0 && self.places >> changed.trailing_zeros().min(31) & 1 == 1
     }
 
     /// Returns the word with the bit at one place changed, if that place is one of the set.

@@ -1,4 +1,6 @@
 //! The list of worlds.
+ghost use Rattle.std.specs.Prelude.{◌<◌, IfSome};
+ghost use Rattle.arrayvec.specs.ArrayVec.{array_vec_len};
 
 use crate::world::World;
 use arrayvec::ArrayVec;
@@ -67,7 +69,9 @@ impl Worlds {
     }
 
     // Returns the first world that joins with this one, and what they are together.
-    fn joining(&self, added: &Kept) -> Option<(usize, Kept)> {
+    fn joining(&self, added: &Kept) -> Option<(usize, Kept)>
+        ensures { IfSome result (λ found. found.0 < array_vec_len self.now.kept) }
+    {
         for place in 0..self.kept.len() {
             let kept = self.kept[place];
             if let Some(world) = kept.world.joined(added.world) {

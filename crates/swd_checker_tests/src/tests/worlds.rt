@@ -3,6 +3,14 @@ use super::{UP, watch};
 use std::test::Fail;
 use swd_checker::{CheckStart, Checker, Verdict};
 
+// The bytes of a checker, with its 64 worlds.
+const CHECKER_BYTES: usize = std::mem::size_of::<Checker>();
+
+#[test]
+fn a_checker_is_smaller_than_eight_kilobytes(rt: HostRuntime) {
+    assert!(rt; CHECKER_BYTES < 8192);
+}
+
 // The lines so many times over.
 fn repeated(text: &mut String<std::alloc::Global>, lines: &str, times: usize) -> Result<(), Fail> {
     for _ in 0..times {
