@@ -1,9 +1,15 @@
--- What a world describes remains described: completion, idle cycles, line resets, WAIT and FAULT.
+-- What a world describes remains described: completion, idle cycles, line resets, WAIT, FAULT and damaged data.
 use Rattle.std.proofs.Common.{◌≡◌, ◌≢◌, ◌+◌, ◌*◌, ◌%◌, ◌≤◌, ℕ, Bool, true, false, refl, sym, ap, subst, inl, inr}
 use Rattle.std.proofs.Common.{arith, ◌∙◌}
 use Rattle.std.specs.Prelude.{Option, Some, None, ◌||◌, ◌&&◌, ◌==◌, not, is_some, if◌then◌else◌, nat_lt, unwrap_or}
 use Rattle.std.specs.Option.{option_map, option_and_then}
-use Rattle.swd_port.specs.Port.{Port, Target, Drw, Reads, Writes, Register, Fresh, PowerUp, Unseen, Late, Seen}
+use Rattle.swd_port.specs.declared.register.Register.{Register}
+use Rattle.swd_port.specs.declared.state.Drw.{Drw}
+use Rattle.swd_port.specs.declared.state.Drw.TheVariants.{Reads, Writes}
+use Rattle.swd_port.specs.declared.state.Reset.TheVariants.{Fresh}
+use Rattle.swd_port.specs.declared.state.PowerUp.{PowerUp}
+use Rattle.swd_port.specs.declared.state.PowerUp.TheVariants.{Unseen, Late, Seen}
+use Rattle.swd_port.specs.Port.{Port, Target}
 use Rattle.swd_port.specs.Choices.{Choice}
 use Rattle.swd_port.specs.Bus.{Bus}
 use Rattle.swd_port.specs.Completion.{port_completion, port_tar_next_address, pending_fails}
@@ -11,14 +17,17 @@ use Rattle.swd_port.specs.Completion.{tar_after_pending, buffer_after_pending}
 use Rattle.swd_port.specs.Leading.{PortLeads, port_after_lead, port_line_awaits}
 use Rattle.swd_port.specs.Answers.{is_port_power_there, is_port_unpowered}
 use Rattle.swd_port.specs.Asking.{is_port_posted, port_after_wait, port_after_fault}
+use Rattle.swd_port.specs.Moving.{Damaged, port_after_bits}
 use Rattle.swd_port.proofs.CompletionLaws.{no_pending_same_target, port_completion_keeps_fact, port_kept}
 use Rattle.swd_checker.specs.Worlds.{World, Transfer, Tar, TarUnknown, TarFrom, Held, checked_tar_incremented}
 use Rattle.swd_checker.specs.Worlds.{checked_buffer_moved, world_success_of, world_succeeded, world_failed}
 use Rattle.swd_checker.specs.Worlds.{world_after_reset, world_after_wait, world_after_fault, is_checked_power_there}
+use Rattle.swd_checker.specs.Worlds.{world_after_damage}
 use Rattle.swd_checker.specs.Worlds.{Power, PowerOff, PowerUnseen, PowerLate, PowerSeen}
 use Rattle.swd_checker.specs.Described.{CheckedTar, CheckedHeld, CheckedPower, checked_transfer_of, IsWorldNow, WorldDescribes}
 use Rattle.swd_checker.specs.Described.{now, done, failed}
 use Rattle.swd_checker.specs.Laws.{WorldDescribesPort, WorldAtCompletion, WorldAtIdle, WorldAtReset, WorldAtWait, WorldAtFault}
+use Rattle.swd_checker.specs.Laws.{WorldAtDamage}
 
 -- COMPLETION
 no_transfer : (drw : Option Drw) → option_map checked_transfer_of drw ≡ None → drw ≡ None
@@ -283,12 +292,45 @@ fault_now w r port x h = record {
   last_returned = h.last_returned;
 }
 
-nothing_pends : (w : World) (x : Target) → x.pending ≡ None → IsWorldNow w x → w.pending ≡ None
-nothing_pends w x none h = sym h.pending ∙ ap (option_map checked_transfer_of) none
+-- a world of a target with nothing pending
+pub world_pends_nothing : (w : World) (x : Target) → x.pending ≡ None → IsWorldNow w x → w.pending ≡ None
+world_pends_nothing w x none h = sym h.pending ∙ ap (option_map checked_transfer_of) none
 
 -- the law of FAULT
 pub world_at_fault : WorldAtFault
 world_at_fault w r port x none (now h) = inl (fault_now (world_succeeded w) r port x
-    (subst (λ p. IsWorldNow (world_success_of p w) x) (sym (nothing_pends w x none h)) h))
+    (subst (λ p. IsWorldNow (world_success_of p w) x) (sym (world_pends_nothing w x none h)) h))
 world_at_fault w r port x none (done pends h) = inl (fault_now (world_succeeded w) r port x h)
 world_at_fault w r port x none (failed pends h) = inr (pends, fault_now (world_failed w) r port x h)
+
+-- DAMAGED DATA
+damage_now : (w : World) (refuses : Bool) (x : Target) → IsWorldNow w x
+    → IsWorldNow (world_after_damage w) (port_after_bits refuses Damaged x)
+damage_now w refuses x h = record {
+  reset = h.reset;
+  sticky_error = h.sticky_error;
+  write_error = refl;
+  read_ok = h.read_ok;
+  debug = h.debug;
+  system = h.system;
+  mem_ap = h.mem_ap;
+  bank0 = h.bank0;
+  increments = h.increments;
+  pending = h.pending;
+  tar = h.tar;
+  buffer = h.buffer;
+  last_returned = h.last_returned;
+}
+
+damage_success : (w : World) (pending : Option Transfer)
+    → world_after_damage (world_success_of pending w) ≡ world_success_of pending (world_after_damage w)
+damage_success w None = refl
+damage_success w (Some transfer) = refl
+
+-- the law of damaged data
+pub world_at_damage : WorldAtDamage
+world_at_damage w refuses x (now h) = now (damage_now w refuses x h)
+world_at_damage w refuses x (done pends h) =
+    done pends (subst (λ v. IsWorldNow v (port_after_bits refuses Damaged x)) (damage_success w w.pending)
+    (damage_now (world_succeeded w) refuses x h))
+world_at_damage w refuses x (failed pends h) = failed pends (damage_now (world_failed w) refuses x h)

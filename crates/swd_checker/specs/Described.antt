@@ -3,7 +3,11 @@ use Rattle.std.specs.Prelude.{ℕ, ◌≡◌, ◌≢◌, ◌<◌, ◌≤◌, ◌
 use Rattle.std.specs.Prelude.{Some, is_some, bit_xor}
 use Rattle.std.specs.Option.{option_map}
 use Rattle.swd_port.specs.Registers.{register_bit, csw_of}
-use Rattle.swd_port.specs.Port.{Target, PowerUp, Late, Seen, Drw, Reads, Writes, port_selects_mem_ap}
+use Rattle.swd_port.specs.declared.state.PowerUp.{PowerUp}
+use Rattle.swd_port.specs.declared.state.PowerUp.TheVariants.{Late, Seen}
+use Rattle.swd_port.specs.declared.state.Drw.{Drw}
+use Rattle.swd_port.specs.declared.state.Drw.TheVariants.{Reads, Writes}
+use Rattle.swd_port.specs.Port.{Target, port_selects_mem_ap}
 use Rattle.swd_checker.specs.declared.near.Near.{Near}
 use Rattle.swd_checker.specs.Worlds.{World, Power, PowerOff, PowerUnseen, PowerLate, PowerSeen, Transfer, TransferRead}
 use Rattle.swd_checker.specs.Worlds.{TransferWrite, Tar, TarUnknown, TarFrom, Held, HeldUnknown, HeldWord, HeldCsw}

@@ -12,9 +12,29 @@ pub use Rattle.swd_checker.specs.declared.held.Held.TheVariants.{Unknown as Held
 pub use Rattle.swd_checker.specs.declared.held.Held.TheVariants.{Csw as HeldCsw, Seen as HeldSeen}
 use Rattle.std.specs.Prelude.{◌+◌, ◌*◌, ◌%◌, ◌&&◌, ◌||◌, not, Bool, true, false, if◌then◌else◌, Option, Some, None}
 use Rattle.std.specs.Prelude.{nat_lt}
-use Rattle.swd_port.specs.Port.{Register, Fresh}
+use Rattle.swd_port.specs.declared.register.Register.{Register}
+use Rattle.swd_port.specs.declared.state.Reset.TheVariants.{Unreset, Fresh}
 use Rattle.swd_port.specs.Answers.{is_port_unpowered}
 use Rattle.swd_port.specs.Asking.{is_port_posted}
+
+-- a target in its reset state
+abbrev pub world_made : World
+world_made = record {
+  reset = Unreset;
+  sticky_error = false;
+  write_error = false;
+  read_ok = false;
+  debug = PowerOff;
+  system = PowerOff;
+  mem_ap = true;
+  bank0 = true;
+  increments = false;
+  pending = None;
+  awaits = false;
+  tar = TarFrom 0 0;
+  buffer = HeldUnknown;
+  last_returned = HeldUnknown;
+}
 
 -- TAR after an increment: at the end of a kilobyte it is unknown
 abbrev pub checked_tar_incremented : Tar → Tar
@@ -63,6 +83,10 @@ world_after_fault r ap w = record w {
   read_ok = w.read_ok && not (is_port_posted r);
   sticky_error = w.sticky_error || is_port_unpowered ap (is_checked_power_there w.debug);
 }
+
+-- OK to a request that can be refused: the pending transfer succeeded, and an access port has power
+abbrev pub world_confirmed : Bool → World → World
+world_confirmed ap w = record (world_succeeded w) { debug = if ap then PowerSeen else (world_succeeded w).debug }
 
 -- a write's data arrived damaged
 abbrev pub world_after_damage : World → World

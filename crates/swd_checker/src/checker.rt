@@ -33,7 +33,8 @@ pub enum Verdict {
     Crowded { place: u64 },
 }
 
-/// Decides whether some run of the port model explains the items of a trace. It allocates nothing.
+/// Decides whether some run of the port model explains the items of a trace. It allocates nothing. What it says is only
+/// tested: no contract relates its verdict to the runs of the model. `laws` has what is proved of the worlds.
 ///
 /// Junk bits begin a gap, except for up to 34 after a lost acknowledgement. In a gap nothing is checked, up to the next
 /// line reset. After a gap, after `Crowded`, and where the target's first state is unknown, the worlds may be too many to
@@ -112,7 +113,7 @@ impl Checker {
         }
     }
 
-    /// Returns what the items so far show.
+    /// Returns what the items so far show, which is only tested.
     pub fn verdict(&self) -> Verdict {
         if let Some((place, rule)) = self.broken {
             return Verdict::Breaks { place, rule };

@@ -8,9 +8,9 @@
 //! ```
 //! let mut checker = Checker::new(CheckStart::Made);
 //! let read = Request { ap: false, read: true, addr: Reg4::R4 };
-//! checker.watch(&Item::Reset(50));
+//! checker.watch(&Item::Reset(50), 0);
 //! // a read of CTRL/STAT was answered, though DPIDR wasn't read since the line reset
-//! checker.watch(&Item::Tx(Tx { request: read, result: TxEnd::Wait }));
+//! checker.watch(&Item::Tx(Tx { request: read, result: TxEnd::Wait }), 50);
 //! assert_eq!(rt; checker.verdict(), Verdict::Breaks { place: 50, rule: Rule::Silence });
 //! ```
 #![tactic(auto)]

@@ -1,4 +1,5 @@
 //! A word of which one bit of its data phase may have been changed.
+ghost use Rattle.std.specs.Prelude.{◌<◌};
 
 /// The number of places of a data phase: 32 of the word, and its parity.
 const PLACES: u8 = 33;

@@ -346,15 +346,7 @@ impl Asked {
         if is_exempt(self.register) {
             return Some(self.world);
         }
-        let world = self.world.succeeded();
-        Some(World {
-            debug: if self.request.ap {
-                Power::Seen
-            } else {
-                world.debug
-            },
-            ..world
-        })
+        Some(self.world.confirmed(self.request.ap))
     }
 
     // Counts one request more that was damaged or lost.

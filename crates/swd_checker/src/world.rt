@@ -2,6 +2,7 @@
 ghost use Rattle.std.specs.Prelude.{◌≡◌};
 ghost use Rattle.swd_checker.specs.Worlds.{world_succeeded, world_failed, world_after_reset, world_after_wait};
 ghost use Rattle.swd_checker.specs.Worlds.{world_after_fault, world_after_damage, is_checked_power_there};
+ghost use Rattle.swd_checker.specs.Worlds.{world_made, world_confirmed};
 
 use crate::held::Held;
 use crate::register::is_posted;
@@ -96,7 +97,9 @@ impl Power {
 
 impl World {
     /// Returns the state of a target before any line reset.
-    pub(crate) fn made() -> World {
+    pub(crate) fn made() -> World
+        ensures { result ≡ world_made }
+    {
         World {
             reset: Reset::Unreset,
             sticky_error: false,
@@ -145,6 +148,18 @@ impl World {
             buffer: Held::Unknown,
             ..self
         }
+    }
+
+    /// Returns the world once OK was answered to a request that can be refused, before what the request does. It is one of
+    /// an access port, or of the debug port.
+    pub(crate) fn confirmed(self, ap: bool) -> World
+        ensures { result ≡ world_confirmed ap self }
+    {
+        let mut now = self.succeeded();
+        if ap {
+            now.debug = Power::Seen;
+        }
+        now
     }
 
     /// Returns the world after a line reset.
