@@ -1,19 +1,17 @@
 -- What a world describes at first, and after OK to a request that can be refused.
-use Rattle.std.proofs.Common.{◌≡◌, ℕ, Bool, true, false, refl, sym, ap, subst, arith, ◌∙◌}
-use Rattle.std.specs.Prelude.{Option, Some, None, if◌then◌else◌}
+use Rattle.std.proofs.Common.{◌≡◌, Bool, true, false, refl, sym, subst, arith, ◌∙◌}
+use Rattle.std.specs.Prelude.{if◌then◌else◌}
 use Rattle.swd_port.specs.declared.register.Register.{Register}
 use Rattle.swd_port.specs.declared.register.Register.TheVariants.{DpidrRead, AbortWrite, CtrlStatRead, CtrlStatWrite}
 use Rattle.swd_port.specs.declared.register.Register.TheVariants.{SelectWrite, ResendRead, RdbuffRead, DpOtherRead}
 use Rattle.swd_port.specs.declared.register.Register.TheVariants.{DpIgnoredWrite, CswRead, CswWrite, TarRead, TarWrite}
 use Rattle.swd_port.specs.declared.register.Register.TheVariants.{DrwRead, DrwWrite, ApOtherRead, ApOtherWrite}
 use Rattle.swd_port.specs.declared.state.PowerUp.{PowerUp}
-use Rattle.swd_port.specs.declared.state.PowerUp.TheVariants.{Seen}
 use Rattle.swd_port.specs.Port.{Target}
 use Rattle.swd_port.specs.Answers.{is_exempt_register}
 use Rattle.swd_port.specs.Asking.{is_access_port_register, debug_up_after}
-use Rattle.swd_checker.specs.Worlds.{World, Power, PowerSeen, world_success_of, world_succeeded, world_failed}
-use Rattle.swd_checker.specs.Worlds.{world_confirmed}
-use Rattle.swd_checker.specs.Described.{CheckedPower, IsWorldNow, WorldDescribes, now, done, failed}
+use Rattle.swd_checker.specs.Worlds.{World, Power, PowerSeen, world_success_of, world_succeeded}
+use Rattle.swd_checker.specs.Described.{CheckedPower, IsWorldNow, now, done, failed}
 use Rattle.swd_checker.specs.Laws.{WorldAtMade, WorldAtOkay}
 use Rattle.swd_checker.proofs.DescribedLemmas.{world_pends_nothing}
 

@@ -1,6 +1,6 @@
 //! What is known of TAR.
 ghost use Rattle.std.specs.Prelude.{◌≡◌};
-ghost use Rattle.swd_checker.specs.Worlds.{checked_tar_incremented};
+ghost use Rattle.swd_checker.specs.Worlds.{checked_tar_incremented, TarFrom};
 
 /// The number of bytes across whose end a transfer address isn't known to be incremented.
 const KILOBYTE: u32 = 1024;
@@ -17,7 +17,9 @@ pub(crate) enum Tar {
 
 impl Tar {
     /// Returns exactly this address.
-    pub(crate) fn at(address: u32) -> Tar {
+    pub(crate) fn at(address: u32) -> Tar
+        ensures { result ≡ TarFrom address 0 }
+    {
         Tar::From {
             first: address,
             more: 0,
