@@ -1,0 +1,2 @@
+pub mod DescribedLemmas
+pub mod OkayLemmas

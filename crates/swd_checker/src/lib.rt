@@ -1,0 +1,32 @@
+//! Decides whether some run of the port model explains a trace: any bus, any damage of the wire, any choice that the
+//! model leaves to a target.
+//!
+//! A checker holds the *worlds* that the items so far leave: descriptions of the states in which the target may be. The
+//! bus behind the access port is any, so a world has no memory, and a constant number of fields. Where no world is left,
+//! no run explains the items.
+//!
+//! ```
+//! let mut checker = Checker::new(CheckStart::Made);
+//! let read = Request { ap: false, read: true, addr: Reg4::R4 };
+//! checker.watch(&Item::Reset(50), 0);
+//! // a read of CTRL/STAT was answered, though DPIDR wasn't read since the line reset
+//! checker.watch(&Item::Tx(Tx { request: read, result: TxEnd::Wait }), 50);
+//! assert_eq!(rt; checker.verdict(), Verdict::Breaks { place: 50, rule: Rule::Silence });
+//! ```
+#![tactic(auto)]
+
+mod answer;
+mod checker;
+mod held;
+pub mod laws;
+mod near;
+mod opening;
+mod register;
+mod rule;
+mod step;
+mod tar;
+mod world;
+mod worlds;
+
+pub use checker::{CheckStart, Checker, Verdict};
+pub use rule::Rule;

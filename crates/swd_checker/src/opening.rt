@@ -1,0 +1,153 @@
+//! What is known of a target before its worlds are few enough to be held.
+
+use crate::held::Held;
+use crate::step::selecting;
+use crate::tar::Tar;
+use crate::world::{Power, World};
+use crate::worlds::Worlds;
+use swd_bits::{Reg4, Request, Tx, TxEnd};
+use swd_port::Reset;
+
+/// What is known of a target at first.
+#[derive(Clone, Copy, Debug, PartialEq, Eq)]
+pub(crate) enum Opening {
+    /// Nothing: any state.
+    Anything,
+    /// SELECT is 0, and nothing is pending.
+    Resting,
+    /// The last write was SELECT, with this word. It was answered OK, and its data may have been damaged.
+    Selected(u32),
+    /// The worlds are held.
+    Over,
+}
+
+/// The states of a power that differ.
+const POWERS: [Power; 3] = [Power::Off, Power::Unseen, Power::Late];
+
+impl Opening {
+    /// Returns the worlds before this transaction, if they are few enough.
+    pub(crate) fn worlds_before(self, tx: &Tx) -> Option<Worlds> {
+        let TxEnd::Moved { word, parity_ok } = tx.result else {
+            return None;
+        };
+        match self {
+            Opening::Resting if parity_ok && is_status(tx.request) => Some(worlds_at_status(word)),
+            Opening::Selected(select) if !passes(tx.request, select) && !is_abort(tx.request) => {
+                Some(worlds_at_okay(select))
+            }
+            _ => None,
+        }
+    }
+
+    /// Returns what is known after a transaction.
+    pub(crate) fn after(self, tx: &Tx) -> Opening {
+        match tx.result {
+            TxEnd::Wait => self,
+            TxEnd::Moved { word, parity_ok } => self.after_word(tx.request, word, parity_ok),
+            TxEnd::Fault => {
+                if self == Opening::Resting {
+                    self
+                } else {
+                    Opening::Anything
+                }
+            }
+            TxEnd::NoAck(_) => self.after_other(tx.request),
+        }
+    }
+
+    // Returns what is known after OK and a data phase.
+    fn after_word(self, request: Request, word: u32, parity_ok: bool) -> Opening {
+        if is_select(request) && parity_ok {
+            return Opening::Selected(word);
+        }
+        match self {
+            Opening::Selected(select) if passes(request, select) => self,
+            _ => self.after_other(request),
+        }
+    }
+
+    // Returns what is known after a request that may have been accepted.
+    fn after_other(self, request: Request) -> Opening {
+        if self == Opening::Resting && !is_select(request) && !is_data(request) {
+            Opening::Resting
+        } else {
+            Opening::Anything
+        }
+    }
+}
+
+// Returns the worlds of a target at rest whose CTRL/STAT reads this word.
+fn worlds_at_status(word: u32) -> Worlds {
+    let mut worlds = Worlds::none();
+    for increments in [false, true] {
+        let world = World {
+            sticky_error: word >> 5 & 1 == 1,
+            read_ok: word >> 6 & 1 == 1,
+            write_error: word >> 7 & 1 == 1,
+            debug: Power::requested(word >> 28 & 1 == 1),
+            system: Power::requested(word >> 30 & 1 == 1),
+            increments,
+            ..unknown()
+        };
+        worlds.add(world, 0);
+    }
+    worlds
+}
+
+// Returns the worlds of a target that answers OK to a request that it may refuse, after SELECT was written: no flag is
+// set, so the write arrived, and nothing is pending.
+fn worlds_at_okay(select: u32) -> Worlds {
+    let mut worlds = Worlds::none();
+    for debug in POWERS {
+        for system in POWERS {
+            for increments in [false, true] {
+                for read_ok in [false, true] {
+                    let world = World {
+                        read_ok,
+                        debug,
+                        system,
+                        increments,
+                        ..selecting(unknown(), select)
+                    };
+                    worlds.add(world, 0);
+                }
+            }
+        }
+    }
+    worlds
+}
+
+// Returns a world that is live, with no flag set, nothing pending and SELECT 0, of which no word is known.
+fn unknown() -> World {
+    World {
+        reset: Reset::Live,
+        tar: Tar::Unknown,
+        buffer: Held::Unknown,
+        last_returned: Held::Unknown,
+        ..World::made()
+    }
+}
+
+// Returns whether OK to this request shows no flag and changes none, under this SELECT.
+fn passes(request: Request, select: u32) -> bool {
+    !request.ap
+        && request.read
+        && (request.addr == Reg4::R0 || (request.addr == Reg4::R4 && select & 15 == 0))
+}
+
+fn is_abort(request: Request) -> bool {
+    !request.ap && !request.read && request.addr == Reg4::R0
+}
+
+fn is_status(request: Request) -> bool {
+    !request.ap && request.read && request.addr == Reg4::R4
+}
+
+fn is_select(request: Request) -> bool {
+    !request.ap && !request.read && request.addr == Reg4::R8
+}
+
+// Returns whether the request may start a transfer.
+fn is_data(request: Request) -> bool {
+    request.ap && request.addr == Reg4::RC
+}

@@ -1,0 +1,256 @@
+//! Worlds: descriptions of the states in which a target may be.
+ghost use Rattle.std.specs.Prelude.{◌≡◌};
+ghost use Rattle.swd_checker.specs.Worlds.{world_succeeded, world_failed, world_after_reset, world_after_wait};
+ghost use Rattle.swd_checker.specs.Worlds.{world_after_fault, world_after_damage, is_checked_power_there};
+ghost use Rattle.swd_checker.specs.Worlds.{world_made, world_confirmed};
+
+use crate::held::Held;
+use crate::register::is_posted;
+use crate::tar::Tar;
+use swd_port::{Register, Reset};
+
+/// One of the powers that CTRL/STAT requests.
+#[derive(Clone, Copy, Debug, PartialEq, Eq)]
+pub(crate) enum Power {
+    /// It isn't requested.
+    Off,
+    /// It is requested, and whether it is acknowledged wasn't seen yet.
+    Unseen,
+    /// It is requested, and a read of CTRL/STAT found it not acknowledged yet.
+    Late,
+    /// It is requested and acknowledged.
+    Seen,
+}
+
+/// The direction of a transfer.
+#[derive(Clone, Copy, Debug, PartialEq, Eq)]
+pub(crate) enum Transfer {
+    Read,
+    Write,
+}
+
+/// States in which a target may be.
+#[derive(Clone, Copy, Debug, PartialEq, Eq)]
+pub(crate) struct World {
+    pub(crate) reset: Reset,
+    pub(crate) sticky_error: bool,
+    pub(crate) write_error: bool,
+    pub(crate) read_ok: bool,
+    pub(crate) debug: Power,
+    pub(crate) system: Power,
+    /// Whether SELECT names bank 0 of access port 0.
+    pub(crate) mem_ap: bool,
+    /// Whether DPBANKSEL is 0.
+    pub(crate) bank0: bool,
+    /// Whether AddrInc is single.
+    pub(crate) increments: bool,
+    /// The DRW transfer that was accepted. It may have taken effect already, or have met a bus error.
+    pub(crate) pending: Option<Transfer>,
+    /// Whether write data is awaited: the OK of a write wasn't seen.
+    pub(crate) awaits: bool,
+    pub(crate) tar: Tar,
+    pub(crate) buffer: Held,
+    pub(crate) last_returned: Held,
+}
+
+impl Power {
+    /// Returns whether it is requested.
+    pub(crate) fn is_on(self) -> bool {
+        !matches!(&self, Power::Off)
+    }
+
+    /// Returns whether an access port may work with it.
+    pub(crate) fn is_there(self) -> bool
+        ensures { result ≡ is_checked_power_there self }
+    {
+        matches!(&self, Power::Unseen | Power::Seen)
+    }
+
+    /// Returns the power where CTRL/STAT's request bit was written.
+    pub(crate) fn requested(on: bool) -> Power {
+        if on { Power::Unseen } else { Power::Off }
+    }
+
+    /// Returns the power once it was found acknowledged.
+    pub(crate) fn seen(self) -> Power {
+        if self.is_on() {
+            Power::Seen
+        } else {
+            Power::Off
+        }
+    }
+
+    /// Returns the power once it was found not acknowledged, if it may be.
+    pub(crate) fn late(self) -> Option<Power> {
+        if matches!(&self, Power::Unseen | Power::Late) {
+            Some(Power::Late)
+        } else {
+            None
+        }
+    }
+
+    /// Returns whether all that the other explains is explained by this.
+    pub(crate) fn covers(self, other: Power) -> bool {
+        self == other || (self == Power::Unseen && other == Power::Seen)
+    }
+}
+
+impl World {
+    /// Returns the state of a target before any line reset.
+    pub(crate) fn made() -> World
+        ensures { result ≡ world_made }
+    {
+        World {
+            reset: Reset::Unreset,
+            sticky_error: false,
+            write_error: false,
+            read_ok: false,
+            debug: Power::Off,
+            system: Power::Off,
+            mem_ap: true,
+            bank0: true,
+            increments: false,
+            pending: None,
+            awaits: false,
+            tar: Tar::at(0),
+            buffer: Held::Unknown,
+            last_returned: Held::Unknown,
+        }
+    }
+
+    /// Returns the world once the pending transfer succeeded.
+    pub(crate) fn succeeded(self) -> World
+        ensures { result ≡ world_succeeded self }
+    {
+        let mut now = self;
+        let Some(transfer) = self.pending else {
+            return now;
+        };
+        now.pending = None;
+        if self.increments {
+            now.tar = self.tar.incremented();
+        }
+        match transfer {
+            Transfer::Read => now.buffer = Held::Word,
+            Transfer::Write => {}
+        }
+        now
+    }
+
+    /// Returns the world once the pending transfer met a bus error.
+    pub(crate) fn failed(self) -> World
+        ensures { result ≡ world_failed self }
+    {
+        World {
+            pending: None,
+            sticky_error: true,
+            tar: Tar::Unknown,
+            buffer: Held::Unknown,
+            ..self
+        }
+    }
+
+    /// Returns the world once OK was answered to a request that can be refused, before what the request does. It is one of
+    /// an access port, or of the debug port.
+    pub(crate) fn confirmed(self, ap: bool) -> World
+        ensures { result ≡ world_confirmed ap self }
+    {
+        let mut now = self.succeeded();
+        if ap {
+            now.debug = Power::Seen;
+        }
+        now
+    }
+
+    /// Returns the world after a line reset.
+    pub(crate) fn after_reset(self) -> World
+        ensures { result ≡ world_after_reset self }
+    {
+        World {
+            reset: Reset::Fresh,
+            write_error: self.write_error || self.awaits,
+            awaits: false,
+            ..self
+        }
+    }
+
+    /// Returns the world after WAIT.
+    pub(crate) fn after_wait(self, register: Register) -> World
+        ensures { result ≡ world_after_wait register self }
+    {
+        World {
+            read_ok: self.read_ok && !is_posted(register),
+            ..self
+        }
+    }
+
+    /// Returns the world after FAULT. Nothing may be pending.
+    pub(crate) fn after_fault(self, register: Register, ap: bool) -> World
+        ensures { result ≡ world_after_fault register ap self }
+    {
+        World {
+            read_ok: self.read_ok && !is_posted(register),
+            sticky_error: self.sticky_error || (ap && !self.debug.is_there()),
+            ..self
+        }
+    }
+
+    /// Returns the world after a write whose data arrived damaged.
+    pub(crate) fn after_damage(self) -> World
+        ensures { result ≡ world_after_damage self }
+    {
+        World {
+            write_error: true,
+            ..self
+        }
+    }
+
+    /// Returns whether all that the other explains is explained by this.
+    pub(crate) fn covers(self, other: World) -> bool {
+        self.is_alike(other)
+            && self.debug.covers(other.debug)
+            && self.system.covers(other.system)
+            && self.tar.covers(other.tar)
+            && self.buffer.covers(other.buffer)
+            && self.last_returned.covers(other.last_returned)
+    }
+
+    /// Returns a world that explains exactly what these two do, if one of them explains all that the other does, or they
+    /// differ in neighbouring addresses of TAR alone.
+    pub(crate) fn joined(self, other: World) -> Option<World> {
+        if !self.is_alike(other) {
+            return None;
+        }
+        if self.covers(other) {
+            return Some(self);
+        }
+        if other.covers(self) {
+            return Some(other);
+        }
+        let moved = World {
+            tar: other.tar,
+            ..self
+        };
+        if moved != other {
+            return None;
+        }
+        let tar = match self.tar.joined(other.tar) {
+            Some(tar) => tar,
+            None => other.tar.joined(self.tar)?,
+        };
+        Some(World { tar, ..self })
+    }
+
+    // Returns whether the two may differ only in what one may cover of the other.
+    fn is_alike(self, other: World) -> bool {
+        let alike = World {
+            debug: other.debug,
+            system: other.system,
+            tar: other.tar,
+            buffer: other.buffer,
+            last_returned: other.last_returned,
+            ..self
+        };
+        alike == other
+    }
+}

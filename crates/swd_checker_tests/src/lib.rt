@@ -1,0 +1,5 @@
+//! The tests of the checker.
+#![tactic(auto)]
+
+#[cfg(test)]
+mod tests;
