@@ -24,9 +24,11 @@ use Rattle.swd_checker.specs.Worlds.{checked_buffer_moved, world_success_of, wor
 use Rattle.swd_checker.specs.Worlds.{world_after_reset, world_after_wait, world_after_fault, is_checked_power_there}
 use Rattle.swd_checker.specs.Worlds.{world_after_damage}
 use Rattle.swd_checker.specs.Worlds.{Power, PowerOff, PowerUnseen, PowerLate, PowerSeen}
-use Rattle.swd_checker.specs.Described.{CheckedTar, CheckedHeld, CheckedPower, checked_transfer_of, IsWorldNow, WorldDescribes}
+use Rattle.swd_checker.specs.Described.{CheckedTar, CheckedHeld, CheckedPower, checked_transfer_of, IsWorldNow}
+use Rattle.swd_checker.specs.Described.{WorldDescribes}
 use Rattle.swd_checker.specs.Described.{now, done, failed}
-use Rattle.swd_checker.specs.Laws.{WorldDescribesPort, WorldAtCompletion, WorldAtIdle, WorldAtReset, WorldAtWait, WorldAtFault}
+use Rattle.swd_checker.specs.Laws.{WorldDescribesPort, WorldAtCompletion, WorldAtIdle, WorldAtReset, WorldAtWait}
+use Rattle.swd_checker.specs.Laws.{WorldAtFault}
 use Rattle.swd_checker.specs.Laws.{WorldAtDamage}
 
 -- COMPLETION
@@ -69,11 +71,13 @@ tar_moves : (increments : Bool) (tar : Tar) (at : Option ℕ) → CheckedTar tar
 tar_moves false tar at h = h
 tar_moves true TarUnknown at h = tt
 tar_moves true (TarFrom first more) at (index, within, e) =
-    subst (λ a. CheckedTar (checked_tar_incremented (TarFrom first more)) (option_and_then port_tar_next_address a)) (sym e)
+    subst (λ a. CheckedTar (checked_tar_incremented (TarFrom first more)) (option_and_then port_tar_next_address a))
+    (sym e)
     (moves_inside first more index _ refl within)
 
 buffer_moves : (drw : Drw) (at : ℕ) (m : Bus) (held : Held) (buffer : Option ℕ) → CheckedHeld held buffer
-    → CheckedHeld (checked_buffer_moved (checked_transfer_of drw) held) (buffer_after_pending (Some drw) false at m buffer)
+    → CheckedHeld (checked_buffer_moved (checked_transfer_of drw) held)
+    (buffer_after_pending (Some drw) false at m buffer)
 buffer_moves Reads at m held buffer h = (_, refl)
 buffer_moves (Writes word) at m held buffer h = h
 
@@ -110,7 +114,8 @@ succeeds w c x drw h pending known fits = record {
 
 -- and once it was a bus error
 fails : (w : World) (c : Choice) (x : Target) → IsWorldNow w x
-    → pending_fails x.pending (unwrap_or x.tar c.address) x.memory ≡ true → IsWorldNow (world_failed w) (port_completion c x)
+    → pending_fails x.pending (unwrap_or x.tar c.address) x.memory ≡ true →
+    IsWorldNow (world_failed w) (port_completion c x)
 fails w c x h error = record {
   reset = h.reset;
   sticky_error = or_true _ _ error;
@@ -146,7 +151,8 @@ now_completes w c x None e h = now (subst (IsWorldNow w) (sym (no_pending_same_t
 now_completes w c x (Some drw) e h = takes_effect w c x drw _ h e refl
 
 -- what a world describes, it describes after a completion
-pub world_completes : (w : World) (c : Choice) (x : Target) → WorldDescribes w x → WorldDescribes w (port_completion c x)
+pub world_completes : (w : World) (c : Choice) (x : Target) → WorldDescribes w x →
+    WorldDescribes w (port_completion c x)
 world_completes w c x (now h) = now_completes w c x _ refl h
 world_completes w c x (done pends h) =
     done pends (idle_completes (world_succeeded w) c x (success_pends_nothing w.pending w refl) h)
@@ -232,7 +238,8 @@ read_ok_refused true b false e = refl
 read_ok_refused false b true e = e
 read_ok_refused false b false e = e
 
-wait_now : (w : World) (r : Register) (x : Target) → IsWorldNow w x → IsWorldNow (world_after_wait r w) (port_after_wait r x)
+wait_now : (w : World) (r : Register) (x : Target) → IsWorldNow w x →
+    IsWorldNow (world_after_wait r w) (port_after_wait r x)
 wait_now w r x h = record {
   reset = h.reset;
   sticky_error = h.sticky_error;

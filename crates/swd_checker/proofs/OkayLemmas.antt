@@ -84,4 +84,5 @@ pub world_at_okay : WorldAtOkay
 world_at_okay w r late x can none clear on (now h) = confirmed (world_succeeded w) r late x can on
     (subst (λ p. IsWorldNow (world_success_of p w) x) (sym (world_pends_nothing w x none h)) h)
 world_at_okay w r late x can none clear on (done pends h) = confirmed (world_succeeded w) r late x can on h
-world_at_okay w r late x can none clear on (failed pends h) = absurd (let e : true ≡ false = sym h.sticky_error ∙ clear in cc)
+world_at_okay w r late x can none clear on (failed pends h) =
+    absurd (let e : true ≡ false = sym h.sticky_error ∙ clear in cc)

@@ -37,9 +37,9 @@ pub enum Verdict {
 /// tested: no contract relates its verdict to the runs of the model. `laws` has what is proved of the worlds.
 ///
 /// Junk bits begin a gap, except for up to 34 after a lost acknowledgement. In a gap nothing is checked, up to the next
-/// line reset. After a gap, after `Crowded`, and where the target's first state is unknown, the worlds may be too many to
-/// be held. So the check begins later there: at the first read of CTRL/STAT of a target at rest, and else at the first OK
-/// to a request that can be refused, next to a write of SELECT.
+/// line reset. After a gap, after `Crowded`, and where the target's first state is unknown, the worlds may be too many
+/// to be held. So the check begins later there: at the first read of CTRL/STAT of a target at rest, and else at the
+/// first OK to a request that can be refused, next to a write of SELECT.
 #[derive(Clone, Debug, Drop)]
 pub struct Checker {
     worlds: Worlds,

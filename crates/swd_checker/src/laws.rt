@@ -24,7 +24,8 @@ pub fn refusals()
     ensures fault { WorldAtFault }
 {}
 
-/// States what OK to a request that can be refused leaves, before what the request does: the pending transfer succeeded.
+/// States what OK to a request that can be refused leaves, before what the request does: the pending transfer
+/// succeeded.
 pub fn confirmations()
     ensures { WorldAtOkay }
 {}

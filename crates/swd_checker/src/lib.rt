@@ -2,8 +2,8 @@
 //! model leaves to a target.
 //!
 //! A checker holds the *worlds* that the items so far leave: descriptions of the states in which the target may be. The
-//! bus behind the access port is any, so a world has no memory, and a constant number of fields. Where no world is left,
-//! no run explains the items.
+//! bus behind the access port is any, so a world has no memory, and a constant number of fields. Where no world is
+//! left, no run explains the items.
 //!
 //! ```
 //! let mut checker = Checker::new(CheckStart::Made);

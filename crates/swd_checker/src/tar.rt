@@ -10,8 +10,8 @@ const KILOBYTE: u32 = 1024;
 pub(crate) enum Tar {
     /// Nothing: any address, anew at each use.
     Unknown,
-    /// It is one of the addresses `first`, `first` + 4, .., of which there are `more` besides the first. All of them are
-    /// in one kilobyte.
+    /// It is one of the addresses `first`, `first` + 4, .., of which there are `more` besides the first. All of them
+    /// are in one kilobyte.
     From { first: u32, more: u8 },
 }
 

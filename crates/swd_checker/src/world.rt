@@ -150,8 +150,8 @@ impl World {
         }
     }
 
-    /// Returns the world once OK was answered to a request that can be refused, before what the request does. It is one of
-    /// an access port, or of the debug port.
+    /// Returns the world once OK was answered to a request that can be refused, before what the request does. It is one
+    /// of an access port, or of the debug port.
     pub(crate) fn confirmed(self, ap: bool) -> World
         ensures { result ≡ world_confirmed ap self }
     {
@@ -215,8 +215,8 @@ impl World {
             && self.last_returned.covers(other.last_returned)
     }
 
-    /// Returns a world that explains exactly what these two do, if one of them explains all that the other does, or they
-    /// differ in neighbouring addresses of TAR alone.
+    /// Returns a world that explains exactly what these two do, if one of them explains all that the other does, or
+    /// they differ in neighbouring addresses of TAR alone.
     pub(crate) fn joined(self, other: World) -> Option<World> {
         if !self.is_alike(other) {
             return None;
