@@ -4,6 +4,7 @@ use Rattle.swd_script.proofs.TextLaws.{script_is_runnable}
 use Rattle.swd_run.specs.Records.{run_files_of}
 use Rattle.swd_ends.specs.RemoteRuns.{RanRemoteEndScript}
 use Rattle.swd_console.specs.Connections.{CommandWentOver}
+use Rattle.swd_console.specs.Destinations.{console_report_contents}
 use Rattle.swd_run_commands.proofs.remote_command.run_paced.Goals as goal
 
 pub run_remote_script-answer-requires : goal.run_remote_script-answer-requires
@@ -25,7 +26,9 @@ returns-in-Ok-answer g c =
         ran = subst (λ answer. RanRemoteEndScript g.P.Story.at c.args.run.now.tries c.args.run.now.resumes
             (CommandWentOver g.I.Read.remaining g.O.Write.contents (g.O.Write.contents c.args.output)
             (g.I.Read.remaining c.args.input) ran.result.1) (read_script_meaning c.in-Ok.script).batches answer
-            _ _
+            (console_report_contents (λ p. g.M.Write.contents p.report.now) g.T.Write.contents
+            c.paced_writer-report.result)
+            (console_report_contents (λ p. g.M.Write.contents p.report.now) g.T.Write.contents ran.new.report)
             (run_files_of g.T.Write.contents c.args.files.records)
             (run_files_of g.T.Write.contents ran.new.records))
             c.in-Ok-answer.is ran.ensures;
@@ -46,7 +49,9 @@ returns g c =
         ran = subst (λ answer. RanRemoteEndScript g.P.Story.at c.args.run.now.tries c.args.run.now.resumes
             (CommandWentOver g.I.Read.remaining g.O.Write.contents (g.O.Write.contents c.args.output)
             (g.I.Read.remaining c.args.input) ran.result.1) (read_script_meaning c.in-Ok.script).batches answer
-            _ _
+            (console_report_contents (λ p. g.M.Write.contents p.report.now) g.T.Write.contents
+            c.paced_writer-report.result)
+            (console_report_contents (λ p. g.M.Write.contents p.report.now) g.T.Write.contents ran.new.report)
             (run_files_of g.T.Write.contents c.args.files.records)
             (run_files_of g.T.Write.contents ran.new.records))
             c.in-Err-answer.is ran.ensures;
