@@ -1,5 +1,5 @@
 -- What a command reads.
-use Rattle.std.specs.Prelude.{ℕ, ◌≡◌, ◌⊎◌, List, Option, Some, None, String, codes}
+use Rattle.std.specs.Prelude.{ℕ, ◌≡◌, ◌⊎◌, List, Option, Some, None, codes}
 use Rattle.std.specs.Option.{option_map}
 use Rattle.std.specs.String.{string_bytes}
 use Rattle.swd_words.specs.declared.command.CommandLine.{CommandLine}
@@ -23,9 +23,8 @@ command_named_file (Target target) = Some (command_served_file target.memory)
 command_named_file (Image image) = Some (string_bytes image.file)
 
 -- standard input is read: no file is named, or `-` is
-abbrev pub CommandReadsStdin : CommandLine → Type 0
-CommandReadsStdin line = (command_named_file line ≡ None) ⊎ (command_named_file line ≡ Some (codes "-"))
+abbrev pub IsStandardInput : Option (List ℕ) → Type 0
+IsStandardInput name = (name ≡ None) ⊎ (name ≡ Some (codes "-"))
 
--- the same of the name of a file that may be left out
-abbrev pub IsStandardInput : Option String → Type 0
-IsStandardInput name = (option_map string_bytes name ≡ None) ⊎ (option_map string_bytes name ≡ Some (codes "-"))
+abbrev pub CommandReadsStdin : CommandLine → Type 0
+CommandReadsStdin line = IsStandardInput (command_named_file line)

@@ -84,7 +84,7 @@ pub(crate) fn convert<
     output: &mut O,
     console: &mut Console<'_, A, F, C, E>,
 ) -> u8
-    ensures { IsStandardInput file.now → CommandEndsOver (O.kept output.new)
+    ensures { IsStandardInput (option_map string_bytes file.now) → CommandEndsOver (O.kept output.new)
         (λ status. ConvertsCommandInput conversion status (I.remaining input.old) (I.remaining input.new)
         (O.contents output.old) (O.contents output.new)) result }
 {
