@@ -3,7 +3,7 @@ import contextlib
 import threading
 import time
 from types import TracebackType
-from typing import Any, Callable, Iterable, Optional, Set, Tuple, Type
+from typing import Any, Callable, Iterable, Optional, Set, Tuple, Type, TypeVar
 
 from . import _images
 from ._accesses import Access, Answer, End, Read, Report, Write, block, counts, listed_accesses
@@ -14,6 +14,8 @@ from ._images import Buffer, OnProgress
 from ._library import REFUSED, REST, LibraryOrPath, library_functions
 from ._lines import AnyLine, Wire
 from ._runs import OnAnswer, Run, accepted
+
+_Result = TypeVar("_Result")
 
 # The lines that calls use now, and what guards that set.
 _in_use: Set[int] = set()
@@ -140,7 +142,11 @@ class _Driver:
         self._perform(Run.resumed([], ended, self.tries, library=self._library), None).check()
 
     def _perform(self, run: Run, on_answer: OnAnswer) -> Report:
-        """Performs a run over the line. Nothing else does."""
+        """Performs a run over the line, and returns its report."""
+        return self._performed(run, on_answer, Run.report)
+
+    def _performed(self, run: Run, on_answer: OnAnswer, result: Callable[[Run], _Result]) -> _Result:
+        """Performs a run over the line, and returns what this makes of it. Nothing else does."""
         line = self._wire.over
         _claim(line)
         try:
@@ -149,9 +155,9 @@ class _Driver:
                 _attempt(run, self._wire.leave)
             self._inside = True
             self._follow(run, on_answer)
-            report = run.report()
-            self._last, self._inside = report.ended, False
-            return report
+            made = result(run)
+            self._last, self._inside = run.ended, False
+            return made
         except RunFailed:
             raise
         except KeyboardInterrupt as stop:
@@ -251,7 +257,7 @@ class Session(_Driver):
 
     def read(self, addr: int) -> int:
         """Returns the word at an address. Raises what `run` raises."""
-        return self._poll(addr).words()[0]
+        return self._poll(addr)[0]
 
     def write(self, addr: int, word: int) -> None:
         """Writes a word at an address, once. Raises what `run` raises."""
@@ -269,16 +275,15 @@ class Session(_Driver):
         if number("reads", reads, 0xFFFF_FFFF) == 0:
             fail("reads", reads, "1 or more")
         for left in range(reads - 1, -1, -1):
-            report = self._poll(addr)
-            found = report.words()[0]
+            found, run = self._poll(addr)
             if found & mask == value:
                 return found
             if left > 0 and interval > 0:
                 time.sleep(interval)
-        raise ConditionNotMet(f"r {addr:08x} was {found:08x} at the last of {reads} reads", report)
+        raise ConditionNotMet(f"r {addr:08x} was {found:08x} at the last of {reads} reads", run.report())
 
-    def _poll(self, addr: int) -> Report:
-        """Reads the word at an address. A read like the last one takes its run once more."""
+    def _poll(self, addr: int) -> Tuple[int, Run]:
+        """Reads the word at an address, and returns it with its run. A read like the last one takes its run once more."""
         at, run = self._polled
         if run is not None and self.is_open and type(addr) is int and addr == at and run.tries == self.tries:
             run.reopen()
@@ -286,4 +291,5 @@ class Session(_Driver):
             run = self._made([Read(addr)], False)
             # A run with an opening can't be taken once more.
             self._polled = (addr, run) if run.opened else (None, None)
-        return self._perform(run, None).check()
+        word = self._performed(run, None, Run.only_word)
+        return (run.report().check().words()[0] if word is None else word), run

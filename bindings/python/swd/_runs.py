@@ -11,7 +11,8 @@ from ._library import (
     library_functions,
 )
 
-_ENDS = {5: End.ALL, 6: End.LOST, 7: End.TRIES, WRONG_ID: End.WRONG_ID, 9: End.CONFUSED}
+_ALL = 5
+_ENDS = {_ALL: End.ALL, 6: End.LOST, 7: End.TRIES, WRONG_ID: End.WRONG_ID, 9: End.CONFUSED}
 _BAD_REPLY = 2
 
 # Makes an argument of a reply, which is 64 bits. Those of acknowledgements are made once.
@@ -165,6 +166,12 @@ class Run:
         self._fall_silent(run, answers)
         # With few tries the silence of a data phase ends a run before that of an acknowledgement.
         return self._reported(run, answers, End.ALL if _ENDS[run.end.kind] is End.ALL else End.LOST)
+
+    def only_word(self) -> Optional[int]:
+        """Returns the word of a run of one read that ended with `End.ALL`, or None of any other, without a report."""
+        word, kind = _outcome(self._answers, 0)
+        is_whole = self._run.end.kind == _ALL and kind == VALUE and self._earlier is None and len(self.accesses) == 1
+        return word if is_whole else None
 
     def _reported(self, run: Any, answers: Any, ended: End) -> Report:
         identification = run.end.word if ended is End.WRONG_ID else None
