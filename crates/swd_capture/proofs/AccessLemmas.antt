@@ -1,9 +1,16 @@
 -- Laws of what items show, one after the other.
-use Rattle.std.proofs.Common.{◌≡◌, ℕ, zero, suc, ◌+◌, ◌-◌, ◌^◌, ◌<◌, ◌≤◌, min, true, false, List, [], ◌∷◌, ◌++◌}
+use Rattle.std.proofs.Common.{◌≡◌, ℕ, zero, suc, ◌+◌, ◌-◌, ◌^◌, ◌<◌, ◌≤◌, min, true, false, List, [], ◌∷◌, ◌++◌, length}
 use Rattle.std.proofs.Common.{replicate, refl, sym, ap, ◌∙◌, append_assoc, arith}
-use Rattle.std.proofs.lemmas.List.{append-nil}
+use Rattle.std.proofs.lemmas.List.{append-nil, length-append, length-replicate}
+use Rattle.std.specs.Prelude.{Option, Some, None}
+use Rattle.swd_trace.specs.Texts.{bits_of_items}
+use Rattle.swd_trace.proofs.SizeLemmas.{item_bits_append}
+use Rattle.swd_resync.specs.declared.part.Part.{Part}
+use Rattle.swd_resync.specs.AsItems.{resync_part_items}
+use Rattle.swd_capture.specs.Gaps.{capture_held_items}
 use Rattle.swd_trace.specs.declared.item.Item.{Item}
-use Rattle.swd_trace.specs.declared.item.Item.TheVariants.{Junk}
+use Rattle.swd_trace.specs.declared.item.Item.TheVariants.{Junk, Idle}
+use Rattle.swd_trace.specs.Held.{idle_items}
 use Rattle.swd_observer.specs.declared.trace.TraceObserver.{TraceObserver}
 use Rattle.swd_observer.specs.Observing.{observer_unknown}
 use Rattle.swd_observer.specs.Traces.{observed_shown_at, trace_observer_step, trace_observer_after}
@@ -65,3 +72,87 @@ observer_text_skip_shows (suc n) t h =
     ap (λ x. observer_text_shown (observed_shown_at (Junk false) t) ++ x)
     (observer_text_junk_silent n (min (t.place + 1) (2 ^ 64 - 1))) ∙ append-nil
     (observer_text_shown (observed_shown_at (Junk false) t))
+
+-- ---- bits and cycles that are counted up to 2^64 - 1
+
+-- idle cycles behind a place
+pub observer_text_after_idle : (n : ℕ) (t : TraceObserver)
+    → trace_observer_after (idle_items (min n (2 ^ 64 - 1))) t ≡ trace_observer_after (idle_items n) t
+observer_text_after_idle zero t = refl
+observer_text_after_idle (suc n) t =
+    let e : min (suc n) (2 ^ 64 - 1) ≡ suc (min n (2 ^ 64 - 2)) = omega arith in
+    ap (λ m. trace_observer_after (idle_items m) t) e
+    ∙ ap (λ p. record { observer = t.observer; place = p; in_gap = false }) (capped t.place n)
+  where
+    capped : (p n : ℕ) → min (p + suc (min n (2 ^ 64 - 2))) (2 ^ 64 - 1) ≡ min (p + suc n) (2 ^ 64 - 1)
+    capped p n = omega arith
+
+-- and they show nothing
+pub observer_text_idle_silent : (n : ℕ) (t : TraceObserver) → observer_text_of_items (idle_items n) t ≡ []
+observer_text_idle_silent zero t = refl
+observer_text_idle_silent (suc n) t = refl
+
+-- bits that belong to nothing
+pub observer_text_after_many : (n : ℕ) (t : TraceObserver)
+    → trace_observer_after (replicate (min n (2 ^ 64 - 1)) (Junk false)) t
+    ≡ trace_observer_after (replicate n (Junk false)) t
+observer_text_after_many zero t = refl
+observer_text_after_many (suc n) t =
+    observer_text_after_skip (min (suc n) (2 ^ 64 - 1)) t (omega arith)
+    ∙ ap observer_text_among_junk (capped t.place n) ∙ sym (observer_text_after_skip (suc n) t (omega arith))
+  where
+    capped : (p n : ℕ) → min (min (p + 1) (2 ^ 64 - 1) + (min (suc n) (2 ^ 64 - 1) - 1)) (2 ^ 64 - 1)
+        ≡ min (min (p + 1) (2 ^ 64 - 1) + (suc n - 1)) (2 ^ 64 - 1)
+    capped p n = omega arith
+
+-- and what they show
+pub observer_text_many_show : (n : ℕ) (t : TraceObserver)
+    → observer_text_of_items (replicate (min n (2 ^ 64 - 1)) (Junk false)) t
+    ≡ observer_text_of_items (replicate n (Junk false)) t
+observer_text_many_show zero t = refl
+observer_text_many_show (suc n) t =
+    observer_text_skip_shows (min (suc n) (2 ^ 64 - 1)) t (omega arith)
+    ∙ sym (observer_text_skip_shows (suc n) t (omega arith))
+
+-- how many bits what waits has
+pub capture_held_length : (part : Part) (idle : ℕ) → length (bits_of_items (capture_held_items (Some part) idle))
+    ≡ length (bits_of_items (resync_part_items part)) + idle
+capture_held_length part idle =
+    let joined : length (bits_of_items (resync_part_items part ++ idle_items idle))
+    ≡ length (bits_of_items (resync_part_items part)) + length (bits_of_items (idle_items idle)) =
+    ap length (item_bits_append (resync_part_items part) (idle_items idle))
+    ∙ length-append (bits_of_items (resync_part_items part)) (bits_of_items (idle_items idle)) in
+    joined ∙ ap (λ n. length (bits_of_items (resync_part_items part)) + n) (idle_length idle)
+  where
+    idle_length : (n : ℕ) → length (bits_of_items (idle_items n)) ≡ n
+    idle_length zero = refl
+    idle_length (suc n) = length-append (replicate (suc n) false) [] ∙ omega (arith, length-replicate (suc n) false)
+
+-- the same where idle cycles, and the sum, are counted up to 2^64 - 1
+pub capture_held_capped : (held : Option Part) (idle counted count : ℕ) → counted ≡ min idle (2 ^ 64 - 1)
+    → min (min (length (bits_of_items (capture_held_items held counted))) (2 ^ 64 - 1) + count) (2 ^ 64 - 1)
+    ≡ min (length (bits_of_items (capture_held_items held idle)) + count) (2 ^ 64 - 1)
+capture_held_capped None idle counted count e = omega arith
+capture_held_capped (Some part) idle counted count e =
+    let a = capture_held_length part idle in
+    let b = capture_held_length part counted in
+    omega arith
+
+-- idle cycles behind others, where no gap is open
+pub observer_text_more_idle : (i n : ℕ) (t : TraceObserver) → t.place ≤ 2 ^ 64 - 1 → t.in_gap ≡ false
+    → trace_observer_after (idle_items (i + n)) t ≡ trace_observer_step (Idle n) (trace_observer_after (idle_items i) t)
+observer_text_more_idle zero zero t h e =
+    let place : t.place ≡ min (t.place + 0) (2 ^ 64 - 1) = omega (arith, h) in
+    ap (λ g. record { observer = t.observer; place = t.place; in_gap = g }) e
+    ∙ ap (λ p. record { observer = t.observer; place = p; in_gap = false }) place
+observer_text_more_idle zero (suc n) t h e =
+    let sum : zero + suc n ≡ suc n = omega arith in
+    ap (λ m. trace_observer_after (idle_items m) t) sum
+observer_text_more_idle (suc i) n t h e =
+    let sum : suc i + n ≡ suc (i + n) = omega arith in
+    ap (λ m. trace_observer_after (idle_items m) t) sum
+    ∙ ap (λ p. record { observer = t.observer; place = p; in_gap = false }) (joined t.place i n)
+  where
+    joined : (p i n : ℕ) → min (p + suc (i + n)) (2 ^ 64 - 1)
+        ≡ min (min (p + suc i) (2 ^ 64 - 1) + n) (2 ^ 64 - 1)
+    joined p i n = omega arith

@@ -7,7 +7,7 @@ use Rattle.swd_bits.specs.declared.tx.TxEnd.{TxEnd}
 use Rattle.swd_bits.specs.declared.tx.TxEnd.TheVariants.{Moved, Wait, Fault, NoAck}
 use Rattle.swd_trace.specs.declared.item.Item.TheVariants.{Reset, Switch, Idle, Tx, Junk, Cut}
 use Rattle.swd_resync.specs.declared.part.Part.{Part}
-use Rattle.swd_resync.specs.declared.part.Part.TheVariants.{Item as Told, Skip}
+use Rattle.swd_resync.specs.declared.part.Part.TheVariants.{Item as Told, Phased, Skip}
 use Rattle.swd_capture.specs.Tables.{capture_addr_rows, capture_direction_rows, capture_tx_end_row, capture_tx_end_kind}
 use Rattle.swd_capture.specs.Tables.{capture_part_kind, capture_port_rows, capture_row_name, capture_part_row}
 
@@ -104,4 +104,5 @@ capture_row_named_by_kind (Told Switch) = refl
 capture_row_named_by_kind (Told (Idle n)) = refl
 capture_row_named_by_kind (Told (Junk b)) = refl
 capture_row_named_by_kind (Told (Cut bits)) = refl
+capture_row_named_by_kind (Phased tx) = named_tx tx.request.ap tx.request.addr tx.request.read tx.result
 capture_row_named_by_kind (Skip n) = refl

@@ -4,3 +4,4 @@ pub mod TableLemmas
 pub mod TextLemmas
 pub mod TellerLemmas
 pub mod AccessLemmas
+pub mod TraceLemmas

@@ -1,5 +1,6 @@
 pub mod Accesses
 pub mod Places
+pub mod Gaps
 pub mod Names
 pub mod Flags
 pub mod Tables

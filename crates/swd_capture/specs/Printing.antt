@@ -7,9 +7,10 @@ use Rattle.swd_trace.specs.declared.item.Item.{Item}
 use Rattle.swd_trace.specs.declared.item.Item.TheVariants.{Reset, Switch, Idle, Tx, Junk, Cut}
 use Rattle.swd_trace.specs.Texts.{item_line}
 use Rattle.swd_resync.specs.declared.part.Part.{Part}
-use Rattle.swd_resync.specs.declared.part.Part.TheVariants.{Item as Told, Skip}
+use Rattle.swd_resync.specs.declared.part.Part.TheVariants.{Item as Told, Phased, Skip}
 use Rattle.swd_resync.specs.PartTexts.{resync_part_line}
-use Rattle.swd_resync.specs.AsItems.{resync_part_items, resync_items}
+use Rattle.swd_resync.specs.AsItems.{resync_items}
+use Rattle.swd_capture.specs.Gaps.{capture_due_at, capture_due_items, capture_run_items, capture_waiting}
 use Rattle.swd_port.specs.declared.select.Select.{Select}
 use Rattle.swd_observer.specs.declared.trace.TraceObserver.{TraceObserver}
 use Rattle.swd_observer.specs.Observing.{observed_last_accesses}
@@ -50,6 +51,7 @@ capture_line_if false select item = item_line item
 -- a part's line without its place
 abbrev pub capture_part_line : Bool → Option Select → Part → List ℕ
 capture_part_line names select (Told item) = capture_line_if names select item
+capture_part_line names select (Phased tx) = capture_line_if names select (Tx tx)
 capture_part_line names select (Skip n) = resync_part_line (Skip n)
 
 -- the line of a part after these items, and its line feed
@@ -58,11 +60,11 @@ capture_line_behind form before part = capture_place_if form.places (capture_pla
     ++ capture_part_line form.names (capture_select_behind before) part ++ 10 ∷ []
 
 -- the lines of parts after others
-abbrev pub capture_lines_behind : LineForm → Bool → List Part → List Part → List ℕ
-capture_lines_behind form over before [] = []
-capture_lines_behind form over before (part ∷ parts) =
-    capture_line_behind form (resync_items over before) part
-    ++ capture_lines_behind form over (before ++ part ∷ []) parts
+abbrev pub capture_lines_behind : LineForm → List Part → List Part → List ℕ
+capture_lines_behind form before [] = []
+capture_lines_behind form before (part ∷ parts) =
+    capture_line_behind form (resync_items before) part
+    ++ capture_lines_behind form (before ++ part ∷ []) parts
 
 -- the observer before the first part: of a target in its reset state, or of one of which nothing is known
 abbrev pub capture_observer_of : Bool → TraceObserver
@@ -75,45 +77,49 @@ capture_first_observer Counts = trace_observer_unknown
 capture_first_observer (Accesses made) = capture_observer_of made
 
 -- the output for a part after others, which is due as soon as the part is decided
-abbrev pub capture_printed_entry : Printed → Bool → List Part → Part → List ℕ
-capture_printed_entry (Lines form) over before part = capture_line_behind form (resync_items over before) part
-capture_printed_entry Counts over before part = []
-capture_printed_entry (Accesses made) over before part =
-    observer_text_of_items (resync_part_items over part)
-    (trace_observer_after (resync_items over before) (capture_observer_of made))
+abbrev pub capture_printed_entry : Printed → List Part → Part → List ℕ
+capture_printed_entry (Lines form) before part = capture_line_behind form (resync_items before) part
+capture_printed_entry Counts before part = []
+capture_printed_entry (Accesses made) before part =
+    observer_text_of_items (capture_due_at (capture_waiting before) part)
+    (trace_observer_after (capture_due_items before) (capture_observer_of made))
 
--- The output for the first parts of a capture, while more may follow. Places, SELECT and accesses are those of a trace
--- with the items that the parts count as.
-abbrev pub capture_printed_parts : Printed → Bool → List Part → List ℕ
-capture_printed_parts (Lines form) over parts = capture_lines_behind form over [] parts
-capture_printed_parts Counts over parts = []
-capture_printed_parts (Accesses made) over parts =
-    observer_text_of_items (resync_items over parts) (capture_observer_of made)
+-- The output for the first parts of a capture, while more may follow. Places and SELECT are those of a trace with the
+-- items that the parts are, accesses those of a trace with the items that they count as for accesses.
+abbrev pub capture_printed_parts : Printed → List Part → List ℕ
+capture_printed_parts (Lines form) parts = capture_lines_behind form [] parts
+capture_printed_parts Counts parts = []
+capture_printed_parts (Accesses made) parts =
+    observer_text_of_items (capture_due_items parts) (capture_observer_of made)
 
 -- junk bits as parts
 abbrev pub capture_junk_parts : List Bool → List Part
 capture_junk_parts bits = map Told (map Junk bits)
 
--- the number of rows at the end: those of a table, or one for the lines of the accesses that nothing confirms
+-- the number of rows at the end: those of a table, or one for what waits, and one for the lines of the accesses that
+-- nothing confirms
 abbrev pub capture_row_count : Printed → ℕ
 capture_row_count (Lines form) = 0
 capture_row_count Counts = 86
-capture_row_count (Accesses made) = 1
+capture_row_count (Accesses made) = 2
 
-abbrev pub capture_end_row_printed : Printed → Bool → List Part → ℕ → List ℕ
-capture_end_row_printed (Lines form) over parts row = []
-capture_end_row_printed Counts over parts row = capture_row_printed parts row
-capture_end_row_printed (Accesses made) over parts row =
-    observer_text_reported (observed_last_accesses
-    (trace_observer_after (resync_items over parts) (capture_observer_of made)).observer)
+abbrev pub capture_end_row_printed : Printed → List Part → ℕ → List ℕ
+capture_end_row_printed (Lines form) parts row = []
+capture_end_row_printed Counts parts row = capture_row_printed parts row
+capture_end_row_printed (Accesses made) parts zero =
+    observer_text_of_items (capture_run_items (capture_waiting parts))
+    (trace_observer_after (capture_due_items parts) (capture_observer_of made))
+capture_end_row_printed (Accesses made) parts (suc row) =
+    observer_text_reported (observed_last_accesses (trace_observer_after (capture_run_items (capture_waiting parts))
+    (trace_observer_after (capture_due_items parts) (capture_observer_of made))).observer)
 
 -- the first `n` of these rows
-abbrev pub capture_end_rows_printed : Printed → Bool → List Part → ℕ → List ℕ
-capture_end_rows_printed printed over parts zero = []
-capture_end_rows_printed printed over parts (suc n) =
-    capture_end_rows_printed printed over parts n ++ capture_end_row_printed printed over parts n
+abbrev pub capture_end_rows_printed : Printed → List Part → ℕ → List ℕ
+capture_end_rows_printed printed parts zero = []
+capture_end_rows_printed printed parts (suc n) =
+    capture_end_rows_printed printed parts n ++ capture_end_row_printed printed parts n
 
 -- the output for a whole capture
-abbrev pub capture_printout : Printed → Bool → List Part → List ℕ
-capture_printout printed over parts = capture_printed_parts printed over parts
-    ++ capture_end_rows_printed printed over parts (capture_row_count printed)
+abbrev pub capture_printout : Printed → List Part → List ℕ
+capture_printout printed parts = capture_printed_parts printed parts
+    ++ capture_end_rows_printed printed parts (capture_row_count printed)

@@ -10,7 +10,7 @@ use Rattle.swd_bits.specs.declared.tx.TxEnd.TheVariants.{Moved, Wait, Fault, NoA
 use Rattle.swd_trace.specs.declared.item.Item.{Item}
 use Rattle.swd_trace.specs.declared.item.Item.TheVariants.{Reset, Switch, Idle, Tx, Junk, Cut}
 use Rattle.swd_resync.specs.declared.part.Part.{Part}
-use Rattle.swd_resync.specs.declared.part.Part.TheVariants.{Item as Told, Skip}
+use Rattle.swd_resync.specs.declared.part.Part.TheVariants.{Item as Told, Phased, Skip}
 use Rattle.swd_capture.specs.declared.table.Table.{Table}
 
 -- ---- the row in which a part is counted
@@ -52,6 +52,7 @@ capture_item_row (Cut bits) = 84
 -- and skips
 abbrev pub capture_part_row : Part → ℕ
 capture_part_row (Told item) = capture_item_row item
+capture_part_row (Phased tx) = capture_item_row (Tx tx)
 capture_part_row (Skip n) = 85
 
 -- idle cycles, junk bits and the bits of cut ends are counted one by one
@@ -66,6 +67,7 @@ capture_item_weight (Junk b) = 1
 -- and so are the bits of skips
 abbrev pub capture_part_weight : Part → ℕ
 capture_part_weight (Told item) = capture_item_weight item
+capture_part_weight (Phased tx) = capture_item_weight (Tx tx)
 capture_part_weight (Skip n) = n
 
 abbrev pub capture_part_counted : ℕ → Part → ℕ
@@ -97,6 +99,7 @@ capture_item_kind (Cut bits) = codes "cut"
 
 abbrev pub capture_part_kind : Part → List ℕ
 capture_part_kind (Told item) = capture_item_kind item
+capture_part_kind (Phased tx) = capture_item_kind (Tx tx)
 capture_part_kind (Skip n) = codes "skip"
 
 abbrev pub capture_row_port : ℕ → List ℕ

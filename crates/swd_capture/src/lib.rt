@@ -13,7 +13,7 @@ mod table;
 mod teller;
 mod watching;
 
-pub use laws::{rows_are_named_by_kind, skips_are_forgotten};
+pub use laws::{rows_are_named_by_kind, skips_are_forgotten, traces_are_observed};
 pub use printed::{LineForm, Printed};
 pub use table::ROWS;
 pub use teller::{LONGEST_ENTRY, MOST_JUNK, Teller};

@@ -102,6 +102,7 @@ fn row_of_part(part: &Part) -> usize
 {
     match part {
         Part::Item(item) => row_of_item(item),
+        Part::Phased(tx) => row_of_item(&Item::Tx(*tx)),
         Part::Skip(_) => 85,
     }
 }
@@ -123,6 +124,7 @@ fn weight_of_part(part: &Part) -> u64
 {
     match part {
         Part::Item(item) => weight_of_item(item),
+        Part::Phased(tx) => weight_of_item(&Item::Tx(*tx)),
         Part::Skip(count) => *count,
     }
 }

@@ -1,5 +1,5 @@
 //! Prints the parts of a capture one after another.
-ghost use Rattle.std.specs.Prelude.{◌≡◌, ℕ, ◌+◌, ◌-◌, ◌^◌, ◌<◌, ◌≤◌, ◌++◌, ◌∷◌, [], List, Bool, length, min};
+ghost use Rattle.std.specs.Prelude.{◌≡◌, ℕ, ◌+◌, ◌-◌, ◌^◌, ◌<◌, ◌≤◌, ◌++◌, ◌∷◌, [], List, length, min};
 ghost use Rattle.arrayvec.specs.ArrayString.{array_string_len};
 ghost use Rattle.swd_resync.specs.declared.part.Part.{Part};
 ghost use Rattle.swd_resync.specs.AsItems.{resync_part_items};
@@ -14,19 +14,20 @@ use crate::junk_line::Tens;
 use crate::names::{LONGEST_NAMED, push_named, selected_after};
 use crate::printed::{LineForm, Printed};
 use crate::table::{ROWS, Table};
-use crate::watching::{push_last, watch_part};
+use crate::watching::{LONGEST_SHOWN, Watching};
 use arrayvec::ArrayString;
 use swd_bits::TxBits;
 use swd_observer::TraceObserver;
 use swd_port::Select;
-use swd_resync::{Part, phase_len};
+use swd_resync::{PHASE_BITS, Part};
 use swd_trace::{Item, LONGEST_LINE};
 
 // The most bytes of a place.
 const LONGEST_PLACE: usize = 22;
 
-/// The most bytes printed for one part, or for one row at the end.
-pub const LONGEST_ENTRY: usize = LONGEST_PLACE + LONGEST_LINE + 1;
+/// The most bytes printed for one part, or for one row at the end: the lines of a transaction that waited, and of the
+/// part. A line with a place is shorter.
+pub const LONGEST_ENTRY: usize = 2 * LONGEST_SHOWN;
 
 /// The most junk bits that one call takes.
 pub const MOST_JUNK: u8 = 8;
@@ -36,8 +37,6 @@ pub const MOST_JUNK: u8 = 8;
 #[derive(Drop)]
 pub struct Teller {
     printed: Printed,
-    // Whether a data phase follows WAIT and FAULT.
-    over: bool,
     // The number of bits of the parts so far, at most 2^64 - 1.
     place: u64,
     // How the places of junk bits begin.
@@ -45,7 +44,7 @@ pub struct Teller {
     // What is known of SELECT.
     select: Option<Select>,
     table: Table,
-    observer: TraceObserver,
+    watching: Watching,
 }
 
 // Appends a place, if lines begin with it.
@@ -94,28 +93,31 @@ fn push_part_line<const N: usize>(
 {
     match part {
         Part::Item(item) => push_item_line(text, names, select, item),
+        Part::Phased(tx) => push_item_line(text, names, select, &Item::Tx(*tx)),
         Part::Skip(_) => part.push_line(text),
     }
 }
 
 // Returns what is known of SELECT after a part.
-fn selected_behind(select: Option<Select>, over: bool, part: &Part) -> Option<Select>
-    ensures { result ≡ capture_select_from select (resync_part_items over part.now) }
+fn selected_behind(select: Option<Select>, part: &Part) -> Option<Select>
+    ensures { result ≡ capture_select_from select (resync_part_items part.now) }
 {
     match part {
         Part::Item(item) => selected_after(select, item),
+        Part::Phased(tx) => selected_after(select, &Item::Tx(*tx)),
         Part::Skip(count) => { if *count == 0 { select } else { None } }
     }
 }
 
-// Returns the number of bits before the next part, at most 2^64 - 1.
-fn place_behind_part(place: u64, over: bool, part: &Part) -> u64
-    ensures { result ≡ min (place + length (bits_of_items (resync_part_items over part.now))) (2 ^ 64 - 1) }
+/// Returns the number of bits before the next part, at most 2^64 - 1.
+pub(crate) fn place_behind_part(place: u64, part: &Part) -> u64
+    ensures { result ≡ min (place + length (bits_of_items (resync_part_items part.now))) (2 ^ 64 - 1) }
 {
     match part {
-        Part::Item(item) => place
-            .saturating_add(bit_count(item))
-            .saturating_add(u64::from(phase_len(item, over))),
+        Part::Item(item) => place.saturating_add(bit_count(item)),
+        Part::Phased(tx) => place
+            .saturating_add(bit_count(&Item::Tx(*tx)))
+            .saturating_add(u64::from(PHASE_BITS)),
         Part::Skip(count) => place.saturating_add(*count),
     }
 }
@@ -137,37 +139,35 @@ impl Teller {
     ghost use Rattle.swd_capture.specs.declared.printed.Printed.TheVariants.{Lines};
     ghost use Rattle.swd_capture.specs.Tellers.{IsCaptureTellerAfter};
 
-    /// Returns a teller that was given no parts. `over` says that the host uses overrun detection (IHI 0031, B4), so
-    /// that a data phase follows WAIT and FAULT.
-    pub fn new(printed: Printed, over: bool) -> Teller
-        ensures { IsCaptureTellerAfter printed over [] result }
+    /// Returns a teller that was given no parts.
+    pub fn new(printed: Printed) -> Teller
+        ensures { IsCaptureTellerAfter printed [] result }
     {
         Teller {
             printed,
-            over,
             place: 0,
             tens: Tens::new(),
             select: None,
             table: Table::new(),
-            observer: observer_of_printed(printed),
+            watching: Watching::new(observer_of_printed(printed)),
         }
     }
 
     /// Takes the next part, and appends its output to `text`.
     pub fn tell<const N: usize>(&mut self, part: &Part, text: &mut ArrayString<N>)
         requires { array_string_len text.old + LONGEST_ENTRY ≤ N }
-        ensures after { (printed : Printed) (over : Bool) (parts : List Part)
-            → IsCaptureTellerAfter printed over parts self.old
-            → IsCaptureTellerAfter printed over (parts ++ part.now ∷ []) self.new }
-        ensures bytes { (printed : Printed) (over : Bool) (parts : List Part)
-            → IsCaptureTellerAfter printed over parts self.old
-            → text.new.bytes ≡ text.old.bytes ++ capture_printed_entry printed over parts part.now }
+        ensures after { (printed : Printed) (parts : List Part)
+            → IsCaptureTellerAfter printed parts self.old
+            → IsCaptureTellerAfter printed (parts ++ part.now ∷ []) self.new }
+        ensures bytes { (printed : Printed) (parts : List Part)
+            → IsCaptureTellerAfter printed parts self.old
+            → text.new.bytes ≡ text.old.bytes ++ capture_printed_entry printed parts part.now }
         ensures len { array_string_len text.new ≤ array_string_len text.old + LONGEST_ENTRY }
     {
         match self.printed {
             Printed::Lines(form) => self.tell_line(form, part, text),
             Printed::Counts => self.table.add(part),
-            Printed::Accesses { .. } => watch_part(&mut self.observer, self.over, part, text),
+            Printed::Accesses { .. } => self.watching.watch(part, text),
         }
     }
 
@@ -176,23 +176,25 @@ impl Teller {
     pub fn tell_junk<const N: usize>(&mut self, junk: TxBits, text: &mut ArrayString<N>)
         requires few { junk.len ≤ MOST_JUNK }
         requires room { array_string_len text.old + LONGEST_ENTRY ≤ N }
-        ensures after { (printed : Printed) (over : Bool) (parts : List Part)
-            → IsCaptureTellerAfter printed over parts self.old
-            → IsCaptureTellerAfter printed over (parts ++ capture_junk_parts (tx_bits_of junk)) self.new }
-        ensures bytes { (printed : Printed) (over : Bool) (parts : List Part)
-            → IsCaptureTellerAfter printed over parts self.old
+        ensures after { (printed : Printed) (parts : List Part)
+            → IsCaptureTellerAfter printed parts self.old
+            → IsCaptureTellerAfter printed (parts ++ capture_junk_parts (tx_bits_of junk)) self.new }
+        ensures bytes { (printed : Printed) (parts : List Part)
+            → IsCaptureTellerAfter printed parts self.old
             → (more : List ℕ) × (text.new.bytes ≡ text.old.bytes ++ more)
-            × (capture_printed_parts printed over (parts ++ capture_junk_parts (tx_bits_of junk))
-            ≡ capture_printed_parts printed over parts ++ more) }
+            × (capture_printed_parts printed (parts ++ capture_junk_parts (tx_bits_of junk))
+            ≡ capture_printed_parts printed parts ++ more) }
         ensures len { array_string_len text.new ≤ array_string_len text.old + LONGEST_ENTRY }
     {
         match self.printed {
             Printed::Lines(form) => self.tell_junk_lines(form, junk, text),
             Printed::Counts => self.table.add_junk(junk.len),
             Printed::Accesses { .. } => {
-                // After the first of them nothing is known of the target.
-                let bits = Part::Skip(u64::from(junk.len));
-                watch_part(&mut self.observer, self.over, &bits, text);
+                if junk.len > 0 {
+                    // After the first of them nothing is known of the target.
+                    self.watching.flush(text);
+                    self.watching.lose(u64::from(junk.len), text);
+                }
             }
         }
     }
@@ -206,12 +208,12 @@ impl Teller {
     )
         requires few { junk.len ≤ MOST_JUNK }
         requires room { array_string_len text.old + LONGEST_ENTRY ≤ N }
-        ensures after { (over : Bool) (parts : List Part) → IsCaptureTellerAfter (Lines form) over parts self.old
-            → IsCaptureTellerAfter (Lines form) over (parts ++ capture_junk_parts (tx_bits_of junk)) self.new }
-        ensures bytes { (over : Bool) (parts : List Part) → IsCaptureTellerAfter (Lines form) over parts self.old
+        ensures after { (parts : List Part) → IsCaptureTellerAfter (Lines form) parts self.old
+            → IsCaptureTellerAfter (Lines form) (parts ++ capture_junk_parts (tx_bits_of junk)) self.new }
+        ensures bytes { (parts : List Part) → IsCaptureTellerAfter (Lines form) parts self.old
             → (more : List ℕ) × (text.new.bytes ≡ text.old.bytes ++ more)
-            × (capture_printed_parts (Lines form) over (parts ++ capture_junk_parts (tx_bits_of junk))
-            ≡ capture_printed_parts (Lines form) over parts ++ more) }
+            × (capture_printed_parts (Lines form) (parts ++ capture_junk_parts (tx_bits_of junk))
+            ≡ capture_printed_parts (Lines form) parts ++ more) }
         ensures len { array_string_len text.new ≤ array_string_len text.old + LONGEST_ENTRY }
     {
         let mut place = self.place;
@@ -226,18 +228,17 @@ impl Teller {
         self.place = place;
         // They count as bits that were skipped.
         let skipped = Part::Skip(u64::from(junk.len));
-        self.select = selected_behind(self.select, self.over, &skipped);
+        self.select = selected_behind(self.select, &skipped);
     }
 
     // Appends the part's line, and updates place and SELECT.
     fn tell_line<const N: usize>(&mut self, form: LineForm, part: &Part, text: &mut ArrayString<N>)
         requires { array_string_len text.old + LONGEST_ENTRY ≤ N }
         ensures printed { self.new.printed ≡ self.old.printed }
-        ensures over { self.new.over ≡ self.old.over }
         ensures place { self.new.place
-            ≡ min (self.old.place + length (bits_of_items (resync_part_items self.old.over part.now))) (2 ^ 64 - 1) }
+            ≡ min (self.old.place + length (bits_of_items (resync_part_items part.now))) (2 ^ 64 - 1) }
         ensures select { self.new.select ≡ capture_select_from self.old.select
-            (resync_part_items self.old.over part.now) }
+            (resync_part_items part.now) }
         ensures bytes { text.new.bytes ≡ text.old.bytes ++ (capture_place_if form.places self.old.place
             ++ capture_part_line form.names self.old.select part.now ++ 10 ∷ []) }
         ensures len { array_string_len text.new ≤ array_string_len text.old + LONGEST_ENTRY }
@@ -245,21 +246,21 @@ impl Teller {
         push_place(text, form.places, self.place);
         push_part_line(text, form.names, self.select, part);
         text.push_str("\n");
-        self.place = place_behind_part(self.place, self.over, part);
-        self.select = selected_behind(self.select, self.over, part);
+        self.place = place_behind_part(self.place, part);
+        self.select = selected_behind(self.select, part);
     }
 
     /// Returns how many rows are printed at the end.
     pub fn rows(&self) -> usize
-        ensures count { (printed : Printed) (over : Bool) (parts : List Part)
-            → IsCaptureTellerAfter printed over parts self.now
+        ensures count { (printed : Printed) (parts : List Part)
+            → IsCaptureTellerAfter printed parts self.now
             → result ≡ capture_row_count printed }
         ensures most { result ≤ ROWS }
     {
         match self.printed {
             Printed::Lines(_) => 0,
             Printed::Counts => ROWS,
-            Printed::Accesses { .. } => 1,
+            Printed::Accesses { .. } => 2,
         }
     }
 
@@ -267,15 +268,21 @@ impl Teller {
     pub fn push_row<const N: usize>(&self, row: usize, text: &mut ArrayString<N>)
         requires row { row < ROWS }
         requires room { array_string_len text.old + LONGEST_ENTRY ≤ N }
-        ensures bytes { (printed : Printed) (over : Bool) (parts : List Part)
-            → IsCaptureTellerAfter printed over parts self.now
-            → text.new.bytes ≡ text.old.bytes ++ capture_end_row_printed printed over parts row }
+        ensures bytes { (printed : Printed) (parts : List Part)
+            → IsCaptureTellerAfter printed parts self.now
+            → text.new.bytes ≡ text.old.bytes ++ capture_end_row_printed printed parts row }
         ensures len { array_string_len text.new ≤ array_string_len text.old + LONGEST_ENTRY }
     {
         match self.printed {
             Printed::Lines(_) => {}
             Printed::Counts => self.table.push_row(row, text),
-            Printed::Accesses { .. } => push_last(&self.observer, text),
+            Printed::Accesses { .. } => {
+                if row == 0 {
+                    self.watching.push_held(text);
+                } else {
+                    self.watching.push_last(text);
+                }
+            }
         }
     }
 }

@@ -1,19 +1,23 @@
 //! Prints what the parts of a capture show of the target's memory.
-ghost use Rattle.std.specs.Prelude.{◌≡◌, ◌+◌, ◌*◌, ◌≤◌, ◌++◌, true, false, replicate};
+ghost use Rattle.std.specs.Prelude.{◌≡◌, ◌+◌, ◌-◌, ◌*◌, ◌^◌, ◌≤◌, ◌++◌, ◌∷◌, [], true, false, length, min, replicate};
 ghost use Rattle.arrayvec.specs.ArrayString.{array_string_len};
 ghost use Rattle.swd_trace.specs.declared.item.Item.TheVariants.{Junk};
-ghost use Rattle.swd_trace.specs.Held.{idle_items};
 ghost use Rattle.swd_resync.specs.AsItems.{resync_part_items};
-ghost use Rattle.swd_resync.specs.declared.part.Part.TheVariants.{Item as OfStretch};
+ghost use Rattle.swd_trace.specs.Held.{idle_items};
+ghost use Rattle.swd_trace.specs.Texts.{bits_of_items};
+ghost use Rattle.swd_resync.specs.declared.part.Part.TheVariants.{Phased, Skip};
+ghost use Rattle.swd_capture.specs.Gaps.{capture_held_items};
 ghost use Rattle.swd_observer.specs.Observing.{observed_last_accesses, observer_unknown};
 ghost use Rattle.swd_observer.specs.Traces.{trace_observer_after};
 ghost use Rattle.swd_capture.specs.Accesses.{observer_text_of_items, observer_text_of_gap, observer_text_shown};
 ghost use Rattle.swd_capture.specs.Accesses.{observer_text_reported, observer_text_of_access};
 
 use crate::access_line::{LONGEST, line_of, line_of_gap};
+use crate::teller::place_behind_part;
 use arrayvec::ArrayString;
+use swd_bits::Tx;
 use swd_observer::{Observations, ObservedAccess, Observer, ShownItem, TraceObserver};
-use swd_resync::{Part, phase_len};
+use swd_resync::{PHASE_BITS, Part};
 use swd_trace::Item;
 
 /// The most bytes of the lines for one part.
@@ -62,30 +66,27 @@ fn push_shown<const N: usize>(text: &mut ArrayString<N>, shown: ShownItem)
     push_gap(text, shown.gap);
 }
 
-// Takes the data phase of `len` bits after WAIT or FAULT, if there is one. It shows nothing.
-fn watch_phase(observer: &mut TraceObserver, len: u8)
-    ensures { observer.new ≡ trace_observer_after (idle_items len) observer.old }
-{
-    if len > 0 {
-        let _ = observer.watch(&Item::Idle(u64::from(len)));
-    }
-}
-
 // Takes an item of a stretch, and appends the lines of what it shows.
-fn watch_item<const N: usize>(
-    observer: &mut TraceObserver,
-    over: bool,
-    item: &Item,
-    text: &mut ArrayString<N>,
-)
+fn watch_item<const N: usize>(observer: &mut TraceObserver, item: &Item, text: &mut ArrayString<N>)
     requires { array_string_len text.old + LONGEST_SHOWN ≤ N }
-    ensures observer { observer.new ≡ trace_observer_after (resync_part_items over (OfStretch item.now)) observer.old }
-    ensures bytes { text.new.bytes ≡ text.old.bytes
-        ++ observer_text_of_items (resync_part_items over (OfStretch item.now)) observer.old }
+    ensures observer { observer.new ≡ trace_observer_after (item.now ∷ []) observer.old }
+    ensures bytes { text.new.bytes ≡ text.old.bytes ++ observer_text_of_items (item.now ∷ []) observer.old }
     ensures len { array_string_len text.new ≤ array_string_len text.old + LONGEST_SHOWN }
 {
     push_shown(text, observer.watch(item));
-    watch_phase(observer, phase_len(item, over));
+}
+
+// Takes a transaction of a stretch and the data phase after it, which shows nothing, and appends the lines of what the
+// transaction shows.
+fn watch_phased<const N: usize>(observer: &mut TraceObserver, tx: &Tx, text: &mut ArrayString<N>)
+    requires { array_string_len text.old + LONGEST_SHOWN ≤ N }
+    ensures observer { observer.new ≡ trace_observer_after (resync_part_items (Phased tx.now)) observer.old }
+    ensures bytes { text.new.bytes ≡ text.old.bytes
+        ++ observer_text_of_items (resync_part_items (Phased tx.now)) observer.old }
+    ensures len { array_string_len text.new ≤ array_string_len text.old + LONGEST_SHOWN }
+{
+    push_shown(text, observer.watch(&Item::Tx(*tx)));
+    let _ = observer.watch(&Item::Idle(u64::from(PHASE_BITS)));
 }
 
 // Returns whether the observer is in a gap and knows nothing of the target: a junk bit then only moves its place.
@@ -99,7 +100,6 @@ fn is_lost(observer: &TraceObserver) -> bool
         tar,
         sent,
         begun,
-        refused,
         older,
     } = observer.observer;
     observer.in_gap
@@ -108,7 +108,6 @@ fn is_lost(observer: &TraceObserver) -> bool
         && tar.is_none()
         && sent.is_none()
         && begun.is_none()
-        && !refused
         && older.is_none()
 }
 
@@ -131,42 +130,234 @@ fn watch_skip<const N: usize>(observer: &mut TraceObserver, count: u64, text: &m
     observer.place = observer.place.saturating_add(count - 1);
 }
 
-/// Takes the next part of a capture, and appends the lines of what it shows to `text`. `over` says that the host uses
-/// overrun detection (IHI 0031, B4), so that a data phase follows WAIT and FAULT.
-///
-/// | Line | What happened to the access |
-/// |---|---|
-/// | `@PLACE r ADDR WORD`, `@PLACE w ADDR WORD` | it took effect, exactly once |
-/// | the same with ` may` | it took effect once, or not at all: the trace doesn't show which |
-/// | the same with ` not` | it isn't in the target's log: a bus error, or data that was corrupted on the wire |
-/// | `@PLACE gap` | no access: a gap begins here, which may hide accesses |
-///
-/// `PLACE` is in decimal: the number of bits before the first bit of the access's request, or of the gap. `ADDR` and
-/// `WORD` are eight lower-case hexadecimal digits, or `????????` if unknown. Accesses are listed in their order.
-pub(crate) fn watch_part<const N: usize>(
-    observer: &mut TraceObserver,
-    over: bool,
-    part: &Part,
-    text: &mut ArrayString<N>,
-)
+// Takes a part whatever follows it, and appends the lines of what it shows.
+fn watch_now<const N: usize>(observer: &mut TraceObserver, part: &Part, text: &mut ArrayString<N>)
     requires { array_string_len text.old + LONGEST_SHOWN ≤ N }
-    ensures observer { observer.new ≡ trace_observer_after (resync_part_items over part.now) observer.old }
+    ensures observer { observer.new ≡ trace_observer_after (resync_part_items part.now) observer.old }
     ensures bytes { text.new.bytes ≡ text.old.bytes
-        ++ observer_text_of_items (resync_part_items over part.now) observer.old }
+        ++ observer_text_of_items (resync_part_items part.now) observer.old }
     ensures len { array_string_len text.new ≤ array_string_len text.old + LONGEST_SHOWN }
 {
     match part {
-        Part::Item(item) => watch_item(observer, over, item, text),
+        Part::Item(item) => watch_item(observer, item, text),
+        Part::Phased(tx) => watch_phased(observer, tx, text),
         Part::Skip(count) => watch_skip(observer, *count, text),
     }
 }
 
-/// Appends the lines of the accesses that weren't reported yet, for a capture that ends here.
-pub(crate) fn push_last<const N: usize>(observer: &TraceObserver, text: &mut ArrayString<N>)
-    requires { array_string_len text.old + LONGEST_SHOWN ≤ N }
-    ensures bytes { text.new.bytes ≡ text.old.bytes
-        ++ observer_text_reported (observed_last_accesses observer.now.observer) }
-    ensures len { array_string_len text.new ≤ array_string_len text.old + LONGEST_SHOWN }
+// Takes idle cycles, which show nothing, if there are some.
+fn watch_idle(observer: &mut TraceObserver, idle: u64)
+    ensures { observer.new ≡ trace_observer_after (idle_items idle) observer.old }
 {
-    push_tells(text, observer.last());
+    if idle > 0 {
+        let _ = observer.watch(&Item::Idle(idle));
+    }
+}
+
+// Returns how many bits a part has, at most 2^64 - 1.
+fn held_len(held: Option<Part>, idle: u64) -> u64
+    ensures { result ≡ min (length (bits_of_items (capture_held_items held idle))) (2 ^ 64 - 1) }
+{
+    match held {
+        None => 0,
+        Some(part) => place_behind_part(0, &part).saturating_add(idle),
+    }
+}
+
+/// What the parts so far show of the target's memory. The last transaction waits for the next part that isn't idle
+/// cycles: if that is a skip, it belongs to the gap.
+#[derive(Clone, Copy, Debug)]
+pub(crate) struct Watching {
+    pub(crate) observer: TraceObserver,
+    // The transaction that waits.
+    held: Option<Part>,
+    // The number of idle cycles behind it, at most 2^64 - 1.
+    idle: u64,
+}
+
+impl Watching {
+    ghost use Rattle.swd_capture.specs.Gaps.{CaptureRun, capture_due_at, capture_run_after, capture_run_none};
+    ghost use Rattle.swd_capture.specs.Gaps.{capture_run_items, capture_run_of, capture_run_idle, capture_due_idle};
+    ghost use Rattle.swd_capture.specs.Gaps.{capture_run_after_item, capture_due_item};
+    ghost use Rattle.swd_capture.specs.Tellers.{IsCaptureWatching};
+
+    /// Returns one that was given no parts.
+    pub(crate) fn new(observer: TraceObserver) -> Watching
+        ensures observer { result.observer ≡ observer }
+        ensures none { IsCaptureWatching capture_run_none result }
+    {
+        Watching {
+            observer,
+            held: None,
+            idle: 0,
+        }
+    }
+
+    /// Takes the transaction that waits, and appends the lines of what it shows: no skip follows.
+    pub(crate) fn flush<const N: usize>(&mut self, text: &mut ArrayString<N>)
+        requires { array_string_len text.old + LONGEST_SHOWN ≤ N }
+        ensures none { IsCaptureWatching capture_run_none self.new }
+        ensures observer { (run : CaptureRun) → IsCaptureWatching run self.old
+            → self.new.observer ≡ trace_observer_after (capture_run_items run) self.old.observer }
+        ensures bytes { (run : CaptureRun) → IsCaptureWatching run self.old
+            → text.new.bytes ≡ text.old.bytes ++ observer_text_of_items (capture_run_items run) self.old.observer }
+        ensures len { array_string_len text.new ≤ array_string_len text.old + LONGEST_SHOWN }
+    {
+        match self.held {
+            None => self.idle = 0,
+            Some(part) => {
+                watch_now(&mut self.observer, &part, text);
+                watch_idle(&mut self.observer, self.idle);
+                self.held = None;
+                self.idle = 0;
+            }
+        }
+    }
+
+    // Takes a transaction.
+    fn hold<const N: usize>(&mut self, part: Part, text: &mut ArrayString<N>)
+        requires { array_string_len text.old + LONGEST_SHOWN ≤ N }
+        ensures held { IsCaptureWatching (capture_run_of part) self.new }
+        ensures observer { (run : CaptureRun) → IsCaptureWatching run self.old
+            → self.new.observer ≡ trace_observer_after (capture_run_items run) self.old.observer }
+        ensures bytes { (run : CaptureRun) → IsCaptureWatching run self.old
+            → text.new.bytes ≡ text.old.bytes ++ observer_text_of_items (capture_run_items run) self.old.observer }
+        ensures len { array_string_len text.new ≤ array_string_len text.old + LONGEST_SHOWN }
+    {
+        self.flush(text);
+        self.held = Some(part);
+    }
+
+    // Takes idle cycles.
+    fn rest(&mut self, count: u64)
+        ensures keeps { (run : CaptureRun) → IsCaptureWatching run self.old
+            → IsCaptureWatching (capture_run_idle run.part run.idle count) self.new }
+        ensures observer { (run : CaptureRun) → IsCaptureWatching run self.old
+            → self.new.observer ≡ trace_observer_after (capture_due_idle run.part count) self.old.observer }
+    {
+        match self.held {
+            None => {
+                let _ = self.observer.watch(&Item::Idle(count));
+                self.idle = 0;
+            }
+            Some(_) => self.idle = self.idle.saturating_add(count),
+        }
+    }
+
+    /// Takes junk bits or skipped bits, which nothing that waits belongs to.
+    pub(crate) fn lose<const N: usize>(&mut self, count: u64, text: &mut ArrayString<N>)
+        requires { array_string_len text.old + LONGEST_SHOWN ≤ N }
+        ensures held { self.new.held ≡ self.old.held }
+        ensures idle { self.new.idle ≡ self.old.idle }
+        ensures observer { self.new.observer ≡ trace_observer_after (replicate count (Junk false)) self.old.observer }
+        ensures bytes { text.new.bytes ≡ text.old.bytes
+            ++ observer_text_of_items (replicate count (Junk false)) self.old.observer }
+        ensures len { array_string_len text.new ≤ array_string_len text.old + LONGEST_SHOWN }
+    {
+        watch_skip(&mut self.observer, count, text);
+    }
+
+    // Takes a skip, and with it what waits.
+    fn skip<const N: usize>(&mut self, count: u64, text: &mut ArrayString<N>)
+        requires { array_string_len text.old + LONGEST_SHOWN ≤ N }
+        ensures none { IsCaptureWatching capture_run_none self.new }
+        ensures observer { (run : CaptureRun) → IsCaptureWatching run self.old
+            → self.new.observer ≡ trace_observer_after (capture_due_at run (Skip count)) self.old.observer }
+        ensures bytes { (run : CaptureRun) → IsCaptureWatching run self.old → text.new.bytes ≡ text.old.bytes
+            ++ observer_text_of_items (capture_due_at run (Skip count)) self.old.observer }
+        ensures len { array_string_len text.new ≤ array_string_len text.old + LONGEST_SHOWN }
+    {
+        let all = held_len(self.held, self.idle).saturating_add(count);
+        watch_skip(&mut self.observer, all, text);
+        self.held = None;
+        self.idle = 0;
+    }
+
+    // Takes an item that isn't a transaction or idle cycles.
+    fn pass<const N: usize>(&mut self, item: &Item, text: &mut ArrayString<N>)
+        requires { array_string_len text.old + 2 * LONGEST_SHOWN ≤ N }
+        ensures none { IsCaptureWatching capture_run_none self.new }
+        ensures observer { (run : CaptureRun) → IsCaptureWatching run self.old → self.new.observer
+            ≡ trace_observer_after (capture_run_items run ++ item.now ∷ []) self.old.observer }
+        ensures bytes { (run : CaptureRun) → IsCaptureWatching run self.old → text.new.bytes ≡ text.old.bytes
+            ++ observer_text_of_items (capture_run_items run ++ item.now ∷ []) self.old.observer }
+        ensures len { array_string_len text.new ≤ array_string_len text.old + 2 * LONGEST_SHOWN }
+    {
+        self.flush(text);
+        watch_item(&mut self.observer, item, text);
+    }
+
+    // Takes an item of a stretch.
+    fn watch_item<const N: usize>(&mut self, item: &Item, text: &mut ArrayString<N>)
+        requires { array_string_len text.old + 2 * LONGEST_SHOWN ≤ N }
+        ensures keeps { (run : CaptureRun) → IsCaptureWatching run self.old
+            → IsCaptureWatching (capture_run_after_item run item.now) self.new }
+        ensures observer { (run : CaptureRun) → IsCaptureWatching run self.old
+            → self.new.observer ≡ trace_observer_after (capture_due_item run item.now) self.old.observer }
+        ensures bytes { (run : CaptureRun) → IsCaptureWatching run self.old → text.new.bytes ≡ text.old.bytes
+            ++ observer_text_of_items (capture_due_item run item.now) self.old.observer }
+        ensures len { array_string_len text.new ≤ array_string_len text.old + 2 * LONGEST_SHOWN }
+    {
+        match item {
+            Item::Tx(tx) => self.hold(Part::Item(Item::Tx(*tx)), text),
+            Item::Idle(count) => self.rest(*count),
+            Item::Reset(count) => self.pass(&Item::Reset(*count), text),
+            Item::Switch => self.pass(&Item::Switch, text),
+            Item::Junk(bit) => self.pass(&Item::Junk(*bit), text),
+            Item::Cut(bits) => self.pass(&Item::Cut(*bits), text),
+        }
+    }
+
+    /// Takes the next part of a capture, and appends the lines that are due then to `text`.
+    ///
+    /// | Line | What happened to the access |
+    /// |---|---|
+    /// | `@PLACE r ADDR WORD`, `@PLACE w ADDR WORD` | it took effect, exactly once |
+    /// | the same with ` may` | it took effect once, or not at all: the trace doesn't show which |
+    /// | the same with ` not` | it isn't in the target's log: a bus error, or data that was corrupted on the wire |
+    /// | `@PLACE gap` | no access: a gap begins here, which may hide accesses |
+    ///
+    /// `PLACE` is in decimal: the number of bits before the first bit of the access's request, or of the gap. `ADDR`
+    /// and `WORD` are eight lower-case hexadecimal digits, or `????????` if unknown. Accesses are listed in their order.
+    pub(crate) fn watch<const N: usize>(&mut self, part: &Part, text: &mut ArrayString<N>)
+        requires { array_string_len text.old + 2 * LONGEST_SHOWN ≤ N }
+        ensures keeps { (run : CaptureRun) → IsCaptureWatching run self.old
+            → IsCaptureWatching (capture_run_after run part.now) self.new }
+        ensures observer { (run : CaptureRun) → IsCaptureWatching run self.old
+            → self.new.observer ≡ trace_observer_after (capture_due_at run part.now) self.old.observer }
+        ensures bytes { (run : CaptureRun) → IsCaptureWatching run self.old → text.new.bytes ≡ text.old.bytes
+            ++ observer_text_of_items (capture_due_at run part.now) self.old.observer }
+        ensures len { array_string_len text.new ≤ array_string_len text.old + 2 * LONGEST_SHOWN }
+    {
+        match part {
+            Part::Item(item) => self.watch_item(item, text),
+            Part::Phased(tx) => self.hold(Part::Phased(*tx), text),
+            Part::Skip(count) => self.skip(*count, text),
+        }
+    }
+
+    /// Appends the lines of what waits, for a capture that ends here.
+    pub(crate) fn push_held<const N: usize>(&self, text: &mut ArrayString<N>)
+        requires { array_string_len text.old + LONGEST_SHOWN ≤ N }
+        ensures bytes { (run : CaptureRun) → IsCaptureWatching run self.now → text.new.bytes ≡ text.old.bytes
+            ++ observer_text_of_items (capture_run_items run) self.now.observer }
+        ensures len { array_string_len text.new ≤ array_string_len text.old + LONGEST_SHOWN }
+    {
+        let mut ended = *self;
+        ended.flush(text);
+    }
+
+    /// Appends the lines of the accesses that weren't reported yet, for a capture that ends here.
+    pub(crate) fn push_last<const N: usize>(&self, text: &mut ArrayString<N>)
+        requires { array_string_len text.old + LONGEST_SHOWN ≤ N }
+        ensures bytes { (run : CaptureRun) → IsCaptureWatching run self.now → text.new.bytes ≡ text.old.bytes
+            ++ observer_text_reported (observed_last_accesses
+            (trace_observer_after (capture_run_items run) self.now.observer).observer) }
+        ensures len { array_string_len text.new ≤ array_string_len text.old + LONGEST_SHOWN }
+    {
+        let mut ended = *self;
+        let mut lines: ArrayString<LONGEST_SHOWN> = ArrayString::new();
+        ended.flush(&mut lines);
+        push_tells(text, ended.observer.last());
+    }
 }

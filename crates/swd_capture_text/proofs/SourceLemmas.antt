@@ -1,9 +1,8 @@
 -- Laws of a decoder of either reading.
-use Rattle.std.proofs.Common.{◌≡◌, ◌<◌, Bool, false, List, [], ◌∷◌, ◌++◌, map, refl, sym, ap, ◌∙◌}
+use Rattle.std.proofs.Common.{◌≡◌, ◌<◌, Bool, List, [], ◌∷◌, ◌++◌, map, refl, sym, ap, ◌∙◌}
 use Rattle.std.specs.Prelude.{Option, None, Some, IfSome, IfNone}
 use Rattle.std.proofs.lemmas.List.{append-nil, map-append}
 use Rattle.swd_trace.specs.declared.item.Item.{Item}
-use Rattle.swd_trace.specs.declared.item.Item.TheVariants.{Reset, Switch, Idle, Tx, Junk, Cut}
 use Rattle.swd_trace.specs.declared.mode.Mode.TheVariants.{Synced}
 use Rattle.swd_trace.specs.Reading.{reading_of}
 use Rattle.swd_trace.specs.declared.decoder.Decoder.{Decoder}
@@ -13,7 +12,7 @@ use Rattle.swd_trace.proofs.ReadingLemmas.{no_bits_decide_no_item}
 use Rattle.swd_resync.specs.declared.decoder.CaptureDecoder.{CaptureDecoder}
 use Rattle.swd_resync.specs.declared.part.Part.{Part}
 use Rattle.swd_resync.specs.declared.part.Part.TheVariants.{Item as Told}
-use Rattle.swd_resync.specs.AsItems.{resync_part_items, resync_items}
+use Rattle.swd_resync.specs.AsItems.{resync_items}
 use Rattle.swd_resync.specs.Parts.{resync_parts_of}
 use Rattle.swd_resync.specs.Decoding as capture
 use Rattle.swd_capture_text.specs.declared.reading.Reading.{Reading}
@@ -71,17 +70,7 @@ source_decides_nothing = (
       (no_bits_decide_no_item Synced),
 )
 
-no_phase : (item : Item) → resync_part_items false (Told item) ≡ item ∷ []
-no_phase (Reset n) = refl
-no_phase Switch = refl
-no_phase (Idle n) = refl
-no_phase (Tx tx) = refl
-no_phase (Junk b) = refl
-no_phase (Cut bits) = refl
-
 -- as the items of a trace, the items of a trace are themselves
-pub source_items_of_trace : (items : List Item) → resync_items false (map Told items) ≡ items
+pub source_items_of_trace : (items : List Item) → resync_items (map Told items) ≡ items
 source_items_of_trace [] = refl
-source_items_of_trace (item ∷ items) =
-    ap (λ x. x ++ resync_items false (map Told items)) (no_phase item) ∙ ap (λ x. item ∷ x)
-    (source_items_of_trace items)
+source_items_of_trace (item ∷ items) = ap (λ x. item ∷ x) (source_items_of_trace items)

@@ -13,7 +13,7 @@ use Rattle.swd_capture.specs.declared.printed.Printed.{Printed}
 use Rattle.swd_capture.specs.Printing.{capture_printed_parts, capture_printout}
 use Rattle.swd_capture_text.specs.declared.reading.Reading.{Reading}
 use Rattle.swd_capture_text.specs.declared.reading.Reading.TheVariants.{Trace}
-use Rattle.swd_capture_text.specs.Readings.{SourceDecides, SourceReadsAs, is_over}
+use Rattle.swd_capture_text.specs.Readings.{SourceDecides, SourceReadsAs}
 
 -- the text has fewer than 2^64 bits, and they decide these parts
 abbrev pub CaptureTextDecides : Reading → List ℕ → List Part → Type 0
@@ -37,12 +37,12 @@ CaptureTextIsDue reading text parts = TextBitsSoFar (λ bits. SourceDecides read
 abbrev pub Prints : Reading → Printed → Result (Unit {0}) DecodeFault → Option (List ℕ) → Option (List ℕ)
     → Option (List ℕ) → Option (List ℕ) → Type 0
 Prints reading printed =
-    TextWrites (SourceDecides reading) (SourceReadsAs reading) (capture_printed_parts printed (is_over reading))
-    (capture_printout printed (is_over reading))
+    TextWrites (SourceDecides reading) (SourceReadsAs reading) (capture_printed_parts printed)
+    (capture_printout printed)
 
 -- the output for the items of a whole trace
 abbrev pub print_items_output : Printed → List Item → List ℕ
-print_items_output printed items = capture_printout printed (is_over Trace) (map Told items)
+print_items_output printed items = capture_printout printed (map Told items)
 
 -- The text of a trace is read as its items, if these are what their bits are read as. So what is printed of that text
 -- is the output for the items.

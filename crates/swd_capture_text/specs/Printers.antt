@@ -1,5 +1,5 @@
 -- Parts that are printed.
-use Rattle.std.specs.Prelude.{◌≡◌, ℕ, Bool, List, Option}
+use Rattle.std.specs.Prelude.{◌≡◌, ℕ, List, Option}
 use Rattle.swd_io.specs.Blocks.{BlockBufferSends, OutputStopped}
 use Rattle.swd_io.specs.declared.block.Block.{Block}
 use Rattle.swd_resync.specs.declared.part.Part.{Part}
@@ -14,16 +14,15 @@ pub record PrintStart : Type 0 where
   pub from : Option (List ℕ)
   pub name : ℕ
   pub printed : Printed
-  pub over : Bool
 
 -- the output for some parts
 abbrev pub print_output : PrintStart → List Part → List ℕ
-print_output start parts = capture_printed_parts start.printed start.over parts
+print_output start parts = capture_printed_parts start.printed parts
 
 -- a teller was given these parts, and their output is queued or written
 pub record PrintQueues {W : Type 0} (contents : W → Option (List ℕ)) (start : PrintStart) (teller : Teller)
     (block : Block W) (parts : List Part) : Type 0 where
-  pub after : IsCaptureTellerAfter start.printed start.over parts teller
+  pub after : IsCaptureTellerAfter start.printed parts teller
   pub sends : BlockBufferSends contents start.from block (print_output start parts)
   pub same : block.writer.ghost_name ≡ start.name
 

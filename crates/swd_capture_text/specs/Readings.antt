@@ -1,5 +1,5 @@
 -- How the bits of a text are read, and which parts they decide.
-use Rattle.std.specs.Prelude.{◌≡◌, ◌<◌, Bool, false, List, map}
+use Rattle.std.specs.Prelude.{◌≡◌, ◌<◌, Bool, List, map}
 use Rattle.swd_trace.specs.declared.item.Item.{Item}
 use Rattle.swd_trace.specs.Reading.{reading_of}
 use Rattle.swd_trace.specs.Decided.{IsDecided}
@@ -10,11 +10,6 @@ use Rattle.swd_resync.specs.Parts.{resync_parts_of}
 use Rattle.swd_resync.specs.Decoding.{ResyncHasRead, resync_held_len}
 use Rattle.swd_capture_text.specs.declared.reading.Reading.{Reading}
 use Rattle.swd_capture_text.specs.declared.reading.Reading.TheVariants.{Trace, Capture}
-
--- whether a data phase follows WAIT and FAULT
-abbrev pub is_over : Reading → Bool
-is_over Trace = false
-is_over (Capture over) = over
 
 -- the parts of bits: the items of a trace, or a capture's
 abbrev pub source_reading_parts : Reading → List Bool → List Part

@@ -20,7 +20,7 @@ pub fn print_items<W: Write>(printed: Printed, writer: &mut W, items: &[Item]) -
     ensures { WritesOutput result (W.contents writer.old) (W.contents writer.new)
         (print_items_output printed items.now) }
 {
-    let mut teller = Teller::new(printed, false);
+    let mut teller = Teller::new(printed);
     let mut line = ArrayString::new();
     let mut block = Block::new(writer, 0);
     for item in items {

@@ -49,11 +49,11 @@ fn put_junk<W: Write>(
 
 impl Printer {
     /// Returns a printer that was given no parts.
-    pub(crate) fn new(printed: Printed, over: bool) -> Printer
-        ensures { IsCaptureTellerAfter printed over [] result.teller }
+    pub(crate) fn new(printed: Printed) -> Printer
+        ensures { IsCaptureTellerAfter printed [] result.teller }
     {
         Printer {
-            teller: Teller::new(printed, over),
+            teller: Teller::new(printed),
             line: ArrayString::new(),
         }
     }

@@ -4,7 +4,7 @@ ghost use Rattle.swd_io.specs.Blocks.{BlockBufferSends};
 ghost use Rattle.swd_text.specs.Outputs.{TextQueues};
 ghost use Rattle.swd_capture.specs.Printing.{capture_printed_parts, capture_printout};
 ghost use Rattle.swd_capture_text.specs.Captures.{Prints};
-ghost use Rattle.swd_capture_text.specs.Readings.{SourceDecides, SourceReadsAs, is_over};
+ghost use Rattle.swd_capture_text.specs.Readings.{SourceDecides, SourceReadsAs};
 
 use crate::parts::read_parts;
 use crate::printer::Printer;
@@ -23,17 +23,12 @@ fn print_text<R: Read, W: Write>(
     block: &mut Block<'_, W>,
 ) -> Result<(), DecodeFault>
     ensures { (start : Option (List ℕ)) → BlockBufferSends W.contents start block.old []
-        → TextQueues (SourceDecides reading) (SourceReadsAs reading) (capture_printed_parts printed (is_over reading))
-        (capture_printout printed (is_over reading)) W.contents result (R.remaining reader.old)
+        → TextQueues (SourceDecides reading) (SourceReadsAs reading) (capture_printed_parts printed)
+        (capture_printout printed) W.contents result (R.remaining reader.old)
         (R.remaining reader.new) start block.new
         × (block.new.writer.ghost_name ≡ block.old.writer.ghost_name) }
 {
-    match read_parts(
-        reading,
-        reader,
-        block,
-        Printer::new(printed, reading.is_over()),
-    ) {
+    match read_parts(reading, reader, block, Printer::new(printed)) {
         Ok(mut printer) => {
             put_rows(block, &mut printer.line, &printer.teller);
             Ok(())

@@ -1,5 +1,5 @@
 //! Queues the output of parts, and of the end.
-ghost use Rattle.std.specs.Prelude.{◌≡◌, ℕ, List, Bool, ◌<◌, ◌∷◌, [], ◌++◌, Option};
+ghost use Rattle.std.specs.Prelude.{◌≡◌, ℕ, List, ◌<◌, ◌∷◌, [], ◌++◌, Option};
 ghost use Rattle.swd_io.specs.Blocks.{BlockBufferSends, BlockQueues};
 ghost use Rattle.swd_resync.specs.declared.part.Part.{Part};
 ghost use Rattle.swd_capture.specs.declared.printed.Printed.{Printed};
@@ -21,12 +21,12 @@ pub(crate) fn put_part<W: Write>(
     teller: &mut Teller,
     part: &Part,
 )
-    ensures after { (printed : Printed) (over : Bool) (parts : List Part)
-        → IsCaptureTellerAfter printed over parts teller.old
-        → IsCaptureTellerAfter printed over (parts ++ part.now ∷ []) teller.new }
-    ensures sends { (printed : Printed) (over : Bool) (parts : List Part)
-        → IsCaptureTellerAfter printed over parts teller.old
-        → BlockQueues W.contents (capture_printed_entry printed over parts part.now) block.old block.new }
+    ensures after { (printed : Printed) (parts : List Part)
+        → IsCaptureTellerAfter printed parts teller.old
+        → IsCaptureTellerAfter printed (parts ++ part.now ∷ []) teller.new }
+    ensures sends { (printed : Printed) (parts : List Part)
+        → IsCaptureTellerAfter printed parts teller.old
+        → BlockQueues W.contents (capture_printed_entry printed parts part.now) block.old block.new }
     ensures writer { block.new.writer.ghost_name ≡ block.old.writer.ghost_name }
 {
     line.clear();
@@ -42,9 +42,9 @@ fn put_row<W: Write>(
     row: usize,
 )
     requires { row < ROWS }
-    ensures sends { (printed : Printed) (over : Bool) (parts : List Part)
-        → IsCaptureTellerAfter printed over parts teller.now
-        → BlockQueues W.contents (capture_end_row_printed printed over parts row) block.old block.new }
+    ensures sends { (printed : Printed) (parts : List Part)
+        → IsCaptureTellerAfter printed parts teller.now
+        → BlockQueues W.contents (capture_end_row_printed printed parts row) block.old block.new }
     ensures writer { block.new.writer.ghost_name ≡ block.old.writer.ghost_name }
 {
     line.clear();
@@ -58,10 +58,10 @@ pub(crate) fn put_rows<W: Write>(
     line: &mut ArrayString<LONGEST_ENTRY>,
     teller: &Teller,
 )
-    ensures sends { (start : Option (List ℕ)) (printed : Printed) (over : Bool) (parts : List Part)
-        → IsCaptureTellerAfter printed over parts teller.now
-        → BlockBufferSends W.contents start block.old (capture_printed_parts printed over parts)
-        → BlockBufferSends W.contents start block.new (capture_printout printed over parts) }
+    ensures sends { (start : Option (List ℕ)) (printed : Printed) (parts : List Part)
+        → IsCaptureTellerAfter printed parts teller.now
+        → BlockBufferSends W.contents start block.old (capture_printed_parts printed parts)
+        → BlockBufferSends W.contents start block.new (capture_printout printed parts) }
     ensures writer { block.new.writer.ghost_name ≡ block.old.writer.ghost_name }
 {
     for row in 0..teller.rows() {

@@ -1,6 +1,4 @@
 //! The ways to read bits.
-ghost use Rattle.std.specs.Prelude.{◌≡◌};
-ghost use Rattle.swd_capture_text.specs.Readings.{is_over};
 
 /// The way in which the bits of a text are read.
 #[derive(Clone, Copy, Debug, PartialEq, Eq)]
@@ -9,19 +7,8 @@ pub enum Reading {
     Trace,
     /// As a capture, which may begin anywhere and lose bits. It is divided into stretches and skips.
     Capture {
-        /// Whether the host uses overrun detection (IHI 0031, B4), so that a data phase follows WAIT and FAULT.
+        /// Whether the host uses overrun detection at the beginning of the capture (IHI 0031, B4), so that a data phase
+        /// follows WAIT and FAULT. From there on the reading follows the host.
         over: bool,
     },
-}
-
-impl Reading {
-    /// Returns whether a data phase follows WAIT and FAULT.
-    pub fn is_over(self) -> bool
-        ensures { result ≡ is_over self }
-    {
-        match self {
-            Reading::Trace => false,
-            Reading::Capture { over } => over,
-        }
-    }
 }

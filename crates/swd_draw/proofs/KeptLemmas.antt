@@ -8,7 +8,7 @@ use Rattle.swd_draw.specs.Drawings.{drawn, first_parts, drawing_continues, is_lo
 use Rattle.swd_draw.specs.Drawings.{drawn_weights}
 use Rattle.swd_trace.specs.declared.item.Item.{Item}
 use Rattle.swd_trace.specs.declared.item.Item.TheVariants.{Reset, Switch, Idle, Tx, Junk, Cut}
-use Rattle.swd_resync.specs.declared.part.Part.TheVariants.{Item as Told, Skip}
+use Rattle.swd_resync.specs.declared.part.Part.TheVariants.{Item as Told, Phased, Skip}
 use Rattle.swd_draw.specs.Collecting.{KeepsDrawnFirst}
 
 -- nothing more is drawn
@@ -148,6 +148,7 @@ item_most (Cut bits) = omega arith
 
 weight_most : (part : Part) → drawn_weight part ≤ 1
 weight_most (Told item) = item_most item
+weight_most (Phased tx) = omega arith
 weight_most (Skip n) = omega arith
 
 -- and of so many transactions at most

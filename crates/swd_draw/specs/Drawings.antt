@@ -4,7 +4,7 @@ use Rattle.std.specs.Fmt.{decimal}
 use Rattle.swd_trace.specs.declared.item.Item.{Item}
 use Rattle.swd_trace.specs.declared.item.Item.TheVariants.{Reset, Switch, Idle, Tx, Junk, Cut}
 use Rattle.swd_resync.specs.declared.part.Part.{Part}
-use Rattle.swd_resync.specs.declared.part.Part.TheVariants.{Item as Told, Skip}
+use Rattle.swd_resync.specs.declared.part.Part.TheVariants.{Item as Told, Phased, Skip}
 use Rattle.swd_draw.specs.Marks.{shade_class}
 use Rattle.swd_draw.specs.Rows.{drawing_rows}
 use Rattle.swd_draw.specs.declared.field.Shade.{Shade}
@@ -23,6 +23,7 @@ drawn_item_weight (Cut bits) = 0
 
 abbrev pub drawn_weight : Part → ℕ
 drawn_weight (Told item) = drawn_item_weight item
+drawn_weight (Phased tx) = 1
 drawn_weight (Skip n) = 0
 
 -- the number of transactions
@@ -98,10 +99,10 @@ unfoldable pub end_text : List ℕ
 end_text = codes "</svg>" ++ 10 ∷ []
 
 -- the drawing of these parts, where the trace has more of them or not
-abbrev pub drawing_of : Bool → List Part → Bool → List ℕ
-drawing_of over parts longer = head (length parts) longer ++ drawing_rows over [] parts ++ end_text
+abbrev pub drawing_of : List Part → Bool → List ℕ
+drawing_of parts longer = head (length parts) longer ++ drawing_rows [] parts ++ end_text
 
 -- the drawing of the parts of a trace or a capture: of the first of them. `over` says that a data phase follows WAIT
 -- and FAULT.
-abbrev pub drawing : Bool → List Part → List ℕ
-drawing over parts = drawing_of over (drawn parts) (drawing_continues parts)
+abbrev pub drawing : List Part → List ℕ
+drawing parts = drawing_of (drawn parts) (drawing_continues parts)

@@ -4,12 +4,8 @@ use Rattle.swd_resync.specs.declared.part.Part.{Part}
 use Rattle.swd_text.specs.Outputs.{TextWrites}
 use Rattle.swd_text.specs.declared.fault.DecodeFault.{DecodeFault}
 use Rattle.swd_capture_text.specs.declared.reading.Reading.{Reading}
-use Rattle.swd_capture_text.specs.Readings.{SourceDecides, SourceReadsAs, is_over}
+use Rattle.swd_capture_text.specs.Readings.{SourceDecides, SourceReadsAs}
 use Rattle.swd_draw.specs.Drawings.{drawing}
-
--- the drawing of the parts of a text
-abbrev pub drawing_by : Reading → List Part → List ℕ
-drawing_by reading parts = drawing (is_over reading) parts
 
 -- what is written before the end of a text
 abbrev pub no_drawing : List Part → List ℕ
@@ -19,4 +15,4 @@ no_drawing parts = []
 -- holds before and after: at an error of the text or of the reader, nothing was written.
 abbrev pub Draws : Reading → Result (Unit {0}) DecodeFault → Option (List ℕ) → Option (List ℕ)
     → Option (List ℕ) → Option (List ℕ) → Type 0
-Draws reading = TextWrites (SourceDecides reading) (SourceReadsAs reading) no_drawing (drawing_by reading)
+Draws reading = TextWrites (SourceDecides reading) (SourceReadsAs reading) no_drawing drawing

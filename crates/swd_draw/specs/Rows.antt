@@ -1,14 +1,13 @@
 -- The rows of a drawing: one for each part. The drawing is this project's choice.
-use Rattle.std.specs.Prelude.{ℕ, ◌+◌, ◌*◌, nat_lt, Bool, true, false, List, [], ◌∷◌, ◌++◌, length, codes, min}
+use Rattle.std.specs.Prelude.{ℕ, ◌+◌, ◌*◌, nat_lt, true, false, List, [], ◌∷◌, ◌++◌, length, codes, min}
 use Rattle.std.specs.Prelude.{if◌then◌else◌}
 use Rattle.std.specs.Fmt.{decimal}
 use Rattle.swd_bits.specs.declared.tx_bits.TxBits.{TxBits}
 use Rattle.swd_trace.specs.Reading.{switch_item}
 use Rattle.swd_trace.specs.declared.item.Item.{Item}
 use Rattle.swd_trace.specs.declared.item.Item.TheVariants.{Reset, Switch, Idle, Tx, Junk, Cut}
-use Rattle.swd_resync.specs.Divisions.{resync_phase_behind}
 use Rattle.swd_resync.specs.declared.part.Part.{Part}
-use Rattle.swd_resync.specs.declared.part.Part.TheVariants.{Item as Told, Skip}
+use Rattle.swd_resync.specs.declared.part.Part.TheVariants.{Item as Told, Phased, Skip}
 use Rattle.swd_capture.specs.Printing.{capture_printed_entry}
 use Rattle.swd_capture.specs.declared.printed.Printed.{Printed}
 use Rattle.swd_capture.specs.declared.printed.Printed.TheVariants.{Lines}
@@ -61,18 +60,18 @@ abbrev pub drawn_cut_field : TxBits → Field
 drawn_cut_field bits =
     record { name = InCut; shade = Unknown; bits = record { len = min bits.len 49; bits = bits.bits } }
 
-abbrev pub drawn_item_body : Bool → Item → List ℕ
-drawn_item_body over (Reset n) = run_body InReset n
-drawn_item_body over Switch = fields_body (drawn_field InSwitch Host switch_item ∷ [])
-drawn_item_body over (Idle n) = run_body InIdle n
-drawn_item_body over (Tx tx) = fields_body
-    (drawn_tx_fields tx ++ drawn_ignored_fields (resync_phase_behind over tx.result))
-drawn_item_body over (Junk b) = fields_body (drawn_field InJunk Unknown (b ∷ []) ∷ [])
-drawn_item_body over (Cut bits) = fields_body (drawn_cut_field bits ∷ [])
+abbrev pub drawn_item_body : Item → List ℕ
+drawn_item_body (Reset n) = run_body InReset n
+drawn_item_body Switch = fields_body (drawn_field InSwitch Host switch_item ∷ [])
+drawn_item_body (Idle n) = run_body InIdle n
+drawn_item_body (Tx tx) = fields_body (drawn_tx_fields tx ++ drawn_ignored_fields 0)
+drawn_item_body (Junk b) = fields_body (drawn_field InJunk Unknown (b ∷ []) ∷ [])
+drawn_item_body (Cut bits) = fields_body (drawn_cut_field bits ∷ [])
 
-abbrev pub drawn_part_body : Bool → Part → List ℕ
-drawn_part_body over (Told item) = drawn_item_body over item
-drawn_part_body over (Skip n) = run_body InSkip n
+abbrev pub drawn_part_body : Part → List ℕ
+drawn_part_body (Told item) = drawn_item_body item
+drawn_part_body (Phased tx) = fields_body (drawn_tx_fields tx ++ drawn_ignored_fields 33)
+drawn_part_body (Skip n) = run_body InSkip n
 
 -- ---- rows
 
@@ -95,12 +94,12 @@ unfoldable pub row_end : List ℕ
 row_end = codes "</g>" ++ 10 ∷ []
 
 -- the row of a part after others
-abbrev pub drawing_row : Bool → List Part → Part → List ℕ
-drawing_row over before part =
-    row_head (length before) ++ capture_printed_entry drawn_line_form over before part ++ row_names
-    ++ drawn_part_body over part ++ row_end
+abbrev pub drawing_row : List Part → Part → List ℕ
+drawing_row before part =
+    row_head (length before) ++ capture_printed_entry drawn_line_form before part ++ row_names
+    ++ drawn_part_body part ++ row_end
 
 -- the rows of parts after others
-abbrev pub drawing_rows : Bool → List Part → List Part → List ℕ
-drawing_rows over before [] = []
-drawing_rows over before (part ∷ parts) = drawing_row over before part ++ drawing_rows over (before ++ part ∷ []) parts
+abbrev pub drawing_rows : List Part → List Part → List ℕ
+drawing_rows before [] = []
+drawing_rows before (part ∷ parts) = drawing_row before part ++ drawing_rows (before ++ part ∷ []) parts

@@ -1,8 +1,8 @@
 //! Draws a trace or a capture from its text.
 ghost use Rattle.std.specs.Prelude.{◌≡◌, ◌≤◌, [], length, ℕ, List, Option};
 ghost use Rattle.swd_io.specs.Blocks.{BlockBufferSends, BlockQueues};
-ghost use Rattle.swd_draw.specs.Drawings.{drawing_of};
-ghost use Rattle.swd_draw.specs.Draws.{Draws, drawing_by, no_drawing};
+ghost use Rattle.swd_draw.specs.Drawings.{drawing, drawing_of};
+ghost use Rattle.swd_draw.specs.Draws.{Draws, no_drawing};
 ghost use Rattle.swd_draw.specs.Rows.{drawing_rows};
 ghost use Rattle.swd_resync.specs.declared.part.Part.{Part};
 ghost use Rattle.swd_text.specs.Outputs.{TextQueues};
@@ -35,37 +35,37 @@ fn put_text<W: Write>(block: &mut Block<'_, W>, text: &[u8])
 }
 
 // Appends the rows of parts.
-fn put_rows<W: Write>(block: &mut Block<'_, W>, over: bool, parts: &[Part])
+fn put_rows<W: Write>(block: &mut Block<'_, W>, parts: &[Part])
     requires { length parts.now ≤ 200 }
     ensures writer { block.new.writer.ghost_name ≡ block.old.writer.ghost_name }
-    ensures sends { BlockQueues W.contents (drawing_rows over [] parts.now) block.old block.new }
+    ensures sends { BlockQueues W.contents (drawing_rows [] parts.now) block.old block.new }
 {
     let form = LineForm {
         places: true,
         names: false,
     };
-    let mut teller = Teller::new(Printed::Lines(form), over);
+    let mut teller = Teller::new(Printed::Lines(form));
     let mut text = RowText::new();
     let mut index = 0;
     while index < parts.len() {
         text.clear();
-        push_row(&mut text, &mut teller, over, &parts[index], index);
+        push_row(&mut text, &mut teller, &parts[index], index);
         put_text(block, text.as_str().as_bytes());
         index += 1;
     }
 }
 
 // Appends the drawing of parts.
-fn put_drawing<W: Write>(block: &mut Block<'_, W>, over: bool, parts: &[Part], longer: bool)
+fn put_drawing<W: Write>(block: &mut Block<'_, W>, parts: &[Part], longer: bool)
     requires { length parts.now ≤ 200 }
     ensures writer { block.new.writer.ghost_name ≡ block.old.writer.ghost_name }
     ensures sends { (start : Option (List ℕ)) → BlockBufferSends W.contents start block.old []
-        → BlockBufferSends W.contents start block.new (drawing_of over parts.now longer) }
+        → BlockBufferSends W.contents start block.new (drawing_of parts.now longer) }
 {
     let mut text = RowText::new();
     push_drawing_head(&mut text, parts.len(), longer);
     put_text(block, text.as_str().as_bytes());
-    put_rows(block, over, parts);
+    put_rows(block, parts);
     put_text(block, b"</svg>\n");
 }
 
@@ -76,13 +76,13 @@ fn draw_text<R: Read, W: Write>(
     block: &mut Block<'_, W>,
 ) -> Result<(), DecodeFault>
     ensures { (start : Option (List ℕ)) → BlockBufferSends W.contents start block.old []
-        → TextQueues (SourceDecides reading) (SourceReadsAs reading) no_drawing (drawing_by reading) W.contents result
+        → TextQueues (SourceDecides reading) (SourceReadsAs reading) no_drawing drawing W.contents result
         (R.remaining reader.old) (R.remaining reader.new) start block.new
         × (block.new.writer.ghost_name ≡ block.old.writer.ghost_name) }
 {
     match read_parts(reading, reader, &mut (), DrawnParts::new()) {
         Ok(kept) => {
-            put_drawing(block, reading.is_over(), kept.parts(), kept.is_longer());
+            put_drawing(block, kept.parts(), kept.is_longer());
             Ok(())
         }
         Err(fault) => Err(fault),

@@ -36,7 +36,7 @@ fn weight_of(part: &Part) -> u8
     ensures most { result ≤ 1 }
 {
     match part {
-        Part::Item(Item::Tx(_)) => 1,
+        Part::Item(Item::Tx(_)) | Part::Phased(_) => 1,
         Part::Item(_) | Part::Skip(_) => 0,
     }
 }

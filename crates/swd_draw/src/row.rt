@@ -17,7 +17,7 @@ use crate::tx_strip::{add_ignored, add_tx, one_bit};
 use arrayvec::ArrayString;
 use swd_bits::{SWITCH, SWITCH_BITS, Tx, TxBits};
 use swd_capture::Teller;
-use swd_resync::{Part, phase_len};
+use swd_resync::{PHASE_BITS, Part};
 use swd_trace::Item;
 
 // The most bytes of a row.
@@ -103,29 +103,30 @@ fn cut(bits: TxBits) -> Field
 }
 
 // Appends the waves and the boxes of an item.
-fn push_item(text: &mut RowText, over: bool, item: &Item)
+fn push_item(text: &mut RowText, item: &Item)
     requires { array_string_len text.old + LONGEST_BODY ≤ ROOM }
-    ensures bytes { text.new.bytes ≡ text.old.bytes ++ drawn_item_body over item.now }
+    ensures bytes { text.new.bytes ≡ text.old.bytes ++ drawn_item_body item.now }
     ensures len { array_string_len text.new ≤ array_string_len text.old + LONGEST_BODY }
 {
     match item {
         Item::Reset(count) => push_run(text, Name::Reset, *count),
         Item::Switch => push_field(text, switch_field()),
         Item::Idle(count) => push_run(text, Name::Idle, *count),
-        Item::Tx(tx) => push_tx(text, tx, phase_len(item, over)),
+        Item::Tx(tx) => push_tx(text, tx, 0),
         Item::Junk(bit) => push_field(text, one_bit(Name::Junk, Shade::Unknown, *bit)),
         Item::Cut(bits) => push_field(text, cut(*bits)),
     }
 }
 
 // Appends the waves and the boxes of a part.
-fn push_body(text: &mut RowText, over: bool, part: &Part)
+fn push_body(text: &mut RowText, part: &Part)
     requires { array_string_len text.old + LONGEST_BODY ≤ ROOM }
-    ensures bytes { text.new.bytes ≡ text.old.bytes ++ drawn_part_body over part.now }
+    ensures bytes { text.new.bytes ≡ text.old.bytes ++ drawn_part_body part.now }
     ensures len { array_string_len text.new ≤ array_string_len text.old + LONGEST_BODY }
 {
     match part {
-        Part::Item(item) => push_item(text, over, item),
+        Part::Item(item) => push_item(text, item),
+        Part::Phased(tx) => push_tx(text, tx, PHASE_BITS),
         Part::Skip(count) => push_run(text, Name::Skip, *count),
     }
 }
@@ -145,24 +146,18 @@ fn push_head(text: &mut RowText, index: usize)
 
 /// Appends the row of the part at an index. `teller` was given the parts before it.
 #[tactic(auto, unfolding(crate::specs::Rows::row_names, crate::specs::Rows::row_end))]
-pub(crate) fn push_row(
-    text: &mut RowText,
-    teller: &mut Teller,
-    over: bool,
-    part: &Part,
-    index: usize,
-)
+pub(crate) fn push_row(text: &mut RowText, teller: &mut Teller, part: &Part, index: usize)
     requires index { index ≤ 200 }
     requires room { array_string_len text.old ≡ 0 }
-    ensures after { (before : List Part) → IsCaptureTellerAfter drawn_line_form over before teller.old
-        → IsCaptureTellerAfter drawn_line_form over (before ++ part.now ∷ []) teller.new }
-    ensures bytes { (before : List Part) → IsCaptureTellerAfter drawn_line_form over before teller.old
+    ensures after { (before : List Part) → IsCaptureTellerAfter drawn_line_form before teller.old
+        → IsCaptureTellerAfter drawn_line_form (before ++ part.now ∷ []) teller.new }
+    ensures bytes { (before : List Part) → IsCaptureTellerAfter drawn_line_form before teller.old
         → index ≡ length before
-        → text.new.bytes ≡ text.old.bytes ++ drawing_row over before part.now }
+        → text.new.bytes ≡ text.old.bytes ++ drawing_row before part.now }
 {
     push_head(text, index);
     teller.tell(part, text);
     text.push_str("</text><text x='10' y='36'>SWCLK</text><text x='10' y='60'>SWDIO</text>");
-    push_body(text, over, part);
+    push_body(text, part);
     text.push_str("</g>\n");
 }

@@ -28,7 +28,8 @@ piece_apart addr bytes = elim (cases_lt 0 (length bytes)) [
   | inl some ↦ subst (λ (i : ImageFileContents). AreImageRangesApart i.ranges)
       (sym (image_file_add_bytes image_file_nothing addr bytes some)) (one_apart (image_file_range addr (length bytes)))
   | inr none ↦ subst (λ (i : ImageFileContents). AreImageRangesApart i.ranges)
-      (sym (image_file_add_no_bytes image_file_nothing addr bytes (let e : length bytes ≡ 0 = omega arith in e))) (λ at. omega arith)
+      (sym (image_file_add_no_bytes image_file_nothing addr bytes (let e : length bytes ≡ 0 = omega arith in e)))
+      (λ at. omega arith)
 ]
 
 start_at : IsImageFilePlaceAt (image_file_start 0) 0

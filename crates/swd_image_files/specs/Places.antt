@@ -31,7 +31,8 @@ image_file_data_fits addr len = (len == 0) || nat_le (addr + len) (2 ^ 32)
 abbrev pub image_file_place_base : RecordState → ℕ
 image_file_place_base place = place.offset + place.base
 
--- after a data record with `len` bytes, of which the first `image_file_wrap_room` lie at its address, and the others at the base
+-- after a data record with `len` bytes, of which the first `image_file_wrap_room` lie at its address, and the others
+-- at the base
 abbrev pub image_file_after_data : RecordState → ℕ → ℕ → Result RecordState LineFlaw
 image_file_after_data place addr len =
     if image_file_data_fits (image_file_place_base place + addr) (image_file_wrap_room place addr len) &&

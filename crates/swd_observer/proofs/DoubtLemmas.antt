@@ -1,6 +1,6 @@
 -- The transfer in flight is reported as one that may have taken effect, and may still do so.
 use Rattle.std.proofs.Common.{◌≡◌, ◌<◌, ◌^◌, ℕ, Bool, true, false, List, [], ◌∷◌, ◌++◌, refl, sym, subst, ◌∙◌}
-use Rattle.std.proofs.Common.{append-nil, inl, inr}
+use Rattle.std.proofs.Common.{append-nil}
 use Rattle.std.specs.Prelude.{Option, Some, None, IfSome, if◌then◌else◌}
 use Rattle.std.specs.Option.{option_map}
 use Rattle.swd_port.specs.declared.access.Transfer.{Transfer}
@@ -10,21 +10,21 @@ use Rattle.swd_port.specs.Choices.{Choice}
 use Rattle.swd_port.specs.Completion.{port_completion}
 use Rattle.swd_observer.specs.declared.told.ObservedAccess.{ObservedAccess}
 use Rattle.swd_observer.specs.declared.told.How.{How}
+use Rattle.swd_observer.specs.declared.told.How.TheVariants.{May}
 use Rattle.swd_observer.specs.declared.observer.Observer.{Observer}
 use Rattle.swd_observer.specs.declared.observer.StartedTransfer.{StartedTransfer}
 use Rattle.swd_observer.specs.declared.observer.SentWrite.{SentWrite}
 use Rattle.swd_observer.specs.declared.observer.Written.{Written}
 use Rattle.swd_observer.specs.declared.observer.Written.TheVariants.{Select as ToSelect, Csw as ToCsw, Tar as ToTar}
 use Rattle.swd_observer.specs.declared.observer.Written.TheVariants.{Drw as ToDrw}
-use Rattle.swd_observer.specs.Observing.{observer_arrival_of, observed_doubt_how, observed_doubt, observed_begun}
+use Rattle.swd_observer.specs.Observing.{observer_arrival_of, observed_doubt, observed_begun}
 use Rattle.swd_observer.specs.Observing.{observed_word_of_begun, observed_tar_lost, observer_transfer_undone}
 use Rattle.swd_observer.specs.Observing.{observer_unsure, observed_sent_unsure, observer_doubted}
 use Rattle.swd_observer.specs.Observing.{observed_increments_sent, observed_whole}
 use Rattle.swd_observer.specs.Explained.{ObservedSince, one_observed}
 use Rattle.swd_observer.specs.Knows.{ObservedFlying, owed, gone, failed, ObservedResting, ObservedFlight, ObserverHolds}
 use Rattle.swd_observer.specs.Knows.{ObserverKnows, here, spoiled}
-use Rattle.swd_observer.proofs.ExplainLemmas.{observed_since_may_took, observed_since_may_not, observed_since_not}
-use Rattle.swd_observer.proofs.FlagLemmas.{IsObservedDoubt, observed_calm_flagless, observed_doubt_stays}
+use Rattle.swd_observer.proofs.ExplainLemmas.{observed_since_may_took, observed_since_may_not}
 use Rattle.swd_observer.proofs.KnownLemmas.{observed_flying_completes, observer_unsent}
 use Rattle.swd_observer.proofs.OkayLemmas.{ObservedSame, observed_same_value}
 use Rattle.swd_observer.proofs.StepLemmas.{observer_arrival_unsent}
@@ -45,27 +45,24 @@ doubtful how b tar = record {
 
 -- it did not take place so far
 none_so_far : (before : List Transfer) (told : List ObservedAccess) (t : ObservedAccess) (x : Target)
-    (log : List Transfer) → IsObservedDoubt t.how x
+    (log : List Transfer) → t.how ≡ May
     → ObservedSince before told log → ObservedSince before (told ++ t ∷ []) log
-none_so_far before told t x log (inl may) e = observed_since_may_not before told t log may e
-none_so_far before told t x log (inr (never, flag)) e = observed_since_not before told t log never e
+none_so_far before told t x log may e = observed_since_may_not before told t log may e
 
 -- the log as it is explains it
 may_now : (before : List Transfer) (told : List ObservedAccess) (how : How) (b : StartedTransfer)
-    (increments : Option Bool) (tar : Option ℕ) (x : Target) → IsObservedDoubt how x
+    (increments : Option Bool) (tar : Option ℕ) (x : Target) → how ≡ May
     → ObservedFlying (ObservedSince before told) b increments tar x
     → ObservedSince before (told ++ doubtful how b tar ∷ []) x.memory.log
 may_now before told how b increments tar x d (owed calm drw pending of at e) =
     none_so_far before told (doubtful how b tar) x x.memory.log d e
-may_now before told how b increments tar x (inl may) (gone calm none t log fits is e buffer next) =
+may_now before told how b increments tar x may (gone calm none t log fits is e buffer next) =
     subst (λ l. ObservedSince before (told ++ doubtful how b tar ∷ []) l) (sym is)
     (observed_since_may_took before told (doubtful how b tar) t log may (record {
       read = fits.read;
       addr = fits.addr;
       word = word_may b.read b.word t fits.word;
     }) e)
-may_now before told how b increments tar x (inr (never, flag)) (gone calm none t log fits is e buffer next) =
-    absurd (observed_calm_flagless x calm flag)
 may_now before told how b increments tar x d (failed none error e) =
     none_so_far before told (doubtful how b tar) x x.memory.log d e
 
@@ -73,14 +70,14 @@ log_same : (c : Choice) (x y : Target) → ObservedSame x y → (port_completion
 log_same c x y s = rw (s.pending, s.tar, s.memory) refl
 
 doubt_flying : (before : List Transfer) (told : List ObservedAccess) (how : How) (b : StartedTransfer)
-    (increments : Option Bool) (tar : Option ℕ) (x y : Target) → ObservedSame x y → IsObservedDoubt how x
+    (increments : Option Bool) (tar : Option ℕ) (x y : Target) → ObservedSame x y → how ≡ May
     → IfSome increments (λ i. x.increments ≡ i) → ObservedFlying (ObservedSince before told) b increments tar x
     → ObservedResting (ObservedSince before (told ++ doubtful how b tar ∷ [])) None y
 doubt_flying before told how b increments tar x y s d inc h = record {
   now = subst (λ m. ObservedSince before (told ++ doubtful how b tar ∷ []) m.log) (sym s.memory)
       (may_now before told how b increments tar x d h);
   later = λ c k. subst (λ m. ObservedSince before (told ++ doubtful how b tar ∷ []) m.log) (sym (log_same c x y s))
-      (may_now before told how b increments tar (port_completion c x) (observed_doubt_stays how c x d)
+      (may_now before told how b increments tar (port_completion c x) d
       (observed_flying_completes (ObservedSince before told) b increments tar c x inc h));
   aimed = tt;
 }
@@ -99,7 +96,7 @@ rest_same E tar x y s h = record {
 }
 
 doubt_flight : (before : List Transfer) (told : List ObservedAccess) (how : How) (b : Option StartedTransfer)
-    (increments : Option Bool) (tar : Option ℕ) (x y : Target) → ObservedSame x y → IsObservedDoubt how x
+    (increments : Option Bool) (tar : Option ℕ) (x y : Target) → ObservedSame x y → how ≡ May
     → IfSome increments (λ i. x.increments ≡ i) → ObservedFlight (ObservedSince before told) b increments tar x
     → ObservedResting (ObservedSince before (told ++ one_observed (observed_begun how None tar b)))
     (observed_tar_lost b tar) y
@@ -131,7 +128,7 @@ DoubtedAt before told how s o y = ObserverHolds
     (observer_transfer_undone (observer_arrival_of (option_map observed_sent_unsure s) (observer_unsure o))) y
 
 doubt_sent : (before : List Transfer) (told : List ObservedAccess) (how : How) (w : Written) (word : Option ℕ)
-    (place : ℕ) (o : Observer) (x y : Target) → ObservedSame x y → IsObservedDoubt how x
+    (place : ℕ) (o : Observer) (x y : Target) → ObservedSame x y → how ≡ May
     → ObserverHolds (ObservedSince before told)
     (observer_arrival_of (Some (record { written = w; word = word; place = place })) o) x
     → DoubtedAt before told how (Some (record { written = w; word = word; place = place })) o y
@@ -168,7 +165,7 @@ doubt_sent before told how ToDrw word place o x y s d h = record {
 }
 
 doubt_at : (before : List Transfer) (told : List ObservedAccess) (how : How) (sent : Option SentWrite) (o : Observer)
-    (x y : Target) → ObservedSame x y → IsObservedDoubt how x
+    (x y : Target) → ObservedSame x y → how ≡ May
     → ObserverHolds (ObservedSince before told) (observer_arrival_of sent o) x → DoubtedAt before told how sent o y
 doubt_at before told how None o x y s d h = record {
   select = observed_same_value Select o.select x.select y.select s.select h.select;
@@ -189,7 +186,7 @@ knows_doubted E o y h = here (observer_unsent (observer_doubted o).sent _ (doubt
 
 -- a write that didn't arrive, of whatever is told so
 never_sent : (before : List Transfer) (told : List ObservedAccess) (t : ObservedAccess) (tar : Option ℕ) (x y : Target)
-    → ObservedSame x y → IsObservedDoubt t.how x → ObservedResting (ObservedSince before told) tar x
+    → ObservedSame x y → t.how ≡ May → ObservedResting (ObservedSince before told) tar x
     → ObservedResting (ObservedSince before (told ++ t ∷ [])) None y
 never_sent before told t tar x y s d r = record {
   now = subst (λ m. ObservedSince before (told ++ t ∷ []) m.log) (sym s.memory)
@@ -201,7 +198,7 @@ never_sent before told t tar x y s d r = record {
 
 -- the write didn't arrive, and what was begun is none
 spoil_sent : (before : List Transfer) (told : List ObservedAccess) (how : How) (w : Written) (word : Option ℕ)
-    (place : ℕ) (o : Observer) (x y : Target) → ObservedSame x y → IsObservedDoubt how x → o.begun ≡ None
+    (place : ℕ) (o : Observer) (x y : Target) → ObservedSame x y → how ≡ May → o.begun ≡ None
     → ObserverHolds (ObservedSince before told) (record o { sent = None }) x
     → DoubtedAt before told how (Some (record { written = w; word = word; place = place })) o y
 spoil_sent before told how ToSelect word place o x y s d rest h = record {
@@ -235,7 +232,7 @@ spoil_sent before told how ToDrw word place o x y s d rest h = record {
 }
 
 spoil_at : (before : List Transfer) (told : List ObservedAccess) (how : How) (sent : Option SentWrite) (o : Observer)
-    (x y : Target) → ObservedSame x y → IsObservedDoubt how x
+    (x y : Target) → ObservedSame x y → how ≡ May
     → o.begun ≡ None → ObserverHolds (ObservedSince before told) (record o { sent = None }) x
     → DoubtedAt before told how sent o y
 spoil_at before told how None o x y s d rest h = record {
@@ -247,24 +244,23 @@ spoil_at before told how None o x y s d rest h = record {
 spoil_at before told how (Some sent) o x y s d rest h =
     spoil_sent before told how sent.written sent.word sent.place o x y s d rest h
 
--- once the transfer in flight is reported as `May`, or as `Not` after FAULT, what a doubting observer knows is true,
--- even if the flags change
+-- once the transfer in flight is reported as `May`, what a doubting observer knows is true, even if the flags change
 pub observer_knows_in_doubt : (before : List Transfer) (told : List ObservedAccess) (o : Observer) (x y : Target)
-    → ObservedSame x y → IsObservedDoubt (observed_doubt_how o) x → ObserverKnows (ObservedSince before told) o x
+    → ObservedSame x y → ObserverKnows (ObservedSince before told) o x
     → ObserverKnows (ObservedSince before (told ++ one_observed (observed_doubt o))) (observer_doubted o) y
-observer_knows_in_doubt before told o x y s d (here clean h) =
-    knows_doubted _ o y (doubt_at before told (observed_doubt_how o) o.sent o x y s d h)
-observer_knows_in_doubt before told o x y s d (spoiled error rest h) =
-    knows_doubted _ o y (spoil_at before told (observed_doubt_how o) o.sent o x y s d rest h)
+observer_knows_in_doubt before told o x y s (here clean h) =
+    knows_doubted _ o y (doubt_at before told May o.sent o x y s refl h)
+observer_knows_in_doubt before told o x y s (spoiled error rest h) =
+    knows_doubted _ o y (spoil_at before told May o.sent o x y s refl rest h)
 
 -- the same as `ObserverHolds`, since a doubting observer has no unconfirmed write
 pub observer_holds_in_doubt : (before : List Transfer) (told : List ObservedAccess) (o : Observer) (x y : Target)
-    → ObservedSame x y → IsObservedDoubt (observed_doubt_how o) x → ObserverKnows (ObservedSince before told) o x
+    → ObservedSame x y → ObserverKnows (ObservedSince before told) o x
     → ObserverHolds (ObservedSince before (told ++ one_observed (observed_doubt o))) (observer_doubted o) y
-observer_holds_in_doubt before told o x y s d (here clean h) =
-    doubt_at before told (observed_doubt_how o) o.sent o x y s d h
-observer_holds_in_doubt before told o x y s d (spoiled error rest h) =
-    spoil_at before told (observed_doubt_how o) o.sent o x y s d rest h
+observer_holds_in_doubt before told o x y s (here clean h) =
+    doubt_at before told May o.sent o x y s refl h
+observer_holds_in_doubt before told o x y s (spoiled error rest h) =
+    spoil_at before told May o.sent o x y s refl rest h
 
 -- a doubting observer has no unconfirmed write
 pub observer_doubted_unsent : (o : Observer) → (observer_doubted o).sent ≡ None

@@ -31,8 +31,6 @@ use Rattle.swd_observer.specs.Transacts.{ObservedMoves}
 use Rattle.swd_observer.specs.Laws.{ObserverAtAbort, ObserverAtDpidr, observed_list_flushed}
 use Rattle.swd_observer.proofs.KnownLemmas.{observer_knows_stays}
 use Rattle.swd_observer.proofs.AskLemmas.{ObservedOkayed, observed_ask_okayed}
-use Rattle.swd_observer.proofs.FlagLemmas.{ObserverFlagged, observer_doubt_is_doubt, observer_flagged_stays}
-use Rattle.swd_observer.proofs.FlagLemmas.{observed_flag_taken, observed_flag_asked}
 use Rattle.swd_observer.proofs.OlderLemmas.{observer_awaits_by, observer_all_flushed, observed_stands_same}
 use Rattle.swd_observer.proofs.OlderLemmas.{observed_stands_stays, observed_stands_taken}
 use Rattle.swd_observer.proofs.OkayLemmas.{observed_same_at_data}
@@ -89,15 +87,15 @@ dpidr_is o s q e = dpidr_by q.ap (is_other_bank_observed o) s q.read q.addr e
 -- ABORT
 abort_asked : (before : List Transfer) (told : List ObservedAccess) (o : Observer) (q : Request) (s a b d t : Port)
     (mark : Mark) (c : Choice) (bits : ℕ) → observed_class o q ≡ Aborts → PortCompletes s a → PortAsksNow mark c a q 1 b
-    → PortCompletes b d → PortGives d bits t → ObserverFlagged (ObservedSince before told) o s.target
+    → PortCompletes b d → PortGives d bits t → ObserverKnows (ObservedSince before told) o s.target
     → ObserverKnows (ObservedSince before (told ++ one_observed (observed_doubt o))) (observer_doubted o) t.target
 abort_asked before told o q s a b d t mark c bits is first now last (e, f, third, given, fourth) k =
     let h : ObservedOkayed a q b = observed_ask_okayed mark c a q b now in
     let named : (port_register a.target.select q ≡ AbortWrite) × (q.read ≡ false) = abort_is o a.target.select q is in
     let same : b.target ≡ a.target = h.target ∙ ap (λ r. port_after_okay h.choice r a.target) named.0 in
-    let known : ObserverFlagged (ObservedSince before told) o e.target =
-    observer_flagged_stays _ o d e third (observer_flagged_stays _ o b d last
-    (subst (ObserverFlagged (ObservedSince before told) o) (sym same) (observer_flagged_stays _ o s a first k))) in
+    let known : ObserverKnows (ObservedSince before told) o e.target =
+    observer_knows_stays _ o d e third (observer_knows_stays _ o b d last
+    (subst (ObserverKnows (ObservedSince before told) o) (sym same) (observer_knows_stays _ o s a first k))) in
     let line : e.link.line ≡ Awaits AbortWrite h.flip =
     ap (λ l. l.line) (port_kept d e third).link ∙ ap (λ l. l.line) (port_kept b d last).link ∙ h.line
     ∙ observed_line_at_write q.read (port_register a.target.select q) h.flip _ named.1 ∙ ap (λ r. Awaits r h.flip)
@@ -110,12 +108,12 @@ abort_asked before told o q s a b d t mark c bits is first now last (e, f, third
     (sym after) (observer_knows_in_doubt before told o e.target
     (port_after_bits given.refuses (port_arrival_of AbortWrite (data_phase_word (port_flipped h.flip bits))) e.target)
     (observed_same_at_data AbortWrite (data_phase_word (port_flipped h.flip bits)) given.refuses e.target refl)
-    (observer_doubt_is_doubt o e.target known.flagged) known.knows))
+    known))
 
 abort_step : (before : List Transfer) (told : List ObservedAccess) (o : Observer) (q : Request) (s d t : Port)
     (bits : ℕ)
     → observed_class o q ≡ Aborts → PortAsks s q 1 d → PortGives d bits t
-    → ObserverFlagged (ObservedSince before told) o s.target
+    → ObserverKnows (ObservedSince before told) o s.target
     → ObserverKnows (ObservedSince before (told ++ one_observed (observed_doubt o))) (observer_doubted o) t.target
 abort_step before told o q s d t bits is (a, b, mark, c, first, now, last) gives k =
     abort_asked before told o q s a b d t mark c bits is first now last gives k
@@ -131,14 +129,12 @@ takes_of true a bits t e m = m
 takes_of false a bits t e m = absurd (cc)
 
 -- after OK to an ABORT write, whether or not its data arrives, what is known is true, once the transfer in flight is
--- reported as `May`, or as `Not` after FAULT
+-- reported as `May`
 pub observer_knows_abort : ObserverAtAbort
-observer_knows_abort before told o q word ok place s t is h k = record {
-  knows = abort_step before (observed_list_flushed told o) o q s h.asked t h.bits is h.asks
-      (gives_of q.read h.asked h.bits t (abort_is o s.target.select q is).1 h.moves)
-      (observer_all_flushed before told o s.target k);
-  flagged = λ e. absurd (let clash : false ≡ true = e in cc);
-}
+observer_knows_abort before told o q word ok place s t is h k =
+    abort_step before (observed_list_flushed told o) o q s h.asked t h.bits is h.asks
+    (gives_of q.read h.asked h.bits t (abort_is o s.target.select q is).1 h.moves)
+    (observer_all_flushed before told o s.target k)
 
 -- DPIDR: a fresh target is live, and nothing else changed
 flies_live : (E : List Transfer → Type 0) (b : StartedTransfer) (increments : Option Bool) (tar : Option ℕ)
@@ -202,12 +198,7 @@ pub observer_knows_dpidr : ObserverAtDpidr
 observer_knows_dpidr before told o q word ok place s t is h k =
     let takes : PortTakes h.asked h.bits t =
     takes_of q.read h.asked h.bits t (dpidr_is o s.target.select q is).1 h.moves in
-    record {
-      knows = observer_awaits_by (ObservedSince before told) o.older o o s.target t.target
-          (λ F z. observed_read_phase_keeps (ObserverKnows F o) (λ x y e w. observer_knows_stays F o x y e w) h.asked t
-          h.bits takes (dpidr_step F o q s h.asked is h.asks z))
-          (λ z w v. observed_stands_taken z w h.asked t h.bits takes (stands_live z w o q s h.asked is h.asks v))
-          k.knows;
-      flagged = λ e. observed_flag_taken h.asked t h.bits takes
-          (observed_flag_asked q 1 s h.asked h.asks (k.flagged e));
-    }
+    observer_awaits_by (ObservedSince before told) o.older o o s.target t.target
+    (λ F z. observed_read_phase_keeps (ObserverKnows F o) (λ x y e w. observer_knows_stays F o x y e w) h.asked t
+    h.bits takes (dpidr_step F o q s h.asked is h.asks z))
+    (λ z w v. observed_stands_taken z w h.asked t h.bits takes (stands_live z w o q s h.asked is h.asks v)) k

@@ -4,7 +4,7 @@ pub mod AskLemmas
 pub mod OkayLemmas
 pub mod StepLemmas
 pub mod RefusedLemmas
-pub mod FlagLemmas
+pub mod NotedLemmas
 pub mod OlderLemmas
 pub mod DoubtLemmas
 pub mod ExemptLemmas

@@ -38,8 +38,7 @@ use Rattle.swd_observer.proofs.ExplainLemmas.{observed_since_may_took, observed_
 use Rattle.swd_observer.proofs.KnownLemmas.{observer_knows_stays, observed_transfer_at_tar, observer_unsent}
 use Rattle.swd_observer.proofs.AskLemmas.{ObservedKindFits, observed_kind_fits, is_observed_harmless}
 use Rattle.swd_observer.proofs.AskLemmas.{observed_register_for}
-use Rattle.swd_observer.proofs.FlagLemmas.{ObserverFlagged, observer_doubt_is_doubt, observer_unanswered_older}
-use Rattle.swd_observer.proofs.FlagLemmas.{observer_unanswered_refused, observer_flagged_stays}
+use Rattle.swd_observer.proofs.NotedLemmas.{observer_unanswered_older}
 use Rattle.swd_observer.proofs.OlderLemmas.{observer_awaits_none, observer_all_flushed}
 use Rattle.swd_observer.proofs.OkayLemmas.{ObservedSame}
 use Rattle.swd_observer.proofs.DoubtLemmas.{observer_holds_in_doubt, observer_doubted_unsent}
@@ -139,11 +138,11 @@ Lost before told o q place x = ObserverHolds
 
 kept_lost : (before : List Transfer) (told : List ObservedAccess) (o : Observer) (q : Request) (place : ℕ)
     (x y : Target) → ObservedSame x y
-    → ObserverFlagged (ObservedSince before told) o x → Lost before told o q place y
+    → ObserverKnows (ObservedSince before told) o x → Lost before told o q place y
 kept_lost before told o q place x y s k =
     observer_no_lost_read before (told ++ one_observed (observed_doubt o))
     (is_observed_read_kind (observed_kind (observer_doubted o).select q)) place (observer_doubted o) y
-    refl (observer_holds_in_doubt before told o x y s (observer_doubt_is_doubt o x k.flagged) k.knows)
+    refl (observer_holds_in_doubt before told o x y s k)
 
 -- a target has the same as itself of what an observer keeps
 pub observed_same_self : (x : Target) → ObservedSame x x
@@ -151,11 +150,11 @@ observed_same_self x = record { select = refl; increments = refl; tar = refl; pe
 
 drw_lost : (before : List Transfer) (told : List ObservedAccess) (o : Observer) (q : Request) (place : ℕ) (x : Target)
     (chosen : Choice)
-    → port_register x.select q ≡ DrwRead → ObserverFlagged (ObservedSince before told) o x
+    → port_register x.select q ≡ DrwRead → ObserverKnows (ObservedSince before told) o x
     → Lost before told o q place (port_after_okay chosen (port_register x.select q) x)
 drw_lost before told o q place x chosen named k =
     let h : ObserverHolds (ObservedSince before (told ++ one_observed (observed_doubt o))) (observer_doubted o) x =
-    observer_holds_in_doubt before told o x x (observed_same_self x) (observer_doubt_is_doubt o x k.flagged) k.knows in
+    observer_holds_in_doubt before told o x x (observed_same_self x) k in
     let reads : is_observed_read_kind (observed_kind (observer_doubted o).select q) ≡ true =
     reads_drw (observed_kind (observer_doubted o).select q) (port_register x.select q) named
     (observed_kind_fits (observer_doubted o).select x.select q h.select) in
@@ -181,7 +180,7 @@ pends_kept r p e = refl
 
 okay_lost : (before : List Transfer) (told : List ObservedAccess) (o : Observer) (q : Request) (place : ℕ) (x : Target)
     (chosen : Choice)
-    (drw : Bool) → is_drw_read (port_register x.select q) ≡ drw → ObserverFlagged (ObservedSince before told) o x
+    (drw : Bool) → is_drw_read (port_register x.select q) ≡ drw → ObserverKnows (ObservedSince before told) o x
     → Lost before told o q place (port_after_okay chosen (port_register x.select q) x)
 okay_lost before told o q place x chosen true e k =
     drw_lost before told o q place x chosen (drw_read_is (port_register x.select q) e) k
@@ -195,7 +194,7 @@ okay_lost before told o q place x chosen false e k = kept_lost before told o q p
 
 lost_by : (before : List Transfer) (told : List ObservedAccess) (o : Observer) (q : Request) (place : ℕ) (x : Target)
     (chosen : Choice)
-    (reply : Reply) → ObserverFlagged (ObservedSince before told) o x
+    (reply : Reply) → ObserverKnows (ObservedSince before told) o x
     → Lost before told o q place (port_target_after chosen reply (port_register x.select q) q.ap x)
 lost_by before told o q place x chosen Okay k =
     okay_lost before told o q place x chosen (is_drw_read (port_register x.select q)) refl k
@@ -213,7 +212,7 @@ observer_unanswered_unsent false d e = e
 
 lost_now : (before : List Transfer) (told : List ObservedAccess) (o : Observer) (q : Request) (seen place : ℕ)
     (mark : Mark) (c : Choice) (s t : Port) → PortAsksNow mark c s q seen t
-    → ObserverFlagged (ObservedSince before told) o s.target
+    → ObserverKnows (ObservedSince before told) o s.target
     → ObserverKnows (ObservedSince before ((told ++ one_observed (observed_doubt o))
     ++ one_observed (observed_unanswered_read (observed_kind (observer_doubted o).select q) (observer_doubted o).tar
     place))) (observer_unanswered (observed_kind (observer_doubted o).select q) (observer_doubted o)) t.target
@@ -231,25 +230,20 @@ lost_now before told o q seen place mark c s t h k =
     (lost_by before told o q place s.target c (port_reply mark s.target q) k)))
 
 lost_asked : (before : List Transfer) (told : List ObservedAccess) (o : Observer) (q : Request) (seen place : ℕ)
-    (s t : Port) → PortAsks s q seen t → ObserverFlagged (ObservedSince before told) o s.target
+    (s t : Port) → PortAsks s q seen t → ObserverKnows (ObservedSince before told) o s.target
     → ObserverKnows (ObservedSince before ((told ++ one_observed (observed_doubt o))
     ++ one_observed (observed_unanswered_read (observed_kind (observer_doubted o).select q) (observer_doubted o).tar
     place))) (observer_unanswered (observed_kind (observer_doubted o).select q) (observer_doubted o)) t.target
 lost_asked before told o q seen place s t (a, b, mark, c, first, now, last) k =
     observer_knows_stays _ _ b t last (lost_now before told o q seen place mark c a b now
-    (observer_flagged_stays (ObservedSince before told) o s a first k))
+    (observer_knows_stays (ObservedSince before told) o s a first k))
 
--- after a request without acknowledgement what is known is true, once the transfer in flight is reported as `May`, or
--- as `Not` after FAULT, and the request itself as `May` if it may read DRW
+-- after a request without acknowledgement what is known is true, once the transfer in flight is reported as `May`, and
+-- the request itself as `May` if it may read DRW
 pub observer_knows_lost : ObserverAtLost
-observer_knows_lost before told o q seen place s t w k = record {
-  knows = observer_awaits_none _ _ (observer_unanswered (observed_kind (observer_doubted o).select q)
-      (observer_doubted o)) t.target
-      (observer_unanswered_older (is_observed_read_kind (observed_kind (observer_doubted o).select q))
-      (observer_doubted o)) (lost_asked before (observed_list_flushed told o) o q seen place s t w.asks
-      (observer_all_flushed before told o s.target k));
-  flagged = λ e. absurd (let clash : false ≡ true =
-      sym (observer_unanswered_refused (is_observed_read_kind (observed_kind (observer_doubted o).select q))
-      (observer_doubted o)) ∙ e in
-      cc);
-}
+observer_knows_lost before told o q seen place s t w k =
+    observer_awaits_none _ _ (observer_unanswered (observed_kind (observer_doubted o).select q)
+    (observer_doubted o)) t.target
+    (observer_unanswered_older (is_observed_read_kind (observed_kind (observer_doubted o).select q))
+    (observer_doubted o)) (lost_asked before (observed_list_flushed told o) o q seen place s t w.asks
+    (observer_all_flushed before told o s.target k))

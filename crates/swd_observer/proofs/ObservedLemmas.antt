@@ -32,7 +32,6 @@ use Rattle.swd_observer.specs.Transacts.{ObservedTransacts, ObservedMoves as Pha
 use Rattle.swd_observer.specs.Runs.{ObservedEvent, Moves, Lifts, ObservedHappens, ObservedRuns, observer_after_event}
 use Rattle.swd_observer.specs.Runs.{observed_with_event, observer_after, observed_in_events, ObserverKnowsPort}
 use Rattle.swd_observer.specs.Runs.{Accounted, ObservedRunsAccounted, ObservedMadeAccounted, ObservedAnyAccounted}
-use Rattle.swd_observer.proofs.FlagLemmas.{observer_doubt_is_doubt}
 use Rattle.swd_observer.proofs.OlderLemmas.{observer_awaits_by, observer_all_flushed, observed_stands_same}
 use Rattle.swd_observer.proofs.OlderLemmas.{observer_watches_stay}
 use Rattle.swd_observer.proofs.KnownLemmas.{observer_unsent, observed_no_pending_keeps}
@@ -129,24 +128,14 @@ port_completes E o s t done k = record {
   waits = λ e. k.waits (ap (λ l. port_line_awaits l.line) (sym (port_kept s t done).link) ∙ e);
 }
 
-or_led : (a b c : Bool) → (a || b) ≡ true → (a || (c || b)) ≡ true
-or_led true b c e = refl
-or_led false true true e = refl
-or_led false true false e = refl
-or_led false false c e = absurd (cc)
-
 port_led : (E : List Transfer → Type 0) (o : Observer) (ones : ℕ) (s : Port) → ObserverKnowsPort E o s
     → ObserverKnowsPort E o (port_after_lead ones s)
 port_led E o ones s k = record {
-  knows = record {
-    knows = observer_awaits_by E o.older o o s.target (port_after_lead ones s).target
-        (λ F z. led_by F o (if no (ones == 0) then Fresh else s.target.reset) (no (ones == 0))
-        (port_line_awaits s.link.line) s.target k.waits z)
-        (λ z word v. observed_stands_same z word s.target (port_after_lead ones s).target refl refl refl v)
-        k.knows.knows;
-    flagged = λ e. or_led s.target.sticky_error s.target.write_error (no (ones == 0) && port_line_awaits s.link.line)
-        (k.knows.flagged e);
-  };
+  knows = observer_awaits_by E o.older o o s.target (port_after_lead ones s).target
+      (λ F z. led_by F o (if no (ones == 0) then Fresh else s.target.reset) (no (ones == 0))
+      (port_line_awaits s.link.line) s.target k.waits z)
+      (λ z word v. observed_stands_same z word s.target (port_after_lead ones s).target refl refl refl v)
+      k.knows;
   waits = line_led _ (no (ones == 0)) s.link.line k.waits;
 }
 
@@ -229,11 +218,10 @@ run before told o (e ∷ events) s t (m, h, rest) k =
 accounted : (before : List Transfer) (told : List ObservedAccess) (o : Observer) (t : Port) → ObserverKnowsPort
     (ObservedSince before told) o t → Accounted before (and_observed told (observed_last_accesses o)) t
 accounted before told o t k =
-    let f = observer_all_flushed before told o t.target k.knows in
     let h : ObserverHolds (ObservedSince before (observed_list_flushed told o ++ one_observed (observed_doubt o)))
     (observer_doubted o) t.target =
     observer_holds_in_doubt before (observed_list_flushed told o) o t.target t.target (observed_same_self t.target)
-    (observer_doubt_is_doubt o t.target f.flagged) f.knows in
+    (observer_all_flushed before told o t.target k.knows) in
     subst (λ l. Accounted before l t) (sym
     (append-nil (observed_list_flushed told o ++ one_observed (observed_doubt o))))
     (record { now = h.flight.now; later = h.flight.later })
@@ -251,15 +239,12 @@ none_yet log = record { more = []; is = sym (append-nil log); explains = refl }
 pub observed_made_accounted : ObservedMadeAccounted
 observed_made_accounted identification m events t r =
     observed_runs_accounted m.log [] observer_as_made events (port_made identification m) t (record {
-      knows = record {
-        flagged = λ e. absurd (cc);
-        knows = here tt (record {
-          select = refl;
-          increments = refl;
-          range = omega arith;
-          flight = record { now = none_yet m.log; later = λ c k. none_yet m.log; aimed = (refl, refl) };
-        });
-      };
+      knows = here tt (record {
+        select = refl;
+        increments = refl;
+        range = omega arith;
+        flight = record { now = none_yet m.log; later = λ c k. none_yet m.log; aimed = (refl, refl) };
+      });
       waits = λ e. absurd (cc);
     }) r
 
@@ -267,19 +252,16 @@ observed_made_accounted identification m events t r =
 pub observed_any_accounted : ObservedAnyAccounted
 observed_any_accounted events s t none idle r =
     observed_runs_accounted s.target.memory.log [] observer_unknown events s t (record {
-      knows = record {
-        flagged = λ e. absurd (cc);
-        knows = here tt (record {
-          select = tt;
-          increments = tt;
-          range = tt;
-          flight = record {
-            now = none_yet s.target.memory.log;
-            later = λ c k. observed_no_pending_keeps (λ y. ObservedSince s.target.memory.log [] y.memory.log) c s.target
-                none (none_yet s.target.memory.log);
-            aimed = tt;
-          };
-        });
-      };
+      knows = here tt (record {
+        select = tt;
+        increments = tt;
+        range = tt;
+        flight = record {
+          now = none_yet s.target.memory.log;
+          later = λ c k. observed_no_pending_keeps (λ y. ObservedSince s.target.memory.log [] y.memory.log) c s.target
+              none (none_yet s.target.memory.log);
+          aimed = tt;
+        };
+      });
       waits = λ e. absurd (let clash : true ≡ false = sym e ∙ idle in cc);
     }) r

@@ -26,8 +26,6 @@ use Rattle.swd_observer.proofs.ExplainLemmas.{observed_since_took}
 use Rattle.swd_observer.proofs.KnownLemmas.{observer_knows_stays, observed_no_pending_keeps}
 use Rattle.swd_observer.proofs.RefusedLemmas.{observed_wait_reply, observed_fault_reply, observer_knows_wait}
 use Rattle.swd_observer.proofs.RefusedLemmas.{observer_knows_fault}
-use Rattle.swd_observer.proofs.FlagLemmas.{ObserverFlagged, observed_flag_stays, observed_flag_asked}
-use Rattle.swd_observer.proofs.FlagLemmas.{observed_flag_passed, observed_fault_flagged, observer_refusal_noted}
 
 -- what explains a log may be said in other words
 flies_as : (E F : List Transfer → Type 0) (f : (log : List Transfer) → E log → F log) (b : StartedTransfer)
@@ -91,14 +89,12 @@ observer_older_flushed before told (Some h) known o x right (word, stands, k) =
     (ObservedSince before (told ++ one_observed (observed_older known (Some h))))
     (λ log i. is_told before told h word known log (right h.standing word refl stands) i) o x k
 
--- the same for a report without its word; after FAULT a flag is set
+-- the same for a report without its word
 pub observer_all_flushed : (before : List Transfer) (told : List ObservedAccess) (o : Observer) (x : Target)
     → ObserverKnowsSince before told o x
-    → ObserverFlagged (ObservedSince before (told ++ one_observed (observed_older None o.older))) o x
-observer_all_flushed before told o x k = record {
-  knows = observer_older_flushed before told o.older None o x (λ s word e stands. tt) k.knows;
-  flagged = k.flagged;
-}
+    → ObserverKnows (ObservedSince before (told ++ one_observed (observed_older None o.older))) o x
+observer_all_flushed before told o x k =
+    observer_older_flushed before told o.older None o x (λ s word e stands. tt) k
 
 -- where nothing is held
 pub observer_awaits_none : (E : List Transfer → Type 0) (h : Option Older) (o : Observer) (x : Target) → h ≡ None
@@ -160,31 +156,23 @@ stands_faulted s word q a b (c, d, mark, choice, first, now, last) h =
     observed_stands_stays s word d b last (subst (ObservedStands s word) (sym (ap (λ p. p.target) after.after))
     (observed_stands_same s word c.target _ refl refl refl (observed_stands_stays s word a c first h)))
 
--- what is known, of an older read, too, is true after a possible completion, and after FAULT a flag is set
+-- what is known, of an older read, too, is true after a possible completion
 pub observer_watches_stay : (E : List Transfer → Type 0) (o : Observer) (s t : Port) → PortCompletes s t
     → ObserverWatches E o s.target → ObserverWatches E o t.target
-observer_watches_stay E o s t done k = record {
-  knows = observer_awaits_by E o.older o o s.target t.target (λ F h. observer_knows_stays F o s t done h)
-      (λ z word h. observed_stands_stays z word s t done h) k.knows;
-  flagged = λ e. observed_flag_stays s t done (k.flagged e);
-}
+observer_watches_stay E o s t done k =
+    observer_awaits_by E o.older o o s.target t.target (λ F h. observer_knows_stays F o s t done h)
+    (λ z word h. observed_stands_stays z word s t done h) k
 
 -- after WAIT what was known is true, with nothing reported
 pub observer_watches_wait : ObserverAtWait
-observer_watches_wait before told o q place s t h k = record {
-  knows = observer_awaits_by (ObservedSince before told) o.older o o s.target t.target
-      (λ F z. observer_knows_wait F o q s h.asked t h.asks h.passes z)
-      (λ z word v. observed_stands_passed z word h.asked t h.passes (stands_waited z word q s h.asked h.asks v))
-      k.knows;
-  flagged = λ e. observed_flag_passed h.asked t h.passes (observed_flag_asked q 2 s h.asked h.asks (k.flagged e));
-}
+observer_watches_wait before told o q place s t h k =
+    observer_awaits_by (ObservedSince before told) o.older o o s.target t.target
+    (λ F z. observer_knows_wait F o q s h.asked t h.asks h.passes z)
+    (λ z word v. observed_stands_passed z word h.asked t h.passes (stands_waited z word q s h.asked h.asks v)) k
 
--- after FAULT what was known is true, with nothing reported, and a flag is set
+-- after FAULT, too
 pub observer_watches_fault : ObserverAtFault
-observer_watches_fault before told o q place s t h k = record {
-  knows = observer_awaits_by (ObservedSince before told) o.older o (record o { refused = true }) s.target t.target
-      (λ F z. observer_refusal_noted F o t.target (observer_knows_fault F o q s h.asked t h.asks h.passes z))
-      (λ z word v. observed_stands_passed z word h.asked t h.passes (stands_faulted z word q s h.asked h.asks v))
-      k.knows;
-  flagged = λ e. observed_flag_passed h.asked t h.passes (observed_fault_flagged q s h.asked h.asks);
-}
+observer_watches_fault before told o q place s t h k =
+    observer_awaits_by (ObservedSince before told) o.older o o s.target t.target
+    (λ F z. observer_knows_fault F o q s h.asked t h.asks h.passes z)
+    (λ z word v. observed_stands_passed z word h.asked t h.passes (stands_faulted z word q s h.asked h.asks v)) k

@@ -54,7 +54,7 @@ use Rattle.swd_observer.proofs.OkayLemmas.{observed_whole_word_has}
 use Rattle.swd_observer.proofs.StepLemmas.{observed_first_clear, observed_second_clear, observer_confirmed_unsent}
 use Rattle.swd_observer.proofs.StepLemmas.{observed_read_word, observed_line_at_read, observed_ap_power}
 use Rattle.swd_observer.proofs.StepLemmas.{observed_read_phase_keeps, observed_other_bank}
-use Rattle.swd_observer.proofs.FlagLemmas.{observer_accepted_refused, observer_older_noted}
+use Rattle.swd_observer.proofs.NotedLemmas.{observer_older_noted}
 use Rattle.swd_observer.proofs.OlderLemmas.{observer_older_flushed, observed_stands_stays, observed_stands_taken}
 use Rattle.swd_observer.proofs.AnyLemmas.{observer_okay_moved}
 
@@ -413,15 +413,10 @@ okay_slot (Some z) before told o q word ok place s t is tells h k =
 -- after OK to a request that isn't exempt what is known is true: an older read is reported, the transfer in flight is
 -- reported as `Took` or kept as the older read, and the request itself is reported if it may be an access
 pub observer_knows_okay : ObserverAtOkay
-observer_knows_okay before told o q word ok place s t tells h k = record {
-  knows = okay_slot (observed_older_slot_at q (word_observed ok word) o) before
-      (told ++ one_observed (observed_older
-      (observed_older_word o.older q (observed_whole o.increments (word_observed ok word))) o.older)) o q word ok
-      place s t refl tells h (observer_older_flushed before told o.older
-      (observed_older_word o.older q (observed_whole o.increments (word_observed ok word))) o s.target
-      (right_for o.older q word ok o.increments s t h) k.knows);
-  flagged = λ e. absurd (let clash : false ≡ true =
-      sym (observer_accepted_refused (observed_kind (observer_confirmed o).select q) (word_observed ok word) place
-      (observer_confirmed o)) ∙ e in
-      cc);
-}
+observer_knows_okay before told o q word ok place s t tells h k =
+    okay_slot (observed_older_slot_at q (word_observed ok word) o) before
+    (told ++ one_observed (observed_older
+    (observed_older_word o.older q (observed_whole o.increments (word_observed ok word))) o.older)) o q word ok
+    place s t refl tells h (observer_older_flushed before told o.older
+    (observed_older_word o.older q (observed_whole o.increments (word_observed ok word))) o s.target
+    (right_for o.older q word ok o.increments s t h) k)

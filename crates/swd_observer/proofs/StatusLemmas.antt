@@ -39,8 +39,7 @@ use Rattle.swd_observer.proofs.ExplainLemmas.{observed_since_not}
 use Rattle.swd_observer.proofs.KnownLemmas.{observer_knows_stays, observed_no_pending_keeps, observer_unsent}
 use Rattle.swd_observer.specs.Transacts.{ObservedMoves}
 use Rattle.swd_observer.specs.Laws.{ObserverAtStatus, observed_list_flushed}
-use Rattle.swd_observer.proofs.FlagLemmas.{observer_older_noted, observer_status_refused, observed_flag_taken}
-use Rattle.swd_observer.proofs.FlagLemmas.{observed_flag_asked}
+use Rattle.swd_observer.proofs.NotedLemmas.{observer_older_noted}
 use Rattle.swd_observer.proofs.OlderLemmas.{observer_all_flushed}
 use Rattle.swd_observer.proofs.AskLemmas.{ObservedOkayed, observed_ask_okayed}
 use Rattle.swd_observer.proofs.StepLemmas.{observer_arrival_unsent, observed_read_phase_keeps, observed_line_at_read}
@@ -357,12 +356,7 @@ pub observer_knows_status : ObserverAtStatus
 observer_knows_status before told o q word ok place s t is h k =
     let takes : PortTakes h.asked h.bits t =
     takes_of q.read h.asked h.bits t (status_is o s.target.select q is).1 h.moves in
-    record {
-      knows = observer_older_noted _ None (if ok && is_status_observed o then observer_flagged (register_bit 5 word)
-          (register_bit 7 word) o else o) t.target
-          (status_step before (observed_list_flushed told o) o q word ok s h.asked t h.bits is h.asks h.range h.carries
-          takes (observer_all_flushed before told o s.target k).knows);
-      flagged = λ e. observed_flag_taken h.asked t h.bits takes (observed_flag_asked q 1 s h.asked h.asks (k.flagged
-          (sym (observer_status_refused (ok && is_status_observed o) (register_bit 5 word) (register_bit 7 word) o) ∙
-          e)));
-    }
+    observer_older_noted _ None (if ok && is_status_observed o then observer_flagged (register_bit 5 word)
+    (register_bit 7 word) o else o) t.target
+    (status_step before (observed_list_flushed told o) o q word ok s h.asked t h.bits is h.asks h.range h.carries
+    takes (observer_all_flushed before told o s.target k))

@@ -19,7 +19,7 @@ use Rattle.swd_observer.specs.declared.observer.Observations.{Observations}
 use Rattle.swd_observer.specs.declared.observer.RequestEffect.TheVariants.{Other, Elsewhere}
 use Rattle.swd_observer.specs.Observing.{Class, Passes, Aborts, Status, Confirms, observed_class, observer_arrival}
 use Rattle.swd_observer.specs.Observing.{observer_confirmed, observed_begun, is_observed_data_register, observed_kind}
-use Rattle.swd_observer.specs.Observing.{observed_older, unless_observed_older, observed_doubt_how, observed_flagged}
+use Rattle.swd_observer.specs.Observing.{observed_older, unless_observed_older, observed_flagged}
 use Rattle.swd_observer.specs.Observing.{observed_itself, observed_kind_ap, observed_kind_dp, observed_kind_mem}
 use Rattle.swd_observer.specs.Observing.{observed_at_class, observed_at_tx_end, is_status_observed}
 use Rattle.swd_observer.specs.Explained.{and_observed, one_observed}
@@ -109,7 +109,7 @@ class_sure : (c : Class) (q : Request) (word : ℕ) (ok : Bool) (place : ℕ) (o
 class_sure Passes q word ok place o known calm plain = (tt, tt, tt)
 class_sure Aborts q word ok place o known calm plain = (
   older_sure None o.older,
-  none_sure (observed_doubt_how o) None (observer_arrival o).tar (observer_arrival o).begun (calm refl),
+  none_sure May None (observer_arrival o).tar (observer_arrival o).begun (calm refl),
   tt,
 )
 class_sure Status q word ok place o known calm plain = (

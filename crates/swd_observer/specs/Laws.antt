@@ -30,7 +30,7 @@ ObserverAtCompletion = (before : List Transfer) (told : List ObservedAccess) (o 
 abbrev pub observed_list_flushed : List ObservedAccess → Observer → List ObservedAccess
 observed_list_flushed told o = told ++ one_observed (observed_older None o.older)
 
--- WAIT shows nothing, and FAULT shows that the transfer in flight has no effect
+-- WAIT shows nothing, and neither does FAULT: it may come of STICKYORUN
 abbrev pub ObserverAtWait : Type 0
 ObserverAtWait = (before : List Transfer) (told : List ObservedAccess) (o : Observer) (q : Request) (place : ℕ)
     (s t : Port) → ObservedTransacts Wait q s t → ObserverKnowsSince before told o s.target →
@@ -56,7 +56,7 @@ ObserverAtDpidr = (before : List Transfer) (told : List ObservedAccess) (o : Obs
     (ok : Bool) (place : ℕ) (s t : Port) → observed_class o q ≡ Passes → ObservedTransacts (Moved word ok) q s t →
     ObserverKnowsSince before told o s.target → ObserverKnowsSince before told o t.target
 
--- after ABORT, even with corrupted data, the transfer in flight is reported as `May`, or as `Not` after FAULT
+-- after ABORT, even with corrupted data, the transfer in flight is reported as `May`
 abbrev pub ObserverAtAbort : Type 0
 ObserverAtAbort = (before : List Transfer) (told : List ObservedAccess) (o : Observer) (q : Request) (word : ℕ)
     (ok : Bool) (place : ℕ) (s t : Port) → observed_class o q ≡ Aborts → ObservedTransacts (Moved word ok) q s t →
@@ -64,8 +64,8 @@ ObserverAtAbort = (before : List Transfer) (told : List ObservedAccess) (o : Obs
     ObserverKnowsSince before (observed_list_flushed told o ++ one_observed (observed_doubt o)) (observer_doubted o)
     t.target
 
--- Without an acknowledgement, the transfer in flight is reported as `May`, or as `Not` after FAULT. The
--- request itself is reported as `May` if it may be a DRW read.
+-- Without an acknowledgement, the transfer in flight is reported as `May`. The request itself is reported as `May` if
+-- it may be a DRW read.
 abbrev pub ObserverAtLost : Type 0
 ObserverAtLost = (before : List Transfer) (told : List ObservedAccess) (o : Observer) (q : Request) (seen place : ℕ)
     (s t : Port) → ObservedTransacts (NoAck seen) q s t → ObserverKnowsSince before told o s.target →

@@ -42,7 +42,6 @@ observer_unknown = record {
   tar = None;
   sent = None;
   begun = None;
-  refused = false;
   older =
       None;
 }
@@ -55,7 +54,6 @@ observer_as_made = record {
   tar = Some 0;
   sent = None;
   begun = None;
-  refused = false;
   older = None;
 }
 
@@ -99,7 +97,6 @@ observer_arrival_of (Some s) o = record {
   tar = observed_tar_sent s.written s.word o.tar;
   sent = None;
   begun = observed_begun_sent s.written o.increments s.word s.place o.begun;
-  refused = o.refused;
   older = o.older;
 }
 
@@ -122,7 +119,6 @@ abbrev pub observer_transfer_done : Observer → Observer
 observer_transfer_done o = record o {
   tar = observed_tar_done o.begun o.increments o.tar;
   begun = None;
-  refused = false;
   older = None;
 }
 
@@ -139,7 +135,6 @@ abbrev pub observer_transfer_undone : Observer → Observer
 observer_transfer_undone o = record o {
   tar = observed_tar_lost o.begun o.tar;
   begun = None;
-  refused = false;
   older =
       None;
 }
@@ -167,12 +162,9 @@ observed_begun how got tar (Some b) =
 abbrev pub observed_flight_access : How → Option ℕ → Observer → Option ObservedAccess
 observed_flight_access how got o = observed_begun how got (observer_arrival o).tar (observer_arrival o).begun
 
--- what is reported of the transfer in flight if no later request shows it: FAULT showed that it did not succeed
-abbrev pub observed_doubt_how : Observer → How
-observed_doubt_how o = if o.refused then Not else May
-
+-- what is reported of the transfer in flight if no later request shows it
 abbrev pub observed_doubt : Observer → Option ObservedAccess
-observed_doubt o = observed_flight_access (observed_doubt_how o) None o
+observed_doubt o = observed_flight_access May None o
 
 -- what is reported of an earlier read whose word wasn't seen yet
 abbrev pub observed_older : Option ℕ → Option Older → Option ObservedAccess
@@ -415,7 +407,7 @@ observed_at_class Confirms q word ok place o = observed_at_confirm q (word_obser
 abbrev pub observer_after_tx_end : TxEnd → Request → ℕ → Observer → Observer
 observer_after_tx_end (Moved word ok) q place o = observer_after_class (observed_class o q) q word ok place o
 observer_after_tx_end Wait q place o = o
-observer_after_tx_end Fault q place o = record o { refused = true }
+observer_after_tx_end Fault q place o = o
 observer_after_tx_end (NoAck seen) q place o =
     observer_unanswered (observed_kind (observer_doubted o).select q) (observer_doubted o)
 

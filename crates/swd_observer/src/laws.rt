@@ -12,7 +12,7 @@ pub fn completion()
     ensures { ObserverAtCompletion }
 {}
 
-/// States that WAIT shows nothing, and that FAULT shows that the transfer in flight didn't succeed.
+/// States that WAIT shows nothing, and neither does FAULT.
 pub fn refusals()
     ensures wait { ObserverAtWait }
     ensures fault { ObserverAtFault }
@@ -25,16 +25,14 @@ pub fn confirmations()
 {}
 
 /// States what the requests show that are never refused. A read of DPIDR shows nothing. After a write of
-/// ABORT the transfer in flight is reported as `May`, or as `Not` if FAULT was answered before. A read of
-/// CTRL/STAT shows whether the transfer met an error, if its parity is right and DPBANKSEL is known to be 0.
+/// ABORT the transfer in flight is reported as `May`. A read of CTRL/STAT shows whether the transfer met an error, if its parity is right and DPBANKSEL is known to be 0.
 pub fn exempt_requests()
     ensures dpidr { ObserverAtDpidr }
     ensures abort { ObserverAtAbort }
     ensures status { ObserverAtStatus }
 {}
 
-/// States what is known after a lost acknowledgement. The transfer in flight is reported as `May`, or as
-/// `Not` if FAULT was answered before. The request itself is reported as `May` if it may be a DRW read.
+/// States what is known after a lost acknowledgement. The transfer in flight is reported as `May`. The request itself is reported as `May` if it may be a DRW read.
 pub fn lost_requests()
     ensures { ObserverAtLost }
 {}
@@ -52,8 +50,8 @@ pub fn transactions()
 /// pending transfer and without a data phase due.
 ///
 /// Before `last`, nothing is reported as `May` if all of these hold: every transaction was acknowledged,
-/// SELECT is known, ABORT is written only where no transfer is in flight, and the data registers are those of
-/// AP 0.
+/// SELECT is known, ABORT is written only where no transfer is in flight, so after FAULT only once CTRL/STAT was read,
+/// and the data registers are those of AP 0.
 pub fn observed_runs()
     ensures runs { ObservedRunsAccounted }
     ensures made { ObservedMadeAccounted }

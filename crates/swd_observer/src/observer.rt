@@ -78,8 +78,9 @@ pub struct Older {
 ///
 /// OK to a request that can be refused shows that no sticky error is set and nothing is pending (IHI 0031,
 /// B4, "FAULT response to read or write operation request"). So the write before it arrived intact, and the
-/// transfer in flight took effect. An access is therefore reported at a later request. WAIT shows nothing.
-/// FAULT, and CTRL/STAT with a flag set, show that the transfer didn't succeed.
+/// transfer in flight took effect. An access is therefore reported at a later request. CTRL/STAT with STICKYERR or
+/// WDATAERR set shows that the transfer didn't succeed. WAIT shows nothing, and neither does FAULT, which may come of
+/// STICKYORUN.
 ///
 /// It reports nothing that the wire doesn't show. These are unknown:
 /// - TAR after an increment across a boundary of 1 KB;
@@ -99,9 +100,6 @@ pub struct Observer {
     pub tar: Option<u32>,
     pub sent: Option<SentWrite>,
     pub begun: Option<StartedTransfer>,
-    /// Whether FAULT was answered, and the sticky error that it shows is still set, so that the transfer in
-    /// flight didn't succeed.
-    pub refused: bool,
     pub older: Option<Older>,
 }
 
@@ -160,7 +158,6 @@ impl Observer {
             tar: None,
             sent: None,
             begun: None,
-            refused: false,
             older: None,
         }
     }
@@ -175,7 +172,6 @@ impl Observer {
             tar: Some(0),
             sent: None,
             begun: None,
-            refused: false,
             older: None,
         }
     }
@@ -220,7 +216,6 @@ impl Observer {
     {
         let mut now = self;
         now.begun = None;
-        now.refused = false;
         now.older = None;
         if self.begun.is_some() {
             now.tar = advance(self.increments, self.tar);
@@ -234,7 +229,6 @@ impl Observer {
     {
         let mut lost = self;
         lost.begun = None;
-        lost.refused = false;
         lost.older = None;
         if self.begun.is_some() {
             lost.tar = None;
@@ -281,7 +275,7 @@ impl Observer {
     fn doubt(self) -> Option<ObservedAccess>
         ensures { result ≡ observed_doubt self }
     {
-        self.told(if self.refused { How::Not } else { How::May }, None)
+        self.told(How::May, None)
     }
 
     // Returns whether the unconfirmed write is to SELECT.
@@ -561,11 +555,7 @@ impl Observer {
     {
         match tx.result {
             TxEnd::Moved { word, parity_ok } => self.moved(tx.request, word, parity_ok, place),
-            TxEnd::Wait => NOTHING,
-            TxEnd::Fault => {
-                self.refused = true;
-                NOTHING
-            }
+            TxEnd::Wait | TxEnd::Fault => NOTHING,
             TxEnd::NoAck(_) => self.unanswered(tx.request, place),
         }
     }

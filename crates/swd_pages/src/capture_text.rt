@@ -13,7 +13,7 @@ use swd_text::DecodeFault;
 pub fn lines(mut text: &[u8], listing: &mut Vec<u8>) -> Result<(), DecodeFault>
     ensures { let form : Form = record { places = true; names = true } in OnOk result ((parts : List Part)
         × CaptureTextReadsAs (Reading.Capture false) text.now parts
-        × (listing.new.items ≡ listing.old.items ++ capture_printout (Printed.Lines form) false parts)) }
+        × (listing.new.items ≡ listing.old.items ++ capture_printout (Printed.Lines form) parts)) }
 {
     let reading = Reading::Capture { over: false };
     let form = LineForm {

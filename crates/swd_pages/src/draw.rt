@@ -2,7 +2,7 @@
 ghost use Rattle.std.specs.Prelude.{◌≡◌, ◌++◌, List, OnOk};
 ghost use Rattle.swd_resync.specs.declared.part.Part.{Part};
 ghost use Rattle.swd_capture_text.specs.Captures.{CaptureTextReadsAs};
-ghost use Rattle.swd_draw.specs.Draws.{drawing_by};
+ghost use Rattle.swd_draw.specs.Drawings.{drawing as drawing_of_parts};
 
 use swd_capture_text::Reading;
 use swd_draw::draw_capture;
@@ -11,7 +11,7 @@ use swd_text::DecodeFault;
 /// Appends the SVG drawing of a trace file.
 pub fn drawing(mut text: &[u8], svg: &mut Vec<u8>) -> Result<(), DecodeFault>
     ensures { OnOk result ((parts : List Part) × CaptureTextReadsAs Reading.Trace text.now parts
-        × (svg.new.items ≡ svg.old.items ++ drawing_by Reading.Trace parts)) }
+        × (svg.new.items ≡ svg.old.items ++ drawing_of_parts parts)) }
 {
     draw_capture(Reading::Trace, &mut text, svg)
 }

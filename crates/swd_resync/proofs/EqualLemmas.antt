@@ -16,14 +16,17 @@ use Rattle.swd_trace.specs.Reading.{first_item_by_stand, first_item_synced, firs
 use Rattle.swd_trace.specs.Reading.{reading_of}
 use Rattle.swd_trace.proofs.StandLemmas.{stand_by_test}
 use Rattle.swd_trace.proofs.ReadingLemmas.{reading_first_item, reading_no_item}
+use Rattle.swd_resync.specs.declared.overrun.Overrun.{Overrun}
 use Rattle.swd_resync.specs.declared.part.Part.TheVariants.{Item as Told}
 use Rattle.swd_resync.specs.Parts.{resync_first, past_zeros, resync_is_junk, pair, stretch_gap, stretch_continues}
 use Rattle.swd_resync.specs.Parts.{stretch_ended_or_reset, stretch_after_item, stretch_after_tx, stretch_at_start}
-use Rattle.swd_resync.specs.Parts.{InStretch, Between, resync_place_after, stretch_item, skip_bits, stretch_or_skip}
-use Rattle.swd_resync.specs.Parts.{item_or_withdrawn, resync_step, resync_parts, resync_parts_of}
-use Rattle.swd_resync.specs.Divisions.{ResyncNeverLost}
+use Rattle.swd_resync.specs.Parts.{InStretch, Between, resync_place_after, stretch_item, skip_bits, resync_told}
+use Rattle.swd_resync.specs.Parts.{has_other_length, overrun_at_start, overrun_after_item, resync_step, resync_parts}
+use Rattle.swd_resync.specs.Parts.{resync_parts_of}
+use Rattle.swd_resync.specs.Divisions.{ResyncNeverLost, LeavesOverrunOff}
 use Rattle.swd_resync.proofs.FirstLemmas.{ResyncTakes, resync_first_takes_in_mode}
 use Rattle.swd_resync.proofs.PartLemmas.{resync_parts_none, parts_from_step, resync_fewer_left, resync_drop_one_less}
+use Rattle.swd_resync.proofs.StageLemmas.{stretch_told}
 
 -- the first item and the others
 never_lost : (item : Item) (items : List Item) → ResyncNeverLost (item ∷ items)
@@ -103,7 +106,7 @@ no_junk : (bits : List Bool) → ResyncNeverLost (reading Synced bits)
 no_junk [] h = refl
 no_junk (b ∷ bits) h = (head_and_rest Synced b bits h).0
 
-never_lost_goes_on : (bits : List Bool) → ResyncNeverLost (reading Synced bits) → stretch_continues false bits ≡ true
+never_lost_goes_on : (bits : List Bool) → ResyncNeverLost (reading Synced bits) → stretch_continues bits ≡ true
 never_lost_goes_on bits h = ap not (no_junk (past_zeros bits) (past_idle bits h))
 
 -- between stretches only fifty ones are read
@@ -117,7 +120,7 @@ never_lost_ends [] h = refl
 never_lost_ends (b ∷ bits) h = fifty_between b bits (head_and_rest Lost b bits h).0
 
 followed_end : (end : TxEnd) (bits : List Bool) → ResyncNeverLost (reading (decoder_mode_after_tx end) bits)
-    → stretch_after_tx false end bits ≡ true
+    → stretch_after_tx end bits ≡ true
 followed_end (Moved word ok) bits h = never_lost_goes_on bits h
 followed_end Wait bits h = never_lost_goes_on bits h
 followed_end Fault bits h = never_lost_goes_on bits h
@@ -125,7 +128,7 @@ followed_end (NoAck seen) bits h = never_lost_ends bits h
 
 followed_item : (item : Item) (after : Mode) (bits : List Bool) → resync_is_junk item ≡ false
     → ((tx : Transaction) → item ≡ Tx tx → after ≡ decoder_mode_after_tx tx.result)
-    → ResyncNeverLost (reading after bits) → stretch_after_item false item bits ≡ true
+    → ResyncNeverLost (reading after bits) → stretch_after_item item bits ≡ true
 followed_item (Tx tx) after bits j l h =
     followed_end tx.result bits (subst (λ m. ResyncNeverLost (reading m bits)) (l tx refl) h)
 followed_item (Junk b) after bits j l h = absurd cc
@@ -135,28 +138,29 @@ followed_item (Idle n) after bits j l h = refl
 followed_item (Cut off) after bits j l h = refl
 
 follows : (mode : Mode) (b : Bool) (bits : List Bool) → ResyncNeverLost (reading mode (b ∷ bits))
-    → stretch_after_item false (first_item mode b bits).item (drop (first_item mode b bits).taken (b ∷ bits)) ≡ true
+    → stretch_after_item (first_item mode b bits).item (drop (first_item mode b bits).taken (b ∷ bits)) ≡ true
 follows mode b bits h = let r = head_and_rest mode b bits h in
     followed_item (first_item mode b bits).item (first_item mode b bits).after
     (drop (first_item mode b bits).taken (b ∷ bits)) r.0 (leads mode b bits) r.1
 
 -- ---- each step tells what is read first
 
-tells_stretch : (mode : Mode) (b : Bool) (bits : List Bool) → ResyncNeverLost (reading mode (b ∷ bits))
-    → resync_step false (InStretch mode) (b ∷ bits) ≡ stretch_item (first_item mode b bits)
-tells_stretch mode b bits h =
-    let f = first_item mode b bits in
-    let r = head_and_rest mode b bits h in
-    ap (λ t. if t then stretch_or_skip false (b ∷ bits) else if stretch_after_item false f.item
-    (drop f.taken (b ∷ bits)) then stretch_item f else item_or_withdrawn false f (b ∷ bits)) r.0
-    ∙ ap (λ t. if t then stretch_item f else item_or_withdrawn false f (b ∷ bits)) (follows mode b bits h)
+-- without overrun detection
+abbrev Off : Bool → Overrun
+Off bank = record { phases = false; bank_zero = bank }
 
-tells_between : (b : Bool) (bits : List Bool) → ResyncNeverLost (reading Lost (b ∷ bits))
-    → resync_step false Between (b ∷ bits) ≡ stretch_item (first_item Lost b bits)
-tells_between b bits h =
+tells_stretch : (bank : Bool) (mode : Mode) (b : Bool) (bits : List Bool) → ResyncNeverLost (reading mode (b ∷ bits))
+    → resync_step (Off bank) (InStretch mode) (b ∷ bits) ≡ stretch_item (Off bank) (first_item mode b bits)
+tells_stretch bank mode b bits h =
+    stretch_told (Off bank) (first_item mode b bits) (b ∷ bits) (head_and_rest mode b bits h).0 (follows mode b bits h)
+
+tells_between : (bank : Bool) (b : Bool) (bits : List Bool) → ResyncNeverLost (reading Lost (b ∷ bits))
+    → resync_step (Off bank) Between (b ∷ bits) ≡ stretch_item (Off bank) (first_item Lost b bits)
+tells_between bank b bits h =
     let e : nat_le 50 (trace_ones (b ∷ bits)) ≡ true = fifty_between b bits (head_and_rest Lost b bits h).0 in
-    ap (λ t. if t || pair false (b ∷ bits) then stretch_item (resync_first false Synced (b ∷ bits))
-    else skip_bits (stretch_gap false (b ∷ bits))) e ∙ ap stretch_item (reset Synced e ∙ sym (reset Lost e))
+    ap (λ t. if t || pair false (b ∷ bits) then stretch_item (Off bank) (resync_first false Synced (b ∷ bits))
+    else skip_bits (Off bank) (stretch_gap false (b ∷ bits))) e
+    ∙ ap (stretch_item (Off bank)) (reset Synced e ∙ sym (reset Lost e))
   where
     reset : (mode : Mode) → nat_le 50 (trace_ones (b ∷ bits)) ≡ true → first_item mode b bits ≡
         record { item = Reset (trace_ones (b ∷ bits)); after = AfterReset; taken = trace_ones (b ∷ bits) }
@@ -164,40 +168,63 @@ tells_between b bits h =
         { item = Reset (trace_ones (b ∷ bits)); after = AfterReset; taken = trace_ones (b ∷ bits) } else
         first_item_by_mode mode b bits) e
 
-tells : (mode : Mode) (b : Bool) (bits : List Bool) → ResyncNeverLost (reading mode (b ∷ bits))
-    → resync_step false (resync_place_after mode) (b ∷ bits) ≡ stretch_item (first_item mode b bits)
-tells Synced b bits h = tells_stretch Synced b bits h
-tells AfterReset b bits h = tells_stretch AfterReset b bits h
-tells AfterSwitch b bits h = tells_stretch AfterSwitch b bits h
-tells Lost b bits h = tells_between b bits h
+tells : (bank : Bool) (mode : Mode) (b : Bool) (bits : List Bool) → ResyncNeverLost (reading mode (b ∷ bits))
+    → resync_step (Off bank) (resync_place_after mode) (b ∷ bits) ≡ stretch_item (Off bank) (first_item mode b bits)
+tells bank Synced b bits h = tells_stretch bank Synced b bits h
+tells bank AfterReset b bits h = tells_stretch bank AfterReset b bits h
+tells bank AfterSwitch b bits h = tells_stretch bank AfterSwitch b bits h
+tells bank Lost b bits h = tells_between bank b bits h
 
-same_items : (n : ℕ) (mode : Mode) (bits : List Bool) → length bits ≤ n → ResyncNeverLost (reading mode bits)
-    → resync_parts false (resync_place_after mode) bits ≡ map Told (reading mode bits)
-same_items n mode [] l h = resync_parts_none false (resync_place_after mode) ∙ sym
+-- without data phases each item is reported alone
+told_alone : (item : Item) → resync_told false item ≡ Told item
+told_alone (Tx tx) = refl
+told_alone (Reset n) = refl
+told_alone Switch = refl
+told_alone (Idle n) = refl
+told_alone (Junk b) = refl
+told_alone (Cut off) = refl
+
+stays_off : (over : Overrun) → over.phases ≡ false → over ≡ Off over.bank_zero
+stays_off over e = ap (λ t. record { phases = t; bank_zero = over.bank_zero }) e
+
+same_items : (n : ℕ) (bank : Bool) (mode : Mode) (bits : List Bool) → length bits ≤ n
+    → ResyncNeverLost (reading mode bits) → LeavesOverrunOff (Off bank) (reading mode bits)
+    → resync_parts (Off bank) (resync_place_after mode) bits ≡ map Told (reading mode bits)
+same_items n bank mode [] l h o = resync_parts_none (Off bank) (resync_place_after mode) ∙ sym
     (ap (map Told) (reading_no_item mode))
-same_items zero mode (b ∷ bits) l h = absurd (omega arith)
-same_items (suc n) mode (b ∷ bits) l h =
+same_items zero bank mode (b ∷ bits) l h o = absurd (omega arith)
+same_items (suc n) bank mode (b ∷ bits) l h o =
     let f = first_item mode b bits in
     let t : ResyncTakes false (b ∷ bits) f = resync_first_takes_in_mode mode b bits in
     let r = head_and_rest mode b bits h in
-    parts_from_step false (resync_place_after mode) b bits (stretch_item f) (tells mode b bits h)
+    let next = overrun_after_item (Off bank) f.item in
+    let split : reading mode (b ∷ bits) ≡ f.item ∷ reading f.after (drop f.taken (b ∷ bits)) =
+    reading_first_item mode b bits
+    ∙ ap (λ x. f.item ∷ reading f.after x) (resync_drop_one_less f.taken b bits t.some) in
+    let left = subst (LeavesOverrunOff (Off bank)) split o in
+    let off : next ≡ Off next.bank_zero = stays_off next left.0 in
+    parts_from_step (Off bank) (resync_place_after mode) b bits (stretch_item (Off bank) f) (tells bank mode b bits h)
+    ∙ ap (λ p. p ∷ resync_parts next (resync_place_after f.after) (drop f.taken (b ∷ bits))) (told_alone f.item)
+    ∙ ap (λ v. Told f.item ∷ resync_parts v (resync_place_after f.after) (drop f.taken (b ∷ bits))) off
     ∙ ap (λ x. Told f.item ∷ x)
-    (same_items n f.after (drop f.taken (b ∷ bits)) (resync_fewer_left n f.taken b bits l t.some) r.1)
-    ∙ sym (ap (map Told) (reading_first_item mode b bits
-    ∙ ap (λ x. f.item ∷ reading f.after x) (resync_drop_one_less f.taken b bits t.some)))
+    (same_items n next.bank_zero f.after (drop f.taken (b ∷ bits)) (resync_fewer_left n f.taken b bits l t.some) r.1
+    (subst (λ v. LeavesOverrunOff v (reading f.after (drop f.taken (b ∷ bits)))) off left.1))
+    ∙ sym (ap (map Told) split)
 
 starts : (bits : List Bool) → ResyncNeverLost (reading_of bits) → stretch_at_start false bits ≡ true
-starts bits h = by (past_zeros bits) (past_idle bits h)
+starts bits h = ap (λ t. t || has_other_length false (resync_first false Synced (past_zeros bits)).item
+    (past_zeros bits)) (by (past_zeros bits) (past_idle bits h))
   where
     by : (bits : List Bool) → ResyncNeverLost (reading Synced bits)
-        → stretch_after_item false (resync_first false Synced bits).item
+        → stretch_after_item (resync_first false Synced bits).item
         (drop (resync_first false Synced bits).taken bits) ≡ true
     by [] h = refl
     by (b ∷ bits) h = follows Synced b bits h
 
--- where a trace's reading is never lost, the items of that reading are its parts, without overrun detection
+-- where a trace's reading is never lost, and no write of CTRL/STAT sets overrun detection, the items of that reading
+-- are its parts
 pub resync_parts_are_items : (bits : List Bool) → ResyncNeverLost (reading_of bits)
-    → resync_parts_of false bits ≡ map Told (reading_of bits)
-resync_parts_are_items bits h =
-    ap (λ t. resync_parts false (if t then InStretch Synced else Between) bits) (starts bits h)
-    ∙ same_items (length bits) Synced bits (omega arith) h
+    → LeavesOverrunOff (overrun_at_start false) (reading_of bits) → resync_parts_of false bits ≡ map Told (reading_of bits)
+resync_parts_are_items bits h o =
+    ap (λ t. resync_parts (overrun_at_start false) (if t then InStretch Synced else Between) bits) (starts bits h)
+    ∙ same_items (length bits) true Synced bits (omega arith) h o

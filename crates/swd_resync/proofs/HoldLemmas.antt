@@ -1,7 +1,7 @@
 -- Where few bits are held behind some of the first ones, few are held behind the run of zeros.
 use Rattle.std.proofs.Common.{◌≡◌, ◌+◌, ◌<◌, ◌≤◌, Bool, true, false, List, [], ◌∷◌, ◌++◌, length, drop}
 use Rattle.std.proofs.Common.{replicate, arith, ap, ◌∙◌, subst, inl, inr}
-use Rattle.std.specs.Prelude.{Option, Some, None, IfNone}
+use Rattle.std.specs.Prelude.{Option, Some, None, IfSome, IfNone}
 use Rattle.std.proofs.lemmas.List.{length-append, drop-append-le}
 use Rattle.std.proofs.lemmas.Bool.{cases_lt}
 use Rattle.swd_bits.specs.Bits.{low_bits}
@@ -16,6 +16,12 @@ use Rattle.swd_resync.proofs.QueueLemmas.{resync_past_run, resync_past_alone}
 pub resync_if_none_weaker : {A : Type 0} (r : Option A) (P Q : Type 0) → (P → Q) → IfNone r P → IfNone r Q
 resync_if_none_weaker (Some a) P Q f h = h
 resync_if_none_weaker None P Q f h = f h
+
+-- a fact that holds of what a result has may be replaced by one that follows from it
+pub resync_if_some_weaker : {A : Type 0} (r : Option A) (P Q : A → Type 0) → ((a : A) → P a → Q a) → IfSome r P
+    → IfSome r Q
+resync_if_some_weaker (Some a) P Q f h = f a h
+resync_if_some_weaker None P Q f h = h
 
 past_longer : (x y : List Bool) → length (past_zeros y) ≤ length (past_zeros (x ++ y))
 past_longer [] y = omega arith

@@ -2,8 +2,8 @@
 use Rattle.std.proofs.Common.{◌≡◌, ◌≢◌, ℕ, zero, suc, ◌+◌, ◌-◌, ◌<◌, ◌≤◌, Bool, true, false, List, [], ◌∷◌, ◌++◌}
 use Rattle.std.proofs.Common.{length, drop, replicate, nat_le, arith, refl, sym, ap, ◌∙◌, subst, inl, inr}
 use Rattle.std.specs.Prelude.{nat_lt, ◌&&◌, ◌||◌, ◌==◌, if◌then◌else◌, Option, Some, None}
-use Rattle.std.proofs.lemmas.List.{append_assoc, append-nil, drop-append-le, drop-drop}
-use Rattle.std.proofs.lemmas.Bool.{leb-true, le-leb, ne_eqb}
+use Rattle.std.proofs.lemmas.List.{append_assoc, append-nil, drop-append-le, drop-drop, length-append}
+use Rattle.std.proofs.lemmas.Bool.{leb-true, le-leb, ne_eqb, eq-eqb, and_parts}
 use Rattle.swd_trace.specs.declared.item.Item.{Item}
 use Rattle.swd_trace.specs.declared.item.Item.TheVariants.{Reset, Switch, Idle, Tx as TxItem, Junk as JunkItem}
 use Rattle.swd_trace.specs.declared.item.Item.TheVariants.{Cut as CutItem}
@@ -15,12 +15,16 @@ use Rattle.swd_resync.specs.declared.sight.Sight.{Sight}
 use Rattle.swd_resync.specs.declared.sight.Sight.TheVariants.{Wait, End, Zero, Ones, Tx, Junk, Cut}
 use Rattle.swd_resync.specs.Parts.{resync_first, past_zeros, resync_sound, resync_sound_bits, resync_sound_next, pair}
 use Rattle.swd_resync.specs.Parts.{begins_stretch, resync_is_junk, stretch_ended_or_reset, before_pair}
+use Rattle.swd_resync.specs.Parts.{resync_is_refused, resync_is_sound_item, stretch_resumes, other_tx_len}
+use Rattle.swd_resync.specs.Parts.{has_other_length, other_length_step}
 use Rattle.swd_resync.specs.Parts.{stretch_after_tx, in_stretch, stretch_item, item_or_withdrawn, skip_bits}
+use Rattle.swd_resync.specs.declared.overrun.Overrun.{Overrun}
 use Rattle.swd_bits.specs.declared.tx.Tx.{Tx as Transaction}
 use Rattle.swd_resync.specs.Holding.{IsResyncNear}
 use Rattle.swd_resync.specs.Sights.{SightMore, IsSight}
 use Rattle.swd_resync.specs.Seen.{sight_sound_bits, sight_junk_bit, sight_fifty_ones, sight_end_or_reset}
-use Rattle.swd_resync.specs.Judged.{Judges, IsJudgedClear, stretch_tx_step}
+use Rattle.swd_resync.specs.Seen.{sight_sound_item}
+use Rattle.swd_resync.specs.Judged.{Judges, IsJudgedClear}
 use Rattle.swd_resync.proofs.StepLemmas.{resync_reset_first}
 
 -- ---- few bits
@@ -129,6 +133,23 @@ sight_judges_junk over ended Junk bits h =
 sight_judges_junk over ended (Cut seen) bits h = λ more may.
     ap (λ f. resync_is_junk f.item) (sight_first over ended (Cut seen) bits h more may).1
 
+-- what is seen decides whether it is neither a junk bit nor a transaction that isn't sound, or asks for more bits
+pub sight_judges_sound_item : (ended : Bool) (s : Sight) (bits : List Bool) → IsSight false ended s bits
+    → Judges ended 0 (λ bits. resync_is_sound_item (resync_first false Synced bits).item) bits (sight_sound_item s)
+sight_judges_sound_item ended Wait bits h = (h.0, judged_near_of_few bits h.1)
+sight_judges_sound_item ended End bits h = λ more may. ap (λ f. resync_is_sound_item f.item)
+    (sight_first false ended End bits h more may)
+sight_judges_sound_item ended Zero bits h =
+    λ more may. ap (λ f. resync_is_sound_item f.item) (sight_first false ended Zero bits h more may).1
+sight_judges_sound_item ended Ones bits h =
+    λ more may. ap (λ f. resync_is_sound_item f.item) (sight_first false ended Ones bits h more may).1
+sight_judges_sound_item ended (Tx tx len) bits h = λ more may.
+    ap (λ f. resync_is_sound_item f.item) (sight_first false ended (Tx tx len) bits h more may)
+sight_judges_sound_item ended Junk bits h =
+    λ more may. ap (λ f. resync_is_sound_item f.item) (sight_first false ended Junk bits h more may)
+sight_judges_sound_item ended (Cut seen) bits h = λ more may.
+    ap (λ f. resync_is_sound_item f.item) (sight_first false ended (Cut seen) bits h more may).1
+
 -- whether an item is a line reset
 abbrev pub judged_reset : Item → Bool
 judged_reset (Reset n) = true
@@ -207,6 +228,20 @@ sight_junk_clear over ended (Tx tx len) bits h = λ e.
 sight_junk_clear over ended Junk bits h = λ e. absurd (h.0 e)
 sight_junk_clear over ended (Cut seen) bits h = λ e. h.0
 
+pub sight_sound_item_clear : (ended : Bool) (s : Sight) (bits : List Bool) → IsSight false ended s bits
+    → IsJudgedClear ended bits (sight_sound_item s)
+sight_sound_item_clear ended Wait bits h = tt
+sight_sound_item_clear ended End bits h = λ e. h.0
+sight_sound_item_clear ended Zero bits h = λ e. (let f : [] ≡ false ∷ h.0 = sym e ∙ h.1 in absurd cc)
+sight_sound_item_clear ended Ones bits h = λ e. (let f : [] ≡ replicate 50 true ++ h.0 = sym e ∙ h.1 in absurd cc)
+sight_sound_item_clear ended (Tx tx len) bits h = λ e.
+    let some : 12 ≤ len = h.some in
+    let fits : len ≤ length bits = h.fits in
+    let none : length bits ≡ 0 = ap length e in
+    absurd (omega arith)
+sight_sound_item_clear ended Junk bits h = λ e. absurd (h.0 e)
+sight_sound_item_clear ended (Cut seen) bits h = λ e. h.0
+
 -- ---- behind zeros
 
 past_twice : (bits : List Bool) → past_zeros (past_zeros bits) ≡ past_zeros bits
@@ -253,12 +288,12 @@ judged_one_or_more (suc n) = refl
 pub pair_judged : (over ended : Bool) (bits : List Bool) (n : ℕ) (r : Option Bool)
     → ((more : List Bool) → SightMore ended more → resync_sound over (bits ++ more) ≡ n) → 0 < n → n ≤ length bits
     → n ≤ 46
-    → Judges ended 0 (λ bits. resync_sound_next over bits) (drop n bits) r
+    → Judges ended 0 (λ bits. resync_sound_next bits) (drop n bits) r
     → Judges ended 46 (λ bits. pair over bits) bits r
 pair_judged over ended bits n (Some t) here some fits short j = λ more may.
-    ap (λ m. nat_le 1 m && resync_sound_next over (drop m (bits ++ more))) (here more may)
-    ∙ ap (λ t. t && resync_sound_next over (drop n (bits ++ more))) (le-leb 1 n some)
-    ∙ ap (resync_sound_next over) (drop-append-le n bits more fits) ∙ j more may
+    ap (λ m. nat_le 1 m && resync_sound_next (drop m (bits ++ more))) (here more may)
+    ∙ ap (λ t. t && resync_sound_next (drop n (bits ++ more))) (le-leb 1 n some)
+    ∙ ap resync_sound_next (drop-append-le n bits more fits) ∙ j more may
 pair_judged over ended bits n None here some fits short j = (j.0, judged_near_behind n 0 46 bits (omega arith) j.1)
 
 -- where fifty ones aren't at the front, whether there is a pair decides whether a stretch begins
@@ -308,23 +343,127 @@ judged_sound_past_zeros over ended bits behind r b j clear =
     (subst (λ x. Judges ended 0 (λ bits. resync_sound over bits) x r) b j)
     (subst (λ x. IsJudgedClear ended x r) b clear)
 
+-- what is seen behind the zeros at the front decides whether the stretch would resume there, or asks for more bits
+pub judged_sound_item_past_zeros : (ended : Bool) (bits behind : List Bool) (s : Sight) (r : Option Bool)
+    → behind ≡ past_zeros bits → IsSight false ended s behind → r ≡ sight_sound_item s
+    → Judges ended 0 (λ bits. stretch_resumes bits) bits r
+judged_sound_item_past_zeros ended bits behind s r b h e =
+    let seen : IsSight false ended s (past_zeros bits) = subst (IsSight false ended s) b h in
+    subst (Judges ended 0 (λ bits. stretch_resumes bits) bits) (sym e)
+    (judged_value_past_zeros ended (λ bits. resync_is_sound_item (resync_first false Synced bits).item) bits
+    (sight_sound_item s) (sight_judges_sound_item ended s (past_zeros bits) seen)
+    (sight_sound_item_clear ended s (past_zeros bits) seen))
+
+-- ---- the other length
+
+-- a transaction has at most 46 bits with either length
+pub judged_other_len_most : (phases : Bool) → other_tx_len phases ≤ 46
+judged_other_len_most true = omega arith
+judged_other_len_most false = omega arith
+
+-- where a transaction has its other length whatever follows, these bits are held
+pub judged_other_len_fits : (phases ended : Bool) (item : Item) (bits : List Bool)
+    → ((more : List Bool) → SightMore ended more → has_other_length phases item (bits ++ more) ≡ true)
+    → other_tx_len phases ≤ length bits
+judged_other_len_fits phases ended item bits j =
+    let p = and_parts (resync_is_refused item) _ (j [] (λ e. refl)) in
+    let q = and_parts (nat_le (other_tx_len phases) (length (bits ++ []))) _ p.1 in
+    subst (λ x. other_tx_len phases ≤ length x) (append-nil bits) (leb-true _ _ q.0)
+
+-- an item that isn't WAIT or FAULT has no other length
+pub judged_no_other_length : (phases : Bool) (item : Item) (bits : List Bool) → resync_is_refused item ≡ false
+    → has_other_length phases item bits ≡ false
+judged_no_other_length phases item bits e = ap (λ t. t
+    && (nat_le (other_tx_len phases) (length bits) && stretch_resumes (drop (other_tx_len phases) bits))) e
+
+-- too few bits for the other length
+pub judged_too_few_for_other : (phases : Bool) (item : Item) (bits : List Bool)
+    → nat_le (other_tx_len phases) (length bits) ≡ false → has_other_length phases item bits ≡ false
+judged_too_few_for_other phases item bits e =
+    ap (λ t. resync_is_refused item && (t && stretch_resumes (drop (other_tx_len phases) bits))) e
+    ∙ and_false (resync_is_refused item)
+  where
+    and_false : (t : Bool) → (t && false) ≡ false
+    and_false true = refl
+    and_false false = refl
+
+-- where there are enough bits for the other length of WAIT or FAULT, what comes behind them decides
+pub judged_other_length : (phases ended : Bool) (item : Item) (n : ℕ) (bits : List Bool) (r : Option Bool)
+    → resync_is_refused item ≡ true → n ≡ other_tx_len phases → n ≤ length bits → n ≤ 46
+    → Judges ended 0 (λ bits. stretch_resumes bits) (drop n bits) r
+    → Judges ended 46 (λ bits. has_other_length phases item bits) bits r
+judged_other_length phases ended item n bits (Some t) e same fits short j = λ more may.
+    let l : length (bits ++ more) ≡ length bits + length more = length-append bits more in
+    ap (λ t. t && (nat_le (other_tx_len phases) (length (bits ++ more))
+    && stretch_resumes (drop (other_tx_len phases) (bits ++ more)))) e
+    ∙ ap (λ m. nat_le m (length (bits ++ more)) && stretch_resumes (drop m (bits ++ more))) (sym same)
+    ∙ ap (λ t. t && stretch_resumes (drop n (bits ++ more))) (le-leb n (length (bits ++ more)) (omega arith))
+    ∙ ap stretch_resumes (drop-append-le n bits more fits) ∙ j more may
+judged_other_length phases ended item n bits None e same fits short j =
+    (j.0, judged_near_behind n 0 46 bits (omega arith) j.1)
+
+-- where the stretch doesn't continue, the other length decides
+pub judged_or_other : (ended : Bool) (A H : List Bool → Bool) (bits : List Bool) (r : Option Bool)
+    → ((more : List Bool) → SightMore ended more → A (bits ++ more) ≡ false) → Judges ended 46 H bits r
+    → Judges ended 92 (λ bits. A bits || H bits) bits r
+judged_or_other ended A H bits (Some t) f j = λ more may. ap (λ t. t || H (bits ++ more)) (f more may) ∙ j more may
+judged_or_other ended A H bits None f j = (j.0, judged_near_widened 46 92 bits (omega arith) j.1)
+
 -- ---- a transaction in a stretch
 
 -- in a stretch, a transaction after which it continues is reported
-pub stretch_reports_followed_tx : (over : Bool) (tx : Transaction) (len : ℕ) (bits : List Bool)
-    → stretch_after_tx over tx.result (drop len bits) ≡ true
-    → in_stretch over (whole_tx_item tx len) bits ≡ stretch_item (whole_tx_item tx len)
+pub stretch_reports_followed_tx : (over : Overrun) (tx : Transaction) (len : ℕ) (bits : List Bool)
+    → stretch_after_tx tx.result (drop len bits) ≡ true
+    → in_stretch over (whole_tx_item tx len) bits ≡ stretch_item over (whole_tx_item tx len)
 stretch_reports_followed_tx over tx len bits e =
-    ap (λ t. if t then stretch_item (whole_tx_item tx len) else item_or_withdrawn over (whole_tx_item tx len) bits) e
+    ap (λ t. if t then stretch_item over (whole_tx_item tx len)
+    else if has_other_length over.phases (TxItem tx) bits then other_length_step over (TxItem tx)
+    else item_or_withdrawn over (whole_tx_item tx len) bits) e
+
+-- in a stretch, a transaction after which it doesn't continue, but would with the other length, has that
+pub stretch_turns_lost_tx : (over : Overrun) (tx : Transaction) (len : ℕ) (bits : List Bool)
+    → stretch_after_tx tx.result (drop len bits) ≡ false → has_other_length over.phases (TxItem tx) bits ≡ true
+    → in_stretch over (whole_tx_item tx len) bits ≡ other_length_step over (TxItem tx)
+stretch_turns_lost_tx over tx len bits e f =
+    ap (λ t. if t then stretch_item over (whole_tx_item tx len)
+    else if has_other_length over.phases (TxItem tx) bits then other_length_step over (TxItem tx)
+    else item_or_withdrawn over (whole_tx_item tx len) bits) e
+    ∙ ap (λ t. if t then other_length_step over (TxItem tx)
+    else item_or_withdrawn over (whole_tx_item tx len) bits) f
+
+-- with neither, what comes before the first pair inside of it decides
+lost_by_pair : (over : Overrun) (tx : Transaction) (len before : ℕ) (bits : List Bool)
+    → stretch_after_tx tx.result (drop len bits) ≡ false → has_other_length over.phases (TxItem tx) bits ≡ false
+    → before_pair over.phases (len - 1) (drop 1 bits) ≡ before
+    → in_stretch over (whole_tx_item tx len) bits
+    ≡ (if before == len - 1 then stretch_item over (whole_tx_item tx len) else skip_bits over (suc before))
+lost_by_pair over tx len before bits e f g =
+    ap (λ t. if t then stretch_item over (whole_tx_item tx len)
+    else if has_other_length over.phases (TxItem tx) bits then other_length_step over (TxItem tx)
+    else item_or_withdrawn over (whole_tx_item tx len) bits) e
+    ∙ ap (λ t. if t then other_length_step over (TxItem tx)
+    else item_or_withdrawn over (whole_tx_item tx len) bits) f
+    ∙ ap (λ m. if m == len - 1 then stretch_item over (whole_tx_item tx len) else skip_bits over (suc m)) g
+
+-- in a stretch, a transaction inside of which no pair begins is reported all the same
+pub stretch_reports_lost_tx : (over : Overrun) (tx : Transaction) (len before : ℕ) (bits : List Bool)
+    → stretch_after_tx tx.result (drop len bits) ≡ false → has_other_length over.phases (TxItem tx) bits ≡ false
+    → before_pair over.phases (len - 1) (drop 1 bits) ≡ before → before ≡ len - 1
+    → in_stretch over (whole_tx_item tx len) bits ≡ stretch_item over (whole_tx_item tx len)
+stretch_reports_lost_tx over tx len before bits e f g n =
+    lost_by_pair over tx len before bits e f g
+    ∙ ap (λ t. if t then stretch_item over (whole_tx_item tx len) else skip_bits over (suc before))
+    (eq-eqb before (len - 1) n)
 
 -- in a stretch, a transaction after which it doesn't continue, and in which a pair begins, is withdrawn: the
 -- bits before that pair are skipped
-pub stretch_withdraws_to_pair : (over : Bool) (tx : Transaction) (len before : ℕ) (bits : List Bool)
-    → stretch_after_tx over tx.result (drop len bits) ≡ false → before_pair over (len - 1) (drop 1 bits) ≡ before
-    → (before ≡ len - 1 → ⊥) → in_stretch over (whole_tx_item tx len) bits ≡ stretch_tx_step tx len (before + 1)
-stretch_withdraws_to_pair over tx len before bits e f n =
+pub stretch_withdraws_to_pair : (over : Overrun) (tx : Transaction) (len before : ℕ) (bits : List Bool)
+    → stretch_after_tx tx.result (drop len bits) ≡ false → has_other_length over.phases (TxItem tx) bits ≡ false
+    → before_pair over.phases (len - 1) (drop 1 bits) ≡ before → (before ≡ len - 1 → ⊥)
+    → in_stretch over (whole_tx_item tx len) bits ≡ skip_bits over (before + 1)
+stretch_withdraws_to_pair over tx len before bits e f g n =
     let one : suc before ≡ before + 1 = omega arith in
-    ap (λ t. if t then stretch_item (whole_tx_item tx len) else item_or_withdrawn over (whole_tx_item tx len) bits) e
-    ∙ ap (λ m. if m == len - 1 then stretch_item (whole_tx_item tx len) else skip_bits (suc m)) f
-    ∙ ap (λ t. if t then stretch_item (whole_tx_item tx len) else skip_bits (suc before)) (ne_eqb before (len - 1) n)
-    ∙ ap (stretch_tx_step tx len) one
+    lost_by_pair over tx len before bits e f g
+    ∙ ap (λ t. if t then stretch_item over (whole_tx_item tx len) else skip_bits over (suc before))
+    (ne_eqb before (len - 1) n)
+    ∙ ap (skip_bits over) one

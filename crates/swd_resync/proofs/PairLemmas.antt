@@ -61,11 +61,11 @@ pub pair_found : (over : Bool) (bits : List Bool) → pair over bits ≡ true �
 pair_found over bits e =
     let n : ℕ = resync_sound over bits in
     let behind : List Bool = drop n bits in
-    let p = and_parts (nat_le 1 (resync_sound over bits)) (resync_sound_next over behind) e in
+    let p = and_parts (nat_le 1 (resync_sound over bits)) (resync_sound_next behind) e in
     let a : SoundTx over bits n = sound_at over bits p.0 in
     let next : List Bool = past_zeros behind in
-    let b : SoundTx over next (resync_sound over next) = sound_at over next p.1 in
-    let m : ℕ = resync_sound over next in
+    let b : SoundTx false next (resync_sound false next) = sound_at false next p.1 in
+    let m : ℕ = resync_sound false next in
     let split : bits ≡ take n bits ++ (replicate (trace_zeros behind) false ++ (take m next ++ drop m next)) =
     sym (take-append-drop n bits)
     ∙ ap (λ x. take n bits ++ x) (split_zeros behind
@@ -148,13 +148,13 @@ pair_test_complete over bits h =
     let rest : List Bool = h.5 in
     let behind : List Bool = replicate h.3 false ++ (next ++ rest) in
     let a : resync_sound over (front ++ behind) ≡ length front = shown_sound over one front behind h.7 h.8 in
-    let b : resync_sound over (next ++ rest) ≡ length next = shown_sound over other next rest h.9 h.10 in
+    let b : resync_sound false (next ++ rest) ≡ length next = shown_sound false other next rest h.9 h.10 in
     let past : past_zeros behind ≡ next ++ rest =
-    resync_past_run h.3 (next ++ rest) ∙ resync_not_idle_no_zero over (next ++ rest)
-    (ap (λ f. resync_is_idle f.item) (shown_first over other next rest h.9)) in
+    resync_past_run h.3 (next ++ rest) ∙ resync_not_idle_no_zero false (next ++ rest)
+    (ap (λ f. resync_is_idle f.item) (shown_first false other next rest h.9)) in
     ap (pair over) h.6
-    ∙ ap (λ m. nat_le 1 m && resync_sound_next over (drop m (front ++ behind))) a
-    ∙ ap (λ t. t && resync_sound_next over (drop (length front) (front ++ behind)))
+    ∙ ap (λ m. nat_le 1 m && resync_sound_next (drop m (front ++ behind))) a
+    ∙ ap (λ t. t && resync_sound_next (drop (length front) (front ++ behind)))
     (le-leb 1 (length front) (some_length over one front h.7))
-    ∙ ap (resync_sound_next over) (drop_at front behind (length front) refl) ∙ ap (λ x. nat_le 1 (resync_sound over x))
-    past ∙ ap (nat_le 1) b ∙ le-leb 1 (length next) (some_length over other next h.9)
+    ∙ ap resync_sound_next (drop_at front behind (length front) refl) ∙ ap (λ x. nat_le 1 (resync_sound false x))
+    past ∙ ap (nat_le 1) b ∙ le-leb 1 (length next) (some_length false other next h.9)

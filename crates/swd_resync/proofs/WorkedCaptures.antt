@@ -7,7 +7,7 @@ use Rattle.swd_bits.specs.declared.tx.TxEnd.{TxEnd}
 use Rattle.swd_bits.specs.declared.tx.TxEnd.TheVariants.{Moved, Wait, Fault, NoAck}
 use Rattle.swd_trace.specs.declared.item.Item.TheVariants.{Reset, Switch, Idle, Tx, Cut}
 use Rattle.swd_resync.specs.declared.part.Part.{Part}
-use Rattle.swd_resync.specs.declared.part.Part.TheVariants.{Item as Told, Skip}
+use Rattle.swd_resync.specs.declared.part.Part.TheVariants.{Item as Told, Phased, Skip}
 use Rattle.swd_resync.specs.Parts.{resync_parts_of, parts_after}
 
 -- the bits that are written so
@@ -25,6 +25,11 @@ ap_read reg end = Told (Tx (record { request = record { ap = true; read = true; 
 
 abbrev ap_write : Reg4 → TxEnd → Part
 ap_write reg end = Told (Tx (record { request = record { ap = true; read = false; addr = reg }; result = end }))
+
+-- with the data phase after it
+abbrev phased : Part → Part
+phased (Told (Tx tx)) = Phased tx
+phased other = other
 
 nothing : resync_parts_of false (bits []) ≡
     []
@@ -353,8 +358,8 @@ data_phases_behind_a_refusal : resync_parts_of true (bits (
     ++ codes "1111100000011001110101010101010101010101010101010110100101110011101110001010000000010111"
     ++ codes "01010001")) ≡
     dp_read R0 (Moved 731911287 true)
-    ∷ ap_read RC Wait
-    ∷ dp_write R0 Fault
+    ∷ phased (ap_read RC Wait)
+    ∷ phased (dp_write R0 Fault)
     ∷ dp_read R0 (Moved 731911287 true)
     ∷ []
 unfolding parts_after
@@ -379,3 +384,85 @@ a_data_phase_that_is_cut_off : resync_parts_of true
     ∷ []
 unfolding parts_after
 a_data_phase_that_is_cut_off = refl
+
+overrun_detection_is_followed : resync_parts_of false (bits (
+    codes "1010010111001110111000101000000001011101010001100101011100110000000000000000000000000001"
+    ++ codes "0101111110011010111010011101011011000101111101001111111001110010100000000000000000000000"
+    ++ codes "0000000110010101110010000000000000000000000000000101001111100110101101001011100111011100"
+    ++ codes "0101000000001011101010001")) ≡
+    dp_read R0 (Moved 731911287 true)
+    ∷ dp_write R4 (Moved 1342177281 true)
+    ∷ phased (ap_read RC Wait)
+    ∷ ap_read RC (Moved 5 true)
+    ∷ dp_write R4 (Moved 1342177280 true)
+    ∷ ap_read RC Wait
+    ∷ dp_read R0 (Moved 731911287 true)
+    ∷ []
+unfolding parts_after
+overrun_detection_is_followed = refl
+
+a_write_in_another_bank_is_not_followed : resync_parts_of false (bits (
+    codes "1010010111001110111000101000000001011101010001100011011100110000000000000000000000000000"
+    ++ codes "0001100101011100110000000000000000000000000000000111111001101011010010111001110111000101"
+    ++ codes "0000000010111010100011010010111001110111000101000000001011101010001")) ≡
+    dp_read R0 (Moved 731911287 true)
+    ∷ dp_write R8 (Moved 1 true)
+    ∷ dp_write R4 (Moved 1 true)
+    ∷ ap_read RC Wait
+    ∷ dp_read R0 (Moved 731911287 true)
+    ∷ dp_read R0 (Moved 731911287 true)
+    ∷ []
+unfolding parts_after
+a_write_in_another_bank_is_not_followed = refl
+
+a_data_phase_is_inferred_once : resync_parts_of false (bits (
+    codes "1010010111001110111000101000000001011101010001110111011001111010011101011011000101111101"
+    ++ codes "0011101001011100111011100010100000000101110101000100011011101101010000000000001010110001"
+    ++ codes "100001010111010010111001110111000101000000001011101010001")) ≡
+    dp_read R0 (Moved 731911287 true)
+    ∷ ap_write RC Fault
+    ∷ Skip 33
+    ∷ dp_read R0 (Moved 731911287 true)
+    ∷ Told (Idle 3)
+    ∷ phased (ap_write RC Wait)
+    ∷ dp_read R0 (Moved 731911287 true)
+    ∷ []
+unfolding parts_after
+a_data_phase_is_inferred_once = refl
+
+no_data_phase_where_one_was_foreseen : resync_parts_of true (bits (
+    codes "1010010111001110111000101000000001011101010001111110011010110100101110011101110001010000"
+    ++ codes "0000101110101000111111001101011010010111001110111000101000000001011101010001")) ≡
+    dp_read R0 (Moved 731911287 true)
+    ∷ ap_read RC Wait
+    ∷ dp_read R0 (Moved 731911287 true)
+    ∷ ap_read RC Wait
+    ∷ dp_read R0 (Moved 731911287 true)
+    ∷ []
+unfolding parts_after
+no_data_phase_where_one_was_foreseen = refl
+
+a_capture_begins_with_a_data_phase : resync_parts_of false (bits (
+    codes "1111100110101110100111010110110001011111010011101001011100111011100010100000000101110101"
+    ++ codes "00011010010111001110111000101000000001011101010001")) ≡
+    ap_read RC Wait
+    ∷ Skip 33
+    ∷ dp_read R0 (Moved 731911287 true)
+    ∷ dp_read R0 (Moved 731911287 true)
+    ∷ []
+unfolding parts_after
+a_capture_begins_with_a_data_phase = refl
+
+skipped_bits_join_a_data_phase : resync_parts_of false (bits (
+    codes "1010010111001110111000101000000001011101010001111110011010100110101001100101001000001000"
+    ++ codes "0111101001011100111011100010100000000101101010001101001011100111011100010100000000101110"
+    ++ codes "1010001000001010010111001110111000101000000001011101010001")) ≡
+    dp_read R0 (Moved 731911287 true)
+    ∷ ap_read RC Wait
+    ∷ Skip 78
+    ∷ dp_read R0 (Moved 731911287 true)
+    ∷ Told (Idle 5)
+    ∷ dp_read R0 (Moved 731911287 true)
+    ∷ []
+unfolding parts_after
+skipped_bits_join_a_data_phase = refl

@@ -34,7 +34,7 @@ resync_steps_left d = 8 * length (resync_held d.held) + resync_stage_rank d.stag
 
 -- the bits of a step are removed
 pub record IsResyncDecoderStep (old : CaptureDecoder) (step : Move) (new : CaptureDecoder) : Type 0 where
-  pub over : new.over ≡ old.over
+  pub over : new.over ≡ step.over
   pub stage : new.stage ≡ step.stage
   pub held : resync_held new.held ≡ drop step.count (resync_held old.held)
   pub fed : resync_fed new ≡ resync_fed old

@@ -1,8 +1,12 @@
 -- What held bits decide.
-use Rattle.std.specs.Prelude.{◌≡◌, ℕ, zero, suc, ◌≤◌, Bool, true, false, List, [], ◌++◌, Option, Some, None}
+use Rattle.std.specs.Prelude.{◌≡◌, ℕ, ◌<◌, ◌≤◌, Bool, true, false, List, [], ◌++◌, length, Option, Some, None}
 use Rattle.swd_bits.specs.declared.tx.Tx.{Tx as Transaction}
 use Rattle.swd_trace.specs.Reading.{whole_tx_item}
-use Rattle.swd_resync.specs.Parts.{ResyncStep, stretch_item, skip_bits}
+use Rattle.swd_trace.specs.declared.item.Item.TheVariants.{Tx}
+use Rattle.swd_resync.specs.declared.overrun.Overrun.{Overrun}
+use Rattle.swd_resync.specs.declared.judge.TxFate.{TxFate}
+use Rattle.swd_resync.specs.declared.judge.TxFate.TheVariants.{Reported, OtherLength, Withdrawn}
+use Rattle.swd_resync.specs.Parts.{ResyncStep, stretch_item, skip_bits, other_length_step, other_tx_len}
 use Rattle.swd_resync.specs.Holding.{IsResyncNear}
 use Rattle.swd_resync.specs.Sights.{SightMore}
 
@@ -21,7 +25,14 @@ abbrev pub IsJudgedMost : ℕ → Option ℕ → Type 0
 IsJudgedMost most (Some n) = n ≤ most
 IsJudgedMost most None = Unit {0}
 
--- the step of a transaction in a stretch of which so many bits are skipped; with 0 it is reported
-abbrev pub stretch_tx_step : Transaction → ℕ → ℕ → ResyncStep
-stretch_tx_step tx len zero = stretch_item (whole_tx_item tx len)
-stretch_tx_step tx len (suc n) = skip_bits (suc n)
+-- the step of a transaction of `len` bits in a stretch, by what becomes of it
+abbrev pub stretch_tx_step : Overrun → Transaction → ℕ → TxFate → ResyncStep
+stretch_tx_step over tx len Reported = stretch_item over (whole_tx_item tx len)
+stretch_tx_step over tx len OtherLength = other_length_step over (Tx tx)
+stretch_tx_step over tx len (Withdrawn n) = skip_bits over n
+
+-- so many bits are removed, of those that there are
+abbrev pub IsTxFate : Bool → Transaction → ℕ → List Bool → TxFate → Type 0
+IsTxFate phases tx len bits Reported = Unit {0}
+IsTxFate phases tx len bits OtherLength = other_tx_len phases ≤ length bits
+IsTxFate phases tx len bits (Withdrawn n) = (0 < n) × (n ≤ len)

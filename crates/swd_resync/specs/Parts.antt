@@ -1,7 +1,10 @@
 -- The reading of a capture: stretches, each of which decodes as a trace does, and skips, the bits between
 -- them. The division is this project's choice; the transactions are the standard's.
-use Rattle.std.specs.Prelude.{ℕ, zero, suc, ◌-◌, ◌==◌, nat_le, Bool, true, false, not, ◌&&◌, ◌||◌, List, [], ◌∷◌}
-use Rattle.std.specs.Prelude.{length, drop, if◌then◌else◌}
+use Rattle.std.specs.Prelude.{ℕ, zero, suc, ◌+◌, ◌-◌, ◌%◌, ◌==◌, nat_le, min, Bool, true, false, not, ◌&&◌, ◌||◌}
+use Rattle.std.specs.Prelude.{List, [], ◌∷◌, length, drop, if◌then◌else◌}
+use Rattle.swd_bits.specs.declared.request.Request.{Request}
+use Rattle.swd_bits.specs.declared.request.Reg4.{Reg4}
+use Rattle.swd_bits.specs.declared.request.Reg4.TheVariants.{R0, R4, R8, RC}
 use Rattle.swd_bits.specs.declared.tx.TxEnd.{TxEnd}
 use Rattle.swd_bits.specs.declared.tx.TxEnd.TheVariants.{Moved, Wait, Fault, NoAck}
 use Rattle.swd_trace.specs.declared.item.Item.{Item}
@@ -9,8 +12,9 @@ use Rattle.swd_trace.specs.declared.item.Item.TheVariants.{Reset, Switch, Idle, 
 use Rattle.swd_trace.specs.declared.mode.Mode.{Mode}
 use Rattle.swd_trace.specs.declared.mode.Mode.TheVariants.{Synced, AfterReset, AfterSwitch, Lost}
 use Rattle.swd_trace.specs.Reading.{trace_ones, FirstItem, cut_first_item, first_item}
+use Rattle.swd_resync.specs.declared.overrun.Overrun.{Overrun}
 use Rattle.swd_resync.specs.declared.part.Part.{Part}
-use Rattle.swd_resync.specs.declared.part.Part.TheVariants.{Item as Told, Skip}
+use Rattle.swd_resync.specs.declared.part.Part.TheVariants.{Item as Told, Phased, Skip}
 
 -- ---- with overrun detection
 
@@ -40,6 +44,39 @@ abbrev pub resync_first : Bool → Mode → List Bool → FirstItem
 resync_first over mode [] = cut_first_item []
 resync_first over mode (b ∷ bits) = resync_with_phase over (first_item mode b bits) (b ∷ bits)
 
+-- ---- whether a data phase follows WAIT and FAULT
+
+-- where a capture begins
+abbrev pub overrun_at_start : Bool → Overrun
+overrun_at_start over = record { phases = over; bank_zero = true }
+
+-- after a write of the debug port: of ORUNDETECT in CTRL/STAT, while DPBANKSEL is 0, or of SELECT (IHI 0031, B2.2)
+abbrev pub overrun_after_write : Overrun → Reg4 → ℕ → Overrun
+overrun_after_write over R0 word = over
+overrun_after_write over R4 word = if over.bank_zero then record over { phases = word % 2 == 1 } else over
+overrun_after_write over R8 word = record over { bank_zero = word % 16 == 0 }
+overrun_after_write over RC word = over
+
+-- after a transaction; a word of wrong parity shows nothing
+abbrev pub overrun_after_tx : Overrun → Request → TxEnd → Overrun
+overrun_after_tx over q (Moved word true) = if q.ap then over else if q.read then over else
+    overrun_after_write over q.addr word
+overrun_after_tx over q (Moved word false) = over
+overrun_after_tx over q Wait = over
+overrun_after_tx over q Fault = over
+overrun_after_tx over q (NoAck seen) = over
+
+abbrev pub overrun_after_item : Overrun → Item → Overrun
+overrun_after_item over (Tx tx) = overrun_after_tx over tx.request tx.result
+overrun_after_item over (Reset n) = over
+overrun_after_item over Switch = over
+overrun_after_item over (Idle n) = over
+overrun_after_item over (Junk b) = over
+overrun_after_item over (Cut bits) = over
+
+abbrev pub overrun_turned : Overrun → Overrun
+overrun_turned over = record over { phases = not over.phases }
+
 -- ---- where a stretch begins
 
 -- the bits after the zeros at the front
@@ -67,13 +104,13 @@ resync_sound_bits (Cut bits) taken = 0
 abbrev pub resync_sound : Bool → List Bool → ℕ
 resync_sound over bits = resync_sound_bits (resync_first over Synced bits).item (resync_first over Synced bits).taken
 
--- a sound transaction comes after any zeros
-abbrev pub resync_sound_next : Bool → List Bool → Bool
-resync_sound_next over bits = nat_le 1 (resync_sound over (past_zeros bits))
+-- a sound transaction comes after any zeros; of WAIT and FAULT the first 13 bits are enough
+abbrev pub resync_sound_next : List Bool → Bool
+resync_sound_next bits = nat_le 1 (resync_sound false (past_zeros bits))
 
 -- two sound transactions are here, with at most zeros between them
 abbrev pub pair : Bool → List Bool → Bool
-pair over bits = nat_le 1 (resync_sound over bits) && resync_sound_next over (drop (resync_sound over bits) bits)
+pair over bits = nat_le 1 (resync_sound over bits) && resync_sound_next (drop (resync_sound over bits) bits)
 
 -- fifty ones are here, or a pair
 abbrev pub begins_stretch : Bool → List Bool → Bool
@@ -100,8 +137,8 @@ resync_is_junk (Tx tx) = false
 resync_is_junk (Cut bits) = false
 
 -- the bits after any zeros don't begin with a junk bit
-abbrev pub stretch_continues : Bool → List Bool → Bool
-stretch_continues over bits = not (resync_is_junk (resync_first over Synced (past_zeros bits)).item)
+abbrev pub stretch_continues : List Bool → Bool
+stretch_continues bits = not (resync_is_junk (resync_first false Synced (past_zeros bits)).item)
 
 -- no bits, or fifty ones
 abbrev pub stretch_ended_or_reset : List Bool → Bool
@@ -110,32 +147,59 @@ stretch_ended_or_reset (b ∷ bits) = nat_le 50 (trace_ones (b ∷ bits))
 
 -- a stretch continues after a transaction; after one without acknowledgement only at the end and at fifty
 -- ones
-abbrev pub stretch_after_tx : Bool → TxEnd → List Bool → Bool
-stretch_after_tx over (Moved word ok) bits = stretch_continues over bits
-stretch_after_tx over Wait bits = stretch_continues over bits
-stretch_after_tx over Fault bits = stretch_continues over bits
-stretch_after_tx over (NoAck seen) bits = stretch_ended_or_reset bits
+abbrev pub stretch_after_tx : TxEnd → List Bool → Bool
+stretch_after_tx (Moved word ok) bits = stretch_continues bits
+stretch_after_tx Wait bits = stretch_continues bits
+stretch_after_tx Fault bits = stretch_continues bits
+stretch_after_tx (NoAck seen) bits = stretch_ended_or_reset bits
 
 -- a stretch continues after its first item; a junk bit is never part of a stretch
-abbrev pub stretch_after_item : Bool → Item → List Bool → Bool
-stretch_after_item over (Tx tx) bits = stretch_after_tx over tx.result bits
-stretch_after_item over (Junk b) bits = false
-stretch_after_item over (Reset n) bits = true
-stretch_after_item over Switch bits = true
-stretch_after_item over (Idle n) bits = true
-stretch_after_item over (Cut cut) bits = true
+abbrev pub stretch_after_item : Item → List Bool → Bool
+stretch_after_item (Tx tx) bits = stretch_after_tx tx.result bits
+stretch_after_item (Junk b) bits = false
+stretch_after_item (Reset n) bits = true
+stretch_after_item Switch bits = true
+stretch_after_item (Idle n) bits = true
+stretch_after_item (Cut cut) bits = true
 
--- a stretch begins with the capture if the reading isn't lost after any zeros and a transaction
+-- ---- the other length
+
+-- neither a junk bit nor a transaction that isn't sound
+abbrev pub resync_is_sound_item : Item → Bool
+resync_is_sound_item (Tx tx) = resync_is_sound tx.result
+resync_is_sound_item (Junk b) = false
+resync_is_sound_item (Reset n) = true
+resync_is_sound_item Switch = true
+resync_is_sound_item (Idle n) = true
+resync_is_sound_item (Cut cut) = true
+
+-- after any zeros a sound transaction comes, fifty ones, or the end, which may cut a transaction off
+abbrev pub stretch_resumes : List Bool → Bool
+stretch_resumes bits = resync_is_sound_item (resync_first false Synced (past_zeros bits)).item
+
+-- how many bits WAIT and FAULT have, if it is the other way round whether a data phase follows them
+abbrev pub other_tx_len : Bool → ℕ
+other_tx_len phases = if phases then 13 else 46
+
+-- WAIT or FAULT, and with its other length the stretch would continue soundly
+abbrev pub has_other_length : Bool → Item → List Bool → Bool
+has_other_length phases item bits = resync_is_refused item
+    && (nat_le (other_tx_len phases) (length bits) && stretch_resumes (drop (other_tx_len phases) bits))
+
+-- a stretch begins with the capture if the reading isn't lost after any zeros and a transaction, or the transaction has
+-- its other length
 abbrev pub stretch_at_start : Bool → List Bool → Bool
-stretch_at_start over bits =
-    stretch_after_item over (resync_first over Synced (past_zeros bits)).item
-    (drop (resync_first over Synced (past_zeros bits)).taken (past_zeros bits))
+stretch_at_start phases bits =
+    let f = resync_first phases Synced (past_zeros bits) in
+    stretch_after_item f.item (drop f.taken (past_zeros bits)) || has_other_length phases f.item (past_zeros bits)
 
 -- ---- the parts
 
--- where a decoder of captures is: in a stretch, in a mode, or between two stretches
+-- where a decoder of captures is: in a stretch, in a mode; in one where a data phase that wasn't foreseen begins; or
+-- between two stretches
 pub data ResyncPlace : Type 0 where
   InStretch : Mode → ResyncPlace
+  AtPhase : ResyncPlace
   Between : ResyncPlace
 
 abbrev pub resync_place_after : Mode → ResyncPlace
@@ -144,52 +208,98 @@ resync_place_after AfterReset = InStretch AfterReset
 resync_place_after AfterSwitch = InStretch AfterSwitch
 resync_place_after Lost = Between
 
--- a part, the place after it, and its number of bits
+-- a part, the place after it, what is known of overrun detection there, and its number of bits
 pub record ResyncStep : Type 0 where
   pub part : Part
   pub after : ResyncPlace
+  pub over : Overrun
   pub taken : ℕ
 
+-- WAIT or FAULT with its data phase, or any other item
+abbrev pub resync_told : Bool → Item → Part
+resync_told phases (Tx tx) = if phases && resync_is_refusal tx.result then Phased tx else Told (Tx tx)
+resync_told phases (Reset n) = Told (Reset n)
+resync_told phases Switch = Told Switch
+resync_told phases (Idle n) = Told (Idle n)
+resync_told phases (Junk b) = Told (Junk b)
+resync_told phases (Cut bits) = Told (Cut bits)
+
 -- the first item is reported
-abbrev pub stretch_item : FirstItem → ResyncStep
-stretch_item f = record { part = Told f.item; after = resync_place_after f.after; taken = f.taken }
+abbrev pub stretch_item : Overrun → FirstItem → ResyncStep
+stretch_item over f = record {
+  part = resync_told over.phases f.item;
+  after = resync_place_after f.after;
+  over = overrun_after_item over f.item;
+  taken = f.taken;
+}
+
+-- WAIT or FAULT is reported without a data phase: with the other length none follows, or one that wasn't foreseen
+abbrev pub other_length_step : Overrun → Item → ResyncStep
+other_length_step over item = record {
+  part = Told item;
+  after = if over.phases then InStretch Synced else AtPhase;
+  over = overrun_turned over;
+  taken = 13;
+}
 
 -- `n` bits are skipped, up to the next stretch
-abbrev pub skip_bits : ℕ → ResyncStep
-skip_bits n = record { part = Skip n; after = Between; taken = n }
+abbrev pub skip_bits : Overrun → ℕ → ResyncStep
+skip_bits over n = record { part = Skip n; after = Between; over = over; taken = n }
 
 -- between stretches: the next one begins here, or the bits before it are skipped
-abbrev pub stretch_or_skip : Bool → List Bool → ResyncStep
-stretch_or_skip over bits = if begins_stretch over bits then stretch_item (resync_first over Synced bits) else skip_bits
-    (stretch_gap over bits)
+abbrev pub stretch_or_skip : Overrun → List Bool → ResyncStep
+stretch_or_skip over bits =
+    if begins_stretch over.phases bits then stretch_item over (resync_first over.phases Synced bits)
+    else skip_bits over (stretch_gap over.phases bits)
 
 -- A transaction after which the stretch doesn't continue is reported if no pair begins inside it. Otherwise
 -- that pair begins the next stretch, and the bits before it are skipped.
-abbrev pub item_or_withdrawn : Bool → FirstItem → List Bool → ResyncStep
+abbrev pub item_or_withdrawn : Overrun → FirstItem → List Bool → ResyncStep
 item_or_withdrawn over f bits = let inside = f.taken - 1 in
-    let before = before_pair over inside (drop 1 bits) in
-    if before == inside then stretch_item f else skip_bits (suc before)
+    let before = before_pair over.phases inside (drop 1 bits) in
+    if before == inside then stretch_item over f else skip_bits over (suc before)
 
 -- in a stretch: the first item, or the end of the stretch
-abbrev pub in_stretch : Bool → FirstItem → List Bool → ResyncStep
+abbrev pub in_stretch : Overrun → FirstItem → List Bool → ResyncStep
 in_stretch over f bits =
     if resync_is_junk f.item then stretch_or_skip over bits
-    else if stretch_after_item over f.item (drop f.taken bits) then stretch_item f else item_or_withdrawn over f bits
+    else if stretch_after_item f.item (drop f.taken bits) then stretch_item over f
+    else if has_other_length over.phases f.item bits then other_length_step over f.item
+    else item_or_withdrawn over f bits
 
-abbrev pub resync_step : Bool → ResyncPlace → List Bool → ResyncStep
-resync_step over (InStretch mode) bits = in_stretch over (resync_first over mode bits) bits
+-- `n` bits of a stretch are skipped, and in one part with them what the step after them skips
+abbrev pub skip_before_step : Overrun → ℕ → Part → ResyncStep → ResyncStep
+skip_before_step over n (Skip m) s = record { part = Skip (n + m); after = s.after; over = s.over; taken = n + s.taken }
+skip_before_step over n (Told item) s = record { part = Skip n; after = InStretch Synced; over = over; taken = n }
+skip_before_step over n (Phased tx) s = record { part = Skip n; after = InStretch Synced; over = over; taken = n }
+
+-- the first item in mode synced, or the end of the stretch
+abbrev pub synced_step : Overrun → List Bool → ResyncStep
+synced_step over bits = in_stretch over (resync_first over.phases Synced bits) bits
+
+-- a data phase that wasn't foreseen: its 33 bits are skipped
+abbrev pub skip_phase : Overrun → List Bool → ResyncStep
+skip_phase over bits = let n = min 33 (length bits) in
+    let s = synced_step over (drop n bits) in
+    skip_before_step over n s.part s
+
+abbrev pub resync_step : Overrun → ResyncPlace → List Bool → ResyncStep
+resync_step over (InStretch mode) bits = in_stretch over (resync_first over.phases mode bits) bits
+resync_step over AtPhase bits = skip_phase over bits
 resync_step over Between bits = stretch_or_skip over bits
 
 -- the parts, where the first `passed` bits still belong to the part before
-unfoldable pub parts_after : Bool → ℕ → ResyncPlace → List Bool → List Part
+unfoldable pub parts_after : Overrun → ℕ → ResyncPlace → List Bool → List Part
 parts_after over passed place [] = []
 parts_after over (suc passed) place (b ∷ bits) = parts_after over passed place bits
-parts_after over zero place (b ∷ bits) = (resync_step over place (b ∷ bits)).part ∷ parts_after over
+parts_after over zero place (b ∷ bits) =
+    (resync_step over place (b ∷ bits)).part ∷ parts_after (resync_step over place (b ∷ bits)).over
     ((resync_step over place (b ∷ bits)).taken - 1) (resync_step over place (b ∷ bits)).after bits
 
-abbrev pub resync_parts : Bool → ResyncPlace → List Bool → List Part
+abbrev pub resync_parts : Overrun → ResyncPlace → List Bool → List Part
 resync_parts over place bits = parts_after over 0 place bits
 
--- the parts of a whole capture, with overrun detection or without
+-- the parts of a whole capture; `phases` says whether a data phase follows WAIT and FAULT at its beginning
 abbrev pub resync_parts_of : Bool → List Bool → List Part
-resync_parts_of over bits = resync_parts over (if stretch_at_start over bits then InStretch Synced else Between) bits
+resync_parts_of phases bits =
+    resync_parts (overrun_at_start phases) (if stretch_at_start phases bits then InStretch Synced else Between) bits

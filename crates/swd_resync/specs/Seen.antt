@@ -43,3 +43,13 @@ sight_end_or_reset Ones = Some true
 sight_end_or_reset (Tx tx len) = Some false
 sight_end_or_reset Junk = Some false
 sight_end_or_reset (Cut bits) = Some false
+
+-- neither a junk bit nor a transaction that isn't sound
+abbrev pub sight_sound_item : Sight → Option Bool
+sight_sound_item Wait = None
+sight_sound_item End = Some true
+sight_sound_item Zero = Some true
+sight_sound_item Ones = Some true
+sight_sound_item (Tx tx len) = Some (resync_is_sound tx.result)
+sight_sound_item Junk = Some false
+sight_sound_item (Cut bits) = Some true

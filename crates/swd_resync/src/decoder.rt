@@ -3,6 +3,7 @@ ghost use Rattle.swd_resync.specs.Fed.{IsResyncFed};
 
 use crate::held::HeldBits;
 use crate::moves::next_move;
+use crate::overrun::Overrun;
 use crate::part::Part;
 use crate::stage::{Move, RemovalStage};
 
@@ -26,7 +27,7 @@ use crate::stage::{Move, RemovalStage};
 /// ```
 #[derive(Debug, Drop)]
 pub struct CaptureDecoder {
-    over: bool,
+    over: Overrun,
     stage: RemovalStage,
     held: HeldBits,
     fed: u64,
@@ -45,8 +46,9 @@ impl CaptureDecoder {
     ghost use Rattle.swd_bits.specs.Bits.{low_bits};
     ghost use Rattle.swd_resync.specs.declared.part.Part;
 
-    /// Returns a decoder that was fed no bits. `over` says that the host uses overrun detection (IHI 0031,
-    /// B4), so that a data phase follows WAIT and FAULT.
+    /// Returns a decoder that was fed no bits. `over` says that at the beginning of the capture the host uses overrun
+    /// detection (IHI 0031, B4), so that a data phase follows WAIT and FAULT. From there on the decoder follows the
+    /// writes of CTRL/STAT, and the lengths of what WAIT and FAULT ended.
     pub fn new(over: bool) -> CaptureDecoder
         ensures law { (more : List Bool) → resync_rest result more ≡ resync_parts_of over more }
         ensures read { ResyncHasRead over result [] [] }
@@ -55,7 +57,7 @@ impl CaptureDecoder {
         ensures held { resync_held_len result ≡ 0 }
     {
         CaptureDecoder {
-            over,
+            over: Overrun::at_start(over),
             stage: RemovalStage::Start(0),
             held: HeldBits::new(),
             fed: 0,
@@ -101,6 +103,7 @@ impl CaptureDecoder {
         ensures some { 0 < result }
         ensures most { result ≤ count }
         ensures many { ResyncTakesMany (resync_held_len self.old) bits count result }
+        ensures held { resync_held_len self.new ≤ 155 }
         ensures left { resync_steps_left self.new ≤ resync_steps_left self.old + 8 * result }
         ensures fed { resync_fed self.new ≡ resync_fed self.old + result }
     {
@@ -165,6 +168,7 @@ impl CaptureDecoder {
         ensures { IsResyncDecoderStep self.old step.now self.new }
     {
         self.held = self.held.without(step.count);
+        self.over = step.over;
         self.stage = step.stage;
     }
 }

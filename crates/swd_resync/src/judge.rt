@@ -1,24 +1,39 @@
-//! Decides whether a stretch begins or continues at a place of a capture. `over` means overrun detection;
-//! `ended` means that no bits follow the held ones. The functions return `None` if more bits are needed.
-ghost use Rattle.std.specs.Prelude.{◌≡◌, ℕ, ◌+◌, ◌-◌, ◌/◌, ◌^◌, ◌<◌, ◌≤◌, List, Bool, ◌++◌, length, true, false};
+//! Decides whether a stretch begins or continues at a place of a capture. `over` means that a data phase follows WAIT
+//! and FAULT; `ended` means that no bits follow the held ones. The functions return `None` if more bits are needed.
+ghost use Rattle.std.specs.Prelude.{◌≡◌, ℕ, ◌+◌, ◌-◌, ◌/◌, ◌^◌, ◌<◌, ◌≤◌, List, Bool, ◌++◌, ◌||◌, length, drop, true};
+ghost use Rattle.std.specs.Prelude.{false};
 ghost use Rattle.std.specs.Prelude.{IfSome, IfNone};
 ghost use Rattle.std.specs.Int.{bit_at};
 ghost use Rattle.swd_bits.specs.Bits.{low_bits};
 ghost use Rattle.swd_bits.specs.BitLists.{tx_bits_of, IsWellFormedTxBits};
 ghost use Rattle.swd_trace.specs.Reading.{whole_tx_item};
 ghost use Rattle.swd_resync.specs.Parts.{resync_sound, resync_sound_next, pair, begins_stretch, stretch_continues};
-ghost use Rattle.swd_resync.specs.Parts.{stretch_ended_or_reset, stretch_after_tx};
+ghost use Rattle.swd_resync.specs.Parts.{stretch_ended_or_reset, stretch_after_tx, stretch_resumes, has_other_length};
+ghost use Rattle.swd_resync.specs.Parts.{other_tx_len};
 ghost use Rattle.swd_resync.specs.Parts.{before_pair, stretch_gap, in_stretch};
+ghost use Rattle.swd_trace.specs.declared.item.Item.TheVariants.{Tx as TxItem};
 ghost use Rattle.swd_resync.specs.Holding.{resync_held, IsResyncNear};
 ghost use Rattle.swd_resync.specs.Sights.{IsTxSight, SightMore};
-ghost use Rattle.swd_resync.specs.Judged.{Judges, IsJudgedClear, IsJudgedMost, stretch_tx_step};
+ghost use Rattle.swd_resync.specs.Judged.{Judges, IsJudgedClear, IsJudgedMost, stretch_tx_step, IsTxFate};
 
 use crate::held::HeldBits;
-use crate::look::{is_ones, look};
-use swd_bits::{Ack, Request, Tx, TxBits, TxEnd};
+use crate::look::{has_phase, is_ones, look};
+use crate::overrun::Overrun;
+use swd_bits::{Ack, MOVED_BITS, REFUSED_BITS, Request, Tx, TxBits, TxEnd};
 
 // The number of bits of a request.
 const REQUEST_BITS: u8 = 8;
+
+/// What becomes of a transaction of a stretch.
+#[derive(Clone, Copy, Debug)]
+pub(crate) enum TxFate {
+    /// It is reported.
+    Reported,
+    /// It is reported with its other length: whether a data phase follows WAIT and FAULT is the other way round.
+    OtherLength,
+    /// This number of bits is skipped, up to the stretch that begins inside it.
+    Withdrawn(u8),
+}
 
 // Returns the number of bits of the sound transaction at the front, or 0 if there is no such transaction. A
 // transaction is sound if it was acknowledged, and its word, if one was moved, has right parity.
@@ -32,10 +47,10 @@ fn sound_bits(over: bool, ended: bool, held: &HeldBits) -> Option<u8>
 }
 
 // Returns whether a sound transaction follows after any zeros.
-fn sound_follows(over: bool, ended: bool, held: &HeldBits) -> Option<bool>
-    ensures { Judges ended 0 (λ bits. resync_sound_next over bits) (resync_held held.now) result }
+fn sound_follows(ended: bool, held: &HeldBits) -> Option<bool>
+    ensures { Judges ended 0 (λ bits. resync_sound_next bits) (resync_held held.now) result }
 {
-    match sound_bits(over, ended, &held.behind_zeros()) {
+    match sound_bits(false, ended, &held.behind_zeros()) {
         None => None,
         Some(len) => Some(len > 0),
     }
@@ -132,7 +147,7 @@ fn pair_stands(over: bool, ended: bool, held: &HeldBits) -> Option<bool>
     match sound_bits(over, ended, held) {
         None => None,
         Some(0) => Some(false),
-        Some(len) => sound_follows(over, ended, &held.without(len)),
+        Some(len) => sound_follows(ended, &held.without(len)),
     }
 }
 
@@ -148,29 +163,76 @@ pub(crate) fn stretch_begins(over: bool, ended: bool, held: &HeldBits) -> Option
 }
 
 // Returns whether the bits after any zeros don't begin with a junk bit.
-fn reading_goes_on(over: bool, ended: bool, held: &HeldBits) -> Option<bool>
-    ensures { Judges ended 0 (λ bits. stretch_continues over bits) (resync_held held.now) result }
+fn reading_goes_on(ended: bool, held: &HeldBits) -> Option<bool>
+    ensures { Judges ended 0 (λ bits. stretch_continues bits) (resync_held held.now) result }
 {
-    match look(over, ended, &held.behind_zeros()).is_junk() {
+    match look(false, ended, &held.behind_zeros()).is_junk() {
         None => None,
         Some(junk) => Some(!junk),
     }
 }
 
 // Returns whether no bit or fifty ones follow.
-fn ends_or_resets(over: bool, ended: bool, held: &HeldBits) -> Option<bool>
+fn ends_or_resets(ended: bool, held: &HeldBits) -> Option<bool>
     ensures { Judges ended 0 (λ bits. stretch_ended_or_reset bits) (resync_held held.now) result }
 {
-    look(over, ended, held).is_end_or_reset()
+    look(false, ended, held).is_end_or_reset()
 }
 
-/// Returns whether a stretch continues after a transaction that these bits follow.
-pub(crate) fn stretch_goes_on(over: bool, ended: bool, tx: &Tx, behind: &HeldBits) -> Option<bool>
-    ensures { Judges ended 0 (λ bits. stretch_after_tx over tx.now.result bits) (resync_held behind.now) result }
+// Returns whether, after any zeros, a sound transaction comes, fifty ones, or the end.
+fn reading_resumes(ended: bool, held: &HeldBits) -> Option<bool>
+    ensures { Judges ended 0 (λ bits. stretch_resumes bits) (resync_held held.now) result }
+{
+    look(false, ended, &held.behind_zeros()).is_sound()
+}
+
+// Returns whether a stretch continues after a transaction that these bits follow.
+fn stretch_goes_on(ended: bool, tx: &Tx, behind: &HeldBits) -> Option<bool>
+    ensures { Judges ended 0 (λ bits. stretch_after_tx tx.now.result bits) (resync_held behind.now) result }
 {
     match tx.result {
-        TxEnd::NoAck(_) => ends_or_resets(over, ended, behind),
-        _ => reading_goes_on(over, ended, behind),
+        TxEnd::NoAck(_) => ends_or_resets(ended, behind),
+        _ => reading_goes_on(ended, behind),
+    }
+}
+
+/// Returns how many bits WAIT and FAULT have, if it is the other way round whether a data phase follows them.
+pub(crate) fn other_len(over: bool) -> u8
+    ensures { result ≡ other_tx_len over }
+{
+    if over { REFUSED_BITS } else { MOVED_BITS }
+}
+
+// Returns whether a stretch would continue soundly, had the transaction at the front its other length.
+fn other_length_fits(over: bool, ended: bool, tx: &Tx, held: &HeldBits) -> Option<bool>
+    ensures { Judges ended 46 (λ bits. has_other_length over (TxItem tx.now) bits) (resync_held held.now) result }
+{
+    if !has_phase(true, tx) {
+        return Some(false);
+    }
+    let len = other_len(over);
+    if held.window().len < len {
+        return if ended { Some(false) } else { None };
+    }
+    reading_resumes(ended, &held.without(len))
+}
+
+/// Returns whether a stretch begins with the capture, at whose front, after any zeros, a transaction of `len` bits is.
+pub(crate) fn starts_with(
+    over: bool,
+    ended: bool,
+    held: &HeldBits,
+    tx: &Tx,
+    len: u8,
+) -> Option<bool>
+    requires { IsTxSight over tx.now len (resync_held held.now) }
+    ensures { Judges ended 92 (λ bits. stretch_after_tx tx.now.result (drop len bits)
+        || has_other_length over (TxItem tx.now) bits) (resync_held held.now) result }
+{
+    match stretch_goes_on(ended, tx, &held.without(len)) {
+        None => None,
+        Some(true) => Some(true),
+        Some(false) => other_length_fits(over, ended, tx, held),
     }
 }
 
@@ -194,27 +256,51 @@ fn bits_before_pair(over: bool, ended: bool, held: &HeldBits, count: u8) -> Opti
     }
 }
 
-/// Returns how many bits of the transaction at the front, which has `len` bits, are skipped since a stretch
-/// begins inside it. Returns 0 if the transaction is reported.
-pub(crate) fn bits_withdrawn(
-    over: bool,
+// Returns what becomes of the transaction at the front, which has `len` bits, where the stretch doesn't continue after
+// it.
+fn fate_if_lost(over: Overrun, ended: bool, held: &HeldBits, tx: &Tx, len: u8) -> Option<TxFate>
+    requires { IsTxSight over.phases tx.now len (resync_held held.now) }
+    ensures fits { IfSome result (λ fate. IsTxFate over.phases tx.now len (resync_held held.now) fate) }
+    ensures told { IfSome result (λ fate. (more : List Bool) → SightMore ended more
+        → stretch_after_tx tx.now.result (drop len (resync_held held.now ++ more)) ≡ false
+        → in_stretch over (whole_tx_item tx.now len) (resync_held held.now ++ more)
+        ≡ stretch_tx_step over tx.now len fate) }
+    ensures waits { IfNone result ((ended ≡ false) × IsResyncNear 92 (resync_held held.now)) }
+{
+    match other_length_fits(over.phases, ended, tx, held) {
+        None => None,
+        Some(true) => Some(TxFate::OtherLength),
+        Some(false) => match bits_before_pair(over.phases, ended, &held.without(1), len - 1) {
+            None => None,
+            Some(before) => {
+                if before == len - 1 {
+                    Some(TxFate::Reported)
+                } else {
+                    Some(TxFate::Withdrawn(before + 1))
+                }
+            }
+        },
+    }
+}
+
+/// Returns what becomes of the transaction at the front, which has `len` bits.
+pub(crate) fn fate_of_tx(
+    over: Overrun,
     ended: bool,
     held: &HeldBits,
     tx: &Tx,
     len: u8,
-) -> Option<u8>
-    requires { IsTxSight over tx.now len (resync_held held.now) }
-    ensures most { IsJudgedMost len result }
-    ensures told { IfSome result (λ n. (more : List Bool) → SightMore ended more
-        → in_stretch over (whole_tx_item tx.now len) (resync_held held.now ++ more) ≡ stretch_tx_step tx.now len n) }
+) -> Option<TxFate>
+    requires { IsTxSight over.phases tx.now len (resync_held held.now) }
+    ensures fits { IfSome result (λ fate. IsTxFate over.phases tx.now len (resync_held held.now) fate) }
+    ensures told { IfSome result (λ fate. (more : List Bool) → SightMore ended more
+        → in_stretch over (whole_tx_item tx.now len) (resync_held held.now ++ more)
+        ≡ stretch_tx_step over tx.now len fate) }
     ensures waits { IfNone result ((ended ≡ false) × IsResyncNear 92 (resync_held held.now)) }
 {
-    match stretch_goes_on(over, ended, tx, &held.without(len)) {
+    match stretch_goes_on(ended, tx, &held.without(len)) {
         None => None,
-        Some(true) => Some(0),
-        Some(false) => match bits_before_pair(over, ended, &held.without(1), len - 1) {
-            None => None,
-            Some(before) => Some(if before == len - 1 { 0 } else { before + 1 }),
-        },
+        Some(true) => Some(TxFate::Reported),
+        Some(false) => fate_if_lost(over, ended, held, tx, len),
     }
 }

@@ -8,6 +8,7 @@ mod judge;
 mod laws;
 mod look;
 mod moves;
+mod overrun;
 mod part;
 mod queue;
 mod sight;
@@ -18,4 +19,4 @@ pub use laws::{
     a_pair_is_found, parts_divide_a_capture, places_are_kept, tests_of_a_capture,
     what_is_never_lost_is_told,
 };
-pub use part::{Part, phase_len};
+pub use part::{PHASE_BITS, Part};

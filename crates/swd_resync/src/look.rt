@@ -11,8 +11,8 @@ use crate::sight::Sight;
 use swd_bits::{MOVED_BITS, Tx, TxBits, TxEnd};
 use swd_trace::{Front, front_of};
 
-/// Returns what is at the front of the held bits. `over` means overrun detection; `ended` means that no bits
-/// follow.
+/// Returns what is at the front of the held bits. `over` means that a data phase follows WAIT and FAULT; `ended` means
+/// that no bits follow.
 pub(crate) fn look(over: bool, ended: bool, held: &HeldBits) -> Sight
     ensures { IsSight over ended result (resync_held held.now) }
 {
@@ -79,8 +79,8 @@ pub(crate) fn is_ones(window: TxBits) -> bool
     window.bits == (1 << window.len) - 1
 }
 
-// Returns whether a data phase follows WAIT or FAULT.
-fn has_phase(over: bool, tx: &Tx) -> bool
+/// Returns whether WAIT or FAULT ended a transaction, and a data phase follows.
+pub(crate) fn has_phase(over: bool, tx: &Tx) -> bool
     ensures { result ≡ (over && resync_is_refusal tx.now.result) }
 {
     over && matches!(tx.result, TxEnd::Wait | TxEnd::Fault)

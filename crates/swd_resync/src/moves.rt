@@ -1,17 +1,19 @@
-//! The steps of a decoder of captures. `over` means overrun detection; `ended` means that no bits follow the
-//! held ones. The functions return `None` if more bits are needed, or if no bits are left.
+//! The steps of a decoder of captures. `over` is what is known of overrun detection; `ended` means that no bits follow
+//! the held ones. The functions return `None` if more bits are needed, or if no bits are left.
 ghost use Rattle.std.specs.Prelude.{◌≡◌, ◌+◌, ◌^◌, ◌<◌, ◌≤◌, List, Bool, true, false, ◌∷◌, length};
-ghost use Rattle.swd_trace.specs.Reading.{decoder_mode_after_tx};
-ghost use Rattle.swd_resync.specs.Parts.{resync_parts, resync_place_after};
+ghost use Rattle.swd_trace.specs.declared.item.Item.TheVariants.{Tx as TxItem};
+ghost use Rattle.swd_resync.specs.Parts.{resync_told};
 ghost use Rattle.swd_resync.specs.Holding.{resync_held};
 ghost use Rattle.swd_resync.specs.Sights.{IsTxSight};
-ghost use Rattle.swd_resync.specs.Stages.{ResyncMoves, resync_stage_counted, resync_stage_rank, parts_at_stage};
-ghost use Rattle.swd_resync.specs.Stages.{ResyncSeesSwitch};
+ghost use Rattle.swd_resync.specs.Stages.{ResyncMoves, resync_stage_counted};
+ghost use Rattle.swd_resync.specs.Stages.{ResyncSeesSwitch, stretch_other_length_move, stretch_stage_behind};
+ghost use Rattle.swd_resync.specs.Stages.{stretch_fate_move, stretch_phase_move};
 
 use crate::held::{HeldBits, WINDOW_BITS};
-use crate::judge::{bits_before_start, bits_withdrawn, stretch_begins, stretch_goes_on};
-use crate::look::{is_ones, look};
-use crate::part::Part;
+use crate::judge::{TxFate, bits_before_start, fate_of_tx, other_len, starts_with, stretch_begins};
+use crate::look::{has_phase, is_ones, look};
+use crate::overrun::Overrun;
+use crate::part::{PHASE_BITS, Part};
 use crate::sight::Sight;
 use crate::stage::{Move, RemovalStage};
 use swd_bits::{SWITCH, SWITCH_BITS, Tx, TxBits, TxEnd};
@@ -20,9 +22,12 @@ use swd_trace::Item;
 // The number of ones that make a line reset: as many bits as are examined.
 const RESET_ONES: u64 = 50;
 
+// The number of bits of a data phase.
+const SKIPPED_PHASE: u64 = PHASE_BITS as u64;
+
 /// Returns the next step.
 pub(crate) fn next_move(
-    over: bool,
+    over: Overrun,
     ended: bool,
     stage: RemovalStage,
     held: &HeldBits,
@@ -42,76 +47,83 @@ pub(crate) fn next_move(
         RemovalStage::Reset(ones) => in_reset(over, ended, ones, held),
         RemovalStage::AfterReset => behind_reset(over, ended, held),
         RemovalStage::AfterSwitch => behind_switch(over, ended, held),
+        RemovalStage::AfterPhase => behind_phase(over, ended, held),
         RemovalStage::Between(count) => between(over, ended, count, held),
     }
 }
 
 // Steps at the front of the capture, after zeros.
-fn at_start(over: bool, ended: bool, zeros: u64, held: &HeldBits) -> Option<Move>
+fn at_start(over: Overrun, ended: bool, zeros: u64, held: &HeldBits) -> Option<Move>
     requires { zeros + length (resync_held held.now) < 2 ^ 64 }
     ensures { ResyncMoves over ended (RemovalStage.Start zeros) (resync_held held.now) result }
 {
-    match look(over, ended, held) {
+    match look(over.phases, ended, held) {
         Sight::Wait => None,
         Sight::Zero => {
             let count = held.run_of(false);
             Some(Move {
                 count,
+                over,
                 stage: RemovalStage::Start(zeros + u64::from(count)),
                 part: None,
             })
         }
-        Sight::Tx(tx, len) => match stretch_goes_on(over, ended, &tx, &held.without(len)) {
+        Sight::Tx(tx, len) => match starts_with(over.phases, ended, held, &tx, len) {
             None => None,
-            Some(true) => Some(stay(RemovalStage::Stretch(zeros))),
-            Some(false) => Some(stay(RemovalStage::Between(zeros))),
+            Some(true) => Some(stay(over, RemovalStage::Stretch(zeros))),
+            Some(false) => Some(stay(over, RemovalStage::Between(zeros))),
         },
-        Sight::Junk => Some(stay(RemovalStage::Between(zeros))),
-        Sight::End => Some(stay(RemovalStage::Stretch(zeros))),
-        Sight::Ones => Some(stay(RemovalStage::Stretch(zeros))),
-        Sight::Cut(_) => Some(stay(RemovalStage::Stretch(zeros))),
+        Sight::Junk => Some(stay(over, RemovalStage::Between(zeros))),
+        Sight::End => Some(stay(over, RemovalStage::Stretch(zeros))),
+        Sight::Ones => Some(stay(over, RemovalStage::Stretch(zeros))),
+        Sight::Cut(_) => Some(stay(over, RemovalStage::Stretch(zeros))),
     }
 }
 
 // Changes the stage without removing bits.
-fn stay(stage: RemovalStage) -> Move
-    ensures { result ≡ record { count = 0; stage = stage; part = None } }
+fn stay(over: Overrun, stage: RemovalStage) -> Move
+    ensures { result ≡ record { count = 0; over = over; stage = stage; part = None } }
 {
     Move {
         count: 0,
+        over,
         stage,
         part: None,
     }
 }
 
 // Steps in a stretch.
-fn in_stretch(over: bool, ended: bool, held: &HeldBits) -> Option<Move>
+fn in_stretch(over: Overrun, ended: bool, held: &HeldBits) -> Option<Move>
     requires { length (resync_held held.now) < 2 ^ 64 }
     ensures { ResyncMoves over ended (RemovalStage.Stretch 0) (resync_held held.now) result }
 {
-    match look(over, ended, held) {
+    match look(over.phases, ended, held) {
         Sight::Wait => None,
         Sight::End => None,
         Sight::Zero => {
             let count = held.run_of(false);
             Some(Move {
                 count,
+                over,
                 stage: RemovalStage::Stretch(u64::from(count)),
                 part: None,
             })
         }
         Sight::Ones => Some(Move {
             count: WINDOW_BITS,
+            over,
             stage: RemovalStage::Reset(RESET_ONES),
             part: None,
         }),
         Sight::Junk => Some(Move {
             count: 1,
+            over,
             stage: RemovalStage::Between(1),
             part: None,
         }),
         Sight::Cut(bits) => Some(Move {
             count: bits.len,
+            over,
             stage: RemovalStage::Stretch(0),
             part: Some(Part::Item(Item::Cut(bits))),
         }),
@@ -121,10 +133,7 @@ fn in_stretch(over: bool, ended: bool, held: &HeldBits) -> Option<Move>
 
 // Returns the stage after a reported transaction.
 fn behind_tx(tx: &Tx) -> RemovalStage
-    ensures rest { (over : Bool) (bits : List Bool) → parts_at_stage over result bits
-        ≡ resync_parts over (resync_place_after (decoder_mode_after_tx tx.now.result)) bits }
-    ensures counted { resync_stage_counted result ≡ 0 }
-    ensures rank { resync_stage_rank result ≤ 2 }
+    ensures { result ≡ stretch_stage_behind tx.now.result }
 {
     match tx.result {
         TxEnd::NoAck(_) => RemovalStage::Between(0),
@@ -132,39 +141,125 @@ fn behind_tx(tx: &Tx) -> RemovalStage
     }
 }
 
-// Reports or withdraws a transaction of a stretch.
-fn tx_move(over: bool, ended: bool, tx: &Tx, len: u8, held: &HeldBits) -> Option<Move>
-    requires { IsTxSight over tx.now len (resync_held held.now) }
+// Returns a transaction as a part, with the data phase that was foreseen.
+fn told_tx(over: bool, tx: &Tx) -> Part
+    ensures { result ≡ resync_told over (TxItem tx.now) }
+{
+    if has_phase(over, tx) {
+        Part::Phased(*tx)
+    } else {
+        Part::Item(Item::Tx(*tx))
+    }
+}
+
+// Reports a transaction whose length isn't the foreseen one.
+fn other_length_move(over: Overrun, tx: &Tx) -> Move
+    ensures { result ≡ stretch_other_length_move over tx.now }
+{
+    Move {
+        count: other_len(over.phases),
+        over: over.turned(),
+        stage: if over.phases {
+            RemovalStage::Stretch(0)
+        } else {
+            RemovalStage::AfterPhase
+        },
+        part: Some(Part::Item(Item::Tx(*tx))),
+    }
+}
+
+// Reports or withdraws a transaction of `len` bits.
+fn fate_move(over: Overrun, tx: &Tx, len: u8, fate: TxFate) -> Move
+    ensures { result ≡ stretch_fate_move over tx.now len fate }
+{
+    match fate {
+        TxFate::Reported => Move {
+            count: len,
+            over: over.after(tx),
+            stage: behind_tx(tx),
+            part: Some(told_tx(over.phases, tx)),
+        },
+        TxFate::OtherLength => other_length_move(over, tx),
+        TxFate::Withdrawn(count) => Move {
+            count,
+            over,
+            stage: RemovalStage::Between(0),
+            part: Some(Part::Skip(u64::from(count))),
+        },
+    }
+}
+
+// Steps in a stretch where a transaction is at the front.
+fn tx_move(over: Overrun, ended: bool, tx: &Tx, len: u8, held: &HeldBits) -> Option<Move>
+    requires { IsTxSight over.phases tx.now len (resync_held held.now) }
     ensures { ResyncMoves over ended (RemovalStage.Stretch 0) (resync_held held.now) result }
 {
-    match bits_withdrawn(over, ended, held, tx, len) {
+    match fate_of_tx(over, ended, held, tx, len) {
         None => None,
-        Some(count) => {
-            if count == 0 {
-                Some(Move {
-                    count: len,
-                    stage: behind_tx(tx),
-                    part: Some(Part::Item(Item::Tx(*tx))),
-                })
-            } else {
-                Some(Move {
-                    count,
-                    stage: RemovalStage::Between(0),
-                    part: Some(Part::Skip(u64::from(count))),
-                })
-            }
-        }
+        Some(fate) => Some(fate_move(over, tx, len, fate)),
+    }
+}
+
+// Steps in a stretch, after a data phase that wasn't foreseen: what is skipped directly after it joins its 33 bits.
+fn behind_phase(over: Overrun, ended: bool, held: &HeldBits) -> Option<Move>
+    ensures { ResyncMoves over ended RemovalStage.AfterPhase (resync_held held.now) result }
+{
+    match look(over.phases, ended, held) {
+        Sight::Wait => None,
+        Sight::Junk => Some(Move {
+            count: 1,
+            over,
+            stage: RemovalStage::Between(SKIPPED_PHASE + 1),
+            part: None,
+        }),
+        Sight::Tx(tx, len) => match fate_of_tx(over, ended, held, &tx, len) {
+            None => None,
+            Some(fate) => Some(phase_move(over, fate)),
+        },
+        Sight::End => Some(phase_skipped(over)),
+        Sight::Zero => Some(phase_skipped(over)),
+        Sight::Ones => Some(phase_skipped(over)),
+        Sight::Cut(_) => Some(phase_skipped(over)),
+    }
+}
+
+// Reports a data phase that wasn't foreseen, and what is skipped of the transaction after it.
+fn phase_move(over: Overrun, fate: TxFate) -> Move
+    ensures { result ≡ stretch_phase_move over fate }
+{
+    match fate {
+        TxFate::Withdrawn(count) => Move {
+            count,
+            over,
+            stage: RemovalStage::Between(0),
+            part: Some(Part::Skip(SKIPPED_PHASE + u64::from(count))),
+        },
+        TxFate::Reported | TxFate::OtherLength => phase_skipped(over),
+    }
+}
+
+// Reports a data phase that wasn't foreseen.
+fn phase_skipped(over: Overrun) -> Move
+    ensures { result ≡ record
+        { count = 0; over = over; stage = RemovalStage.Stretch 0; part = Some (Part.Skip 33) } }
+{
+    Move {
+        count: 0,
+        over,
+        stage: RemovalStage::Stretch(0),
+        part: Some(Part::Skip(SKIPPED_PHASE)),
     }
 }
 
 // Steps in a stretch, after idle cycles.
-fn behind_idle(over: bool, ended: bool, zeros: u64, held: &HeldBits) -> Option<Move>
+fn behind_idle(over: Overrun, ended: bool, zeros: u64, held: &HeldBits) -> Option<Move>
     requires some { 0 < zeros }
     requires count { zeros + length (resync_held held.now) < 2 ^ 64 }
     ensures { ResyncMoves over ended (RemovalStage.Stretch zeros) (resync_held held.now) result }
 {
     let told = Move {
         count: 0,
+        over,
         stage: RemovalStage::Stretch(0),
         part: Some(Part::Item(Item::Idle(zeros))),
     };
@@ -175,6 +270,7 @@ fn behind_idle(over: bool, ended: bool, zeros: u64, held: &HeldBits) -> Option<M
             let count = held.run_of(false);
             Some(Move {
                 count,
+                over,
                 stage: RemovalStage::Stretch(zeros + u64::from(count)),
                 part: None,
             })
@@ -183,12 +279,13 @@ fn behind_idle(over: bool, ended: bool, zeros: u64, held: &HeldBits) -> Option<M
 }
 
 // Steps in a stretch, after ones of a line reset.
-fn in_reset(over: bool, ended: bool, ones: u64, held: &HeldBits) -> Option<Move>
+fn in_reset(over: Overrun, ended: bool, ones: u64, held: &HeldBits) -> Option<Move>
     requires { ones + length (resync_held held.now) < 2 ^ 64 }
     ensures { ResyncMoves over ended (RemovalStage.Reset ones) (resync_held held.now) result }
 {
     let told = Move {
         count: 0,
+        over,
         stage: RemovalStage::AfterReset,
         part: Some(Part::Item(Item::Reset(ones))),
     };
@@ -198,6 +295,7 @@ fn in_reset(over: bool, ended: bool, ones: u64, held: &HeldBits) -> Option<Move>
             let count = held.run_of(true);
             Some(Move {
                 count,
+                over,
                 stage: RemovalStage::Reset(ones + u64::from(count)),
                 part: None,
             })
@@ -207,14 +305,15 @@ fn in_reset(over: bool, ended: bool, ones: u64, held: &HeldBits) -> Option<Move>
 }
 
 // Steps directly after a line reset.
-fn behind_reset(over: bool, ended: bool, held: &HeldBits) -> Option<Move>
+fn behind_reset(over: Overrun, ended: bool, held: &HeldBits) -> Option<Move>
     ensures { ResyncMoves over ended RemovalStage.AfterReset (resync_held held.now) result }
 {
     match sees_switch(ended, held.window()) {
         None => None,
-        Some(false) => Some(stay(RemovalStage::Stretch(0))),
+        Some(false) => Some(stay(over, RemovalStage::Stretch(0))),
         Some(true) => Some(Move {
             count: SWITCH_BITS,
+            over,
             stage: RemovalStage::AfterSwitch,
             part: Some(Part::Item(Item::Switch)),
         }),
@@ -238,16 +337,17 @@ fn sees_switch(ended: bool, window: TxBits) -> Option<bool>
 }
 
 // Steps directly after a switch.
-fn behind_switch(over: bool, ended: bool, held: &HeldBits) -> Option<Move>
+fn behind_switch(over: Overrun, ended: bool, held: &HeldBits) -> Option<Move>
     ensures { ResyncMoves over ended RemovalStage.AfterSwitch (resync_held held.now) result }
 {
     let window = held.window();
     if !is_ones(window) {
-        return Some(stay(RemovalStage::Between(0)));
+        return Some(stay(over, RemovalStage::Between(0)));
     }
     if window.len == WINDOW_BITS {
         return Some(Move {
             count: WINDOW_BITS,
+            over,
             stage: RemovalStage::Reset(RESET_ONES),
             part: None,
         });
@@ -257,20 +357,21 @@ fn behind_switch(over: bool, ended: bool, held: &HeldBits) -> Option<Move>
     }
     Some(Move {
         count: window.len,
+        over,
         stage: RemovalStage::Stretch(0),
         part: Some(Part::Item(Item::Cut(window))),
     })
 }
 
 // Steps between two stretches, after skipped bits.
-fn between(over: bool, ended: bool, count: u64, held: &HeldBits) -> Option<Move>
+fn between(over: Overrun, ended: bool, count: u64, held: &HeldBits) -> Option<Move>
     requires { count + length (resync_held held.now) < 2 ^ 64 }
     ensures { ResyncMoves over ended (RemovalStage.Between count) (resync_held held.now) result }
 {
     match held.first() {
         None => {
             if ended && count > 0 {
-                Some(skipped(count))
+                Some(skipped(over, count))
             } else {
                 None
             }
@@ -280,6 +381,7 @@ fn between(over: bool, ended: bool, count: u64, held: &HeldBits) -> Option<Move>
             if before > 0 {
                 return Some(Move {
                     count: before,
+                    over,
                     stage: RemovalStage::Between(count + u64::from(before)),
                     part: None,
                 });
@@ -290,22 +392,23 @@ fn between(over: bool, ended: bool, count: u64, held: &HeldBits) -> Option<Move>
 }
 
 // Steps between two stretches where the first held bit may begin one.
-fn between_at(over: bool, ended: bool, count: u64, held: &HeldBits) -> Option<Move>
+fn between_at(over: Overrun, ended: bool, count: u64, held: &HeldBits) -> Option<Move>
     requires some { (bit : Bool) × (back : List Bool) × (resync_held held.now ≡ bit ∷ back) }
     requires count { count + length (resync_held held.now) < 2 ^ 64 }
     ensures { ResyncMoves over ended (RemovalStage.Between count) (resync_held held.now) result }
 {
-    match stretch_begins(over, ended, held) {
+    match stretch_begins(over.phases, ended, held) {
         None => None,
         Some(true) => {
             if count > 0 {
-                Some(skipped(count))
+                Some(skipped(over, count))
             } else {
-                Some(stay(RemovalStage::Stretch(0)))
+                Some(stay(over, RemovalStage::Stretch(0)))
             }
         }
         Some(false) => Some(Move {
             count: 1,
+            over,
             stage: RemovalStage::Between(count + 1),
             part: None,
         }),
@@ -313,11 +416,13 @@ fn between_at(over: bool, ended: bool, count: u64, held: &HeldBits) -> Option<Mo
 }
 
 // Reports the bits before here as skipped.
-fn skipped(count: u64) -> Move
-    ensures { result ≡ record { count = 0; stage = RemovalStage.Between 0; part = Some (Part.Skip count) } }
+fn skipped(over: Overrun, count: u64) -> Move
+    ensures { result ≡ record
+        { count = 0; over = over; stage = RemovalStage.Between 0; part = Some (Part.Skip count) } }
 {
     Move {
         count: 0,
+        over,
         stage: RemovalStage::Between(0),
         part: Some(Part::Skip(count)),
     }

@@ -1,17 +1,22 @@
 //! The parts of a capture.
 ghost use Rattle.std.specs.Prelude.{◌≡◌, ◌+◌, ◌≤◌, ◌++◌};
 ghost use Rattle.arrayvec.specs.ArrayString.{array_string_len};
-ghost use Rattle.swd_resync.specs.AsItems.{resync_phase_after};
 
 use arrayvec::ArrayString;
-use swd_bits::{Tx, TxEnd};
+use swd_bits::Tx;
 use swd_trace::{Item, LONGEST_LINE};
+
+/// How many bits a data phase has.
+pub const PHASE_BITS: u8 = 33;
 
 /// One part of a capture. The division is this project's choice.
 #[derive(Clone, Copy, Debug, PartialEq, Eq)]
 pub enum Part {
     /// An item of a stretch, which decodes as a trace.
     Item(Item),
+    /// A transaction of a stretch that WAIT or FAULT ended, and the data phase after it, whose 33 bits say nothing: the
+    /// host uses overrun detection (IHI 0031, B4).
+    Phased(Tx),
     /// A skip: the number of bits, at least one, that belong to no stretch.
     Skip(u64),
 }
@@ -27,6 +32,7 @@ impl Part {
     {
         match self {
             Part::Item(item) => item.push_line(text),
+            Part::Phased(tx) => Item::Tx(*tx).push_line(text),
             Part::Skip(count) => {
                 let mut digits = itoa::Buffer::new();
                 text.push_str("skip ");
@@ -34,20 +40,4 @@ impl Part {
             }
         }
     }
-}
-
-/// How many bits follow an item of a stretch as a data phase that says nothing: 33 behind WAIT and FAULT where the host
-/// uses overrun detection (`over`; IHI 0031, B4), 0 behind any other item.
-pub fn phase_len(item: &Item, over: bool) -> u8
-    ensures value { result ≡ resync_phase_after over item.now }
-    ensures most { result ≤ 33 }
-{
-    let refused = matches!(
-        item,
-        Item::Tx(Tx {
-            result: TxEnd::Wait | TxEnd::Fault,
-            ..
-        })
-    );
-    if over && refused { 33 } else { 0 }
 }

@@ -37,6 +37,7 @@ fn is_sound_end(tx: &Tx) -> bool
 
 impl Sight {
     ghost use Rattle.swd_resync.specs.Seen.{sight_sound_bits, sight_junk_bit, sight_fifty_ones, sight_end_or_reset};
+    ghost use Rattle.swd_resync.specs.Seen.{sight_sound_item};
 
     /// Returns the number of bits of the sound transaction at the front: 0 if there is no such transaction,
     /// `None` if more bits are needed.
@@ -58,6 +59,19 @@ impl Sight {
             Sight::Wait => None,
             Sight::Junk => Some(true),
             _ => Some(false),
+        }
+    }
+
+    /// Returns whether neither a junk bit nor a transaction that isn't sound is at the front. Returns `None` if more
+    /// bits are needed.
+    pub(crate) fn is_sound(&self) -> Option<bool>
+        ensures { result ≡ sight_sound_item self.now }
+    {
+        match self {
+            Sight::Wait => None,
+            Sight::Tx(tx, _) => Some(is_sound_end(tx)),
+            Sight::Junk => Some(false),
+            _ => Some(true),
         }
     }
 

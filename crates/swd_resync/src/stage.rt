@@ -1,5 +1,6 @@
 //! The stage of a decoder of captures.
 
+use crate::overrun::Overrun;
 use crate::part::Part;
 
 /// What the removed bits imply.
@@ -15,14 +16,18 @@ pub(crate) enum RemovalStage {
     AfterReset,
     /// A switch from JTAG was reported.
     AfterSwitch,
+    /// In a stretch, after the 33 bits of a data phase that wasn't foreseen, not reported yet.
+    AfterPhase,
     /// Between stretches, with this number of skipped bits.
     Between(u64),
 }
 
-/// A step of a decoder: the number of bits to remove, the stage after them, and a part if one is decided.
+/// A step of a decoder: the number of bits to remove, what is known of overrun detection and the stage after them, and
+/// a part if one is decided.
 #[derive(Clone, Copy, Debug)]
 pub(crate) struct Move {
     pub(crate) count: u8,
+    pub(crate) over: Overrun,
     pub(crate) stage: RemovalStage,
     pub(crate) part: Option<Part>,
 }

@@ -1,5 +1,5 @@
 //! Runs a script over a simulated target with the marks of a plan.
-ghost use Rattle.std.specs.Prelude.{◌≡◌, true, false, IfSome};
+ghost use Rattle.std.specs.Prelude.{◌≡◌, true, false, IfSome, None};
 ghost use Rattle.swd_port.specs.Port.{port_made};
 ghost use Rattle.swd_script.specs.Readers.{read_script_meaning};
 ghost use Rattle.swd_script.specs.Laws.{IsScriptRunnable};
@@ -26,6 +26,7 @@ pub const QUIRKS: Quirks = Quirks {
     wrap: true,
     late: false,
     filler: 0,
+    idr: None,
 };
 
 /// Returns the memory that a script describes: its words, all zero, and the capacity of its log. Returns `None` if out
@@ -78,7 +79,7 @@ fn target_of<A: Allocator + Copy>(
     ensures plan { IfSome result (λ bench. bench_plan bench ≡ plan.items) }
     // A transfer takes effect at once, TAR wraps at the end of a kilobyte, and a value that is unknown is 0.
     ensures choices { IfSome result (λ bench.
-        (bench_simulation bus_of bench).quirks ≡ record { wrap = true; late = false; filler = 0 }) }
+        (bench_simulation bus_of bench).quirks ≡ record { wrap = true; late = false; filler = 0; idr = None }) }
 {
     let memory = zero_memory(alloc, script)?;
     Some(Bench::new(memory, QUIRKS, plan))

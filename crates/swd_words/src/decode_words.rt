@@ -48,8 +48,9 @@ With --resync the trace may begin in mid-session and lose bits. What can be read
 is listed, and the bits between have one line:
   skip 26                       26 bits that belong to nothing
 Behind it SELECT is unknown. --count counts these bits, and for --accesses they
-are a gap. Give --overrun too if the host uses overrun detection: a data phase
-then follows WAIT and FAULT, so these transactions have 46 bits.";
+are a gap. With overrun detection a data phase follows WAIT and FAULT too, so
+these transactions have 46 bits. Writes of CTRL/STAT are followed, and lengths;
+--overrun says that the host uses it from the first bit on.";
 
 const COUNT_ALONE: &str = "--count goes with neither --places nor --names";
 
@@ -126,7 +127,7 @@ pub(crate) fn resync_arg<'a>(alloc: Global) -> Arg<'a>
         .help("Read a capture that begins in mid-session or lost bits")
 }
 
-/// Returns the flag for a data phase after WAIT and FAULT.
+/// Returns the flag for overrun detection at the beginning.
 pub(crate) fn overrun_arg<'a>(alloc: Global) -> Arg<'a>
     ensures rule { rule_of result ≡ overrun_rule }
     ensures local { result.global ≡ false }
@@ -134,7 +135,7 @@ pub(crate) fn overrun_arg<'a>(alloc: Global) -> Arg<'a>
     Arg::new(alloc, "overrun")
         .long("overrun")
         .action(ArgAction::SetTrue)
-        .help("With --resync, WAIT and FAULT have a data phase")
+        .help("With --resync, WAIT and FAULT have a data phase at first")
 }
 
 // Returns the command `decode` without the flags for accesses and captures.

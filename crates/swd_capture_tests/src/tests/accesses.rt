@@ -161,17 +161,17 @@ const ROWS: [Row; 38] = [
         told: b"@0 w 00000000 00000001 may\n",
     },
     Row {
-        name: "FAULT before ABORT: it did not take place",
+        name: "FAULT before ABORT proves nothing: STICKYORUN may be its reason",
         made: true,
         listing: b"ap c write ok 00000001\ndp c read fault\ndp 0 write ok 0000001e\n\
             ap c write ok 00000002\ndp c read ok 00000000\n",
-        told: b"@0 w 00000000 00000001 not\n@105 w ???????? 00000002\n",
+        told: b"@0 w 00000000 00000001 may\n@105 w ???????? 00000002\n",
     },
     Row {
-        name: "FAULT at the end, whatever follows of WAIT and DPIDR",
+        name: "FAULT at the end, whatever follows of WAIT and DPIDR, proves nothing",
         made: true,
         listing: b"ap c read ok 00000000\ndp c read fault\ndp 0 read ok 2ba01477\ndp c read wait\n",
-        told: b"@0 r 00000000 ???????? not\n",
+        told: b"@0 r 00000000 ???????? may\n",
     },
     Row {
         name: "a register that was written before ABORT",

@@ -145,18 +145,18 @@ const ROWS: &[Row] = &[
         text: b"3 dp 4 read ok\n3 dp 8 write ok\n1 ap c read ok\n16 skip\n",
     },
     Row {
-        name: "behind a skip nothing is known of accesses",
+        name: "a skip takes the transaction before it, and behind it nothing is known",
         pieces: LOST_WRITE,
         over: false,
         printed: ACCESSES,
-        text: b"@138 w 20000000 deadbeef\n@230 w 20000004 00000001 may\n@276 gap\n@422 w 20000100 00000002\n",
+        text: b"@138 w 20000000 deadbeef\n@230 gap\n@422 w 20000100 00000002\n",
     },
     Row {
-        name: "a skip at the end is a gap, of a target that was just made",
+        name: "a skip at the end takes what would confirm a write",
         pieces: LOST_END,
         over: false,
         printed: MADE,
-        text: b"@0 w 00000000 00000001\n@92 gap\n",
+        text: b"@0 w 00000000 00000001 may\n@46 gap\n",
     },
     Row {
         name: "places behind a data phase",
@@ -186,7 +186,7 @@ const ROWS: &[Row] = &[
         pieces: PHASE,
         over: false,
         printed: ACCESSES,
-        text: b"@151 gap\n@184 w ???????? ???????? may\n",
+        text: b"@138 gap\n@184 w ???????? ???????? may\n",
     },
     Row {
         name: "a data phase is counted in no row",

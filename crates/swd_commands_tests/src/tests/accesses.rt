@@ -26,7 +26,7 @@ const ROWS: [Row; 5] = [
     (
         &["swd", "decode", "--accesses", "--made"],
         b"ap 4 write ok 20000000\nap c write ok deadbeef\ndp c read fault\n",
-        b"@46 w 20000000 deadbeef not\n",
+        b"@46 w 20000000 deadbeef may\n",
     ),
     (
         &["swd", "decode", "--accesses", "--made", "-"],

@@ -69,7 +69,7 @@ fn an_image_file_without_bytes_takes_no_call(rt: HostRuntime) {
     for (words, errors, written) in rows {
         let ran = run_on(rt.alloc(), words, b"".as_slice());
         expect_eq_at(&rt, &words, &ran.errors.as_slice(), &errors);
-        expect_eq_at(&rt, &words, &ran.output.as_slice(), &b"Q".as_slice());
+        expect_eq_at(&rt, &words, &ran.output.as_slice(), &b"OQ".as_slice());
         expect_eq_at(&rt, &words, &ran.traced, &written);
         expect_eq_at(&rt, &words, &ran.status, &0);
     }

@@ -32,7 +32,7 @@ fn an_empty_image_takes_no_call(rt: HostRuntime) {
     for (words, errors, cuts) in rows {
         let ran = run_on(rt.alloc(), words, b"".as_slice());
         expect_eq_at(&rt, &words, &ran.errors.as_slice(), &errors);
-        expect_eq_at(&rt, &words, &ran.output.as_slice(), &b"Q".as_slice());
+        expect_eq_at(&rt, &words, &ran.output.as_slice(), &b"OQ".as_slice());
         expect_eq_at(&rt, &words, &ran.cuts, &cuts);
         expect_eq_at(&rt, &words, &ran.status, &0);
     }
@@ -62,7 +62,7 @@ fn a_target_that_goes_away_ends_each_command(rt: HostRuntime) {
             let ran = run_on(rt.alloc(), words, levels);
             expect_eq_at(&rt, &words, &ran.errors.as_slice(), &errors);
             expect_eq_at(&rt, &words, &ran.status, &1);
-            expect_at(&rt, &words, ran.output.starts_with(b"egeg"));
+            expect_at(&rt, &words, ran.output.starts_with(b"Oegeg"));
             expect_at(&rt, &words, ran.output.ends_with(last));
             // A file that a dump would write is unchanged.
             expect_eq_at(&rt, &words, &ran.cuts, &0);
@@ -135,7 +135,7 @@ fn a_file_that_is_refused_leaves_the_line_unused(rt: HostRuntime) {
         &ran.errors.as_slice(),
         &b"swd: the image extends past ffffffff\n".as_slice(),
     );
-    expect_eq(&rt, &ran.output.as_slice(), &b"Q".as_slice());
+    expect_eq(&rt, &ran.output.as_slice(), &b"OQ".as_slice());
     expect_eq(&rt, &ran.cuts, &0);
     expect_eq(&rt, &ran.status, &2);
 }

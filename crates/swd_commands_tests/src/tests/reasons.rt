@@ -132,7 +132,8 @@ pub(super) const SCRIPTS: [Call; 25] = [
         b"memory 0 1\nw 0 0xg\n",
         2,
         b"",
-        b"swd: script line 2: number: expected w ADDR VALUE, with ADDR, MASK and VALUE hexadecimal, WORDS and COUNT decimal, all below 2^32\n",
+        b"swd: script line 2: number: expected w ADDR VALUE, with ADDR, MASK and VALUE hexadecimal, WORDS and COUNT \
+            decimal, all below 2^32\n",
     ),
     (
         "a number past 32 bits",
@@ -140,7 +141,8 @@ pub(super) const SCRIPTS: [Call; 25] = [
         b"memory 0 1\nrn 0 4294967296\n",
         2,
         b"",
-        b"swd: script line 2: number: expected rn ADDR COUNT, with ADDR, MASK and VALUE hexadecimal, WORDS and COUNT decimal, all below 2^32\n",
+        b"swd: script line 2: number: expected rn ADDR COUNT, with ADDR, MASK and VALUE hexadecimal, WORDS and COUNT \
+            decimal, all below 2^32\n",
     ),
     (
         "a memory without words",
@@ -172,7 +174,8 @@ pub(super) const SCRIPTS: [Call; 25] = [
         b"memory 0 1\nrn 0 0\n",
         2,
         b"",
-        b"swd: script line 2: range: ADDR is a multiple of 4, COUNT at least 1, no address past ffffffff, and a call has at most 65536 accesses\n",
+        b"swd: script line 2: range: ADDR is a multiple of 4, COUNT at least 1, no address past ffffffff, and a call \
+            has at most 65536 accesses\n",
     ),
     (
         "a block past the last address",
@@ -180,7 +183,8 @@ pub(super) const SCRIPTS: [Call; 25] = [
         b"memory 0 1\nblock fffffffc 2\n",
         2,
         b"",
-        b"swd: script line 2: range: ADDR is a multiple of 4, COUNT at least 1, no address past ffffffff, and a call has at most 65536 accesses\n",
+        b"swd: script line 2: range: ADDR is a multiple of 4, COUNT at least 1, no address past ffffffff, and a call \
+            has at most 65536 accesses\n",
     ),
     (
         "a word that can't come",
@@ -188,7 +192,8 @@ pub(super) const SCRIPTS: [Call; 25] = [
         b"memory 0 1\nuntil 0 1 2 1\n",
         2,
         b"",
-        b"swd: script line 2: range: ADDR is a multiple of 4, VALUE has no bit outside MASK, and COUNT is 1 to 1000000\n",
+        b"swd: script line 2: range: ADDR is a multiple of 4, VALUE has no bit outside MASK, and COUNT is 1 to \
+            1000000\n",
     ),
     (
         "no memory",

@@ -24,7 +24,7 @@ fn a_target_that_goes_away_takes_one_line(rt: HostRuntime) {
         expect_eq(&rt, &ran.errors.as_slice(), &errors);
         expect_eq(&rt, &ran.status, &1);
         expect_eq(&rt, &ran.traced, &LOST.len());
-        assert!(rt; ran.output.starts_with(b"egeg"));
+        assert!(rt; ran.output.starts_with(b"Oegeg"));
         // Nothing is sent after it.
         assert!(rt; ran.output.ends_with(b"dcf"));
     }

@@ -407,7 +407,7 @@ const FILES: [Row; 22] = [
             "swd", "dump", "0", "0", "full", "--format", "hex", "--remote",
         ],
         b"",
-        b"Q",
+        b"OQ",
         b"swd: write failed: full: no storage space\n",
         2,
     ),

@@ -8,4 +8,4 @@ pub returns-else-count-eq0 : goal.returns-else-count-eq0
 returns-else-count-eq0 c =
     let some : 0 < c.in-Skip.count = omega (arith, c.if-count-eq0.false) in
     sym (capture_select_at_skip c.in-Skip.count c.args.select some)
-    ∙ ap (λ p. capture_select_from c.args.select (resync_part_items c.args.over p)) (sym c.in-Skip.is)
+    ∙ ap (λ p. capture_select_from c.args.select (resync_part_items p)) (sym c.in-Skip.is)

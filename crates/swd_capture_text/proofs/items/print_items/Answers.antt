@@ -1,4 +1,4 @@
-use Rattle.std.proofs.Common.{◌≡◌, ℕ, ◌+◌, ◌<◌, List, [], ◌∷◌, ◌++◌, false, length, map, take, get_or}
+use Rattle.std.proofs.Common.{◌≡◌, ℕ, ◌+◌, ◌<◌, List, [], ◌∷◌, ◌++◌, length, map, take, get_or}
 use Rattle.std.proofs.Common.{refl, sym, ap, subst, ◌∙◌}
 use Rattle.std.proofs.KnownBytes.{Appends-nil}
 use Rattle.std.specs.Io.KnownBytes.{Appends}
@@ -23,7 +23,7 @@ loop-item-init g c =
     record {
       after = c.new-teller.ensures;
       sends = subst (BlockBufferSends g.W.Write.contents start c.new-block.result)
-          (sym (capture_printed_none c.args.printed false))
+          (sym (capture_printed_none c.args.printed))
           (c.new-block.ensures.sends start [] (Appends-nil start) refl);
       writer = refl;
     }
@@ -36,12 +36,12 @@ loop-item-preserved g c =
     let before = map Told (take i items) in
     let more = next items i _ c.loop-item-test.true in
     record {
-      after = subst (λ parts. IsCaptureTellerAfter c.args.printed false parts c.put_part.new.teller) (sym more)
-          (c.put_part.ensures.after c.args.printed false before c.loop-item.invariant.after);
+      after = subst (λ parts. IsCaptureTellerAfter c.args.printed parts c.put_part.new.teller) (sym more)
+          (c.put_part.ensures.after c.args.printed before c.loop-item.invariant.after);
       sends = subst (BlockBufferSends g.W.Write.contents start c.put_part.new.block)
-          (sym (ap (capture_printed_parts c.args.printed false) more ∙ capture_printed_more c.args.printed false before
-          _)) (c.put_part.ensures.sends c.args.printed false before c.loop-item.invariant.after start
-          (capture_printed_parts c.args.printed false before) c.loop-item.invariant.sends);
+          (sym (ap (capture_printed_parts c.args.printed) more ∙ capture_printed_more c.args.printed before
+          _)) (c.put_part.ensures.sends c.args.printed before c.loop-item.invariant.after start
+          (capture_printed_parts c.args.printed before) c.loop-item.invariant.sends);
       writer = c.put_part.ensures.writer ∙ c.loop-item.invariant.writer;
     }
 
@@ -56,11 +56,11 @@ returns-in-Ok g c =
     ap (map Told) (take_all c.loop-item.item-index items c.loop-item-test.false) in
     let same = c.writer-1.given.1 (sym (c.flush.ensures.writer ∙ c.put_rows.ensures.writer
     ∙ c.loop-item.invariant.writer ∙ c.new-block.ensures.writer)) in
-    let all = c.put_rows.ensures.sends start printed false parts c.loop-item.invariant.after
+    let all = c.put_rows.ensures.sends start printed parts c.loop-item.invariant.after
     c.loop-item.invariant.sends in
     subst (λ w. Appends start (contents w) (print_items_output printed items)) (sym same)
-    (subst (λ p. Appends start (contents c.flush.new.self.writer.now) (capture_printout printed false p)) whole
-    (c.in-Ok.ensures.ok start (capture_printout printed false parts) all).0)
+    (subst (λ p. Appends start (contents c.flush.new.self.writer.now) (capture_printout printed p)) whole
+    (c.in-Ok.ensures.ok start (capture_printout printed parts) all).0)
 
 pub returns-in-Err : goal.returns-in-Err
 returns-in-Err g c =
@@ -73,8 +73,8 @@ returns-in-Err g c =
     ap (map Told) (take_all c.loop-item.item-index items c.loop-item-test.false) in
     let same = c.writer-1.given.1 (sym (c.flush.ensures.writer ∙ c.put_rows.ensures.writer
     ∙ c.loop-item.invariant.writer ∙ c.new-block.ensures.writer)) in
-    let all = c.put_rows.ensures.sends start printed false parts c.loop-item.invariant.after
+    let all = c.put_rows.ensures.sends start printed parts c.loop-item.invariant.after
     c.loop-item.invariant.sends in
     subst (λ w. OutputStopped c.in-Err.written start (contents w) (print_items_output printed items)) (sym same)
     (subst (λ p. OutputStopped c.in-Err.written start (contents c.flush.new.self.writer.now)
-    (capture_printout printed false p)) whole (c.in-Err.ensures.err start (capture_printout printed false parts) all))
+    (capture_printout printed p)) whole (c.in-Err.ensures.err start (capture_printout printed parts) all))

@@ -27,11 +27,11 @@ loop-left-preserved g c = λ start parts h.
     let within : k ≤ left = omega (arith, c.min-count.ensures) in
     let first = capture_junk_parts (low_bits k bits) in
     let others = capture_junk_parts (low_bits (left - k) (bits / 2 ^ k)) in
-    let b = c.tell_junk.ensures.bytes start.printed start.over i.0 i.1.after in
+    let b = c.tell_junk.ensures.bytes start.printed i.0 i.1.after in
     let same : c.as_bytes.result.now ≡ c.tell_junk.new.text.bytes = search in (
       i.0 ++ first,
       record {
-        after = c.tell_junk.ensures.after start.printed start.over i.0 i.1.after;
+        after = c.tell_junk.ensures.after start.printed i.0 i.1.after;
         sends = subst (λ all. BlockBufferSends g.W.Write.contents start.from c.put.new.self all)
             (ap (λ x. print_output start i.0 ++ x) (same ∙ b.1 ∙ ap (λ x. x ++ b.0) c.clear.ensures) ∙ sym b.2)
             (c.put.ensures.sends start.from (print_output start i.0) i.1.sends);

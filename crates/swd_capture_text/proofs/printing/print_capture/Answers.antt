@@ -3,7 +3,7 @@ use Rattle.std.proofs.KnownBytes.{Appends-nil}
 use Rattle.swd_text.proofs.OutputLemmas.{text_output_ends}
 use Rattle.swd_capture.specs.Printing.{capture_printed_parts, capture_printout}
 use Rattle.swd_capture_text.specs.Captures.{Prints}
-use Rattle.swd_capture_text.specs.Readings.{SourceDecides, SourceReadsAs, is_over}
+use Rattle.swd_capture_text.specs.Readings.{SourceDecides, SourceReadsAs}
 use Rattle.swd_capture_text.proofs.printing.print_capture.Goals as goal
 
 pub returns : goal.returns
@@ -17,6 +17,6 @@ returns g c =
     let queues = c.print_text-read.ensures start (c.new-block.ensures.sends start [] (Appends-nil _) (omega arith)) in
     let same = c.writer-1.given.1 (sym (c.end_output.ensures.writer ∙ queues.1 ∙ c.new-block.ensures.writer)) in
     subst (λ w. Prints reading printed c.end_output.result text left start (contents w)) (sym same)
-    (text_output_ends (SourceDecides reading) (SourceReadsAs reading) (capture_printed_parts printed (is_over reading))
-    (capture_printout printed (is_over reading)) contents c.print_text-read.result c.end_output.result text left start
+    (text_output_ends (SourceDecides reading) (SourceReadsAs reading) (capture_printed_parts printed)
+    (capture_printout printed) contents c.print_text-read.result c.end_output.result text left start
     c.print_text-read.new.block c.end_output.new.block queues.0 c.end_output.ensures.ends)

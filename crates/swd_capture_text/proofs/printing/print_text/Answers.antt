@@ -1,4 +1,4 @@
-use Rattle.std.proofs.Common.{◌≡◌, ℕ, Bool, List, [], Option, Err, refl, sym, subst, ◌∙◌}
+use Rattle.std.proofs.Common.{◌≡◌, ℕ, List, [], Option, Err, refl, sym, subst, ◌∙◌}
 use Rattle.swd_io.specs.Blocks.{BlockBufferSends}
 use Rattle.swd_io.specs.declared.block.Block.{Block}
 use Rattle.swd_text.specs.Outputs.{TextQueues}
@@ -13,7 +13,7 @@ use Rattle.swd_capture_text.specs.declared.printer.Printer.{Printer}
 use Rattle.swd_capture_text.specs.declared.reading.Reading.{Reading}
 use Rattle.swd_capture_text.specs.PartSinks.{PartsGoTo}
 use Rattle.swd_capture_text.specs.Printers.{PrintStart, PrinterHasTaken, PrinterStops}
-use Rattle.swd_capture_text.specs.Readings.{SourceDecides, SourceReadsAs, is_over}
+use Rattle.swd_capture_text.specs.Readings.{SourceDecides, SourceReadsAs}
 use Rattle.swd_capture_text.proofs.printing.print_text.Goals as goal
 
 -- how a text is printed to a block
@@ -22,17 +22,16 @@ start_of from reading printed block = record {
   from = from;
   name = block.writer.ghost_name;
   printed = printed;
-  over = is_over reading;
 }
 
 -- a printer that was given no parts
 begins_in : {W : Type 0} (contents : W → Option (List ℕ)) (from : Option (List ℕ)) (reading : Reading)
-    (printed : Printed) (over : Bool) (printer : Printer) (block : Block W) → over ≡ is_over reading
-    → IsCaptureTellerAfter printed over [] printer.teller → BlockBufferSends contents from block []
+    (printed : Printed) (printer : Printer) (block : Block W)
+    → IsCaptureTellerAfter printed [] printer.teller → BlockBufferSends contents from block []
     → PrinterHasTaken contents (start_of from reading printed block) (printer, block) []
-begins_in contents from reading printed over printer block phases after sends = record {
-  after = subst (λ o. IsCaptureTellerAfter printed o [] printer.teller) phases after;
-  sends = subst (BlockBufferSends contents from block) (sym (capture_printed_none printed (is_over reading))) sends;
+begins_in contents from reading printed printer block after sends = record {
+  after = after;
+  sends = subst (BlockBufferSends contents from block) (sym (capture_printed_none printed)) sends;
   same = refl;
 }
 
@@ -41,8 +40,8 @@ unread : {W : Type 0} (contents : W → Option (List ℕ)) (reading : Reading) (
     → PrinterHasTaken contents start before []
     → PartsGoTo (LeadsSinkOn (PrinterHasTaken contents))
     (LeadsSinkToStop (PrinterHasTaken contents) (PrinterStops contents)) reading (Err fault) text left before block
-    → TextQueues (SourceDecides reading) (SourceReadsAs reading) (capture_printed_parts start.printed start.over)
-    (capture_printout start.printed start.over) contents (Err fault) text left start.from block
+    → TextQueues (SourceDecides reading) (SourceReadsAs reading) (capture_printed_parts start.printed)
+    (capture_printout start.printed) contents (Err fault) text left start.from block
     × (block.writer.ghost_name ≡ start.name)
 unread contents reading start (Text fault) text left before block none r =
     let x = r.5 start [] none in
@@ -58,9 +57,9 @@ pub returns-in-Ok : goal.returns-in-Ok
 returns-in-Ok g c = λ from empty.
     let start = start_of from c.args.reading c.args.printed c.args.block.now in
     let r = c.in-Ok.ensures in
-    let x = r.5 start [] (begins_in g.W.Write.contents from c.args.reading c.args.printed c.is_over.result c.new.result
-    c.args.block.now c.is_over.ensures c.new.ensures empty) in (
-      (r.0, r.1, r.2, r.3, r.4, c.put_rows.ensures.sends from start.printed start.over r.1 x.after x.sends),
+    let x = r.5 start [] (begins_in g.W.Write.contents from c.args.reading c.args.printed c.new.result
+    c.args.block.now c.new.ensures empty) in (
+      (r.0, r.1, r.2, r.3, r.4, c.put_rows.ensures.sends from start.printed r.1 x.after x.sends),
       c.put_rows.ensures.writer ∙ x.same,
     )
 
@@ -71,5 +70,5 @@ returns-in-Err g c = λ from empty.
     unread g.W.Write.contents c.args.reading (start_of from c.args.reading c.args.printed c.args.block.now)
     c.in-Err.fault
     text left (c.new.result, c.args.block.now) c.read_parts.new.writer
-    (begins_in g.W.Write.contents from c.args.reading c.args.printed c.is_over.result c.new.result c.args.block.now
-    c.is_over.ensures c.new.ensures empty) c.in-Err.ensures
+    (begins_in g.W.Write.contents from c.args.reading c.args.printed c.new.result c.args.block.now
+    c.new.ensures empty) c.in-Err.ensures

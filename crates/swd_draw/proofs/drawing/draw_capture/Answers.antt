@@ -2,7 +2,8 @@ use Rattle.std.proofs.Common.{[], sym, ◌∙◌, subst, arith}
 use Rattle.std.proofs.KnownBytes.{Appends-nil}
 use Rattle.swd_text.proofs.OutputLemmas.{text_output_ends}
 use Rattle.swd_capture_text.specs.Readings.{SourceDecides, SourceReadsAs}
-use Rattle.swd_draw.specs.Draws.{Draws, drawing_by, no_drawing}
+use Rattle.swd_draw.specs.Drawings.{drawing}
+use Rattle.swd_draw.specs.Draws.{Draws, no_drawing}
 use Rattle.swd_draw.proofs.drawing.draw_capture.Goals as goal
 
 pub returns : goal.returns
@@ -15,6 +16,6 @@ returns g c =
     let queues = c.draw_text-read.ensures start (c.new-block.ensures.sends start [] (Appends-nil _) (omega arith)) in
     let same = c.writer-1.given.1 (sym (c.end_output.ensures.writer ∙ queues.1 ∙ c.new-block.ensures.writer)) in
     subst (λ w. Draws reading c.end_output.result text left start (contents w)) (sym same)
-    (text_output_ends (SourceDecides reading) (SourceReadsAs reading) no_drawing (drawing_by reading) contents
+    (text_output_ends (SourceDecides reading) (SourceReadsAs reading) no_drawing drawing contents
     c.draw_text-read.result c.end_output.result text left start c.draw_text-read.new.block c.end_output.new.block
     queues.0 c.end_output.ensures.ends)

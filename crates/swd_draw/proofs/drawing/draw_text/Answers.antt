@@ -8,30 +8,26 @@ use Rattle.swd_text.specs.declared.fault.DecodeFault.{DecodeFault}
 use Rattle.swd_text.specs.declared.fault.DecodeFault.TheVariants.{Text, Read, Write}
 use Rattle.swd_capture_text.specs.declared.reading.Reading.{Reading}
 use Rattle.swd_capture_text.specs.PartSinks.{PartsGoTo}
-use Rattle.swd_capture_text.specs.Readings.{SourceDecides, SourceReadsAs, is_over}
+use Rattle.swd_capture_text.specs.Readings.{SourceDecides, SourceReadsAs}
 use Rattle.swd_draw.specs.declared.kept.DrawnParts.{DrawnParts}
 use Rattle.swd_draw.specs.Collecting.{DrawnHasTaken, KeepsDrawn, drawing_never_stops, drawn_kept_parts}
-use Rattle.swd_draw.specs.Drawings.{drawing_of, drawn}
-use Rattle.swd_draw.specs.Draws.{drawing_by, no_drawing}
+use Rattle.swd_draw.specs.Drawings.{drawing, drawing_of, drawn}
+use Rattle.swd_draw.specs.Draws.{no_drawing}
 use Rattle.swd_draw.proofs.KeptLemmas.{kept_drawn, drawn_kept_past}
 use Rattle.swd_draw.proofs.drawing.draw_text.Goals as goal
 
 -- the drawing of what is kept is that of all the parts
-drawn_by : (reading : Reading) (parts shown : List Part) (over longer : Bool) (k : DrawnParts) → KeepsDrawn parts k
-    → over ≡ is_over reading → shown ≡ drawn_kept_parts k → longer ≡ k.longer
-    → drawing_of over shown longer ≡ drawing_by reading parts
-drawn_by reading parts shown over longer k h phases front past =
-    ap (λ o. drawing_of o shown longer) phases
-    ∙ ap (λ p. drawing_of (is_over reading) p longer) (front
-    ∙ sym (kept_drawn parts k.parts k.count k.left k.longer h))
-    ∙ ap (drawing_of (is_over reading) (drawn parts)) (past
-    ∙ sym (drawn_kept_past parts k.parts k.count k.left k.longer h))
+drawn_by : (parts shown : List Part) (longer : Bool) (k : DrawnParts) → KeepsDrawn parts k
+    → shown ≡ drawn_kept_parts k → longer ≡ k.longer → drawing_of shown longer ≡ drawing parts
+drawn_by parts shown longer k h front past =
+    ap (λ p. drawing_of p longer) (front ∙ sym (kept_drawn parts k.parts k.count k.left k.longer h))
+    ∙ ap (drawing_of (drawn parts)) (past ∙ sym (drawn_kept_past parts k.parts k.count k.left k.longer h))
 
 unread : {W : Type 0} (contents : W → Option (List ℕ)) (reading : Reading) (fault : DecodeFault)
     (text left start : Option (List ℕ)) (before : DrawnParts × Unit {0}) (block : Block W)
     → PartsGoTo (LeadsSinkOn DrawnHasTaken) drawing_never_stops reading (Err fault) text left before tt
     → BlockBufferSends contents start block [] → TextQueues (SourceDecides reading) (SourceReadsAs reading) no_drawing
-    (drawing_by reading) contents (Err fault) text left start block
+    drawing contents (Err fault) text left start block
 unread contents reading (Text fault) text left start before block r none = (r.0, r.1, r.3, r.4, none)
 unread contents reading Read text left start before block r none = (r.0, r.1, r.3, r.4, none)
 unread contents reading (Write told) text left start before block r none = absurd r.5.2
@@ -47,10 +43,9 @@ returns-in-Err g c = λ start none.
 
 pub returns-in-Ok : goal.returns-in-Ok
 returns-in-Ok g c = λ start none.
-    let reading = c.args.reading in
     let r = c.in-Ok.ensures in
-    let all = drawn_by reading r.1 c.parts.result.now c.is_over.result c.is_longer.result c.in-Ok.kept
-    (r.5 tt [] c.new.ensures) c.is_over.ensures c.parts.ensures.parts c.is_longer.ensures in (
+    let all = drawn_by r.1 c.parts.result.now c.is_longer.result c.in-Ok.kept (r.5 tt [] c.new.ensures)
+    c.parts.ensures.parts c.is_longer.ensures in (
       (
         r.0,
         r.1,

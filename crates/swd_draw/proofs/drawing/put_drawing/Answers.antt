@@ -9,7 +9,7 @@ unfolding end_text
 returns-clause-sends g c = λ start none.
     let parts = c.args.parts.now in
     let top = head (length parts) c.args.longer in
-    let body = drawing_rows c.args.over [] parts in
+    let body = drawing_rows [] parts in
     let text : c.as_bytes.result.now ≡ top =
     c.as_bytes.ensures.value ∙ c.as_str.ensures.value ∙ c.push_drawing_head.ensures
     ∙ ap (λ x. x ++ top) c.new-text.ensures in

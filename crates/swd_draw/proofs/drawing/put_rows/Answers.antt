@@ -21,26 +21,25 @@ pub loop-index-preserved : goal.loop-index-preserved
 loop-index-preserved g c =
     let parts = c.args.parts.now in
     let index = c.loop-index.index in
-    let over = c.args.over in
     let before = take index parts in
     let part = get_or parts index (Told (Reset 0)) in
     let within : index < length parts = c.loop-index-test.true in
     let next : take (index + 1) parts ≡ before ++ part ∷ [] = next_part parts index (Told (Reset 0)) within in
     let at : index ≡ length before = sym (length-take-le index parts (omega arith)) in
-    let text : c.as_bytes.result.now ≡ drawing_row over before part =
+    let text : c.as_bytes.result.now ≡ drawing_row before part =
     c.as_bytes.ensures.value ∙ c.as_str.ensures.value
     ∙ c.push_row.ensures.bytes before c.loop-index.invariant.after at
-    ∙ ap (λ x. x ++ drawing_row over before part) c.clear.ensures in
+    ∙ ap (λ x. x ++ drawing_row before part) c.clear.ensures in
     record {
       within = omega arith;
-      after = subst (λ p. IsCaptureTellerAfter drawn_line_form over p c.push_row.new.teller) (sym next)
+      after = subst (λ p. IsCaptureTellerAfter drawn_line_form p c.push_row.new.teller) (sym next)
           (c.push_row.ensures.after before c.loop-index.invariant.after);
       writer = c.put_text.ensures.writer ∙ c.loop-index.invariant.writer;
       sends = λ start all h.
           subst (λ x. BlockBufferSends g.W.Write.contents start c.put_text.new.block x)
-          (ap (λ x. (all ++ drawing_rows over [] before) ++ x) text
-          ∙ append_assoc all (drawing_rows over [] before) (drawing_row over before part)
-          ∙ ap (λ x. all ++ x) (sym (drawing_rows_more over [] before part) ∙ ap (drawing_rows over []) (sym next)))
-          (c.put_text.ensures.sends start (all ++ drawing_rows over [] before)
+          (ap (λ x. (all ++ drawing_rows [] before) ++ x) text
+          ∙ append_assoc all (drawing_rows [] before) (drawing_row before part)
+          ∙ ap (λ x. all ++ x) (sym (drawing_rows_more [] before part) ∙ ap (drawing_rows []) (sym next)))
+          (c.put_text.ensures.sends start (all ++ drawing_rows [] before)
           (c.loop-index.invariant.sends start all h));
     }

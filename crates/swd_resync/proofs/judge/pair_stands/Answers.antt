@@ -10,5 +10,5 @@ returns-in-Some c =
     let some : 0 < c.in-Some.len = omega (arith, c.in-Some.len-test) in
     pair_judged c.args.over c.args.ended (resync_held c.args.held.now) c.in-Some.len _ c.in-Some.ensures.judges some
     c.in-Some.ensures.fits c.in-Some.ensures.short
-    (subst (λ x. Judges c.args.ended 0 (λ bits. resync_sound_next c.args.over bits) x c.sound_follows.result)
+    (subst (λ x. Judges c.args.ended 0 (λ bits. resync_sound_next bits) x c.sound_follows.result)
     c.without.ensures.bits c.sound_follows.ensures)

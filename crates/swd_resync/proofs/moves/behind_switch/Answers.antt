@@ -67,9 +67,9 @@ returns c =
     let l : length (resync_held c.args.held.now) ≡ len =
     resync_window_length (resync_held c.args.held.now) c.window-window.result w.0 w.1 (w.2 few) in
     let ones : bits ≡ replicate len true = c.is_ones.ensures.ones c.if-not-is_ones.false in
-    let f : resync_first c.args.over AfterSwitch (resync_held c.args.held.now)
+    let f : resync_first c.args.over.phases AfterSwitch (resync_held c.args.held.now)
     ≡ cut_first_item (resync_held c.args.held.now) =
-    subst (λ x. resync_first c.args.over AfterSwitch x ≡ cut_first_item x) (sym (e ∙ ones))
-    (stretch_switch_ones_cut c.args.over len some few) in
+    subst (λ x. resync_first c.args.over.phases AfterSwitch x ≡ cut_first_item x) (sym (e ∙ ones))
+    (stretch_switch_ones_cut c.args.over.phases len some few) in
     stretch_cut_move c.args.over BehindSwitch AfterSwitch c.window-window.result (resync_held c.args.held.now)
     c.args.ended c.if-not-ended.false e c.window-window.ensures.spelled (omega arith) (omega arith) f (λ x. refl)

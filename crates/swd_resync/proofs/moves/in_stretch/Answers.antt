@@ -19,7 +19,7 @@ returns-in-Zero c =
     let run = c.run_of-count.ensures.run in
     let same : 0 + c.run_of-count.result ≡ c.from.result = omega (arith, c.from.ensures) in
     subst (λ n. ResyncMove c.args.over c.args.ended (Stretch 0) (resync_held c.args.held.now)
-    (record { count = c.run_of-count.result; stage = Stretch n; part = None })) same
+    (record { count = c.run_of-count.result; over = c.args.over; stage = Stretch n; part = None })) same
     (stretch_counts_idle c.args.over c.args.ended 0 c.run_of-count.result (resync_held c.args.held.now) run.0 run.1
     (c.run_of-count.ensures.some c.in-Zero.ensures.0 c.in-Zero.ensures.1) c.run_of-count.ensures.most)
 

@@ -1,26 +1,12 @@
-use Rattle.std.proofs.Common.{◌<◌, ap, ◌∙◌, sym, subst, arith}
+use Rattle.std.proofs.Common.{sym, subst}
 use Rattle.swd_resync.specs.Holding.{resync_held}
-use Rattle.std.specs.Prelude.{Some}
-use Rattle.swd_resync.specs.Judged.{stretch_tx_step}
 use Rattle.swd_resync.specs.Stages.{ResyncMove}
-use Rattle.swd_resync.specs.declared.part.Part.TheVariants.{Skip}
-use Rattle.swd_resync.specs.declared.stage.RemovalStage.TheVariants.{Stretch, Between as Skipping}
-use Rattle.swd_resync.proofs.MoveLemmas.{stretch_tx_reported, stretch_tx_withdrawn, stretch_withdrawn_is_skip}
+use Rattle.swd_resync.specs.declared.stage.RemovalStage.TheVariants.{Stretch}
+use Rattle.swd_resync.proofs.MoveLemmas.{stretch_tx_moves}
 use Rattle.swd_resync.proofs.moves.tx_move.Goals as goal
 
-pub returns-then-count-eq0 : goal.returns-then-count-eq0
-returns-then-count-eq0 c =
-    stretch_tx_reported c.args.over c.args.ended c.args.tx.now c.args.len c.behind_tx.result
-    (resync_held c.args.held.now) c.requires
-    (λ more may. c.in-Some.ensures.told more may ∙ ap (stretch_tx_step c.args.tx.now c.args.len) c.if-count-eq0.true)
-    (λ x. c.behind_tx.ensures.rest c.args.over x) c.behind_tx.ensures.counted c.behind_tx.ensures.rank
-
-pub returns-else-count-eq0 : goal.returns-else-count-eq0
-returns-else-count-eq0 c =
-    let some : 0 < c.in-Some.count = omega (arith, c.if-count-eq0.false) in
-    subst (λ n. ResyncMove c.args.over c.args.ended (Stretch 0) (resync_held c.args.held.now)
-    (record { count = c.in-Some.count; stage = Skipping 0; part = Some (Skip n) })) (sym c.from.ensures)
-    (stretch_tx_withdrawn c.args.over c.args.ended c.args.tx.now c.args.len c.in-Some.count
-    (resync_held c.args.held.now) c.requires some c.in-Some.ensures.most
-    (λ more may. c.in-Some.ensures.told more may ∙ stretch_withdrawn_is_skip c.args.tx.now c.args.len c.in-Some.count
-    some))
+pub returns-in-Some : goal.returns-in-Some
+returns-in-Some c =
+    subst (ResyncMove c.args.over c.args.ended (Stretch 0) (resync_held c.args.held.now)) (sym c.fate_move.ensures)
+    (stretch_tx_moves c.args.over c.args.ended c.args.tx.now c.args.len c.in-Some.fate (resync_held c.args.held.now)
+    c.requires c.in-Some.ensures.fits c.in-Some.ensures.told)

@@ -1,71 +1,109 @@
-use Rattle.std.proofs.Common.{◌≡◌, ◌++◌, [], length, replicate, false, refl, sym, ap, ◌∙◌, subst}
+use Rattle.std.proofs.Common.{◌≡◌, ◌<◌, ◌++◌, ℕ, [], length, replicate, false, refl, sym, ap, ◌∙◌, subst, arith}
+use Rattle.std.proofs.Common.{append_assoc}
 use Rattle.std.proofs.lemmas.List.{append-nil}
 use Rattle.swd_bits.specs.BitLists.{tx_bits_of}
 use Rattle.swd_bits.proofs.BitsLemmas.{length-low_bits}
 use Rattle.swd_trace.specs.declared.item.Item.TheVariants.{Junk}
-use Rattle.swd_resync.specs.AsItems.{resync_items}
 use Rattle.swd_observer.specs.Traces.{trace_observer_after}
 use Rattle.swd_capture.specs.Accesses.{observer_text_of_items}
 use Rattle.swd_capture.specs.declared.printed.Printed.TheVariants.{Counts, Accesses}
 use Rattle.swd_capture.specs.declared.teller.Teller.{Teller}
 use Rattle.swd_capture.specs.Printing.{capture_junk_parts, capture_observer_of, capture_printed_parts}
-use Rattle.swd_capture.specs.Tellers.{CaptureTellerKeeps}
+use Rattle.swd_trace.proofs.NumberLemmas.{decoder_bits_none}
+use Rattle.swd_capture.specs.Gaps.{capture_run_items, capture_waiting, capture_due_items}
+use Rattle.swd_capture.specs.Tellers.{CaptureTellerKeeps, IsCaptureTellerAfter, IsCaptureWatching}
 use Rattle.swd_capture.proofs.TellerLemmas.{capture_accesses_at_junk, capture_observer_at_junk}
+use Rattle.swd_capture.proofs.TellerLemmas.{capture_waiting_at_junk}
 use Rattle.swd_capture.proofs.teller.Teller.tell_junk.Goals as goal
 
-pub returns-in-Accesses-clause-after : goal.returns-in-Accesses-clause-after
-returns-in-Accesses-clause-after g c = λ printed over parts h.
+-- no junk bits are no parts
+no_bits : (len bits : ℕ) → len ≡ 0 → tx_bits_of (record { len = len; bits = bits }) ≡ []
+no_bits len bits e = decoder_bits_none len bits e
+
+pub returns-then-junk-gt0-clause-after : goal.returns-then-junk-gt0-clause-after
+returns-then-junk-gt0-clause-after g c = λ printed parts h.
     let old = c.args.self.now in
     let bits = tx_bits_of c.args.junk in
     let made = c.in-Accesses.made in
     let e : printed ≡ Accesses made = sym h.prints ∙ c.in-Accesses.is in
-    let keeps = subst (λ p. CaptureTellerKeeps p over parts old) e h.keeps in
-    let new : Teller = record old { observer = c.watch_part.new.observer } in
+    let keeps = subst (λ p. CaptureTellerKeeps p parts old) e h.keeps in
+    let new : Teller = record old { watching = c.lose.new.self } in
     let len : length bits ≡ c.from.result = length-low_bits c.args.junk.len c.args.junk.bits ∙ sym c.from.ensures in
+    let some : 0 < c.from.result = omega (arith, c.if-junk-gt0.true, c.from.ensures) in
     record {
       prints = h.prints;
-      phases = h.phases;
-      keeps = subst (λ p. CaptureTellerKeeps p over (parts ++ capture_junk_parts bits) new) (sym e)
-          (c.watch_part.ensures.observer ∙ ap (trace_observer_after (replicate c.from.result (Junk false))) keeps
-          ∙ sym (capture_observer_at_junk made over parts bits c.from.result len));
+      keeps = subst (λ p. CaptureTellerKeeps p (parts ++ capture_junk_parts bits) new) (sym e) (
+        c.lose.ensures.observer
+            ∙ ap (trace_observer_after (replicate c.from.result (Junk false)))
+            (c.flush.ensures.observer (capture_waiting parts) keeps.1
+            ∙ ap (trace_observer_after (capture_run_items (capture_waiting parts))) keeps.0)
+            ∙ sym (capture_observer_at_junk made parts bits c.from.result len some),
+        subst (λ r. IsCaptureWatching r c.lose.new.self) (sym (capture_waiting_at_junk parts bits (omega arith)))
+            (record {
+              held = c.lose.ensures.held ∙ c.flush.ensures.none.held;
+              idle = c.lose.ensures.idle ∙ c.flush.ensures.none.idle;
+            }),
+      );
     }
 
-pub returns-in-Accesses-clause-bytes : goal.returns-in-Accesses-clause-bytes
-returns-in-Accesses-clause-bytes g c = λ printed over parts h.
+pub returns-then-junk-gt0-clause-bytes : goal.returns-then-junk-gt0-clause-bytes
+returns-then-junk-gt0-clause-bytes g c = λ printed parts h.
     let old = c.args.self.now in
     let bits = tx_bits_of c.args.junk in
     let made = c.in-Accesses.made in
     let e : printed ≡ Accesses made = sym h.prints ∙ c.in-Accesses.is in
-    let keeps = subst (λ p. CaptureTellerKeeps p over parts old) e h.keeps in
+    let keeps = subst (λ p. CaptureTellerKeeps p parts old) e h.keeps in
     let len : length bits ≡ c.from.result = length-low_bits c.args.junk.len c.args.junk.bits ∙ sym c.from.ensures in
-    let more = observer_text_of_items (replicate c.from.result (Junk false)) old.observer in (
-      more,
-      c.watch_part.ensures.bytes,
-      subst (λ p. capture_printed_parts p over (parts ++ capture_junk_parts bits) ≡ capture_printed_parts p over parts
-          ++ more) (sym e) (capture_accesses_at_junk made over parts bits c.from.result len
-          ∙ ap (λ o. observer_text_of_items (resync_items over parts) (capture_observer_of made)
-          ++ observer_text_of_items (replicate c.from.result (Junk false)) o) (sym keeps)),
+    let some : 0 < c.from.result = omega (arith, c.if-junk-gt0.true, c.from.ensures) in
+    let waits = capture_run_items (capture_waiting parts) in
+    let before = trace_observer_after (capture_due_items parts) (capture_observer_of made) in
+    let first = observer_text_of_items waits before in
+    let second = observer_text_of_items (replicate c.from.result (Junk false)) (trace_observer_after waits before) in (
+      first ++ second,
+      c.lose.ensures.bytes
+          ∙ ap (λ o. c.flush.new.text.bytes ++ observer_text_of_items (replicate c.from.result (Junk false)) o)
+          (c.flush.ensures.observer (capture_waiting parts) keeps.1 ∙ ap (trace_observer_after waits) keeps.0)
+          ∙ ap (λ x. x ++ second) (c.flush.ensures.bytes (capture_waiting parts) keeps.1
+          ∙ ap (λ o. c.args.text.now.bytes ++ observer_text_of_items waits o) keeps.0)
+          ∙ append_assoc c.args.text.now.bytes first second,
+      subst (λ p. capture_printed_parts p (parts ++ capture_junk_parts bits) ≡ capture_printed_parts p parts
+          ++ (first ++ second)) (sym e) (capture_accesses_at_junk made parts bits c.from.result len some),
     )
 
+pub returns-else-junk-gt0-clause-after : goal.returns-else-junk-gt0-clause-after
+returns-else-junk-gt0-clause-after g c = λ printed parts h.
+    subst (λ p. IsCaptureTellerAfter printed p c.args.self.now)
+    (sym (ap (λ x. parts ++ capture_junk_parts x) (no_bits c.args.junk.len c.args.junk.bits
+    (omega (arith, c.if-junk-gt0.false))) ∙ append-nil parts)) h
+
+pub returns-else-junk-gt0-clause-bytes : goal.returns-else-junk-gt0-clause-bytes
+returns-else-junk-gt0-clause-bytes g c = λ printed parts h. (
+  [],
+  sym (append-nil c.args.text.now.bytes),
+  ap (λ x. capture_printed_parts printed (parts ++ capture_junk_parts x)) (no_bits c.args.junk.len
+      c.args.junk.bits (omega (arith, c.if-junk-gt0.false)))
+      ∙ ap (capture_printed_parts printed) (append-nil parts)
+      ∙ sym (append-nil (capture_printed_parts printed parts)),
+)
+
 pub returns-in-Counts-clause-after : goal.returns-in-Counts-clause-after
-returns-in-Counts-clause-after g c = λ printed over parts h.
+returns-in-Counts-clause-after g c = λ printed parts h.
     let old = c.args.self.now in
     let bits = tx_bits_of c.args.junk in
     let e : printed ≡ Counts = sym h.prints ∙ c.in-Counts.is in
-    let keeps = subst (λ p. CaptureTellerKeeps p over parts old) e h.keeps in
+    let keeps = subst (λ p. CaptureTellerKeeps p parts old) e h.keeps in
     let new : Teller = record old { table = c.add_junk.new.self } in
     record {
       prints = h.prints;
-      phases = h.phases;
-      keeps = subst (λ p. CaptureTellerKeeps p over (parts ++ capture_junk_parts bits) new) (sym e)
+      keeps = subst (λ p. CaptureTellerKeeps p (parts ++ capture_junk_parts bits) new) (sym e)
           (c.add_junk.ensures parts bits (length-low_bits c.args.junk.len c.args.junk.bits) keeps);
     }
 
 pub returns-in-Counts-clause-bytes : goal.returns-in-Counts-clause-bytes
-returns-in-Counts-clause-bytes g c = λ printed over parts h.
+returns-in-Counts-clause-bytes g c = λ printed parts h.
     let e : printed ≡ Counts = sym h.prints ∙ c.in-Counts.is in (
       [],
       sym (append-nil c.args.text.now.bytes),
-      subst (λ p. capture_printed_parts p over (parts ++ capture_junk_parts (tx_bits_of c.args.junk))
-          ≡ capture_printed_parts p over parts ++ []) (sym e) refl,
+      subst (λ p. capture_printed_parts p (parts ++ capture_junk_parts (tx_bits_of c.args.junk))
+          ≡ capture_printed_parts p parts ++ []) (sym e) refl,
     )

@@ -1,4 +1,4 @@
-use Rattle.std.proofs.Common.{◌≡◌, ℕ, ◌+◌, ◌*◌, ◌≤◌, List, Bool, ◌++◌}
+use Rattle.std.proofs.Common.{◌≡◌, ℕ, ◌+◌, ◌*◌, ◌≤◌, List, ◌++◌}
 use Rattle.arrayvec.specs.ArrayString.{array_string_len}
 use Rattle.swd_bits.specs.Bits.{low_bits}
 use Rattle.swd_bits.specs.BitLists.{tx_bits_of}
@@ -12,13 +12,12 @@ use Rattle.swd_capture.proofs.teller.Teller.tell_junk_lines.Given as goal
 
 abbrev pub invariant-loop-left : goal.invariant-loop-left
 invariant-loop-left g l = record {
-  tells : (over : Bool) (parts : List Part) → IsCaptureTellerAfter (Lines l.form) over parts l.fn.self
-      → (done : List Part) × (more : List ℕ) × (l.place ≡ capture_place_behind (resync_items over done))
+  tells : (parts : List Part) → IsCaptureTellerAfter (Lines l.form) parts l.fn.self
+      → (done : List Part) × (more : List ℕ) × (l.place ≡ capture_place_behind (resync_items done))
       × (l.text.bytes ≡ l.fn.text.bytes ++ more)
-      × (capture_printed_parts (Lines l.form) over done ≡ capture_printed_parts (Lines l.form) over parts ++ more)
+      × (capture_printed_parts (Lines l.form) done ≡ capture_printed_parts (Lines l.form) parts ++ more)
       × (done ++ capture_junk_parts (low_bits l.left l.bits) ≡ parts ++ capture_junk_parts (tx_bits_of l.fn.junk));
   printed : l.self.printed ≡ l.fn.self.printed;
-  over : l.self.over ≡ l.fn.self.over;
   select : l.self.select ≡ l.fn.self.select;
   room : array_string_len l.text + 29 * l.left ≤ array_string_len l.fn.text + 232;
 }

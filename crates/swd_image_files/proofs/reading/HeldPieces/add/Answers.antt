@@ -34,7 +34,8 @@ returns-else-is_err g c = λ old h.
     let same = h.stored c.if-self.false in
     record {
       stored = λ fine. image_file_result_ok c.append.result _ c.append.ensures
-          (sym c.is_err.ensures.value ∙ c.if-is_err.false) ∙ ap (λ (o : ImageFileContents). let with : ImageFileContents =
+          (sym c.is_err.ensures.value ∙ c.if-is_err.false)
+          ∙ ap (λ (o : ImageFileContents). let with : ImageFileContents =
           record { ranges = image_file_ranges_joined o.ranges at (length bytes); bytes = o.bytes ++ bytes } in with)
           same ∙ sym (image_file_add_bytes old at bytes some);
       sound = image_file_add_sound old at bytes h.sound c.requires;

@@ -1,0 +1,1 @@
+"""Captures: how they are read, sessions whose truth is known, and damage."""

@@ -1,0 +1,5 @@
+use Rattle.swd_capture.proofs.TraceLemmas.{capture_trace_observed}
+use Rattle.swd_capture.proofs.laws.traces_are_observed.Goals as goal
+
+pub returns : goal.returns
+returns c = λ made items. capture_trace_observed made items
