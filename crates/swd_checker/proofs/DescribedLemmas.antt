@@ -36,10 +36,11 @@ no_transfer : (drw : Option Drw) → option_map checked_transfer_of drw ≡ None
 no_transfer None e = refl
 no_transfer (Some drw) e = grind arith
 
-success_pends_nothing : (pending : Option Transfer) (w : World) → w.pending ≡ pending
+-- what a world keeps once its transfer succeeded
+pub world_success_pends_nothing : (pending : Option Transfer) (w : World) → w.pending ≡ pending
     → (world_success_of pending w).pending ≡ None
-success_pends_nothing None w e = e
-success_pends_nothing (Some transfer) w e = refl
+world_success_pends_nothing None w e = e
+world_success_pends_nothing (Some transfer) w e = refl
 
 or_false : (a b : Bool) → b ≡ false → (a || b) ≡ a
 or_false true b e = refl
@@ -155,7 +156,7 @@ pub world_completes : (w : World) (c : Choice) (x : Target) → WorldDescribes w
     WorldDescribes w (port_completion c x)
 world_completes w c x (now h) = now_completes w c x _ refl h
 world_completes w c x (done pends h) =
-    done pends (idle_completes (world_succeeded w) c x (success_pends_nothing w.pending w refl) h)
+    done pends (idle_completes (world_succeeded w) c x (world_success_pends_nothing w.pending w refl) h)
 world_completes w c x (failed pends h) = failed pends (idle_completes (world_failed w) c x refl h)
 
 -- the law of completion
@@ -202,9 +203,10 @@ reset_success : (w : World) (pending : Option Transfer)
 reset_success w None = refl
 reset_success w (Some transfer) = refl
 
-success_awaits : (w : World) (pending : Option Transfer) → (world_success_of pending w).awaits ≡ w.awaits
-success_awaits w None = refl
-success_awaits w (Some transfer) = refl
+-- and whether it awaits data
+pub world_success_awaits : (w : World) (pending : Option Transfer) → (world_success_of pending w).awaits ≡ w.awaits
+world_success_awaits w None = refl
+world_success_awaits w (Some transfer) = refl
 
 reset_describes : (w : World) (awaits : Bool) (x : Target) → awaits ≡ w.awaits → WorldDescribes w x
     → WorldDescribes (world_after_reset w) (record x { reset = Fresh; write_error = awaits || x.write_error })
@@ -212,7 +214,7 @@ reset_describes w awaits x same (now h) = now (reset_now w awaits x same h)
 reset_describes w awaits x same (done pends h) =
     done pends (subst (λ v. IsWorldNow v (record x { reset = Fresh; write_error = awaits || x.write_error }))
     (reset_success w w.pending)
-    (reset_now (world_succeeded w) awaits x (same ∙ sym (success_awaits w w.pending)) h))
+    (reset_now (world_succeeded w) awaits x (same ∙ sym (world_success_awaits w w.pending)) h))
 reset_describes w awaits x same (failed pends h) = failed pends (reset_now (world_failed w) awaits x same h)
 
 resets : (w : World) (ones : ℕ) → (ones == 0) ≡ false → (a : Port) → WorldDescribesPort w a
@@ -268,24 +270,26 @@ world_at_wait w r x (done pends h) = done pends (subst (λ v. IsWorldNow v (port
     (wait_success w r w.pending) (wait_now (world_succeeded w) r x h))
 world_at_wait w r x (failed pends h) = failed pends (wait_now (world_failed w) r x h)
 
-power_there : (power : Power) (on : Bool) (up : PowerUp) → CheckedPower power on up
+-- a power is there in a world and in the targets that it describes
+pub checked_power_there : (power : Power) (on : Bool) (up : PowerUp) → CheckedPower power on up
     → (on && is_port_power_there up) ≡ is_checked_power_there power
-power_there PowerOff on up off = rw off refl
-power_there PowerUnseen on Unseen (requested, e) = rw requested refl
-power_there PowerUnseen on Late (requested, e) = absurd (e refl)
-power_there PowerUnseen on Seen (requested, e) = rw requested refl
-power_there PowerLate on up (requested, e) = rw (requested, e) refl
-power_there PowerSeen on up (requested, e) = rw (requested, e) refl
+checked_power_there PowerOff on up off = rw off refl
+checked_power_there PowerUnseen on Unseen (requested, e) = rw requested refl
+checked_power_there PowerUnseen on Late (requested, e) = absurd (e refl)
+checked_power_there PowerUnseen on Seen (requested, e) = rw requested refl
+checked_power_there PowerLate on up (requested, e) = rw (requested, e) refl
+checked_power_there PowerSeen on up (requested, e) = rw (requested, e) refl
 
 same_or : (a b c d : Bool) → a ≡ b → c ≡ d → (a || c) ≡ (b || d)
 same_or a b c d e f = rw (e, f) refl
 
-fault_now : (w : World) (r : Register) (port : Bool) (x : Target) → IsWorldNow w x
+-- FAULT of a target whose fields are the world's
+pub world_fault_now : (w : World) (r : Register) (port : Bool) (x : Target) → IsWorldNow w x
     → IsWorldNow (world_after_fault r port w) (port_after_fault r port x)
-fault_now w r port x h = record {
+world_fault_now w r port x h = record {
   reset = h.reset;
   sticky_error = same_or _ _ _ _ h.sticky_error
-      (ap (is_port_unpowered port) (power_there w.debug x.debug_power x.debug_up h.debug));
+      (ap (is_port_unpowered port) (checked_power_there w.debug x.debug_power x.debug_up h.debug));
   write_error = h.write_error;
   read_ok = read_ok_refused (is_port_posted r) _ _ h.read_ok;
   debug = h.debug;
@@ -305,10 +309,10 @@ world_pends_nothing w x none h = sym h.pending ∙ ap (option_map checked_transf
 
 -- the law of FAULT
 pub world_at_fault : WorldAtFault
-world_at_fault w r port x none (now h) = inl (fault_now (world_succeeded w) r port x
+world_at_fault w r port x none (now h) = inl (world_fault_now (world_succeeded w) r port x
     (subst (λ p. IsWorldNow (world_success_of p w) x) (sym (world_pends_nothing w x none h)) h))
-world_at_fault w r port x none (done pends h) = inl (fault_now (world_succeeded w) r port x h)
-world_at_fault w r port x none (failed pends h) = inr (pends, fault_now (world_failed w) r port x h)
+world_at_fault w r port x none (done pends h) = inl (world_fault_now (world_succeeded w) r port x h)
+world_at_fault w r port x none (failed pends h) = inr (pends, world_fault_now (world_failed w) r port x h)
 
 -- DAMAGED DATA
 damage_now : (w : World) (refuses : Bool) (x : Target) → IsWorldNow w x

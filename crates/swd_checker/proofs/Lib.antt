@@ -1,2 +1,10 @@
+pub mod NearLemmas
+pub mod CoverLemmas
+pub mod HoldingLemmas
 pub mod DescribedLemmas
 pub mod OkayLemmas
+pub mod DueLemmas
+pub mod ReadLemmas
+pub mod StatusLemmas
+pub mod WriteLemmas
+pub mod AddedLemmas

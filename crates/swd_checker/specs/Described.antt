@@ -13,9 +13,12 @@ use Rattle.swd_checker.specs.Worlds.{World, Power, PowerOff, PowerUnseen, PowerL
 use Rattle.swd_checker.specs.Worlds.{TransferWrite, Tar, TarUnknown, TarFrom, Held, HeldUnknown, HeldWord, HeldCsw}
 use Rattle.swd_checker.specs.Worlds.{HeldSeen, world_succeeded, world_failed}
 
--- the word with the bit at a place changed; place 32 is that of the parity
+-- a word with the bit at a place of its data phase changed; place 32 is that of the parity
+abbrev pub checked_changed_at : ℕ → ℕ → ℕ
+checked_changed_at word place = if place == 32 then word else bit_xor word (2 ^ place)
+
 abbrev pub checked_near_at : Near → ℕ → ℕ
-checked_near_at near place = if place == 32 then near.word else bit_xor near.word (2 ^ place)
+checked_near_at near place = checked_changed_at near.word place
 
 -- one of the words of which one bit of a data phase may have been changed
 abbrev pub IsCheckedNear : Near → ℕ → Type 0

@@ -1,3 +1,9 @@
 pub mod Worlds
 pub mod Described
+pub mod Words
+pub mod Covering
+pub mod Holding
+pub mod Steps
+pub mod Asking
+pub mod StepLaws
 pub mod Laws

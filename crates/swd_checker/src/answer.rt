@@ -1,4 +1,8 @@
 //! The answer that is due in a world.
+ghost use Rattle.std.specs.Prelude.{◌≡◌};
+ghost use Rattle.swd_port.specs.Answers.{is_port_unpowered, port_is_answered};
+ghost use Rattle.swd_checker.specs.Worlds.{is_checked_power_there};
+ghost use Rattle.swd_checker.specs.Steps.{world_register, world_due};
 
 use crate::register::{is_exempt, register_named};
 use crate::world::World;
@@ -7,12 +11,16 @@ use swd_port::{Register, Reply, Reset};
 
 impl World {
     /// Returns the register that a request names.
-    pub(crate) fn register(self, request: Request) -> Register {
+    pub(crate) fn register(self, request: Request) -> Register
+        ensures { result ≡ world_register self request }
+    {
         register_named(self.mem_ap, self.bank0, request)
     }
 
     /// Returns the answer to a request where nothing is pending, and no WAIT is asked for.
-    pub(crate) fn due(self, request: Request) -> Reply {
+    pub(crate) fn due(self, request: Request) -> Reply
+        ensures { result ≡ world_due self request }
+    {
         let register = self.register(request);
         if !self.answers(register) {
             Reply::Silent
@@ -26,12 +34,16 @@ impl World {
     }
 
     /// Returns whether the request is one of an access port without debug power.
-    pub(crate) fn is_unpowered(self, request: Request) -> bool {
+    pub(crate) fn is_unpowered(self, request: Request) -> bool
+        ensures { result ≡ is_port_unpowered request.ap (is_checked_power_there self.debug) }
+    {
         request.ap && !self.debug.is_there()
     }
 
     // Returns whether a request for the register is acknowledged.
-    fn answers(self, register: Register) -> bool {
+    fn answers(self, register: Register) -> bool
+        ensures { result ≡ port_is_answered self.reset register }
+    {
         match self.reset {
             Reset::Unreset => false,
             Reset::Fresh => matches!(&register, Register::DpidrRead),

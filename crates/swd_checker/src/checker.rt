@@ -1,10 +1,10 @@
 //! The checker of a trace.
 
-use crate::near::Near;
+use crate::near::{Near, Words};
 use crate::opening::Opening;
 use crate::rule::{Rule, broken_rule};
 use crate::world::World;
-use crate::worlds::Worlds;
+use crate::worlds::{Kept, Worlds};
 use swd_bits::{Reg4, Tx, TxEnd};
 use swd_trace::Item;
 
@@ -171,11 +171,7 @@ impl Checker {
     fn reset(&mut self) {
         self.in_gap = false;
         self.stray = 0;
-        let mut next = Worlds::none();
-        for kept in &self.worlds.kept {
-            next.add(kept.world.after_reset(), kept.faults);
-        }
-        self.worlds = next;
+        self.worlds = self.worlds.after_reset();
     }
 
     // Takes a transaction.
@@ -204,32 +200,67 @@ impl Checker {
 
     // Takes a transaction in each of the worlds.
     fn step(&mut self, tx: &Tx, place: u64) {
-        let mut next = Worlds::none();
-        for kept in &self.worlds.kept {
-            next.step(kept.world, kept.faults, tx, self.clean);
+        if self.worlds.kept.len() == 1 {
+            let alone = self.worlds.kept[0];
+            self.step_alone(alone, tx, place);
+            return;
         }
+        let next = self.worlds.after_tx(tx, self.clean);
         if next.crowded {
-            if self.crowded.is_none() {
-                self.crowded = Some(place);
-            }
-            self.forget();
+            self.crowd(place);
+        } else if next.kept.is_empty() {
+            self.broken = Some((place, self.rule_broken(tx)));
         } else {
-            if next.kept.is_empty() {
-                self.broken = Some((place, self.rule_broken(tx)));
-            }
             self.worlds = next;
         }
     }
 
+    // Takes a transaction in the only world. Mostly one is left, which then takes the place of that world.
+    fn step_alone(&mut self, before: Kept, tx: &Tx, place: u64) {
+        self.worlds.kept.clear();
+        self.worlds
+            .step(before.world, before.faults, tx, self.clean);
+        if self.worlds.crowded {
+            self.worlds = Worlds::none();
+            self.worlds.add(before.world, before.faults);
+            self.crowd(place);
+        } else if self.worlds.kept.is_empty() {
+            self.worlds.add(before.world, before.faults);
+            self.broken = Some((place, self.rule_broken(tx)));
+        }
+    }
+
+    // Gives up the worlds, which are too many.
+    fn crowd(&mut self, place: u64) {
+        if self.crowded.is_none() {
+            self.crowded = Some(place);
+        }
+        self.forget();
+    }
+
     // Returns the rule that a transaction breaks in the world with the fewest faults.
     fn rule_broken(&self, tx: &Tx) -> Rule {
+        match self.likeliest() {
+            Some(world) => broken_rule(world, tx, self.clean),
+            None => Rule::Flags,
+        }
+    }
+
+    /// Returns the world with the fewest damaged or lost requests. After `Breaks` it is one before the item that no run
+    /// explains.
+    pub(crate) fn likeliest(&self) -> Option<World> {
         let fewest = self.worlds.fewest_faults();
         for kept in &self.worlds.kept {
             if kept.faults == fewest {
-                return broken_rule(kept.world, tx, self.clean);
+                return Some(kept.world);
             }
         }
-        Rule::Flags
+        None
+    }
+
+    /// Returns what DPIDR's word may be.
+    pub(crate) fn identified(&self) -> Option<Near> {
+        self.identification
     }
 
     // Narrows DPIDR's word by a read of it. Returns false if there is none: it is one and the same, and its bit 0 is 1.
@@ -241,14 +272,16 @@ impl Checker {
         if request.ap || !request.read || request.addr != Reg4::R0 {
             return true;
         }
-        let Some(odd) = Near::seen(word, parity_ok).matching(1, 1) else {
+        let Some(odd) = Near::seen(word, parity_ok).among(Words::Odd) else {
             return false;
         };
         let left = match self.identification {
-            Some(before) => odd.both(before),
+            Some(before) => odd.among(Words::Near(before)),
             None => Some(odd),
         };
-        self.identification = left;
+        if left.is_some() {
+            self.identification = left;
+        }
         left.is_some()
     }
 }

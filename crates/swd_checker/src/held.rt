@@ -1,9 +1,9 @@
 //! What is known of a word that the target holds: the read buffer, or the last returned value.
+ghost use Rattle.std.specs.Prelude.{ℕ, ◌≡◌, Option, Some, unwrap_or, true};
+ghost use Rattle.swd_checker.specs.Described.{IsCheckedNear, CheckedHeld};
+ghost use Rattle.swd_checker.specs.Words.{IsSomeHeld, IsSomeNear, HeldIncludes};
 
-use crate::near::Near;
-
-/// The bits of CSW that are fixed where it is read: Size, AddrInc and DeviceEn.
-const CSW_FIXED: u32 = 0x77;
+use crate::near::{Near, Words};
 
 /// What is known of a word that the target holds.
 #[derive(Clone, Copy, Debug, PartialEq, Eq)]
@@ -20,40 +20,41 @@ pub(crate) enum Held {
 
 impl Held {
     /// Returns what is known once the word was seen, or `None` if it can't be what was seen.
-    pub(crate) fn narrowed(self, seen: Near) -> Option<Held> {
-        let left = match self {
-            Held::Unknown => return Some(Held::Unknown),
-            Held::Word => return Some(Held::Seen(seen)),
-            Held::Csw(single) => seen.matching(CSW_FIXED, csw_fixed(single)),
-            Held::Seen(near) => seen.both(near),
-        };
-        match left {
+    pub(crate) fn narrowed(self, seen: Near) -> Option<Held>
+        ensures { (value : Option ℕ) (filler : ℕ) → CheckedHeld self value → IsCheckedNear seen (unwrap_or value filler)
+            → IsSomeHeld result value }
+    {
+        match self {
+            Held::Unknown => Some(Held::Unknown),
+            Held::Word => Some(Held::Seen(seen)),
+            Held::Csw(increments) => Held::of(seen.among(Words::Csw(increments))),
+            Held::Seen(near) => Held::of(seen.among(Words::Near(near))),
+        }
+    }
+
+    // Returns that it is one of these words, if there are any.
+    fn of(seen: Option<Near>) -> Option<Held>
+        ensures { (value : Option ℕ) (word : ℕ) → value ≡ Some word → IsSomeNear seen word → IsSomeHeld result value }
+    {
+        match seen {
             Some(near) => Some(Held::Seen(near)),
             None => None,
         }
     }
 
     /// Returns whether all that the other explains is explained by this.
-    pub(crate) fn covers(self, other: Held) -> bool {
+    pub(crate) fn covers(self, other: Held) -> bool
+        ensures { result ≡ true → HeldIncludes self other }
+    {
         match (self, other) {
             (Held::Unknown, _) => true,
             (_, Held::Unknown) => false,
             (Held::Word, _) => true,
             (_, Held::Word) => false,
             (Held::Csw(a), Held::Csw(b)) => a == b,
-            (Held::Csw(single), Held::Seen(near)) => {
-                match near.matching(CSW_FIXED, csw_fixed(single)) {
-                    Some(all) => all == near,
-                    None => false,
-                }
-            }
+            (Held::Csw(increments), Held::Seen(near)) => near.is_among(Words::Csw(increments)),
             (Held::Seen(_), Held::Csw(_)) => false,
-            (Held::Seen(a), Held::Seen(b)) => a.covers(b),
+            (Held::Seen(a), Held::Seen(b)) => b.is_among(Words::Near(a)),
         }
     }
-}
-
-// Returns the fixed bits of CSW: Size word, AddrInc single or off, DeviceEn 1.
-fn csw_fixed(single: bool) -> u32 {
-    if single { 0x52 } else { 0x42 }
 }

@@ -21,6 +21,8 @@ mod held;
 pub mod laws;
 mod near;
 mod opening;
+mod origins;
+mod reason;
 mod register;
 mod rule;
 mod step;
@@ -29,4 +31,6 @@ mod world;
 mod worlds;
 
 pub use checker::{CheckStart, Checker, Verdict};
+pub use origins::{Origin, Origins};
+pub use reason::{Cause, Due, Reason};
 pub use rule::Rule;

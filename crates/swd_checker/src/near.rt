@@ -1,5 +1,11 @@
 //! A word of which one bit of its data phase may have been changed.
-ghost use Rattle.std.specs.Prelude.{◌<◌};
+ghost use Rattle.std.specs.Prelude.{ℕ, ◌≡◌, ◌<◌, ◌↔◌, IsTrue, Some, None, true, false};
+ghost use Rattle.swd_port.specs.Registers.{register_bit};
+ghost use Rattle.swd_checker.specs.Described.{IsCheckedNear, checked_near_at, checked_changed_at};
+ghost use Rattle.swd_checker.specs.Words.{IsCheckedWord, IsSomeNear, NearIncludes, IsCheckedNearAt};
+
+use crate::world::World;
+use swd_port::Csw;
 
 /// The number of places of a data phase: 32 of the word, and its parity.
 const PLACES: u8 = 33;
@@ -15,9 +21,49 @@ pub(crate) struct Near {
     places: u64,
 }
 
+/// Words that a read may return.
+#[derive(Clone, Copy, Debug, PartialEq, Eq)]
+pub(crate) enum Words {
+    /// Those whose bit 0 is 1, as of DPIDR.
+    Odd,
+    /// Those of CSW, with AddrInc single or off.
+    Csw(bool),
+    /// Those of CTRL/STAT in a world.
+    Status(World),
+    /// These.
+    Near(Near),
+}
+
+impl Words {
+    /// Returns whether it is one of them.
+    fn has(self, word: u32) -> bool
+        ensures { IsTrue result ↔ IsCheckedWord self word }
+    {
+        match self {
+            Words::Odd => bit(word, 0),
+            Words::Csw(increments) => {
+                let csw = Csw::of(word);
+                csw.size == 2 && csw.addr_inc == u8::from(increments) && csw.device_en
+            }
+            Words::Status(world) => world.shows(word),
+            Words::Near(near) => near.has(word),
+        }
+    }
+}
+
+/// Returns bit n of a word.
+pub(crate) fn bit(word: u32, n: u8) -> bool
+    requires { n < 32 }
+    ensures { result ≡ register_bit n word }
+{
+    word >> n & 1 == 1
+}
+
 impl Near {
     /// Returns exactly this word.
-    pub(crate) fn of(word: u32) -> Near {
+    pub(crate) fn of(word: u32) -> Near
+        ensures { IsCheckedNear result word }
+    {
         Near {
             word,
             places: 1 << PARITY,
@@ -25,7 +71,11 @@ impl Near {
     }
 
     /// Returns the words whose data phase may have been seen, or sent, as this one.
-    pub(crate) fn seen(word: u32, parity_ok: bool) -> Near {
+    pub(crate) fn seen(word: u32, parity_ok: bool) -> Near
+        ensures same { parity_ok ≡ true → IsCheckedNear result word }
+        ensures changed { parity_ok ≡ false → (place : ℕ) → place < 33
+            → IsCheckedNear result (checked_changed_at word place) }
+    {
         if parity_ok {
             Near::of(word)
         } else {
@@ -36,18 +86,11 @@ impl Near {
         }
     }
 
-    /// Returns whether it may be this word.
-    pub(crate) fn has(self, word: u32) -> bool {
-        let changed = self.word ^ word;
-        if changed == 0 {
-            return self.places >> PARITY & 1 == 1;
-        }
-        changed & (changed - 1) == 0 && self.places >> changed.trailing_zeros().min(31) & 1 == 1
-    }
-
     /// Returns the word with the bit at one place changed, if that place is one of the set.
     pub(crate) fn at(self, place: u8) -> Option<u32>
         requires { place < 33 }
+        ensures some { register_bit place self.places ≡ true → result ≡ Some (checked_near_at self place) }
+        ensures none { register_bit place self.places ≡ false → result ≡ None }
     {
         if self.places >> place & 1 == 0 {
             None
@@ -58,61 +101,64 @@ impl Near {
         }
     }
 
-    /// Returns those of its words that have these bits of the mask, or `None` if there are none.
-    pub(crate) fn matching(self, mask: u32, value: u32) -> Option<Near> {
-        let mut places = 0;
+    // Returns whether it may be this word.
+    fn has(self, word: u32) -> bool
+        ensures { IsTrue result ↔ IsCheckedNear self word }
+    {
         for place in 0..PLACES {
-            if let Some(word) = self.at(place) {
-                if word & mask == value {
-                    places |= 1 << place;
-                }
+            if self.at(place) == Some(word) {
+                return true;
             }
         }
-        self.only(places)
+        false
     }
 
-    /// Returns the words that are in both, or `None` if there are none.
-    pub(crate) fn both(self, other: Near) -> Option<Near> {
+    /// Returns those of its words that are among these, or `None` if there are none.
+    pub(crate) fn among(self, words: Words) -> Option<Near>
+        ensures { (word : ℕ) → IsCheckedNear self word → IsCheckedWord words word → IsSomeNear result word }
+    {
         let mut places = 0;
+        let mut count: u8 = 0;
+        let mut last = 0;
         for place in 0..PLACES {
-            if let Some(word) = self.at(place) {
-                if other.has(word) {
+            match self.at_among(place, words) {
+                Some(word) => {
                     places |= 1 << place;
+                    count += 1;
+                    last = word;
                 }
+                None => {}
             }
         }
-        self.only(places)
+        // one word alone has one form
+        match count {
+            0 => None,
+            1 => Some(Near::of(last)),
+            _ => Some(Near {
+                word: self.word,
+                places,
+            }),
+        }
     }
 
-    /// Returns whether each word of the other is one of these.
-    pub(crate) fn covers(self, other: Near) -> bool {
+    /// Returns whether each of its words is among these.
+    pub(crate) fn is_among(self, words: Words) -> bool
+        ensures { result ≡ true → NearIncludes words self }
+    {
         for place in 0..PLACES {
-            if let Some(word) = other.at(place) {
-                if !self.has(word) {
-                    return false;
-                }
+            if self.at(place).is_some() && self.at_among(place, words).is_none() {
+                return false;
             }
         }
         true
     }
 
-    // Returns the words at these places alone. One word alone has one form.
-    fn only(self, places: u64) -> Option<Near> {
-        if places == 0 {
-            return None;
-        }
-        let left = Near {
-            word: self.word,
-            places,
-        };
-        if places & (places - 1) != 0 {
-            return Some(left);
-        }
-        let alone = places.trailing_zeros();
-        if alone < 32 {
-            Some(Near::of(self.word ^ 1 << alone))
-        } else {
-            Some(left)
-        }
+    // Returns the word with the bit at one place changed, if that place is one of the set, and the word among these.
+    fn at_among(self, place: u8, words: Words) -> Option<u32>
+        requires { place < 33 }
+        ensures { IsCheckedNearAt self place words result }
+    {
+        let word = self.at(place)?;
+        if words.has(word) { Some(word) } else { None }
     }
 }

@@ -1,6 +1,7 @@
 //! What is known of a target before its worlds are few enough to be held.
 
 use crate::held::Held;
+use crate::near::bit;
 use crate::step::selecting;
 use crate::tar::Tar;
 use crate::world::{Power, World};
@@ -21,9 +22,6 @@ pub(crate) enum Opening {
     Over,
 }
 
-/// The states of a power that differ.
-const POWERS: [Power; 3] = [Power::Off, Power::Unseen, Power::Late];
-
 impl Opening {
     /// Returns the worlds before this transaction, if they are few enough.
     pub(crate) fn worlds_before(self, tx: &Tx) -> Option<Worlds> {
@@ -32,7 +30,7 @@ impl Opening {
         };
         match self {
             Opening::Resting if parity_ok && is_status(tx.request) => Some(worlds_at_status(word)),
-            Opening::Selected(select) if !passes(tx.request, select) && !is_abort(tx.request) => {
+            Opening::Selected(select) if !passes(tx.request) && !is_abort(tx.request) => {
                 Some(worlds_at_okay(select))
             }
             _ => None,
@@ -61,7 +59,7 @@ impl Opening {
             return Opening::Selected(word);
         }
         match self {
-            Opening::Selected(select) if passes(request, select) => self,
+            Opening::Selected(_) if passes(request) => self,
             _ => self.after_other(request),
         }
     }
@@ -76,21 +74,67 @@ impl Opening {
     }
 }
 
+impl Worlds {
+    // Adds this world with AddrInc single and off, and with each state of each power.
+    fn add_any(&mut self, world: World) {
+        self.add_any_system(World {
+            debug: Power::Off,
+            ..world
+        });
+        self.add_any_system(World {
+            debug: Power::Unseen,
+            ..world
+        });
+        self.add_any_system(World {
+            debug: Power::Late,
+            ..world
+        });
+    }
+
+    // The same with this debug power.
+    fn add_any_system(&mut self, world: World) {
+        self.add_any_increment(World {
+            system: Power::Off,
+            ..world
+        });
+        self.add_any_increment(World {
+            system: Power::Unseen,
+            ..world
+        });
+        self.add_any_increment(World {
+            system: Power::Late,
+            ..world
+        });
+    }
+
+    // The same with these powers.
+    fn add_any_increment(&mut self, world: World) {
+        self.add(
+            World {
+                increments: false,
+                ..world
+            },
+            0,
+        );
+        self.add(
+            World {
+                increments: true,
+                ..world
+            },
+            0,
+        );
+    }
+}
+
 // Returns the worlds of a target at rest whose CTRL/STAT reads this word.
 fn worlds_at_status(word: u32) -> Worlds {
     let mut worlds = Worlds::none();
-    for increments in [false, true] {
-        let world = World {
-            sticky_error: word >> 5 & 1 == 1,
-            read_ok: word >> 6 & 1 == 1,
-            write_error: word >> 7 & 1 == 1,
-            debug: Power::requested(word >> 28 & 1 == 1),
-            system: Power::requested(word >> 30 & 1 == 1),
-            increments,
-            ..unknown()
-        };
-        worlds.add(world, 0);
-    }
+    worlds.add_any(World {
+        sticky_error: bit(word, 5),
+        read_ok: bit(word, 6),
+        write_error: bit(word, 7),
+        ..unknown()
+    });
     worlds
 }
 
@@ -98,22 +142,15 @@ fn worlds_at_status(word: u32) -> Worlds {
 // set, so the write arrived, and nothing is pending.
 fn worlds_at_okay(select: u32) -> Worlds {
     let mut worlds = Worlds::none();
-    for debug in POWERS {
-        for system in POWERS {
-            for increments in [false, true] {
-                for read_ok in [false, true] {
-                    let world = World {
-                        read_ok,
-                        debug,
-                        system,
-                        increments,
-                        ..selecting(unknown(), select)
-                    };
-                    worlds.add(world, 0);
-                }
-            }
-        }
-    }
+    let world = selecting(unknown(), select);
+    worlds.add_any(World {
+        read_ok: false,
+        ..world
+    });
+    worlds.add_any(World {
+        read_ok: true,
+        ..world
+    });
     worlds
 }
 
@@ -128,11 +165,10 @@ fn unknown() -> World {
     }
 }
 
-// Returns whether OK to this request shows no flag and changes none, under this SELECT.
-fn passes(request: Request, select: u32) -> bool {
-    !request.ap
-        && request.read
-        && (request.addr == Reg4::R0 || (request.addr == Reg4::R4 && select & 15 == 0))
+// Returns whether OK to this request may show no flag and change none, whatever SELECT is. A read of address 4 may be
+// one of CTRL/STAT, since the last write of SELECT may have been damaged.
+fn passes(request: Request) -> bool {
+    !request.ap && request.read && (request.addr == Reg4::R0 || request.addr == Reg4::R4)
 }
 
 fn is_abort(request: Request) -> bool {

@@ -1,16 +1,27 @@
 //! The worlds after a transaction.
+ghost use Rattle.std.specs.Prelude.{◌≡◌, Bool, true, false, None, is_some, IfSome};
+ghost use Rattle.swd_port.specs.Registers.{register_bit};
+ghost use Rattle.swd_port.specs.Port.{Target};
+ghost use Rattle.swd_port.specs.Choices.{Choice};
+ghost use Rattle.swd_port.specs.Answers.{is_exempt_register};
+ghost use Rattle.swd_port.specs.Asking.{port_answer, port_after_wait, port_after_fault};
+ghost use Rattle.swd_port.specs.Moving.{Arrives, port_after_bits};
+ghost use Rattle.swd_checker.specs.Worlds.{HeldWord};
+ghost use Rattle.swd_checker.specs.Described.{WorldDescribes};
+ghost use Rattle.swd_checker.specs.Holding.{WorldsHold, WorldsKeep};
+ghost use Rattle.swd_checker.specs.Steps.{WorldAccepts, world_due};
+ghost use Rattle.swd_checker.specs.Steps.{world_live, world_posted, world_selecting, world_cleared};
+ghost use Rattle.swd_checker.specs.Steps.{world_powered, world_written};
+ghost use Rattle.swd_checker.specs.Asking.{IsAskedBy, IsAskedAlike, IsAskedAccepted};
 
 use crate::held::Held;
-use crate::near::Near;
+use crate::near::{Near, Words, bit};
 use crate::register::{is_exempt, is_posted};
 use crate::tar::Tar;
 use crate::world::{Power, Transfer, World};
 use crate::worlds::Worlds;
 use swd_bits::{Request, Tx, TxEnd};
 use swd_port::{Csw, Register, Reply, Reset, Select};
-
-/// The bits of CTRL/STAT that are compared: STICKYERR, READOK, WDATAERR, the two powers and their acknowledgements.
-const COMPARED: u32 = 0xf000_00e0;
 
 /// The number that is seen where nobody drives an acknowledgement.
 const UNDRIVEN: u8 = 7;
@@ -46,51 +57,61 @@ impl Worlds {
         }
     }
 
-    // Adds the worlds after FAULT: a flag is set, an access port isn't powered, or the pending transfer failed.
-    fn refuse(&mut self, asked: Asked) {
-        let world = asked.world;
-        let (register, ap) = (asked.register, asked.request.ap);
-        let pends = world.pending.is_some();
-        match world.due(asked.request) {
-            Reply::Faults => {
-                self.add(world.succeeded().after_fault(register, ap), asked.faults);
-                if pends {
-                    self.add(world.failed().after_fault(register, ap), asked.faults);
-                }
-            }
-            Reply::Okay if pends && !is_exempt(register) => {
-                self.add(world.failed().after_fault(register, ap), asked.faults);
-            }
-            _ => {}
+    // Adds the world if the condition holds.
+    fn add_if(&mut self, condition: bool, world: World, faults: u64)
+        ensures keeps { WorldsKeep self.old self.new }
+        ensures adds { condition ≡ true → (x : Target) → WorldDescribes world x → WorldsHold self.new world.awaits x }
+    {
+        if condition {
+            self.add(world, faults);
         }
     }
 
+    // Adds the worlds after FAULT: a flag is set, an access port isn't powered, or the pending transfer failed.
+    fn refuse(&mut self, asked: Asked)
+        ensures keeps { WorldsKeep self.old self.new }
+        ensures refuses { (x : Target) → IsAskedBy asked → WorldDescribes asked.world x → x.pending ≡ None
+            → port_answer x asked.request ≡ Reply.Faults
+            → WorldsHold self.new asked.world.awaits (port_after_fault asked.register asked.request.ap x) }
+    {
+        let world = asked.world;
+        let (register, ap) = (asked.register, asked.request.ap);
+        self.add_if(
+            asked.is_refused(),
+            world.succeeded().after_fault(register, ap),
+            asked.faults,
+        );
+        self.add_if(
+            asked.may_have_failed(),
+            world.failed().after_fault(register, ap),
+            asked.faults,
+        );
+    }
+
     // Adds the world after WAIT.
-    fn defer(&mut self, asked: Asked) {
-        let may_wait = asked.world.due(asked.request) == Reply::Okay && !is_exempt(asked.register);
-        if may_wait {
-            self.add(asked.world.after_wait(asked.register), asked.faults);
-        }
+    fn defer(&mut self, asked: Asked)
+        ensures keeps { WorldsKeep self.old self.new }
+        ensures defers { (x : Target) → IsAskedBy asked → WorldDescribes asked.world x
+            → port_answer x asked.request ≡ Reply.Okay → is_exempt_register asked.register ≡ false
+            → WorldsHold self.new asked.world.awaits (port_after_wait asked.register x) }
+    {
+        self.add_if(
+            asked.may_wait(),
+            asked.world.after_wait(asked.register),
+            asked.faults,
+        );
     }
 
     // Adds the worlds after OK and a data phase.
     fn moves(&mut self, asked: Asked, word: u32, parity_ok: bool) {
-        let Some(accepted) = asked.accepted() else {
+        let Some(now) = asked.accepted(false) else {
             return;
         };
-        let now = Asked {
-            world: World {
-                awaits: false,
-                ..accepted
-            },
-            ..asked
-        };
-        if !asked.request.read {
-            self.write(now, word, parity_ok);
-        } else if parity_ok {
-            self.read(now, Near::of(word), true);
-        } else if !asked.clean {
-            self.read(now.with_fault(), Near::seen(word, false), false);
+        match (asked.request.read, parity_ok) {
+            (false, true) => self.write(now, word),
+            (false, false) => self.write_damaged(now, word),
+            (true, true) => self.read(now, Near::of(word), true),
+            (true, false) => self.read_damaged(now, word),
         }
     }
 
@@ -107,76 +128,76 @@ impl Worlds {
         // the target didn't see the request
         self.add(lost.world, lost.faults);
         self.refuse(lost);
-        let Some(accepted) = lost.accepted() else {
-            return;
-        };
-        let read = asked.request.read;
-        let now = Asked {
-            world: World {
-                awaits: !read,
-                ..accepted
-            },
-            ..lost
-        };
-        if read {
+        self.accept_unseen(lost);
+    }
+
+    // Adds the worlds after OK that wasn't seen.
+    fn accept_unseen(&mut self, lost: Asked) {
+        if let Some(now) = lost.accepted(!lost.request.read) {
             self.return_unseen(now);
-        } else {
-            self.add(now.world, now.faults);
         }
     }
 
     // Adds the worlds after a read that returned one of these words. `parity_ok` says that no bit of it was changed.
     fn read(&mut self, now: Asked, seen: Near, parity_ok: bool) {
-        let world = now.world;
         match now.register {
-            Register::DpidrRead => self.add(live(world), now.faults),
             Register::CtrlStatRead => self.read_status(now, seen, parity_ok),
-            Register::ResendRead => {
-                if let Some(last_returned) = world.last_returned.narrowed(seen) {
-                    self.add(
-                        World {
-                            last_returned,
-                            ..world
-                        },
-                        now.faults,
-                    );
-                }
-            }
-            register if is_posted(register) => {
-                if let Some(buffer) = world.buffer.narrowed(seen) {
+            Register::ResendRead => self.resend(now, seen),
+            register => {
+                if !is_posted(register) {
+                    self.return_unseen(now);
+                } else if let Some(buffer) = now.world.buffer.narrowed(seen) {
                     self.post(now, buffer);
                 }
             }
-            _ => self.add(world, now.faults),
         }
     }
 
-    // Adds the worlds after a read whose data wasn't seen.
+    // The same where the word was seen with wrong parity.
+    fn read_damaged(&mut self, now: Asked, word: u32) {
+        if !now.clean {
+            self.read(now.with_fault(), Near::seen(word, false), false);
+        }
+    }
+
+    // Adds the world after RESEND returned one of these words.
+    fn resend(&mut self, now: Asked, seen: Near) {
+        if let Some(last_returned) = now.world.last_returned.narrowed(seen) {
+            self.add(
+                World {
+                    last_returned,
+                    ..now.world
+                },
+                now.faults,
+            );
+        }
+    }
+
+    // Adds the worlds after OK to a request whose data wasn't seen, or that returns no word that is known.
     fn return_unseen(&mut self, now: Asked) {
-        let world = now.world;
         match now.register {
-            Register::DpidrRead => self.add(live(world), now.faults),
+            Register::DpidrRead => self.add(live(now.world), now.faults),
             Register::CtrlStatRead => self.add(
                 World {
-                    debug: world.debug.seen(),
-                    system: world.system.seen(),
-                    ..world
+                    debug: now.world.debug.seen(),
+                    system: now.world.system.seen(),
+                    ..now.world
                 },
                 now.faults,
             ),
-            register if is_posted(register) => self.post(now, world.buffer),
-            _ => self.add(world, now.faults),
+            register => {
+                if is_posted(register) {
+                    self.post(now, now.world.buffer);
+                } else {
+                    self.add(now.world, now.faults);
+                }
+            }
         }
     }
 
     // Adds the worlds after an AP read or RDBUFF read that returned the read buffer.
     fn post(&mut self, now: Asked, buffer: Held) {
-        let world = World {
-            read_ok: true,
-            last_returned: buffer,
-            buffer: Held::Unknown,
-            ..now.world
-        };
+        let world = posted(now.world, buffer);
         match now.register {
             Register::CswRead => self.add(
                 World {
@@ -193,24 +214,33 @@ impl Worlds {
                 },
                 now.faults,
             ),
-            Register::ApOtherRead => {
-                self.add(
-                    World {
-                        buffer: Held::Word,
-                        ..world
-                    },
-                    now.faults,
-                );
-                self.add(
-                    World {
-                        sticky_error: true,
-                        ..world
-                    },
-                    now.faults,
-                );
-            }
+            Register::ApOtherRead => self.post_elsewhere(world, now.faults),
             _ => self.add(world, now.faults),
         }
+    }
+
+    // Adds the worlds after a read of a register elsewhere: it has a word, or is a bus error.
+    fn post_elsewhere(&mut self, world: World, faults: u64)
+        ensures keeps { WorldsKeep self.old self.new }
+        ensures word { (x : Target) → WorldDescribes (record world { buffer = HeldWord }) x
+            → WorldsHold self.new world.awaits x }
+        ensures error { (x : Target) → WorldDescribes (record world { sticky_error = true }) x
+            → WorldsHold self.new world.awaits x }
+    {
+        self.add(
+            World {
+                buffer: Held::Word,
+                ..world
+            },
+            faults,
+        );
+        self.add(
+            World {
+                sticky_error: true,
+                ..world
+            },
+            faults,
+        );
     }
 
     // Adds the worlds after a read of TAR: from here on TAR and the read buffer are the same word.
@@ -219,71 +249,72 @@ impl Worlds {
             self.add(world, faults);
             return;
         };
-        for index in 0..u32::from(more) + 1 {
-            let address = first.wrapping_add(4 * index);
-            self.add(
-                World {
-                    tar: Tar::at(address),
-                    buffer: Held::Seen(Near::of(address)),
-                    ..world
-                },
-                faults,
-            );
+        for index in 0..u16::from(more) + 1 {
+            self.add(at_tar(world, first, index), faults);
         }
     }
 
     // Adds the worlds after a read of CTRL/STAT. A bus error may show already. A power is found late at a busy target
     // alone, whose data isn't damaged.
     fn read_status(&mut self, now: Asked, seen: Near, may_be_late: bool) {
-        self.find_powers(now, seen, may_be_late);
+        self.find_powers(now.world, now.faults, seen, may_be_late);
         if now.world.pending.is_some() && !now.world.sticky_error {
-            let failed = Asked {
-                world: now.world.failed(),
-                ..now
-            };
-            self.find_powers(failed, seen, may_be_late);
+            self.find_powers(now.world.failed(), now.faults, seen, may_be_late);
         }
     }
 
     // Adds the worlds in which each power is found acknowledged, or late.
-    fn find_powers(&mut self, now: Asked, seen: Near, may_be_late: bool) {
-        let world = now.world;
-        for debug_late in [false, true] {
-            for system_late in [false, true] {
-                if (debug_late || system_late) && !may_be_late {
-                    continue;
-                }
-                let debug = found(world.debug, debug_late);
-                let system = found(world.system, system_late);
-                let (Some(debug), Some(system)) = (debug, system) else {
-                    continue;
-                };
-                let found = World {
-                    debug,
-                    system,
-                    ..world
-                };
-                if seen.matching(COMPARED, status_of(found)).is_some() {
-                    self.add(found, now.faults);
-                }
-            }
+    fn find_powers(&mut self, world: World, faults: u64, seen: Near, may_be_late: bool) {
+        self.find(world, faults, seen, (false, false));
+        if may_be_late {
+            self.find_late(world, faults, seen);
         }
     }
 
-    // Adds the worlds after a write whose data was sent as this: it arrives, or arrives damaged.
-    fn write(&mut self, now: Asked, word: u32, parity_ok: bool) {
-        let damaged = if parity_ok { now.with_fault() } else { now };
-        if !now.clean || !parity_ok {
-            self.add(damaged.world.after_damage(), damaged.faults);
+    // Adds the worlds in which a power is found late.
+    fn find_late(&mut self, world: World, faults: u64, seen: Near) {
+        self.find(world, faults, seen, (false, true));
+        self.find(world, faults, seen, (true, false));
+        self.find(world, faults, seen, (true, true));
+    }
+
+    // Adds the world in which debug power is found late or not, and system power.
+    fn find(&mut self, world: World, faults: u64, seen: Near, late: (bool, bool)) {
+        let (Some(debug), Some(system)) = (world.debug.found(late.0), world.system.found(late.1))
+        else {
+            return;
+        };
+        let found = World {
+            debug,
+            system,
+            ..world
+        };
+        self.add_if(seen.among(Words::Status(found)).is_some(), found, faults);
+    }
+
+    // Adds the worlds after a write whose word was sent: it arrives, or arrives damaged.
+    fn write(&mut self, now: Asked, word: u32) {
+        self.add_if(
+            !now.clean,
+            now.world.after_damage(),
+            now.with_fault().faults,
+        );
+        self.arrive(now, word);
+    }
+
+    // Adds the worlds after a write whose word was sent with wrong parity: it arrives so, or is cured.
+    fn write_damaged(&mut self, now: Asked, word: u32) {
+        self.add(now.world.after_damage(), now.faults);
+        if !now.clean {
+            self.cure(now.with_fault(), Near::seen(word, false));
         }
-        if parity_ok {
-            self.arrive(now, word);
-        } else if !now.clean {
-            let cured = Near::seen(word, false);
-            for place in 0..33 {
-                if let Some(word) = cured.at(place) {
-                    self.arrive(now.with_fault(), word);
-                }
+    }
+
+    // Adds the worlds after one of these words arrived.
+    fn cure(&mut self, now: Asked, sent: Near) {
+        for place in 0..33 {
+            if let Some(word) = sent.at(place) {
+                self.arrive(now, word);
             }
         }
     }
@@ -291,66 +322,139 @@ impl Worlds {
     // Adds the worlds after a write's word arrived.
     fn arrive(&mut self, now: Asked, word: u32) {
         match now.register {
-            Register::AbortWrite => self.abort(now, word),
-            Register::CtrlStatWrite => self.add(
+            Register::AbortWrite => self.abort(now.world, now.faults, word),
+            Register::CtrlStatWrite => self.add(powered(now.world, word), now.faults),
+            Register::SelectWrite => self.add(selecting(now.world, word), now.faults),
+            Register::CswWrite => self.add(
                 World {
-                    debug: Power::requested(word >> 28 & 1 == 1),
-                    system: Power::requested(word >> 30 & 1 == 1),
-                    ..now.world
+                    increments: Csw::of(word).addr_inc == 1,
+                    ..written(now.world)
                 },
                 now.faults,
             ),
-            Register::SelectWrite => self.add(selecting(now.world, word), now.faults),
-            Register::CswWrite | Register::TarWrite | Register::DrwWrite | Register::ApOtherWrite =>
-                self.arrive_at_ap(now, word),
+            Register::TarWrite => self.add(
+                World {
+                    tar: Tar::at(word),
+                    ..written(now.world)
+                },
+                now.faults,
+            ),
+            Register::DrwWrite => self.add(
+                World {
+                    pending: Some(Transfer::Write),
+                    ..written(now.world)
+                },
+                now.faults,
+            ),
+            Register::ApOtherWrite => self.arrive_elsewhere(written(now.world), now.faults),
             _ => self.add(now.world, now.faults),
         }
     }
 
-    // Adds the worlds after a word arrived at an access port: the read buffer and the last returned value are unknown.
-    fn arrive_at_ap(&mut self, now: Asked, word: u32) {
-        let mut world = World {
-            buffer: Held::Unknown,
-            last_returned: Held::Unknown,
-            ..now.world
-        };
-        match now.register {
-            Register::CswWrite => world.increments = Csw::of(word).addr_inc == 1,
-            Register::TarWrite => world.tar = Tar::at(word),
-            Register::DrwWrite => world.pending = Some(Transfer::Write),
-            _ => {}
-        }
-        self.add(world, now.faults);
-        if now.register == Register::ApOtherWrite {
-            world.sticky_error = true;
-            self.add(world, now.faults);
-        }
+    // Adds the worlds after a write of a register elsewhere: it has no effect, or is a bus error.
+    fn arrive_elsewhere(&mut self, world: World, faults: u64)
+        ensures keeps { WorldsKeep self.old self.new }
+        ensures nothing { (x : Target) → WorldDescribes world x → WorldsHold self.new world.awaits x }
+        ensures error { (x : Target) → WorldDescribes (record world { sticky_error = true }) x
+            → WorldsHold self.new world.awaits x }
+    {
+        self.add(world, faults);
+        self.add(
+            World {
+                sticky_error: true,
+                ..world
+            },
+            faults,
+        );
     }
 
     // Adds the worlds after ABORT. A bus error before it is cleared by STKERRCLR.
-    fn abort(&mut self, now: Asked, word: u32) {
-        self.add(cleared(now.world, word), now.faults);
-        if now.world.pending.is_some() && word >> 2 & 1 == 1 {
-            self.add(cleared(now.world.failed(), word), now.faults);
-        }
+    fn abort(&mut self, world: World, faults: u64, word: u32)
+        ensures keeps { WorldsKeep self.old self.new }
+        ensures aborts { (refuses : Bool) (x : Target) → WorldDescribes world x
+            → WorldsHold self.new world.awaits (port_after_bits refuses (Arrives Register.AbortWrite word) x) }
+    {
+        self.add(cleared(world, word), faults);
+        self.add_if(
+            may_clear(world, word),
+            cleared(world.failed(), word),
+            faults,
+        );
     }
 }
 
 impl Asked {
-    // Returns the world once the target answered OK, before what the request does. The pending transfer succeeded,
-    // unless the request is never refused.
-    fn accepted(self) -> Option<World> {
-        if self.world.due(self.request) != Reply::Okay {
-            return None;
+    // Returns the same in the world once the target answered OK, before what the request does, where write data is
+    // awaited or not. The pending transfer succeeded, unless the request is never refused.
+    fn accepted(self, awaits: bool) -> Option<Asked>
+        ensures same { IfSome result (λ now. IsAskedAlike now self × (now.world.awaits ≡ awaits)) }
+        ensures world { (c : Choice) (x : Target) → IsAskedBy self → WorldDescribes self.world x
+            → (is_exempt_register self.register ≡ false → x.pending ≡ None)
+            → port_answer x self.request ≡ Reply.Okay → IsAskedAccepted result self.register c x }
+    {
+        match self.world.due(self.request) {
+            Reply::Okay => Some(self.okayed(awaits)),
+            _ => None,
         }
+    }
+
+    // The same where OK is due.
+    fn okayed(self, awaits: bool) -> Asked
+        ensures same { IsAskedAlike result self }
+        ensures awaits { result.world.awaits ≡ awaits }
+        ensures world { (c : Choice) (x : Target) → IsAskedBy self → WorldDescribes self.world x
+            → (is_exempt_register self.register ≡ false → x.pending ≡ None)
+            → port_answer x self.request ≡ Reply.Okay → WorldAccepts result.world self.register c x }
+    {
         if is_exempt(self.register) {
-            return Some(self.world);
+            Asked {
+                world: World {
+                    awaits,
+                    ..self.world
+                },
+                ..self
+            }
+        } else {
+            Asked {
+                world: World {
+                    awaits,
+                    ..self.world.confirmed(self.request.ap)
+                },
+                ..self
+            }
         }
-        Some(self.world.confirmed(self.request.ap))
+    }
+
+    // Returns whether FAULT is due.
+    fn is_refused(self) -> bool
+        ensures { world_due self.world self.request ≡ Reply.Faults → result ≡ true }
+    {
+        self.world.due(self.request) == Reply::Faults
+    }
+
+    // Returns whether the pending transfer, if it was a bus error, is due to make the answer FAULT.
+    fn may_have_failed(self) -> bool
+        ensures refused { is_some self.world.pending ≡ true → world_due self.world self.request ≡ Reply.Faults
+            → result ≡ true }
+        ensures okay { is_some self.world.pending ≡ true → world_due self.world self.request ≡ Reply.Okay
+            → is_exempt_register self.register ≡ false → result ≡ true }
+    {
+        self.world.pending.is_some() && (self.is_refused() || self.may_wait())
+    }
+
+    // Returns whether WAIT may replace the answer, OK.
+    fn may_wait(self) -> bool
+        ensures { world_due self.world self.request ≡ Reply.Okay → is_exempt_register self.register ≡ false
+            → result ≡ true }
+    {
+        self.world.due(self.request) == Reply::Okay && !is_exempt(self.register)
     }
 
     // Counts one request more that was damaged or lost.
-    fn with_fault(self) -> Asked {
+    fn with_fault(self) -> Asked
+        ensures same { IsAskedAlike result self }
+        ensures world { result.world ≡ self.world }
+    {
         Asked {
             faults: self.faults.saturating_add(1),
             ..self
@@ -359,15 +463,55 @@ impl Asked {
 }
 
 // Returns the world after a read of DPIDR.
-fn live(world: World) -> World {
+fn live(world: World) -> World
+    ensures { result ≡ world_live world }
+{
     World {
         reset: Reset::Live,
         ..world
     }
 }
 
+// Returns the world after the read buffer was returned, of which this is known.
+fn posted(world: World, buffer: Held) -> World
+    ensures { result ≡ world_posted buffer world }
+{
+    World {
+        read_ok: true,
+        last_returned: buffer,
+        buffer: Held::Unknown,
+        ..world
+    }
+}
+
+// Returns the world in which TAR, and the read buffer, is the address at this index.
+fn at_tar(world: World, first: u32, index: u16) -> World {
+    match first.checked_add(4 * u32::from(index)) {
+        Some(address) => World {
+            tar: Tar::at(address),
+            buffer: Held::Seen(Near::of(address)),
+            ..world
+        },
+        // no address: the kilobytes end at 2^32
+        None => world,
+    }
+}
+
+// Returns the world after CTRL/STAT was written.
+fn powered(world: World, word: u32) -> World
+    ensures { result ≡ world_powered word world }
+{
+    World {
+        debug: Power::requested(bit(word, 28)),
+        system: Power::requested(bit(word, 30)),
+        ..world
+    }
+}
+
 // Returns the world after SELECT was written.
-pub(crate) fn selecting(world: World, word: u32) -> World {
+pub(crate) fn selecting(world: World, word: u32) -> World
+    ensures { result ≡ world_selecting word world }
+{
     let select = Select::of(word);
     World {
         mem_ap: select.apsel == 0 && select.apbanksel == 0,
@@ -376,31 +520,31 @@ pub(crate) fn selecting(world: World, word: u32) -> World {
     }
 }
 
-// Returns the world after ABORT with this word: STKERRCLR is bit 2, WDERRCLR bit 3.
-fn cleared(world: World, word: u32) -> World {
+// Returns the world after a word arrived at an access port: the read buffer and the last returned value are unknown.
+fn written(world: World) -> World
+    ensures { result ≡ world_written world }
+{
     World {
-        sticky_error: world.sticky_error && word >> 2 & 1 == 0,
-        write_error: world.write_error && word >> 3 & 1 == 0,
+        buffer: Held::Unknown,
+        last_returned: Held::Unknown,
         ..world
     }
 }
 
-// Returns the power once a read of CTRL/STAT found it acknowledged, or late if it may be.
-fn found(power: Power, late: bool) -> Option<Power> {
-    if late {
-        power.late()
-    } else {
-        Some(power.seen())
-    }
+// Returns whether ABORT with this word clears STICKYERR where a bus error may not have shown.
+fn may_clear(world: World, word: u32) -> bool
+    ensures { is_some world.pending ≡ true → register_bit 2 word ≡ true → result ≡ true }
+{
+    world.pending.is_some() && bit(word, 2)
 }
 
-// Returns the compared bits of CTRL/STAT.
-fn status_of(world: World) -> u32 {
-    u32::from(world.sticky_error) << 5
-        | u32::from(world.read_ok) << 6
-        | u32::from(world.write_error) << 7
-        | u32::from(world.debug.is_on()) << 28
-        | u32::from(world.debug == Power::Seen) << 29
-        | u32::from(world.system.is_on()) << 30
-        | u32::from(world.system == Power::Seen) << 31
+// Returns the world after ABORT with this word: STKERRCLR is bit 2, WDERRCLR bit 3.
+fn cleared(world: World, word: u32) -> World
+    ensures { result ≡ world_cleared word world }
+{
+    World {
+        sticky_error: world.sticky_error && !bit(word, 2),
+        write_error: world.write_error && !bit(word, 3),
+        ..world
+    }
 }

@@ -1,6 +1,7 @@
 //! What is known of TAR.
-ghost use Rattle.std.specs.Prelude.{◌≡◌};
+ghost use Rattle.std.specs.Prelude.{◌≡◌, true};
 ghost use Rattle.swd_checker.specs.Worlds.{checked_tar_incremented, TarFrom};
+ghost use Rattle.swd_checker.specs.Covering.{IsTarWithin, AreTarsJoined};
 
 /// The number of bytes across whose end a transfer address isn't known to be incremented.
 const KILOBYTE: u32 = 1024;
@@ -44,7 +45,9 @@ impl Tar {
     }
 
     /// Returns whether each address of the other is one of these.
-    pub(crate) fn covers(self, other: Tar) -> bool {
+    pub(crate) fn covers(self, other: Tar) -> bool
+        ensures { result ≡ true → IsTarWithin other self }
+    {
         match (self, other) {
             (Tar::Unknown, _) => true,
             (_, Tar::Unknown) => false,
@@ -54,17 +57,24 @@ impl Tar {
                     first: from,
                     more: count,
                 },
-            ) => {
-                from >= first
-                    && (from - first) % 4 == 0
-                    && (from - first) / 4 + u32::from(count) <= u32::from(more)
-            }
+            ) => are_among(from, count, first, more),
         }
     }
 
-    /// Returns exactly the addresses of both, if they are neighbours or overlap in one kilobyte, and the other doesn't
-    /// begin before this one.
-    pub(crate) fn joined(self, other: Tar) -> Option<Tar> {
+    /// Returns exactly the addresses of both, if they are neighbours or overlap in one kilobyte.
+    pub(crate) fn joined(self, other: Tar) -> Option<Tar>
+        ensures { AreTarsJoined self other result }
+    {
+        match self.followed_by(other) {
+            Some(joined) => Some(joined),
+            None => other.followed_by(self),
+        }
+    }
+
+    // The same where the other doesn't begin before this one.
+    fn followed_by(self, other: Tar) -> Option<Tar>
+        ensures { AreTarsJoined self other result }
+    {
         let (
             Tar::From { first, more },
             Tar::From {
@@ -75,21 +85,39 @@ impl Tar {
         else {
             return None;
         };
-        if from < first || first / KILOBYTE != from / KILOBYTE || (from - first) % 4 != 0 {
-            return None;
-        }
-        let apart = (from - first) / 4;
-        if apart > u32::from(more) + 1 {
-            return None;
-        }
-        let most = u32::from(more).max(apart + u32::from(count));
-        if most < 256 {
-            Some(Tar::From {
-                first,
-                more: most as u8,
-            })
-        } else {
-            None
-        }
+        together(first, more, from, count)
+    }
+}
+
+// Returns whether the addresses of the first interval are among those of the second.
+fn are_among(from: u32, count: u8, first: u32, more: u8) -> bool
+    ensures { result ≡ true → IsTarWithin (TarFrom from count) (TarFrom first more) }
+{
+    if from < first || (from - first) % 4 != 0 {
+        return false;
+    }
+    (from - first) / 4 + u32::from(count) <= u32::from(more)
+}
+
+// Returns the addresses of both, if they are neighbours or overlap in one kilobyte, and the second doesn't begin before
+// the first.
+fn together(first: u32, more: u8, from: u32, count: u8) -> Option<Tar>
+    ensures { AreTarsJoined (TarFrom first more) (TarFrom from count) result }
+{
+    if from < first || first / KILOBYTE != from / KILOBYTE || (from - first) % 4 != 0 {
+        return None;
+    }
+    let apart = (from - first) / 4;
+    if apart > u32::from(more) + 1 {
+        return None;
+    }
+    let most = u32::from(more).max(apart + u32::from(count));
+    if most < 256 {
+        Some(Tar::From {
+            first,
+            more: most as u8,
+        })
+    } else {
+        None
     }
 }

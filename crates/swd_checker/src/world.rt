@@ -1,10 +1,15 @@
 //! Worlds: descriptions of the states in which a target may be.
-ghost use Rattle.std.specs.Prelude.{◌≡◌};
+ghost use Rattle.std.specs.Prelude.{◌≡◌, ◌↔◌, IsTrue, true, false, Some};
 ghost use Rattle.swd_checker.specs.Worlds.{world_succeeded, world_failed, world_after_reset, world_after_wait};
 ghost use Rattle.swd_checker.specs.Worlds.{world_after_fault, world_after_damage, is_checked_power_there};
 ghost use Rattle.swd_checker.specs.Worlds.{world_made, world_confirmed};
+ghost use Rattle.swd_checker.specs.Words.{IsCheckedStatus, is_checked_power_on, is_checked_power_seen};
+ghost use Rattle.swd_checker.specs.Steps.{checked_power_requested, checked_power_found};
+ghost use Rattle.swd_checker.specs.Covering.{PowerIncludes, WorldIncludes, AreWorldsJoined, IsWorldAlike, IsWorldWider};
+ghost use Rattle.swd_checker.specs.Covering.{IsWorldWithTar};
 
 use crate::held::Held;
+use crate::near::bit;
 use crate::register::is_posted;
 use crate::tar::Tar;
 use swd_port::{Register, Reset};
@@ -55,8 +60,17 @@ pub(crate) struct World {
 
 impl Power {
     /// Returns whether it is requested.
-    pub(crate) fn is_on(self) -> bool {
+    pub(crate) fn is_on(self) -> bool
+        ensures { result ≡ is_checked_power_on self }
+    {
         !matches!(&self, Power::Off)
+    }
+
+    /// Returns whether it was seen to be acknowledged.
+    pub(crate) fn is_seen(self) -> bool
+        ensures { result ≡ is_checked_power_seen self }
+    {
+        matches!(&self, Power::Seen)
     }
 
     /// Returns whether an access port may work with it.
@@ -67,30 +81,37 @@ impl Power {
     }
 
     /// Returns the power where CTRL/STAT's request bit was written.
-    pub(crate) fn requested(on: bool) -> Power {
+    pub(crate) fn requested(on: bool) -> Power
+        ensures { result ≡ checked_power_requested on }
+    {
         if on { Power::Unseen } else { Power::Off }
     }
 
-    /// Returns the power once it was found acknowledged.
-    pub(crate) fn seen(self) -> Power {
-        if self.is_on() {
-            Power::Seen
-        } else {
-            Power::Off
+    /// Returns the power once a read of CTRL/STAT found it acknowledged.
+    pub(crate) fn seen(self) -> Power
+        ensures { checked_power_found self false ≡ Some result }
+    {
+        match self {
+            Power::Off => Power::Off,
+            _ => Power::Seen,
         }
     }
 
-    /// Returns the power once it was found not acknowledged, if it may be.
-    pub(crate) fn late(self) -> Option<Power> {
-        if matches!(&self, Power::Unseen | Power::Late) {
-            Some(Power::Late)
-        } else {
-            None
+    /// Returns the power once a read of CTRL/STAT found it acknowledged, or late if it may be.
+    pub(crate) fn found(self, late: bool) -> Option<Power>
+        ensures { result ≡ checked_power_found self late }
+    {
+        match (self, late) {
+            (power, false) => Some(power.seen()),
+            (Power::Unseen | Power::Late, true) => Some(Power::Late),
+            (_, true) => None,
         }
     }
 
     /// Returns whether all that the other explains is explained by this.
-    pub(crate) fn covers(self, other: Power) -> bool {
+    pub(crate) fn covers(self, other: Power) -> bool
+        ensures { result ≡ true → PowerIncludes self other }
+    {
         self == other || (self == Power::Unseen && other == Power::Seen)
     }
 }
@@ -206,51 +227,111 @@ impl World {
     }
 
     /// Returns whether all that the other explains is explained by this.
-    pub(crate) fn covers(self, other: World) -> bool {
-        self.is_alike(other)
-            && self.debug.covers(other.debug)
-            && self.system.covers(other.system)
-            && self.tar.covers(other.tar)
-            && self.buffer.covers(other.buffer)
-            && self.last_returned.covers(other.last_returned)
+    pub(crate) fn covers(self, other: World) -> bool
+        ensures { result ≡ true → WorldIncludes self other }
+    {
+        if self.is_wider(other) {
+            self.tar.covers(other.tar)
+        } else {
+            false
+        }
     }
 
     /// Returns a world that explains exactly what these two do, if one of them explains all that the other does, or
     /// they differ in neighbouring addresses of TAR alone.
-    pub(crate) fn joined(self, other: World) -> Option<World> {
-        if !self.is_alike(other) {
-            return None;
-        }
+    pub(crate) fn joined(self, other: World) -> Option<World>
+        ensures { AreWorldsJoined self other result }
+    {
         if self.covers(other) {
             return Some(self);
         }
         if other.covers(self) {
             return Some(other);
         }
-        let moved = World {
-            tar: other.tar,
-            ..self
-        };
-        if moved != other {
-            return None;
+        if self.is_same_but_tar(other) {
+            self.with_tar(self.tar.joined(other.tar))
+        } else {
+            None
         }
-        let tar = match self.tar.joined(other.tar) {
-            Some(tar) => tar,
-            None => other.tar.joined(self.tar)?,
-        };
-        Some(World { tar, ..self })
+    }
+
+    // Returns the world with these addresses of TAR, if any.
+    fn with_tar(self, tar: Option<Tar>) -> Option<World>
+        ensures { IsWorldWithTar self tar result }
+    {
+        match tar {
+            Some(tar) => Some(World { tar, ..self }),
+            None => None,
+        }
+    }
+
+    // Returns whether the two may differ in TAR alone.
+    fn is_same_but_tar(self, other: World) -> bool
+        ensures { result ≡ true → IsWorldWider self other }
+    {
+        self.is_wider(other) && other.is_wider(self)
+    }
+
+    // Returns whether all that the other explains, but for TAR, is explained by this.
+    fn is_wider(self, other: World) -> bool
+        ensures { result ≡ true → IsWorldWider self other }
+    {
+        self.is_alike(other)
+            && self.debug.covers(other.debug)
+            && self.system.covers(other.system)
+            && self.buffer.covers(other.buffer)
+            && self.last_returned.covers(other.last_returned)
+    }
+
+    /// Returns whether a read of CTRL/STAT may return this word, once each power was found acknowledged or late.
+    pub(crate) fn shows(self, word: u32) -> bool
+        ensures { IsTrue result ↔ IsCheckedStatus self word }
+    {
+        bit(word, 5) == self.sticky_error
+            && bit(word, 6) == self.read_ok
+            && bit(word, 7) == self.write_error
+            && bit(word, 28) == self.debug.is_on()
+            && bit(word, 29) == self.debug.is_seen()
+            && bit(word, 30) == self.system.is_on()
+            && bit(word, 31) == self.system.is_seen()
     }
 
     // Returns whether the two may differ only in what one may cover of the other.
-    fn is_alike(self, other: World) -> bool {
-        let alike = World {
-            debug: other.debug,
-            system: other.system,
-            tar: other.tar,
-            buffer: other.buffer,
-            last_returned: other.last_returned,
-            ..self
-        };
-        alike == other
+    fn is_alike(self, other: World) -> bool
+        ensures { result ≡ true → IsWorldAlike self other }
+    {
+        is_same_reset(self.reset, other.reset)
+            && is_same_transfer(self.pending, other.pending)
+            && self.sticky_error == other.sticky_error
+            && self.write_error == other.write_error
+            && self.read_ok == other.read_ok
+            && self.mem_ap == other.mem_ap
+            && self.bank0 == other.bank0
+            && self.increments == other.increments
+            && self.awaits == other.awaits
+    }
+}
+
+// Returns whether requests are answered alike.
+fn is_same_reset(reset: Reset, other: Reset) -> bool
+    ensures { result ≡ true → reset ≡ other }
+{
+    match (reset, other) {
+        (Reset::Unreset, Reset::Unreset) => true,
+        (Reset::Fresh, Reset::Fresh) => true,
+        (Reset::Live, Reset::Live) => true,
+        _ => false,
+    }
+}
+
+// Returns whether the same transfer is pending.
+fn is_same_transfer(pending: Option<Transfer>, other: Option<Transfer>) -> bool
+    ensures { result ≡ true → pending ≡ other }
+{
+    match (pending, other) {
+        (None, None) => true,
+        (Some(Transfer::Read), Some(Transfer::Read)) => true,
+        (Some(Transfer::Write), Some(Transfer::Write)) => true,
+        _ => false,
     }
 }

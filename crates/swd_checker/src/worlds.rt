@@ -1,9 +1,12 @@
 //! The list of worlds.
-ghost use Rattle.std.specs.Prelude.{◌<◌, IfSome};
-ghost use Rattle.arrayvec.specs.ArrayVec.{array_vec_len};
+ghost use Rattle.std.specs.Prelude.{◌≡◌, [], false};
+ghost use Rattle.swd_port.specs.Port.{Target};
+ghost use Rattle.swd_checker.specs.Described.{WorldDescribes};
+ghost use Rattle.swd_checker.specs.Holding.{WorldsHold, WorldsKeep, IsKeptJoined};
 
 use crate::world::World;
 use arrayvec::ArrayVec;
+use swd_bits::Tx;
 
 /// The most worlds that a checker holds.
 pub(crate) const MOST_WORLDS: usize = 64;
@@ -35,28 +38,63 @@ impl Default for Kept {
 
 impl Worlds {
     /// Returns no world.
-    pub(crate) fn none() -> Worlds {
+    pub(crate) fn none() -> Worlds
+        ensures empty { result.kept.items ≡ [] }
+        ensures crowded { result.crowded ≡ false }
+    {
         Worlds {
             kept: ArrayVec::new(),
             crowded: false,
         }
     }
 
+    /// Returns no world, where there were more of these than are held.
+    pub(crate) fn emptied(&self) -> Worlds
+        ensures empty { result.kept.items ≡ [] }
+        ensures crowded { result.crowded ≡ self.now.crowded }
+    {
+        Worlds {
+            kept: ArrayVec::new(),
+            crowded: self.crowded,
+        }
+    }
+
     /// Adds a world. One that is covered goes, and two that join become one.
-    pub(crate) fn add(&mut self, world: World, faults: u64) {
+    pub(crate) fn add(&mut self, world: World, faults: u64)
+        ensures keeps { WorldsKeep self.old self.new }
+        ensures adds { (x : Target) → WorldDescribes world x → WorldsHold self.new world.awaits x }
+    {
         let mut added = Kept { world, faults };
         for _ in 0..MOST_WORLDS {
-            let Some((place, joined)) = self.joining(&added) else {
+            let Some(found) = self.joining(&added) else {
                 break;
             };
-            self.kept.remove(place);
-            added = joined;
+            self.kept.remove(found.0);
+            added = found.1;
         }
         if self.kept.is_full() {
             self.crowded = true;
         } else {
             self.kept.push(added);
         }
+    }
+
+    /// Returns the worlds after a line reset.
+    pub(crate) fn after_reset(&self) -> Worlds {
+        let mut next = self.emptied();
+        for kept in &self.kept {
+            next.add(kept.world.after_reset(), kept.faults);
+        }
+        next
+    }
+
+    /// Returns the worlds after a transaction. Where `clean` is true, nothing is damaged or lost.
+    pub(crate) fn after_tx(&self, tx: &Tx, clean: bool) -> Worlds {
+        let mut next = self.emptied();
+        for kept in &self.kept {
+            next.step(kept.world, kept.faults, tx, clean);
+        }
+        next
     }
 
     /// Returns the number of the world that has fewest damaged or lost requests.
@@ -70,7 +108,7 @@ impl Worlds {
 
     // Returns the first world that joins with this one, and what they are together.
     fn joining(&self, added: &Kept) -> Option<(usize, Kept)>
-        ensures { IfSome result (λ found. found.0 < array_vec_len self.now.kept) }
+        ensures { IsKeptJoined self.now.kept.items added.now result }
     {
         for place in 0..self.kept.len() {
             let kept = self.kept[place];

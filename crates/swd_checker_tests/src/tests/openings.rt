@@ -5,7 +5,7 @@ use swd_checker::{CheckStart, Checker, Rule, Verdict};
 use swd_trace::Item;
 
 // A start, a listing, and the place from which the items are checked.
-const BEGINS: [(CheckStart, &str, Option<u64>); 6] = [
+const BEGINS: [(CheckStart, &str, Option<u64>); 7] = [
     (CheckStart::Made, "idle 1\n", Some(0)),
     (
         CheckStart::Rest,
@@ -24,12 +24,20 @@ const BEGINS: [(CheckStart, &str, Option<u64>); 6] = [
     ),
     (
         CheckStart::Any,
-        "reset 50\nidle 2\ndp 0 read ok 2ba01477\ndp 8 write ok 00000000\ndp 4 read ok f0000000\ndp c read ok 00000000\n",
+        "reset 50\nidle 2\ndp 0 read ok 2ba01477\ndp 8 write ok 00000000\ndp 4 read ok f0000000\n\
+            dp c read ok 00000000\n",
         Some(190),
     ),
     (
         CheckStart::Any,
-        "reset 50\nidle 2\ndp 0 read ok 2ba01477\ndp 8 write ok 00000000\ndp 0 write ok 0000001e\ndp c read ok 00000000\n",
+        "reset 50\nidle 2\ndp 0 read ok 2ba01477\ndp 8 write ok 00000000\ndp 0 write ok 0000001e\n\
+            dp c read ok 00000000\n",
+        None,
+    ),
+    // the write of SELECT was damaged, so that address 4 is still CTRL/STAT
+    (
+        CheckStart::Any,
+        "reset 50\nidle 2\ndp 0 read ok 2ba01477\ndp 8 write ok 00000001\ndp 4 read ok 00000080\ndp c read fault\n",
         None,
     ),
 ];

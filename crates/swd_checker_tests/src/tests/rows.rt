@@ -8,12 +8,14 @@ use swd_checker::{CheckStart, Checker, Rule, Verdict};
 const FITS: [(&str, &str, u64); 12] = [
     (
         "words are free: two reads of an address may differ",
-        "ap 4 write ok 20000000\nap c read ok 00000000\ndp c read ok 0000dead\nap 4 write ok 20000000\nap c read ok 00000001\ndp c read ok 0000beef\n",
+        "ap 4 write ok 20000000\nap c read ok 00000000\ndp c read ok 0000dead\nap 4 write ok 20000000\n\
+            ap c read ok 00000001\ndp c read ok 0000beef\n",
         0,
     ),
     (
         "bus errors are free",
-        "ap 4 write ok 20000000\nap c read ok 00000000\ndp c read fault\ndp 4 read ok f0000020\ndp 0 write ok 00000004\nap 4 write ok 20000000\nap c read ok 00000000\ndp c read ok 00000000\n",
+        "ap 4 write ok 20000000\nap c read ok 00000000\ndp c read fault\ndp 4 read ok f0000020\n\
+            dp 0 write ok 00000004\nap 4 write ok 20000000\nap c read ok 00000000\ndp c read ok 00000000\n",
         0,
     ),
     (
@@ -48,17 +50,22 @@ const FITS: [(&str, &str, u64); 12] = [
     ),
     (
         "of three transfers in doubt none moved TAR",
-        "ap 4 write ok 20000000\nap c write ok 00000001\ndp 0 write ok 00000008\nap c write ok 00000001\ndp 0 write ok 00000008\nap c write ok 00000001\ndp 0 write ok 00000008\nap 4 read ok 00000000\ndp c read ok 20000000\n",
+        "ap 4 write ok 20000000\nap c write ok 00000001\ndp 0 write ok 00000008\nap c write ok 00000001\n\
+            dp 0 write ok 00000008\nap c write ok 00000001\ndp 0 write ok 00000008\nap 4 read ok 00000000\n\
+            dp c read ok 20000000\n",
         3,
     ),
     (
         "of three transfers in doubt all moved TAR",
-        "ap 4 write ok 20000000\nap c write ok 00000001\ndp 0 write ok 00000008\nap c write ok 00000001\ndp 0 write ok 00000008\nap c write ok 00000001\ndp 0 write ok 00000008\nap 4 read ok 00000000\ndp c read ok 2000000c\n",
+        "ap 4 write ok 20000000\nap c write ok 00000001\ndp 0 write ok 00000008\nap c write ok 00000001\n\
+            dp 0 write ok 00000008\nap c write ok 00000001\ndp 0 write ok 00000008\nap 4 read ok 00000000\n\
+            dp c read ok 2000000c\n",
         0,
     ),
     (
         "a lost read may have been done",
-        "ap 4 write ok 20000000\nap c read none 0\nreset 100\nidle 2\ndp 0 read ok 2ba01477\nap 4 read ok 00000000\ndp c read ok 20000004\n",
+        "ap 4 write ok 20000000\nap c read none 0\nreset 100\nidle 2\ndp 0 read ok 2ba01477\nap 4 read ok 00000000\n\
+            dp c read ok 20000004\n",
         1,
     ),
     (
@@ -95,7 +102,8 @@ const BREAKS: [(&str, u64, Rule); 18] = [
         Rule::Posted,
     ),
     (
-        "ap 4 write ok 20000000\nap c write ok 00000001\ndp 0 write ok 00000008\nap 4 read ok 00000000\ndp c read ok 20000008\n",
+        "ap 4 write ok 20000000\nap c write ok 00000001\ndp 0 write ok 00000008\nap 4 read ok 00000000\n\
+            dp c read ok 20000008\n",
         426,
         Rule::Posted,
     ),
@@ -121,7 +129,8 @@ const BREAKS: [(&str, u64, Rule); 18] = [
     ),
     ("dp 4 read ok b0000000\n", 242, Rule::Status),
     (
-        "ap 0 write ok 23000002\nap 4 write ok 20000000\nap c read ok 00000000\nap 4 read ok 00000001\ndp c read ok 20000004\n",
+        "ap 0 write ok 23000002\nap 4 write ok 20000000\nap c read ok 00000000\nap 4 read ok 00000001\n\
+            dp c read ok 20000004\n",
         426,
         Rule::Posted,
     ),

@@ -1,0 +1,43 @@
+-- What is said of a trace text that is checked.
+use Rattle.std.specs.Prelude.{◌≡◌, ℕ, ◌-◌, ◌^◌, ◌++◌, min, List, length, Option, Result, Ok, Err}
+use Rattle.std.specs.Io.KnownBytes.{Consumes, IsAtEnd}
+use Rattle.swd_resync.specs.declared.part.Part.{Part}
+use Rattle.swd_text.specs.declared.fault.DecodeFault.{DecodeFault}
+use Rattle.swd_text.specs.declared.fault.DecodeFault.TheVariants.{Text, Read, Write}
+use Rattle.swd_capture_text.specs.declared.reading.Reading.{Reading}
+use Rattle.swd_capture_text.specs.Captures.{CaptureTextReadsAs, CaptureTextDecides, CaptureTextStopsWith}
+use Rattle.swd_check.specs.declared.checked.Checked.{Checked}
+use Rattle.swd_check.specs.declared.checked.Checked.TheVariants.{Fits, Breaks, Crowded, Outside}
+use Rattle.swd_check.specs.declared.text.CheckedParts.{CheckedParts}
+
+-- the number of items that fit is this one
+abbrev pub IsCheckedCount : ℕ → Checked → Type 0
+IsCheckedCount count (Fits items from faults gaps) = items ≡ count
+IsCheckedCount count (Breaks broken) = Unit {0}
+IsCheckedCount count (Crowded place) = Unit {0}
+IsCheckedCount count (Outside place) = Unit {0}
+
+-- the number of parts, at most 2^64 - 1
+abbrev pub check_count : List Part → ℕ
+check_count parts = min (length parts) (2 ^ 64 - 1)
+
+-- a sink that was given these parts
+abbrev pub CheckHasTaken : {A : Type 0} → Unit {0} → CheckedParts A × Unit {0} → List Part → Type 0
+CheckHasTaken i state parts = state.0.parts ≡ check_count parts
+
+-- it never stops
+abbrev pub check_never_stops : {A : Type 0} → CheckedParts A × Unit {0} → ℕ → CheckedParts A × Unit {0} → Type 0
+check_never_stops before told now = ⊥
+
+-- What a result says of the reader's text, if its bytes are known, and of what is left of it. The whole text was read
+-- before a verdict.
+abbrev pub ChecksText : Reading → Result Checked DecodeFault → Option (List ℕ) → Option (List ℕ) → Type 0
+ChecksText reading (Ok checked) text left =
+    (read : List ℕ) × (parts : List Part) × Consumes text left read × IsAtEnd left
+    × CaptureTextReadsAs reading read parts × IsCheckedCount (check_count parts) checked
+ChecksText reading (Err (Text fault)) text left =
+    (read : List ℕ) × (parts : List Part) × Consumes text left read
+    × ((more : List ℕ) → CaptureTextStopsWith reading fault parts (read ++ more))
+ChecksText reading (Err Read) text left =
+    (read : List ℕ) × (parts : List Part) × Consumes text left read × CaptureTextDecides reading read parts
+ChecksText reading (Err (Write told)) text left = ⊥

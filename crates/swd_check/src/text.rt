@@ -1,0 +1,86 @@
+//! Checks a trace or a capture from its text.
+ghost use Rattle.swd_text.specs.Sinks.{LeadsSinkOn, sink_takes_nothing, sink_leads_join};
+ghost use Rattle.swd_check.specs.Checks.{CheckHasTaken, ChecksText, check_never_stops};
+
+use crate::check::Check;
+use crate::checked::Checked;
+use std::alloc::Allocator;
+use std::io;
+use swd_bits::TxBits;
+use swd_capture_text::{PartSink, Reading, read_parts};
+use swd_resync::{PHASE_BITS, Part};
+use swd_text::DecodeFault;
+use swd_trace::Item;
+
+/// A sink of parts, which checks them.
+#[derive(Drop)]
+pub(crate) struct CheckedParts<A: Allocator> {
+    check: Check<A>,
+    // The number of parts, at most 2^64 - 1.
+    parts: u64,
+}
+
+// Takes a part.
+fn watch_part<A: Allocator + Copy>(check: &mut Check<A>, part: &Part) {
+    match part {
+        Part::Item(item) => check.watch(item),
+        Part::Phased(tx) => {
+            check.watch(&Item::Tx(*tx));
+            check.pass(u64::from(PHASE_BITS));
+        }
+        Part::Skip(count) => check.skip(*count),
+    }
+}
+
+// Takes junk bits.
+fn watch_junk<A: Allocator + Copy>(check: &mut Check<A>, junk: TxBits) {
+    let mut bits = junk.bits;
+    for _ in 0..junk.len {
+        check.watch(&Item::Junk(bits % 2 == 1));
+        bits /= 2;
+    }
+}
+
+impl<A: Allocator + Copy> PartSink<()> for CheckedParts<A> {
+    ghost led = { LeadsSinkOn CheckHasTaken };
+
+    ghost stops = { check_never_stops };
+
+    fn take_part(&mut self, _writer: &mut (), part: &Part) {
+        self.parts = self.parts.saturating_add(1);
+        watch_part(&mut self.check, part);
+    }
+
+    fn take_junk(&mut self, _writer: &mut (), junk: TxBits) {
+        self.parts = self.parts.saturating_add(u64::from(junk.len));
+        watch_junk(&mut self.check, junk);
+    }
+
+    fn pause(&mut self, _writer: &mut ()) -> Result<(), u64> {
+        Ok(())
+    }
+
+    ghost led_nowhere = { sink_takes_nothing CheckHasTaken };
+
+    ghost led_on = { sink_leads_join CheckHasTaken };
+}
+
+/// Reads a trace text as a trace or as a capture, and checks its parts. Its time is linear in the text, and nothing is
+/// retried.
+///
+/// # Errors
+///
+/// Returns the first error of the text or of the reader.
+pub fn check_text<R: io::Read, A: Allocator + Copy>(
+    reading: Reading,
+    check: Check<A>,
+    reader: &mut R,
+) -> Result<Checked, DecodeFault>
+    ensures { ChecksText reading result (R.remaining reader.old) (R.remaining reader.new) }
+{
+    let parts = CheckedParts { check, parts: 0 };
+    match read_parts(reading, reader, &mut (), parts) {
+        Ok(checked) => Ok(checked.check.checked(checked.parts)),
+        Err(fault) => Err(fault),
+    }
+}

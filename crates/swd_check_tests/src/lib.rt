@@ -1,0 +1,5 @@
+//! The tests of what `swd check` says of a trace.
+#![tactic(auto)]
+
+#[cfg(test)]
+mod tests;

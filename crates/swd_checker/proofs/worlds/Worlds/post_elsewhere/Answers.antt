@@ -1,0 +1,8 @@
+use Rattle.swd_checker.proofs.HoldingLemmas.{worlds_keep_then}
+use Rattle.swd_checker.proofs.worlds.Worlds.post_elsewhere.Goals as goal
+
+pub returns-clause-keeps : goal.returns-clause-keeps
+returns-clause-keeps c = worlds_keep_then _ _ _ c.add.ensures.keeps c.add-2.ensures.keeps
+
+pub returns-clause-word : goal.returns-clause-word
+returns-clause-word c = λ x d. c.add-2.ensures.keeps.each _ _ (c.add.ensures.adds x d)

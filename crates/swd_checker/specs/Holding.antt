@@ -1,0 +1,29 @@
+-- Lists of worlds, and the targets that they describe.
+use Rattle.std.specs.Prelude.{ℕ, ◌≡◌, ◌<◌, Bool, false, length, slice_index_or, List, Option, Some, None}
+use Rattle.std.specs.List.{Any}
+use Rattle.swd_port.specs.Port.{Target}
+use Rattle.swd_checker.specs.declared.worlds.Kept.{Kept}
+use Rattle.swd_checker.specs.declared.worlds.Worlds.{Worlds}
+use Rattle.swd_checker.specs.Described.{WorldDescribes}
+
+-- the world describes a target, and whether write data is awaited
+pub record KeptDescribes (kept : Kept) (awaited : Bool) (x : Target) : Type 0 where
+  pub awaits : awaited ≡ kept.world.awaits
+  pub target : WorldDescribes kept.world x
+
+pub record KeptIncludes (kept other : Kept) : Type 0 where
+  pub each : (awaited : Bool) (x : Target) → KeptDescribes other awaited x → KeptDescribes kept awaited x
+
+-- one of the worlds describes it, unless there were more of them than are held
+pub record WorldsHold (v : Worlds) (awaited : Bool) (x : Target) : Type 0 where
+  pub held : v.crowded ≡ false → Any (λ kept. KeptDescribes kept awaited x) v.kept.items
+
+-- the second holds what the first does
+pub record WorldsKeep (v now : Worlds) : Type 0 where
+  pub each : (awaited : Bool) (x : Target) → WorldsHold v awaited x → WorldsHold now awaited x
+
+-- a world of the list, and one that includes it and the added one
+abbrev pub IsKeptJoined : List Kept → Kept → Option (ℕ × Kept) → Type 0
+IsKeptJoined items added None = Unit {0}
+IsKeptJoined items added (Some (place, joined)) = (place < length items)
+    × ((kept : Kept) → slice_index_or items place kept ≡ kept → KeptIncludes joined kept) × KeptIncludes joined added
