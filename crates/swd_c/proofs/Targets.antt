@@ -24,7 +24,7 @@ use Rattle.swd_c.specs.Targets.{c_api_ready_memory, c_api_wanted_access}
 -- the same numbers over another device
 pub c_api_fields_elsewhere : {D E : Type 0} (e : E) (fields : ClockedFields) (c : Clocked D) → CApiNumbers fields c
     → CApiNumbers fields (clocked_over e c)
-c_api_fields_elsewhere e fields c n = record { has = n.has; late = n.late }
+c_api_fields_elsewhere e fields c n = record { has = n.has; late = n.late; unidentified = n.unidentified }
 
 -- numbers that a target has over a memory aren't those of no target
 pub c_api_is_over_a_bus : (fields : ClockedFields) (c : Clocked PlainMemory) → CApiNumbers fields c

@@ -23,10 +23,11 @@ use Rattle.swd_clocked.specs.Fields.{clocked_fields}
 use Rattle.swd_clocked.specs.Frames.{cycles_counted, idle_frame}
 use Rattle.swd_c.specs.declared.target.SwdTransfer.{SwdTransfer}
 
--- a target has these fields, and its transfers take effect late
+-- a target has these fields, its transfers take effect late, and it has no IDR
 pub record CApiNumbers {D : Type 0} (fields : ClockedFields) (c : Clocked D) : Type 0 where
   pub has : clocked_fields c ≡ fields
   pub late : (clocked_quirks c).late ≡ true
+  pub unidentified : (clocked_quirks c).idr ≡ None
 
 -- a target with these fields over a device, as a bus, of which this holds
 abbrev pub CApiHasTarget : {D : Type 0} → D → ClockedFields → (Clocked D → Type 0) → Type 0
@@ -40,9 +41,9 @@ CApiHasNoTarget fields = (c : Clocked Bus) → CApiNumbers fields c → ⊥
 abbrev pub c_api_flag : ℕ → Bool
 c_api_flag n = not (n == 0)
 
--- the quirks of a new target, whose transfers take effect late
+-- the quirks of a new target, whose transfers take effect late, and which has no IDR
 abbrev pub c_api_target_quirks : Bool → ℕ → Quirks
-c_api_target_quirks wraps filler = record { wrap = wraps; late = true; filler = filler }
+c_api_target_quirks wraps filler = record { wrap = wraps; late = true; filler = filler; idr = None }
 
 pub record CApiTargetIsMade (wraps : Bool) (filler : ℕ) (b : Bus) (c : Clocked Bus) : Type 0 where
   pub state : clocked_state bus_itself c ≡ port_made_target 0x2ba0_1477 b

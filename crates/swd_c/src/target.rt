@@ -52,6 +52,7 @@ pub extern "C" fn swd_target_new(target: &mut ClockedFields, wraps: u8, filler: 
         wrap: wraps != 0,
         late: true,
         filler,
+        idr: None,
     };
     *target = Clocked::new(Memory::<Nowhere>::window(0, None), quirks).fields();
 }

@@ -130,27 +130,31 @@ impl<D: Device> Clocked<D> {
         self.cycles = self.cycles.saturating_add(1);
         self.frame.note(&mut self.contended, driven);
         match self.frame {
-            Frame::Asks(bits, count) => {
+            Frame::Asks { bits, count } => {
                 self.ask_bit(bits, count, bit);
                 bit
             }
-            Frame::Lost(ones) => {
+            Frame::Lost { ones } => {
                 self.lost_bit(ones, bit);
                 bit
             }
             Frame::High => {
                 if !bit {
-                    self.frame = Frame::Switches(1);
+                    self.frame = Frame::Switches { place: 1 };
                 }
                 bit
             }
-            Frame::Switches(place) => {
+            Frame::Switches { place } => {
                 self.switch_bit(place, bit);
                 bit
             }
-            Frame::Replies(reply, line, place) => self.reply_bit(reply, line, place, bit),
-            Frame::Drives(bits, left) => self.drive_bit(bits, left, bit),
-            Frame::Awaits(register, bits, place) => {
+            Frame::Replies { reply, line, place } => self.reply_bit(reply, line, place, bit),
+            Frame::Drives { bits, left } => self.drive_bit(bits, left, bit),
+            Frame::Awaits {
+                register,
+                bits,
+                place,
+            } => {
                 self.await_bit(register, bits, place, bit);
                 bit
             }
@@ -189,7 +193,10 @@ impl<D: Device> Clocked<D> {
         if count == 7 {
             self.byte(bits);
         } else {
-            self.frame = Frame::Asks(bits, count + 1);
+            self.frame = Frame::Asks {
+                bits,
+                count: count + 1,
+            };
         }
     }
 
@@ -204,7 +211,11 @@ impl<D: Device> Clocked<D> {
     {
         match Request::of(bits) {
             Some(request) => self.request(request),
-            None => self.frame = Frame::Lost(bits.leading_ones() as u8),
+            None => {
+                self.frame = Frame::Lost {
+                    ones: bits.leading_ones() as u8,
+                }
+            }
         }
     }
 
@@ -229,9 +240,9 @@ impl<D: Device> Clocked<D> {
             → clocked_device self.new ≡ clocked_device self.old }
     {
         if !bit {
-            self.frame = Frame::Lost(0);
+            self.frame = Frame::Lost { ones: 0 };
         } else if ones < 49 {
-            self.frame = Frame::Lost(ones + 1);
+            self.frame = Frame::Lost { ones: ones + 1 };
         } else {
             self.target.line_reset(false);
             self.frame = Frame::High;
@@ -249,9 +260,9 @@ impl<D: Device> Clocked<D> {
     {
         if bit == (SWITCH >> place & 1 == 1) {
             self.frame = if place == 15 {
-                Frame::Lost(0)
+                Frame::Lost { ones: 0 }
             } else {
-                Frame::Switches(place + 1)
+                Frame::Switches { place: place + 1 }
             };
         } else {
             self.other_bit(place, bit);
@@ -267,22 +278,10 @@ impl<D: Device> Clocked<D> {
         ensures quiet { (clocked_quirks self.old).late ≡ true → (clocked_state D.bus self.old).pending ≡ None
             → clocked_device self.new ≡ clocked_device self.old }
     {
-        match place {
-            1 => self.ask_bit(255, 0, bit),
-            2 => self.ask_bit(255, 1, bit),
-            3 => self.ask_bit(255, 2, bit),
-            4 => self.ask_bit(255, 3, bit),
-            5 => self.ask_bit(255, 4, bit),
-            6 => self.ask_bit(127, 5, bit),
-            7 => self.ask_bit(63, 6, bit),
-            8 => self.ask_bit(159, 7, bit),
-            9 => self.lost_bit(2, bit),
-            10 => self.lost_bit(3, bit),
-            11 => self.lost_bit(4, bit),
-            12 => self.lost_bit(0, bit),
-            13 => self.lost_bit(0, bit),
-            14 => self.lost_bit(1, bit),
-            _ => self.lost_bit(2, bit),
+        match Frame::unswitched(place) {
+            Frame::Asks { bits, count } => self.ask_bit(bits, count, bit),
+            Frame::Lost { ones } => self.lost_bit(ones, bit),
+            _ => {}
         }
     }
 
@@ -299,7 +298,11 @@ impl<D: Device> Clocked<D> {
         self.frame = if place == 3 {
             Frame::after_reply(line)
         } else {
-            Frame::Replies(reply, line, place + 1)
+            Frame::Replies {
+                reply,
+                line,
+                place: place + 1,
+            }
         };
         if place == 0 {
             bit
@@ -322,7 +325,10 @@ impl<D: Device> Clocked<D> {
             self.frame = Frame::IDLE;
             return bit;
         }
-        self.frame = Frame::Drives(bits / 2, left - 1);
+        self.frame = Frame::Drives {
+            bits: bits / 2,
+            left: left - 1,
+        };
         bits % 2 == 1
     }
 
@@ -337,12 +343,20 @@ impl<D: Device> Clocked<D> {
             → clocked_device self.new ≡ clocked_device self.old }
     {
         if place == 0 {
-            self.frame = Frame::Awaits(register, bits, 1);
+            self.frame = Frame::Awaits {
+                register,
+                bits,
+                place: 1,
+            };
             return;
         }
         let bits = bits / 2 + u64::from(bit) * 0x1_0000_0000;
         if place < 33 {
-            self.frame = Frame::Awaits(register, bits, place + 1);
+            self.frame = Frame::Awaits {
+                register,
+                bits,
+                place: place + 1,
+            };
             return;
         }
         self.arrive(register, bits);

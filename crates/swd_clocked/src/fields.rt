@@ -2,7 +2,7 @@
 ghost use Rattle.std.specs.Prelude.{◌≡◌, ◌<◌, ◌^◌, IfSome, IsSome};
 ghost use Rattle.swd_port.specs.Moving.{port_bits_driven};
 ghost use Rattle.swd_clocked.specs.declared.clocked.Clocked.{Clocked as ClockedType};
-ghost use Rattle.swd_clocked.specs.Clocks.{clocked_device};
+ghost use Rattle.swd_clocked.specs.Clocks.{clocked_device, clocked_quirks};
 ghost use Rattle.swd_clocked.specs.Fields.{clocked_fields, frame_fields, clocked_line_fields, clocked_line_with};
 ghost use Rattle.swd_clocked.specs.Fields.{plain_frame, clocked_register_number, clocked_reply_number};
 ghost use Rattle.swd_clocked.specs.Fields.{restored_clocked, restored_frame, restored_clocked_line};
@@ -14,9 +14,9 @@ use crate::frame::Frame;
 use swd_port::{AfterAck, Count, Register, Reply};
 use swd_target::TargetFields;
 
-/// The state of a clocked target without its device, as integers laid out as in C. [`Clocked::fields`] returns it, and
-/// [`clocked`](ClockedFields::clocked) restores a target over a device. Any values are safe: `clocked` rejects those of
-/// no target, such as zeros.
+/// The state of a clocked target without its device and its IDR, as integers laid out as in C. [`Clocked::fields`]
+/// returns it, and [`clocked`](ClockedFields::clocked) restores a target over a device, without an IDR. Any values are
+/// safe: `clocked` rejects those of no target, such as zeros.
 ///
 /// `cycles` is the number of cycles so far. The meaning of the other fields is private to this crate.
 #[repr(C)]
@@ -194,23 +194,27 @@ impl FrameFields {
         ensures { result ≡ frame_fields frame }
     {
         match frame {
-            Frame::Asks(byte, count) => FrameFields {
-                byte,
+            Frame::Asks { bits, count } => FrameFields {
+                byte: bits,
                 ..FrameFields::plain(1, count)
             },
-            Frame::Lost(ones) => FrameFields::plain(2, ones),
+            Frame::Lost { ones } => FrameFields::plain(2, ones),
             Frame::High => FrameFields::plain(3, 0),
-            Frame::Switches(place) => FrameFields::plain(4, place),
-            Frame::Replies(reply, line, place) => FrameFields {
+            Frame::Switches { place } => FrameFields::plain(4, place),
+            Frame::Replies { reply, line, place } => FrameFields {
                 line: LineFields::of(line),
                 reply: number_of_reply(reply),
                 ..FrameFields::plain(5, place)
             },
-            Frame::Drives(bits, left) => FrameFields {
+            Frame::Drives { bits, left } => FrameFields {
                 line: line_with(bits, 0),
                 ..FrameFields::plain(6, left)
             },
-            Frame::Awaits(register, bits, place) => FrameFields {
+            Frame::Awaits {
+                register,
+                bits,
+                place,
+            } => FrameFields {
                 line: line_with(bits, number_of_register(register)),
                 ..FrameFields::plain(7, place)
             },
@@ -224,16 +228,31 @@ impl FrameFields {
         ensures place { frame_place result < frame_limit result }
     {
         match self.kind {
-            1 => Frame::Asks(self.byte, self.place % 8),
-            2 => Frame::Lost(self.place % 50),
+            1 => Frame::Asks {
+                bits: self.byte,
+                count: self.place % 8,
+            },
+            2 => Frame::Lost {
+                ones: self.place % 50,
+            },
             3 => Frame::High,
-            4 => Frame::Switches(self.place % 16),
-            5 => Frame::Replies(reply_with(self.reply), self.line.line(), self.place % 4),
-            6 => Frame::Drives(self.line.bits % (1 << 33), self.place % 34),
-            7 => {
-                let register = register_with(self.line.register);
-                Frame::Awaits(register, self.line.bits % (1 << 33), self.place % 34)
-            }
+            4 => Frame::Switches {
+                place: self.place % 16,
+            },
+            5 => Frame::Replies {
+                reply: reply_with(self.reply),
+                line: self.line.line(),
+                place: self.place % 4,
+            },
+            6 => Frame::Drives {
+                bits: self.line.bits % (1 << 33),
+                left: self.place % 34,
+            },
+            7 => Frame::Awaits {
+                register: register_with(self.line.register),
+                bits: self.line.bits % (1 << 33),
+                place: self.place % 34,
+            },
             _ => Frame::Passes,
         }
     }
@@ -248,10 +267,11 @@ fn as_many(cycles: u64) -> u64
 }
 
 impl ClockedFields {
-    /// Returns a clocked target with these fields over a device, or `None` if no target has them.
+    /// Returns a clocked target with these fields over a device, without an IDR, or `None` if no target has them.
     pub fn clocked<D: Drop>(&self, device: D) -> Option<Clocked<D>>
         ensures found { (c : ClockedType D) → clocked_fields c ≡ self.now → IsSome result }
-        ensures same { IfSome result (λ c. (clocked_fields c ≡ self.now) × (clocked_device c ≡ device)) }
+        ensures same { IfSome result (λ c. (clocked_fields c ≡ self.now) × (clocked_device c ≡ device)
+            × ((clocked_quirks c).idr ≡ None)) }
     {
         let clocked = self.read(device);
         if clocked.fields() == *self {
@@ -264,6 +284,7 @@ impl ClockedFields {
     fn read<D>(&self, device: D) -> Clocked<D>
         ensures numbers { clocked_fields result ≡ restored_clocked self.now }
         ensures device { clocked_device result ≡ device }
+        ensures unidentified { (clocked_quirks result).idr ≡ None }
     {
         Clocked {
             target: self.target.target(device),
@@ -276,7 +297,7 @@ impl ClockedFields {
 }
 
 impl<D> Clocked<D> {
-    /// Returns the fields of the target, without its device.
+    /// Returns the fields of the target, without its device and its IDR.
     pub fn fields(&self) -> ClockedFields
         ensures { result ≡ clocked_fields self.now }
     {

@@ -163,7 +163,7 @@ impl<D: Device, A: Allocator> FaultyClocked<D, A> {
         ensures none { IfNone result ((q : Request) → IsLastRequestCycle (marked_clocked_frame self.now) bit q → ⊥) }
     {
         match self.clocked.frame {
-            Frame::Asks(bits, 7) => Request::of(bits / 2 + u8::from(bit) * 128),
+            Frame::Asks { bits, count: 7 } => Request::of(bits / 2 + u8::from(bit) * 128),
             _ => None,
         }
     }
@@ -228,9 +228,9 @@ impl<D: Device, A: Allocator> FaultyClocked<D, A> {
         ensures { result ≡ mark_changes_cycle (marked_clocked_frame self.now) self.now.mark driven }
     {
         match (self.mark, self.clocked.frame) {
-            (Mark::Mute(place), Frame::Replies(_, _, now)) => now == place + 1,
-            (Mark::Flip(place), Frame::Drives(_, left)) => left + place == 33,
-            (Mark::Flip(place), Frame::Awaits(_, _, now)) => driven && now == place + 1,
+            (Mark::Mute(place), Frame::Replies { place: now, .. }) => now == place + 1,
+            (Mark::Flip(place), Frame::Drives { left, .. }) => left + place == 33,
+            (Mark::Flip(place), Frame::Awaits { place: now, .. }) => driven && now == place + 1,
             _ => false,
         }
     }

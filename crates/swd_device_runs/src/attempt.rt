@@ -111,6 +111,7 @@ pub fn is_once<S: Simulated + Drop>(
         wrap: true,
         late,
         filler: 0,
+        idr: None,
     };
     let target = S::simulate(alloc, Registers::new(READS), quirks, plan)?;
     let stage = begun(alloc, &ACCESSES, target)?;

@@ -15,8 +15,8 @@ const MOST: u32 = 65_536;
 /// The transfers that the target's log has room for.
 const ROOM: u32 = 4 * MOST;
 
-/// The requests of a list of writes at consecutive addresses: the opening, DRW for each, and in each kilobyte TAR before
-/// its first word and RDBUFF after its last one.
+/// The requests of a list of writes at consecutive addresses: the opening, DRW for each, and in each kilobyte TAR
+/// before its first word and RDBUFF after its last one.
 const REQUESTS: usize = 9 + 65_536 + 2 * 256;
 
 /// Makes 65,536 writes, and reads their words in one block. Returns whether each is answered as it was made.

@@ -18,6 +18,7 @@ const QUIRKS: Quirks = Quirks {
     wrap: true,
     late: false,
     filler: 0,
+    idr: None,
 };
 
 /// Creates a target with so many words of memory, whose log has room for so many transfers.

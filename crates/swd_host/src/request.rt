@@ -7,7 +7,40 @@ ghost use Rattle.swd_host.specs.Requests.{engine_reread_job, engine_job_is_exemp
 use crate::flags::Flags;
 use crate::task::Task;
 use swd_bits::Request;
-use swd_port::Register;
+use swd_port::{Abort, Csw, CtrlStat, Register, Select};
+
+// SELECT for access port 0 and the banks 0.
+const FIRST_ACCESS_PORT: Select = Select {
+    apsel: 0,
+    apbanksel: 0,
+    dpbanksel: 0,
+};
+
+// CSW for transfers of words, each of which increments TAR.
+const WORD_TRANSFERS: Csw = Csw {
+    size: 2,
+    addr_inc: 1,
+    device_en: false,
+    tr_in_prog: false,
+    upper: 0x23,
+};
+
+// Returns the word of ABORT that clears all sticky flags.
+fn clear_all() -> u32
+    ensures { result ≡ 0x0000_001e }
+{
+    Abort::STKCMPCLR.bits()
+        + Abort::STKERRCLR.bits()
+        + Abort::WDERRCLR.bits()
+        + Abort::ORUNERRCLR.bits()
+}
+
+// Returns the word of CTRL/STAT that requests debug power and system power.
+fn power_up() -> u32
+    ensures { result ≡ 0x5000_0000 }
+{
+    CtrlStat::CDBGPWRUPREQ.bits() + CtrlStat::CSYSPWRUPREQ.bits()
+}
 
 /// A place in one of the two sequences of a host: the opening, and an access.
 #[derive(Clone, Copy, Debug, PartialEq, Eq)]
@@ -89,10 +122,10 @@ impl HostStep {
         ensures { result ≡ engine_word_for (Job.At self) task }
     {
         match self {
-            HostStep::WriteAbort => Some(0x0000_001e),
-            HostStep::Select => Some(0x0000_0000),
-            HostStep::Power => Some(0x5000_0000),
-            HostStep::Configure => Some(0x2300_0012),
+            HostStep::WriteAbort => Some(clear_all()),
+            HostStep::Select => Some(FIRST_ACCESS_PORT.bits()),
+            HostStep::Power => Some(power_up()),
+            HostStep::Configure => Some(WORD_TRANSFERS.bits()),
             HostStep::WriteTar => Some(task.address()),
             HostStep::Transfer => match task {
                 Task::Read(_) | Task::BurstRead(_) => None,

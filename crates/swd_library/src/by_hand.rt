@@ -14,6 +14,7 @@ const QUIRKS: Quirks = Quirks {
     wrap: true,
     late: false,
     filler: 0,
+    idr: None,
 };
 
 /// The pins SWCLK and SWDIO. Here they drive a simulated target; on a board they are registers.

@@ -59,6 +59,7 @@ pub const QUIRKS: Quirks = Quirks {
     wrap: true,
     late: false,
     filler: 0,
+    idr: None,
 };
 
 /// Returns the writes that load the image.

@@ -14,6 +14,7 @@ pub fn answer(
         wrap: true,
         late: false,
         filler: 0,
+        idr: None,
     };
     let memory = Memory::new(alloc, 0x2000_0000, 16, 16)?;
     let target = FaultyClocked::new(memory, quirks, Vec::new(alloc));

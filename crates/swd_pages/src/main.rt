@@ -49,6 +49,7 @@ const QUIRKS: Quirks = Quirks {
     wrap: true,
     late: false,
     filler: 0,
+    idr: None,
 };
 
 // A line without a target: nobody drives it.

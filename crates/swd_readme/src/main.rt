@@ -11,6 +11,7 @@ fn main(rt: HostRuntime) -> anyhow::Result<()> {
         wrap: true,
         late: false,
         filler: 0,
+        idr: None,
     };
     // The wire: here a simulated target. For a probe, implement `Transport` and call `swd_host::run_over_transport`.
     let memory = Memory::new(alloc, 0x2000_0000, 16, 16)?;

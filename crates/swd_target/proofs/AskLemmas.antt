@@ -127,7 +127,7 @@ settled_at mark waits q s deaf wait =
 -- the simulated target after a reply
 abbrev pub simulated_after_reply : Mark → Request → Simulation → Reply → Register → Simulation
 simulated_after_reply mark q a reply r =
-    simulation_accepted_after reply (simulation_replied (is_port_wait mark) reply r q.ap a)
+    simulation_accepted_after reply (simulation_replied (is_port_wait mark) reply r q a)
 
 -- what a request is exactly, from its parts
 pub record SimulatedExactly (mark : Mark) (q : Request) (s t : Simulation) (reply : Reply) (phase : AfterAck) : Type 0
@@ -143,8 +143,8 @@ asks_exactly : (mark : Mark) (waits : Bool) (q : Request) (s a b t : Simulation)
     → port_register a.state.select q ≡ r
     → reply ≡ target_reply_when waits r (target_answer_at r q.ap a.state)
     → phase ≡ port_line_after reply (port_phase_after q.read r None
-    (port_value_in (simulation_choice_at (is_port_wait mark) r a) r a.state)) Idle
-    → b ≡ simulation_replied (is_port_wait mark) reply r q.ap a
+    (port_value_in (simulation_choice_at (is_port_wait mark) r q.addr a) r a.state)) Idle
+    → b ≡ simulation_replied (is_port_wait mark) reply r q a
     → t ≡ simulation_accepted_after reply b
     → SimulatedExactly mark q s t reply (target_line_under mark phase)
 asks_exactly mark waits q s a b t r reply phase deaf wait named settles same replies phases after last =
@@ -160,22 +160,25 @@ asks_exactly mark waits q s a b t r reply phase deaf wait named settles same rep
     subst (λ (x : Simulation). reply ≡ port_reply_under mark (port_register x.state.select q)
     (target_answer_at (port_register x.state.select q) q.ap x.state)) (sym S) there in
     let lines : target_line_under mark phase ≡ port_line_after reply
-    (port_phase_after q.read r (port_flip_of mark) (port_value_in (simulation_choice_at (is_port_wait mark) r a) r
+    (port_phase_after q.read r (port_flip_of mark)
+    (port_value_in (simulation_choice_at (is_port_wait mark) r q.addr a) r
     a.state)) Idle =
     ap (target_line_under mark) phases
-    ∙ phase_idle reply q.read r (port_flip_of mark) (port_value_in (simulation_choice_at (is_port_wait mark) r a) r
+    ∙ phase_idle reply q.read r (port_flip_of mark)
+    (port_value_in (simulation_choice_at (is_port_wait mark) r q.addr a) r
     a.state) in
     let lined : target_line_under mark phase ≡ port_line_after reply
     (port_phase_after q.read (port_register a.state.select q) (port_flip_of mark)
-    (port_value_in (simulation_choice_at (is_port_wait mark) (port_register a.state.select q) a)
+    (port_value_in (simulation_choice_at (is_port_wait mark) (port_register a.state.select q) q.addr a)
     (port_register a.state.select q) a.state)) Idle =
     subst (λ (x : Register). target_line_under mark phase ≡ port_line_after reply
-    (port_phase_after q.read x (port_flip_of mark) (port_value_in (simulation_choice_at (is_port_wait mark) x a) x
+    (port_phase_after q.read x (port_flip_of mark)
+    (port_value_in (simulation_choice_at (is_port_wait mark) x q.addr a) x
     a.state)) Idle)
     (sym same) lines in
     let P = λ (x : Simulation) (y : Reply). target_line_under mark phase ≡ port_line_after y
     (port_phase_after q.read (port_register x.state.select q) (port_flip_of mark)
-    (port_value_in (simulation_choice_at (is_port_wait mark) (port_register x.state.select q) x)
+    (port_value_in (simulation_choice_at (is_port_wait mark) (port_register x.state.select q) q.addr x)
     (port_register x.state.select q) x.state)) Idle in
     let ended : t ≡ simulated_after_reply mark q a reply r = last ∙ ap (simulation_accepted_after reply) after in
     let there' : t ≡ simulated_after_reply mark q a reply (port_register a.state.select q) =
@@ -199,13 +202,14 @@ pub simulated_answers_under : {D : Type 0} (bus : D → Bus) (mark : Mark) (wait
     → target_simulation bus a ≡ target_settled_when waits r q.ap (target_simulation bus s)
     → reply ≡ target_reply_when waits r (target_answer_at r q.ap (target_state bus a))
     → IsPendingSettled reply r a.pending
-    → IsPortWordRead reply q.read (port_value_in (target_choice_at waits r a) r (target_state bus a))
+    → IsPortWordRead reply q.read (port_value_in (target_choice_at waits r q.addr a) r (target_state bus a))
     → phase ≡ port_line_after reply (port_phase_after q.read r None
-    (port_value_in (target_choice_at waits r a) r (target_state bus a))) Idle
+    (port_value_in (target_choice_at waits r q.addr a) r (target_state bus a))) Idle
     → phase ≡ port_line_after reply (port_phase_after q.read r None
-    (port_value_in (simulation_choice_at waits r (target_simulation bus a)) r (target_simulation bus a).state)) Idle
-    → target_state bus b ≡ port_target_after (target_choice_at waits r a) reply r q.ap (target_state bus a)
-    → target_simulation bus b ≡ simulation_replied waits reply r q.ap (target_simulation bus a)
+    (port_value_in (simulation_choice_at waits r q.addr (target_simulation bus a)) r (target_simulation bus a).state))
+    Idle
+    → target_state bus b ≡ port_target_after (target_choice_at waits r q.addr a) reply r q.ap (target_state bus a)
+    → target_simulation bus b ≡ simulation_replied waits reply r q (target_simulation bus a)
     → TargetTransfers (target_state bus b) (target_state bus t)
     → target_simulation bus t ≡ simulation_accepted_after reply (target_simulation bus b)
     → TargetAnswersUnder bus mark q s reply (target_line_under mark phase) t
@@ -213,18 +217,18 @@ simulated_answers_under bus mark waits q s a b t r reply phase legal deaf wait n
     simulation_settled word lawful exact after after' later last =
     let law = λ (l : PortLink) (n : PortTally). asks_under l n (target_state bus s) (target_state bus a)
     (target_state bus b)
-    (target_state bus t) mark r reply (target_choice_at waits r a) q (target_line_under mark phase)
-    legal (target_choice_at_is_choice waits r a) (target_may_be_late mark waits r a wait) before same
+    (target_state bus t) mark r reply (target_choice_at waits r q.addr a) q (target_line_under mark phase)
+    legal (target_choice_at_is_choice waits r q.addr a) (target_may_be_late mark waits r q.addr a wait) before same
     (same_reply mark waits r (target_answer_at r q.ap (target_state bus a)) deaf wait ∙ sym replies) simulation_settled
     word (ap (λ (x : AfterAck). port_line_after reply (target_line_under mark x) l.line) lawful
     ∙ phase_under reply q.read r (port_flip_of mark)
-    (port_value_in (target_choice_at waits r a) r (target_state bus a)) l.line) after later in
+    (port_value_in (target_choice_at waits r q.addr a) r (target_state bus a)) l.line) after later in
     let x = asks_exactly mark waits q (target_simulation bus s) (target_simulation bus a) (target_simulation bus b)
     (target_simulation bus t) r reply phase deaf wait named settles same replies (exact ∙ ap (λ w. port_line_after reply
     (port_phase_after q.read r None
-    (port_value_in (simulation_choice_at w r (target_simulation bus a)) r (target_simulation bus a).state)) Idle)
+    (port_value_in (simulation_choice_at w r q.addr (target_simulation bus a)) r (target_simulation bus a).state)) Idle)
     (sym wait))
-    (after' ∙ ap (λ w. simulation_replied w reply r q.ap (target_simulation bus a)) (sym wait))
+    (after' ∙ ap (λ w. simulation_replied w reply r q (target_simulation bus a)) (sym wait))
     last in
     record { step = law; replies = x.replies; phases = x.phases; exact = x.exact }
 

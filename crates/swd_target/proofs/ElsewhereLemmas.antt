@@ -153,13 +153,13 @@ state_over m c Silent r ap_ x = refl
 abbrev pub simulation_placed : Bus → Simulation → Simulation
 simulation_placed m s = record s { state = record s.state { memory = m } }
 
-exact_over : (m : Bus) (waits : Bool) (reply : Reply) (r : Register) (ap_ : Bool) (s : Simulation)
-    → simulation_placed m (simulation_replied waits reply r ap_ s)
-    ≡ simulation_replied waits reply r ap_ (simulation_placed m s)
-exact_over m waits Okay r ap_ s = refl
-exact_over m waits Waits r ap_ s = refl
-exact_over m waits Faults r ap_ s = refl
-exact_over m waits Silent r ap_ s = refl
+exact_over : (m : Bus) (waits : Bool) (reply : Reply) (r : Register) (q : Request) (s : Simulation)
+    → simulation_placed m (simulation_replied waits reply r q s)
+    ≡ simulation_replied waits reply r q (simulation_placed m s)
+exact_over m waits Okay r q s = refl
+exact_over m waits Waits r q s = refl
+exact_over m waits Faults r q s = refl
+exact_over m waits Silent r q s = refl
 
 -- nor does it change the quirks
 target_reply_keeps_memory : (c : Choice) (reply : Reply) (r : Register) (ap_ : Bool) (x : State)
@@ -178,11 +178,11 @@ pub quirks_kept_by_accepting : (s : Simulation) → (simulation_accepted s).quir
 quirks_kept_by_accepting s = quirks_if s.quirks.late (simulation_transferred s) s refl
 
 -- a request doesn't change the quirks
-pub quirks_kept_by_request : {D : Type 0} (bus : D → Bus) (waits : Bool) (reply : Reply) (r : Register) (ap_ : Bool)
-    (s a b t : Target D) → target_simulation bus a ≡ target_settled_when waits r ap_ (target_simulation bus s)
-    → target_simulation bus b ≡ simulation_replied waits reply r ap_ (target_simulation bus a)
+pub quirks_kept_by_request : {D : Type 0} (bus : D → Bus) (waits : Bool) (reply : Reply) (r : Register) (q : Request)
+    (s a b t : Target D) → target_simulation bus a ≡ target_settled_when waits r q.ap (target_simulation bus s)
+    → target_simulation bus b ≡ simulation_replied waits reply r q (target_simulation bus a)
     → target_simulation bus t ≡ simulation_accepted_after reply (target_simulation bus b) → t.quirks ≡ s.quirks
-quirks_kept_by_request bus waits reply r ap_ s a b t settles after accepts =
+quirks_kept_by_request bus waits reply r q s a b t settles after accepts =
     let first : a.quirks ≡ s.quirks = ap (λ (x : Simulation). x.quirks) settles
     ∙ quirks_if _ (target_simulation bus s) (simulation_transferred (target_simulation bus s)) refl in
     let second : b.quirks ≡ a.quirks = ap (λ (x : Simulation). x.quirks) after in
@@ -192,26 +192,26 @@ quirks_kept_by_request bus waits reply r ap_ s a b t settles after accepts =
     third ∙ (second ∙ first)
 
 -- up to its reply a request leaves the quirk `late` set
-pub late_quirk_kept : {D : Type 0} (bus : D → Bus) (waits : Bool) (reply : Reply) (r : Register) (ap_ : Bool)
+pub late_quirk_kept : {D : Type 0} (bus : D → Bus) (waits : Bool) (reply : Reply) (r : Register) (q : Request)
     (s a b : Target D)
     → s.quirks.late ≡ true
-    → target_simulation bus a ≡ target_settled_when waits r ap_ (target_simulation bus s)
-    → target_simulation bus b ≡ simulation_replied waits reply r ap_ (target_simulation bus a)
+    → target_simulation bus a ≡ target_settled_when waits r q.ap (target_simulation bus s)
+    → target_simulation bus b ≡ simulation_replied waits reply r q (target_simulation bus a)
     → b.quirks.late ≡ true
-late_quirk_kept bus waits reply r ap_ s a b late settles after =
+late_quirk_kept bus waits reply r q s a b late settles after =
     let first : a.quirks ≡ s.quirks = ap (λ (x : Simulation). x.quirks) settles
     ∙ quirks_if _ (target_simulation bus s) (simulation_transferred (target_simulation bus s)) refl in
     let second : b.quirks ≡ a.quirks = ap (λ (x : Simulation). x.quirks) after in
     ap (λ (x : Quirks). x.late) (second ∙ first) ∙ late
 
 -- where a request left the log unchanged, and nothing took effect after the reply, it was unchanged before the reply
-pub target_log_before_reply : {D : Type 0} (bus : D → Bus) (waits : Bool) (reply : Reply) (r : Register) (ap_ : Bool)
+pub target_log_before_reply : {D : Type 0} (bus : D → Bus) (waits : Bool) (reply : Reply) (r : Register) (q : Request)
     (s a b t : Target D)
-    → target_state bus b ≡ port_target_after (target_choice_at waits r a) reply r ap_ (target_state bus a)
+    → target_state bus b ≡ port_target_after (target_choice_at waits r q.addr a) reply r q.ap (target_state bus a)
     → t ≡ b → (bus t.device).log ≡ (bus s.device).log → (bus a.device).log ≡ (bus s.device).log
-target_log_before_reply bus waits reply r ap_ s a b t after last log =
+target_log_before_reply bus waits reply r q s a b t after last log =
     let memory : bus b.device ≡ bus a.device = ap (λ (x : State). x.memory) after
-    ∙ target_reply_keeps_memory (target_choice_at waits r a) reply r ap_ (target_state bus a) in
+    ∙ target_reply_keeps_memory (target_choice_at waits r q.addr a) reply r q.ap (target_state bus a) in
     ap (λ (m : Bus). m.log) (sym memory) ∙ (ap (λ (x : Target _). (bus x.device).log) (sym last) ∙ log)
 
 -- the word that stands for an unknown one is the target's own
@@ -250,13 +250,14 @@ pub target_answers_elsewhere : {D : Type 0} (bus : D → Bus) (m : Bus) (mark : 
     → TargetStays bus s a → IsTargetReadyIf waits m s → s.quirks.late ≡ true
     → reply ≡ target_reply_when waits r (target_answer_at r q.ap (target_state bus a))
     → IsPendingSettled reply r a.pending
-    → IsPortWordRead reply q.read (port_value_in (target_choice_at waits r a) r (target_state bus a))
+    → IsPortWordRead reply q.read (port_value_in (target_choice_at waits r q.addr a) r (target_state bus a))
     → phase ≡ port_line_after reply (port_phase_after q.read r None
-    (port_value_in (target_choice_at waits r a) r (target_state bus a))) Idle
+    (port_value_in (target_choice_at waits r q.addr a) r (target_state bus a))) Idle
     → phase ≡ port_line_after reply (port_phase_after q.read r None
-    (port_value_in (simulation_choice_at waits r (target_simulation bus a)) r (target_simulation bus a).state)) Idle
-    → target_state bus b ≡ port_target_after (target_choice_at waits r a) reply r q.ap (target_state bus a)
-    → target_simulation bus b ≡ simulation_replied waits reply r q.ap (target_simulation bus a)
+    (port_value_in (simulation_choice_at waits r q.addr (target_simulation bus a)) r (target_simulation bus a).state))
+    Idle
+    → target_state bus b ≡ port_target_after (target_choice_at waits r q.addr a) reply r q.ap (target_state bus a)
+    → target_simulation bus b ≡ simulation_replied waits reply r q (target_simulation bus a)
     → TargetAnswersUnder bus_itself mark q (target_over_device m s) reply (target_line_under mark phase)
     (target_over_device m b)
 target_answers_elsewhere bus m mark waits q s a b r reply phase legal deaf wait named same kept ready late replies
@@ -279,17 +280,17 @@ target_answers_elsewhere bus m mark waits q s a b r reply phase legal deaf wait 
     (simulation_same_placed bus m s a kept.exact ∙ settles_over bus_itself waits r q.ap (target_over_device m s) ready
     now)
     replies settled (subst (λ f. IsPortWordRead reply q.read
-    (port_value_in (record (target_choice_at waits r a) { filler = f }) r
+    (port_value_in (record (target_choice_at waits r q.addr a) { filler = f }) r
     (target_state bus_itself (target_over_device m a))))
     (sym (stand_over m r a)) word) (lawful ∙ ap (λ f. port_line_after reply
-    (port_phase_after q.read r None (port_value_in (record (target_choice_at waits r a) { filler = f }) r
+    (port_phase_after q.read r None (port_value_in (record (target_choice_at waits r q.addr a) { filler = f }) r
     (target_state bus_itself (target_over_device m a)))) Idle)
     (sym (stand_over m r a))) exact
     (ap (λ (x : State). record x { memory = m }) after
-    ∙ state_over m (target_choice_at waits r a) reply r q.ap (target_state bus a)
-    ∙ ap (λ f. port_target_after (record (target_choice_at waits r a) { filler = f }) reply r q.ap
+    ∙ state_over m (target_choice_at waits r q.addr a) reply r q.ap (target_state bus a)
+    ∙ ap (λ f. port_target_after (record (target_choice_at waits r q.addr a) { filler = f }) reply r q.ap
     (target_state bus_itself (target_over_device m a))) (sym (stand_over m r a)))
-    (ap (simulation_placed m) after' ∙ exact_over m waits reply r q.ap (target_simulation bus a))
+    (ap (simulation_placed m) after' ∙ exact_over m waits reply r q (target_simulation bus a))
     (inl refl) (sym last)
 
 -- the pending transfer is answered alike by two buses

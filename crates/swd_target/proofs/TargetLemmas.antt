@@ -6,8 +6,11 @@ use Rattle.std.specs.Prelude.{is_some, nat_lt, ◌&&◌, ◌+◌, ◌%◌, Some}
 use Rattle.std.specs.Option.{option_and_then}
 use Rattle.swd_port.specs.Bus.{Bus}
 use Rattle.swd_port.specs.Port.{Target as State}
+use Rattle.swd_bits.specs.declared.request.Reg4.{Reg4}
+use Rattle.swd_bits.specs.declared.request.Reg4.TheVariants.{R0, R8, RC}
 use Rattle.swd_port.specs.declared.register.Register.{Register}
-use Rattle.swd_port.specs.declared.register.Register.TheVariants.{ResendRead, CswRead}
+use Rattle.swd_port.specs.declared.register.Register.TheVariants.{ApOtherRead, ResendRead, CswRead}
+use Rattle.swd_port.specs.declared.select.Select.{Select}
 use Rattle.swd_port.specs.declared.state.Drw.{Drw}
 use Rattle.swd_port.specs.declared.state.Reset.{Reset}
 use Rattle.swd_port.specs.declared.state.Reply.{Reply}
@@ -21,6 +24,7 @@ use Rattle.swd_port.specs.Completion.{port_completion, pending_fails, port_tar_n
 use Rattle.swd_port.specs.Asking.{IsPendingSettled, port_has_power}
 use Rattle.swd_target.specs.declared.target.Target.{Target}
 use Rattle.swd_target.specs.Simulations.{Simulation, simulation_is_owed, simulation_transferred}
+use Rattle.swd_target.specs.Simulations.{selects_simulated_idr, simulated_elsewhere, simulated_idr_bank}
 use Rattle.swd_target.specs.Simulations.{simulated_others, simulated_system_late, simulated_next_address}
 use Rattle.swd_target.specs.Targets.{target_state, target_simulation, target_stand_in, target_choice_for}
 use Rattle.swd_target.specs.Targets.{target_answer_at, target_reply_when, target_settled_when}
@@ -39,24 +43,34 @@ others_fit : (r : Register) (upper : ℕ) → simulated_others r upper < 2 ^ 32
 others_fit CswRead upper = omega arith
 others_fit r upper = omega arith
 
+idr_bank_fits : (here : Bool) (addr : Reg4) (idr : ℕ) → (if here then simulated_idr_bank addr idr else 0) < 2 ^ 32
+idr_bank_fits true R8 idr = omega arith
+idr_bank_fits true RC idr = omega arith
+idr_bank_fits true addr idr = omega arith
+idr_bank_fits false addr idr = omega arith
+
+elsewhere_fits : (r : Register) (addr : Reg4) (s : Select) (idr : Option ℕ) → simulated_elsewhere r addr s idr < 2 ^ 32
+elsewhere_fits ApOtherRead addr s (Some idr) = idr_bank_fits (selects_simulated_idr s) addr idr
+elsewhere_fits r addr s idr = omega arith
+
 -- the address and the words that a target chooses are below 2^32
-pub target_choice_at_is_choice : {D : Type 0} (waits : Bool) (r : Register) (t : Target D)
-    → IsPortChoice (target_choice_at waits r t)
-target_choice_at_is_choice waits r t = record {
+pub target_choice_at_is_choice : {D : Type 0} (waits : Bool) (r : Register) (addr : Reg4) (t : Target D)
+    → IsPortChoice (target_choice_at waits r addr t)
+target_choice_at_is_choice waits r addr t = record {
   address = t.tar.fits;
   filler = stand_in-fits r t;
   others = others_fit r t.csw_upper;
-  elsewhere = omega arith;
+  elsewhere = elsewhere_fits r addr t.select t.quirks.idr;
 }
 
 -- and it finds power late where WAIT is asked for alone
-pub target_may_be_late : {D : Type 0} (mark : Mark) (waits : Bool) (r : Register) (t : Target D)
-    → is_port_wait mark ≡ waits → PortMayBeLate mark (target_choice_at waits r t)
-target_may_be_late mark waits r t is e = (sym is ∙ e, system_on_time waits t.debug_up (sym is ∙ e))
+pub target_may_be_late : {D : Type 0} (mark : Mark) (waits : Bool) (r : Register) (addr : Reg4)
+    (t : Target D) → is_port_wait mark ≡ waits → PortMayBeLate mark (target_choice_at waits r addr t)
+target_may_be_late mark waits r addr t is e = (sym is ∙ e, system_on_time waits t.debug_up (sym is ∙ e))
 
 -- so is the choice where no WAIT is asked for
 pub target_choice_is_choice : {D : Type 0} (r : Register) (t : Target D) → IsPortChoice (target_choice_for r t)
-target_choice_is_choice r t = target_choice_at_is_choice false r t
+target_choice_is_choice r t = target_choice_at_is_choice false r R0 t
 
 -- the next address inside a kilobyte
 next_inside : (wraps : Bool) (at : ℕ) → at < 2 ^ 32 → at % 1024 < 1020 → simulated_next_address wraps at ≡ at + 4

@@ -1,15 +1,19 @@
 -- The choices of a simulated target where the port model leaves them: when a transfer takes effect, what TAR becomes at
 -- the end of a kilobyte and at a bus error, what an unknown value reads as, and the bits that CTRL/STAT and CSW read
--- elsewhere than at their fields. Registers elsewhere read 0 and are no bus error. It is all this project's choice.
+-- elsewhere than at their fields. Registers elsewhere are no bus error, and read 0, but for IDR and BASE of a
+-- target that has an IDR. It is all this project's choice.
 use Rattle.std.specs.Prelude.{ℕ, ◌+◌, ◌*◌, ◌/◌, ◌%◌, ◌^◌, not, Bool, true, false, Option, Some, None, unwrap_or}
-use Rattle.std.specs.Prelude.{if◌then◌else◌}
+use Rattle.std.specs.Prelude.{◌==◌, ◌&&◌, if◌then◌else◌}
 use Rattle.swd_bits.specs.declared.request.Request.{Request}
+use Rattle.swd_bits.specs.declared.request.Reg4.{Reg4}
+use Rattle.swd_bits.specs.declared.request.Reg4.TheVariants.{R0, R8, RC}
 use Rattle.swd_port.specs.declared.mark.Mark.{Mark}
 use Rattle.swd_port.specs.declared.register.Register.{Register}
-use Rattle.swd_port.specs.declared.register.Register.TheVariants.{CswRead, CswWrite, DrwRead}
+use Rattle.swd_port.specs.declared.register.Register.TheVariants.{ApOtherRead, CswRead, CswWrite, DrwRead}
 use Rattle.swd_port.specs.declared.state.Drw.{Drw}
 use Rattle.swd_port.specs.declared.state.PowerUp.{PowerUp}
 use Rattle.swd_port.specs.declared.state.PowerUp.TheVariants.{Seen}
+use Rattle.swd_port.specs.declared.select.Select.{Select}
 use Rattle.swd_port.specs.Registers.{csw_of}
 use Rattle.swd_port.specs.declared.state.AfterAck.{AfterAck}
 use Rattle.swd_port.specs.declared.state.AfterAck.TheVariants.{Idle}
@@ -52,25 +56,41 @@ abbrev pub simulated_system_late : Bool → PowerUp → Bool
 simulated_system_late waits Seen = false
 simulated_system_late waits up = waits
 
+-- SELECT names bank f of AP 0, which has IDR and BASE (IHI 0031, C2, "MEM-AP register summary")
+abbrev pub selects_simulated_idr : Select → Bool
+selects_simulated_idr s = (s.apsel == 0) && (s.apbanksel == 15)
+
+-- the words of that bank: IDR at c, and at 8 the BASE of an AP without a ROM table, ffffffff
+abbrev pub simulated_idr_bank : Reg4 → ℕ → ℕ
+simulated_idr_bank R8 idr = 0xffff_ffff
+simulated_idr_bank RC idr = idr % 2 ^ 32
+simulated_idr_bank addr idr = 0
+
+-- what a read elsewhere returns: the words of that bank of a target with an IDR, and 0
+abbrev pub simulated_elsewhere : Register → Reg4 → Select → Option ℕ → ℕ
+simulated_elsewhere ApOtherRead addr s (Some idr) = if selects_simulated_idr s then simulated_idr_bank addr idr else 0
+simulated_elsewhere r addr s idr = 0
+
 -- a choice at a request, where WAIT is asked for or not
-abbrev pub simulated_choice : Bool → Register → ℕ → PowerUp → ℕ → ℕ → Choice
-simulated_choice waits r upper debug_up address filler = record {
+abbrev pub simulated_choice : Bool → Register → ℕ → PowerUp → ℕ → ℕ → ℕ → Choice
+simulated_choice waits r upper debug_up address filler elsewhere = record {
   address = address;
   filler = filler;
   others = simulated_others r upper;
-  elsewhere = 0;
+  elsewhere = elsewhere;
   refuses = false;
   debug_late = waits;
   system_late = simulated_system_late waits debug_up;
 }
 
--- its choice at a request
-abbrev pub simulation_choice_at : Bool → Register → Simulation → Choice
-simulation_choice_at waits r s = simulated_choice waits r s.csw_upper s.state.debug_up 0 s.quirks.filler
+-- its choice at a request for a register at an address
+abbrev pub simulation_choice_at : Bool → Register → Reg4 → Simulation → Choice
+simulation_choice_at waits r addr s = simulated_choice waits r s.csw_upper s.state.debug_up 0 s.quirks.filler
+    (simulated_elsewhere r addr s.state.select s.quirks.idr)
 
 -- its choice in another step
 abbrev pub simulation_choice : Simulation → Choice
-simulation_choice s = simulation_choice_at false DrwRead s
+simulation_choice s = simulation_choice_at false DrwRead R0 s
 
 -- a step of the port model
 abbrev pub simulation_stepped : (Choice → State → State) → Simulation → Simulation
@@ -135,7 +155,7 @@ simulation_phase mark q s =
     let r = port_register a.state.select q in
     port_line_after (simulation_reply mark q s)
     (port_phase_after q.read r (port_flip_of mark)
-    (port_value_in (simulation_choice_at (is_port_wait mark) r a) r a.state)) Idle
+    (port_value_in (simulation_choice_at (is_port_wait mark) r q.addr a) r a.state)) Idle
 
 -- a transfer that an OK accepted takes effect as the quirks say
 abbrev pub simulation_accepted_after : Reply → Simulation → Simulation
@@ -148,10 +168,10 @@ simulation_link_after mark q reply phase l = record {
   line = port_line_after reply phase l.line;
 }
 
--- the simulated target after a reply, where WAIT was asked for or not
-abbrev pub simulation_replied : Bool → Reply → Register → Bool → Simulation → Simulation
-simulation_replied waits reply r ap s =
-    simulation_filled s (port_target_after (simulation_choice_at waits r s) reply r ap s.state)
+-- the simulated target after a reply to a request for a register, where WAIT was asked for or not
+abbrev pub simulation_replied : Bool → Reply → Register → Request → Simulation → Simulation
+simulation_replied waits reply r q s =
+    simulation_filled s (port_target_after (simulation_choice_at waits r q.addr s) reply r q.ap s.state)
 
 -- the simulated target after a request
 abbrev pub simulation_asked : Mark → Request → Simulation → Simulation
@@ -159,7 +179,7 @@ simulation_asked mark q s =
     let a = simulation_settled mark q s in
     let reply = simulation_reply mark q s in
     simulation_accepted_after reply
-    (simulation_replied (is_port_wait mark) reply (port_register a.state.select q) q.ap a)
+    (simulation_replied (is_port_wait mark) reply (port_register a.state.select q) q a)
 
 -- the write is done: its data arrived with right parity
 abbrev pub simulation_write_done : PortArrival → Bool

@@ -1,6 +1,9 @@
 -- The target of the code as a state of the port model, and as a simulated target. `bus` is the bus that its device is.
 use Rattle.std.specs.Prelude.{ℕ, ◌≡◌, ◌||◌, ◌&&◌, not, Bool, true, false, Some, None, if◌then◌else◌}
 use Rattle.std.specs.Option.{option_and_then}
+use Rattle.swd_bits.specs.declared.request.Request.{Request}
+use Rattle.swd_bits.specs.declared.request.Reg4.{Reg4}
+use Rattle.swd_bits.specs.declared.request.Reg4.TheVariants.{R0}
 use Rattle.swd_port.specs.declared.register.Register.{Register}
 use Rattle.swd_port.specs.declared.register.Register.TheVariants.{ResendRead, DrwRead}
 use Rattle.swd_port.specs.declared.state.AfterAck.{AfterAck}
@@ -20,8 +23,8 @@ use Rattle.swd_port.specs.Moving.{PortArrival, port_after_bits}
 use Rattle.swd_target.specs.declared.target.Target.{Target}
 use Rattle.swd_target.specs.Contents.{target_known_word}
 use Rattle.swd_target.specs.Simulations.{Simulation, simulation_stepped, simulation_transferred, simulation_is_owed}
-use Rattle.swd_target.specs.Simulations.{simulated_choice, simulated_next_address, simulation_replied}
-use Rattle.swd_target.specs.Simulations.{simulation_written}
+use Rattle.swd_target.specs.Simulations.{simulated_choice, simulated_elsewhere, simulated_next_address}
+use Rattle.swd_target.specs.Simulations.{simulation_replied, simulation_written}
 
 -- the state of the port model, in which a word may be unknown
 abbrev pub target_state : {D : Type 0} → (D → Bus) → Target D → State
@@ -61,13 +64,15 @@ abbrev pub target_stand_in : {D : Type 0} → Register → Target D → ℕ
 target_stand_in ResendRead t = t.last_returned.word
 target_stand_in r t = t.buffer.word
 
--- the choice of the target at a request, where WAIT is asked for or not: its own word replaces an unknown one
-abbrev pub target_choice_at : {D : Type 0} → Bool → Register → Target D → Choice
-target_choice_at waits r t = simulated_choice waits r t.csw_upper t.debug_up t.tar.word (target_stand_in r t)
+-- the choice of the target at a request for a register at an address, where WAIT is asked for or not: its own word
+-- replaces an unknown one
+abbrev pub target_choice_at : {D : Type 0} → Bool → Register → Reg4 → Target D → Choice
+target_choice_at waits r addr t = simulated_choice waits r t.csw_upper t.debug_up t.tar.word (target_stand_in r t)
+    (simulated_elsewhere r addr t.select t.quirks.idr)
 
 -- its choice in another step
 abbrev pub target_choice_for : {D : Type 0} → Register → Target D → Choice
-target_choice_for r t = target_choice_at false r t
+target_choice_for r t = target_choice_at false r R0 t
 
 -- TAR after a transfer that succeeded
 abbrev pub target_tar_incremented : State → State
@@ -90,11 +95,12 @@ pub record TargetCompletes {D : Type 0} (bus : D → Bus) (s t : Target D) : Typ
   pub exact : target_simulation bus t ≡ simulation_transferred (target_simulation bus s)
 
 -- the target has the effects of a reply, where WAIT was asked for or not; its device isn't touched
-pub record TargetReplies {D : Type 0} (bus : D → Bus) (waits : Bool) (reply : Reply) (r : Register) (ap : Bool)
+pub record TargetReplies {D : Type 0} (bus : D → Bus) (waits : Bool) (reply : Reply) (r : Register) (q : Request)
     (s t : Target D) : Type 0
   where
-    pub state : target_state bus t ≡ port_target_after (target_choice_at waits r s) reply r ap (target_state bus s)
-    pub exact : target_simulation bus t ≡ simulation_replied waits reply r ap (target_simulation bus s)
+    pub state : target_state bus t
+        ≡ port_target_after (target_choice_at waits r q.addr s) reply r q.ap (target_state bus s)
+    pub exact : target_simulation bus t ≡ simulation_replied waits reply r q (target_simulation bus s)
     pub device : t.device ≡ s.device
 
 -- the 33 bits of a write came; the device isn't touched

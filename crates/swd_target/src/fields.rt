@@ -10,8 +10,8 @@ use crate::quirks::Quirks;
 use crate::target::Target;
 use swd_port::{Drw, PowerUp, Reset, Select};
 
-/// The state of a target without its device, as integers laid out as in C. [`Target::fields`] returns it, and
-/// [`target`](TargetFields::target) restores a target. No target has all zeros.
+/// The state of a target without its device and its IDR, as integers laid out as in C. [`Target::fields`] returns it,
+/// and [`target`](TargetFields::target) restores a target without an IDR. No target has all zeros.
 ///
 /// The meaning of the fields is private to this crate.
 #[repr(C)]
@@ -155,6 +155,7 @@ impl TargetFields {
     pub fn target<D>(&self, device: D) -> Target<D>
         ensures numbers { target_fields result ≡ restored_target self.now }
         ensures device { result.device ≡ device }
+        ensures unidentified { result.quirks.idr ≡ None }
     {
         let (debug_up, system_up) = powers_with(self.power_up);
         Target {
@@ -183,18 +184,24 @@ impl TargetFields {
     }
 
     fn quirks(&self) -> Quirks
-        ensures { result ≡ record { wrap = self.now.wrap == 1; late = self.now.late == 1; filler = self.now.filler } }
+        ensures { result ≡ record {
+          wrap = self.now.wrap == 1;
+          late = self.now.late == 1;
+          filler = self.now.filler;
+          idr = None;
+        } }
     {
         Quirks {
             wrap: self.wrap == 1,
             late: self.late == 1,
             filler: self.filler,
+            idr: None,
         }
     }
 }
 
 impl<D> Target<D> {
-    /// Returns the fields of the target, without its device.
+    /// Returns the fields of the target, without its device and its IDR.
     pub fn fields(&self) -> TargetFields
         ensures { result ≡ target_fields self.now }
     {

@@ -11,4 +11,7 @@ pub struct Quirks {
     pub late: bool,
     /// The word that a read returns whose value is unknown.
     pub filler: u32,
+    /// IDR of the access port, at address c of its bank f, by which debuggers find it. With an IDR, BASE at address 8
+    /// of that bank is ffffffff: there is no ROM table. Otherwise both read 0.
+    pub idr: Option<u32>,
 }

@@ -31,8 +31,8 @@ impl<D: Device> Target<D> {
     {
         let register = register_named(self.select, request);
         let reply = self.reply(waits, register, request.ap);
-        let phase = self.phase(waits, reply, register, request.read);
-        self.apply(waits, reply, register, request.ap);
+        let phase = self.phase(waits, reply, register, request);
+        self.apply(waits, reply, register, request);
         self.accept_after(reply);
         (reply, phase)
     }
@@ -50,18 +50,18 @@ impl<D: Device> Target<D> {
     }
 
     // Returns the data phase that follows a reply.
-    fn phase(&self, waits: bool, reply: Reply, register: Register, read: bool) -> AfterAck
-        ensures phase { result ≡ target_phase_in (target_choice_at waits register self.now) reply read register
-            (target_state D.bus self.now) }
+    fn phase(&self, waits: bool, reply: Reply, register: Register, request: Request) -> AfterAck
+        ensures phase { result ≡ target_phase_in (target_choice_at waits register request.addr self.now) reply
+            request.read register (target_state D.bus self.now) }
         ensures exact { result
-            ≡ target_phase_in (simulation_choice_at waits register (target_simulation D.bus self.now)) reply read
-            register (target_simulation D.bus self.now).state }
-        ensures word { IsPortWordRead reply read (port_value_in (target_choice_at waits register self.now) register
-            (target_state D.bus self.now)) }
+            ≡ target_phase_in (simulation_choice_at waits register request.addr (target_simulation D.bus self.now))
+            reply request.read register (target_simulation D.bus self.now).state }
+        ensures word { IsPortWordRead reply request.read (port_value_in
+            (target_choice_at waits register request.addr self.now) register (target_state D.bus self.now)) }
         ensures driven { port_bits_driven result < 2 ^ 33 }
     {
         match reply {
-            Reply::Okay => phase_of(read, register, self.value(waits, register)),
+            Reply::Okay => phase_of(request.read, register, self.value(waits, register)),
             _ => AfterAck::Idle,
         }
     }

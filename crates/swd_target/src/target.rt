@@ -3,7 +3,9 @@ ghost use Rattle.std.specs.Prelude.{◌≡◌, ◌&&◌, ◌||◌, not, true, fa
 ghost use Rattle.swd_port.specs.Port.{port_made_target};
 ghost use Rattle.swd_port.specs.Bus.{bus_of};
 ghost use Rattle.swd_port.specs.declared.state.Reset.TheVariants.{Fresh};
-ghost use Rattle.swd_port.specs.declared.register.Register.TheVariants.{CswRead, CtrlStatRead};
+ghost use Rattle.swd_bits.specs.declared.request.Reg4.{Reg4 as Address};
+ghost use Rattle.swd_bits.specs.declared.request.Reg4.TheVariants.{R4};
+ghost use Rattle.swd_port.specs.declared.register.Register.TheVariants.{ApOtherRead, CswRead, CtrlStatRead};
 ghost use Rattle.swd_port.specs.Answers.{port_is_answered};
 ghost use Rattle.swd_port.specs.declared.state.Reply.TheVariants.{Okay, Waits};
 ghost use Rattle.swd_port.specs.Asking.{IsPendingSettled, port_has_power, power_up_after, debug_up_after};
@@ -14,6 +16,7 @@ ghost use Rattle.std.specs.Option.{option_and_then};
 ghost use Rattle.swd_port.specs.Completion.{pending_fails, port_tar_next_address};
 ghost use Rattle.swd_target.specs.Contents.{target_known_word};
 ghost use Rattle.swd_target.specs.Simulations.{simulation_made_with, simulation_accepted, simulation_choice_at};
+ghost use Rattle.swd_target.specs.Simulations.{selects_simulated_idr, simulated_elsewhere, simulated_idr_bank};
 ghost use Rattle.swd_target.specs.Simulations.{simulated_next_address, simulated_others, simulated_system_late};
 
 use crate::content::Content;
@@ -23,10 +26,14 @@ use crate::quirks::Quirks;
 use crate::register::{is_access_port, is_access_port_write, is_exempt, is_posted};
 use bitflags::Flags;
 use std::alloc::Allocator;
+use swd_bits::{Reg4, Request};
 use swd_port::{Abort, Access, Csw, CtrlStat, Drw, PowerUp, Register, Reply, Reset, Select};
 
 // The word that DPIDR reads.
 const IDENTIFICATION: u32 = 0x2ba0_1477;
+
+// The word that BASE reads where there is no ROM table.
+const NO_ROM_TABLE: u32 = 0xffff_ffff;
 
 /// A debug port and its access port with a [`Device`] behind it, behind any wire. Its quirks make the choices that the
 /// standard leaves to a target. A register that the port model has unknown keeps a word.
@@ -251,16 +258,16 @@ impl<D: Device> Target<D> {
     }
 
     // Applies the effects of a reply to the target; `waits`: WAIT was asked for.
-    pub(crate) fn apply(&mut self, waits: bool, reply: Reply, register: Register, ap: bool)
-        ensures { TargetReplies D.bus waits reply register ap self.old self.new }
+    pub(crate) fn apply(&mut self, waits: bool, reply: Reply, register: Register, request: Request)
+        ensures { TargetReplies D.bus waits reply register request self.old self.new }
     {
         match reply {
             Reply::Silent => {}
-            Reply::Okay => self.apply_okay(waits, register),
+            Reply::Okay => self.apply_okay(waits, register, request),
             Reply::Waits => self.refuse_read(register),
             Reply::Faults => {
                 self.refuse_read(register);
-                if ap && !self.has_power() {
+                if request.ap && !self.has_power() {
                     self.sticky_error = true;
                 }
             }
@@ -276,8 +283,8 @@ impl<D: Device> Target<D> {
         }
     }
 
-    fn apply_okay(&mut self, waits: bool, register: Register)
-        ensures { TargetReplies D.bus waits Okay register false self.old self.new }
+    fn apply_okay(&mut self, waits: bool, register: Register, request: Request)
+        ensures { TargetReplies D.bus waits Okay register request self.old self.new }
     {
         let system_up = self.system_up_after(waits, register);
         self.debug_up = self.debug_up_after(waits, register);
@@ -291,10 +298,28 @@ impl<D: Device> Target<D> {
             Register::RdbuffRead => self.buffer = self.unknown(),
             Register::CswRead => self.buffer = Content::known(self.csw()),
             Register::TarRead => self.buffer = self.tar,
-            Register::ApOtherRead => self.buffer = Content::known(0),
+            Register::ApOtherRead => self.buffer = Content::known(self.elsewhere(request.addr)),
             Register::DrwRead => self.pending = Some(Drw::Reads),
             _ => {}
         }
+    }
+
+    // Returns the word that a register of an access port reads elsewhere than at the registers of bank 0: IDR and BASE
+    // of access port 0, if it has an IDR, and 0.
+    fn elsewhere(&self, addr: Reg4) -> u32
+        ensures { result ≡ simulated_elsewhere ApOtherRead addr self.now.select self.now.quirks.idr }
+    {
+        match self.quirks.idr {
+            Some(idr) if self.selects_idr() => word_of_idr_bank(addr, idr),
+            _ => 0,
+        }
+    }
+
+    // Returns whether SELECT names the bank of access port 0 that has IDR.
+    fn selects_idr(&self) -> bool
+        ensures { result ≡ selects_simulated_idr self.now.select }
+    {
+        self.select.apsel == 0 && self.select.apbanksel == 0xf
     }
 
     // Returns the state of debug power after an OK. Where WAIT was asked for, CTRL/STAT finds it not acknowledged,
@@ -327,10 +352,11 @@ impl<D: Device> Target<D> {
 
     // Returns the word that a read returns; `waits` asks for WAIT.
     pub(crate) fn value(&self, waits: bool, register: Register) -> u32
-        ensures value { result ≡ port_value_in (target_choice_at waits register self.now) register
-            (target_state D.bus self.now) }
-        ensures exact { result ≡ port_value_in (simulation_choice_at waits register (target_simulation D.bus self.now))
-            register (target_simulation D.bus self.now).state }
+        ensures value { (addr : Address) → result
+            ≡ port_value_in (target_choice_at waits register addr self.now) register (target_state D.bus self.now) }
+        ensures exact { (addr : Address) → result
+            ≡ port_value_in (simulation_choice_at waits register addr (target_simulation D.bus self.now)) register
+            (target_simulation D.bus self.now).state }
     {
         match register {
             Register::DpidrRead => IDENTIFICATION,
@@ -344,7 +370,7 @@ impl<D: Device> Target<D> {
     // Returns CTRL/STAT as it is read; `waits` asks for WAIT.
     fn status(&self, waits: bool) -> u32
         ensures { result
-            ≡ ctrl_stat_word_in (target_choice_at waits CtrlStatRead self.now) (target_state D.bus self.now) }
+            ≡ ctrl_stat_word_in (target_choice_at waits CtrlStatRead R4 self.now) (target_state D.bus self.now) }
     {
         let debug_up = self.debug_up_after(waits, Register::CtrlStatRead);
         let system_up = self.system_up_after(waits, Register::CtrlStatRead);
@@ -526,6 +552,17 @@ impl<A: Allocator> Target<Memory<A>> {
         ensures device { result ≡ self.device }
     {
         self.device
+    }
+}
+
+// Returns the word at an address of the bank that has IDR.
+fn word_of_idr_bank(addr: Reg4, idr: u32) -> u32
+    ensures { result ≡ simulated_idr_bank addr idr }
+{
+    match addr {
+        Reg4::R8 => NO_ROM_TABLE,
+        Reg4::RC => idr,
+        _ => 0,
     }
 }
 

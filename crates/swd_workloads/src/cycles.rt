@@ -5,7 +5,7 @@ use crate::random::{Random, SEED};
 use std::alloc::Global;
 use swd_bits::{SWITCH, SWITCH_BITS, data_bits};
 use swd_clocked::Clocked;
-use swd_port::Register;
+use swd_port::{CtrlStat, Register};
 use swd_target::{Memory, Quirks};
 
 /// Each has four transactions and eight idle cycles: 192 in all.
@@ -15,6 +15,7 @@ const QUIRKS: Quirks = Quirks {
     wrap: true,
     late: false,
     filler: 0,
+    idr: None,
 };
 
 /// A host that drives a target cycle by cycle and sums up what stands on the line.
@@ -64,7 +65,8 @@ impl Host {
         self.send(0xff_ffff_ffff_ffff, 56);
         self.send(0, 2);
         self.read(Register::DpidrRead);
-        self.write(Register::CtrlStatWrite, 0x5000_0000);
+        let power = CtrlStat::CDBGPWRUPREQ.bits() + CtrlStat::CSYSPWRUPREQ.bits();
+        self.write(Register::CtrlStatWrite, power);
     }
 
     fn round(&mut self, word: u32) {

@@ -35,6 +35,7 @@ pub const QUIRKS: Quirks = Quirks {
     wrap: true,
     late: false,
     filler: 0,
+    idr: None,
 };
 
 /// Reads, and bursts of writes. A few of the addresses are past the end of the memory.

@@ -24,6 +24,7 @@ const QUIRKS: Quirks = Quirks {
     wrap: true,
     late: false,
     filler: 0xa5a5_a5a5,
+    idr: None,
 };
 
 // The conditions of a run: the memory's number of words, its log's capacity, marks by the number of their request from

@@ -36,6 +36,7 @@ fn bench_of<R: Abort>(rt: &R, alloc: Global, mute: usize) -> Result<ClockedBench
         wrap: true,
         late: false,
         filler: 0xa5a5_a5a5,
+        idr: None,
     };
     let Ok(bench) = ClockedBench::new(alloc, memory, quirks, plan) else {
         panic!(rt; "no memory");

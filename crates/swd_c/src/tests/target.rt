@@ -235,6 +235,7 @@ fn accesses_over_the_exported_target(rt: HostRuntime) -> Result<(), Fail> {
             wrap: true,
             late: true,
             filler: 0,
+            idr: None,
         };
         let memory = Memory::new(rt.alloc(), BASE, 16, 16)?;
         let mut pair = Pair {
@@ -260,6 +261,7 @@ fn a_slow_bus_is_waited_for(rt: HostRuntime) -> Result<(), Fail> {
         wrap: true,
         late: true,
         filler: 0,
+        idr: None,
     };
     let memory = Memory::new(rt.alloc(), BASE, 16, 16)?;
     let mut pair = Pair {

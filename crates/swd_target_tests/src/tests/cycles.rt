@@ -13,6 +13,7 @@ const QUIRKS: Quirks = Quirks {
     wrap: true,
     late: false,
     filler: 0,
+    idr: None,
 };
 
 // A new target with sixteen words from 20000000 and room for sixteen transfers.

@@ -53,6 +53,7 @@ fn ready<R: Abort>(rt: &R, late: bool) -> Target<Attached<Counter>> {
         wrap: true,
         late,
         filler: FILLER,
+        idr: None,
     };
     let mut target = Target::new(Attached::new(Counter { count: 0 }), quirks);
     target.line_reset(false);

@@ -12,6 +12,7 @@ fn target(alloc: Global) -> Result<Clocked<Memory>, Fail> {
         wrap: true,
         late: false,
         filler: 0,
+        idr: None,
     };
     Ok(Clocked::new(Memory::new(alloc, 0x2000_0000, 1, 1)?, quirks))
 }

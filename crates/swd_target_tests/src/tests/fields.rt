@@ -12,6 +12,7 @@ fn new_target() -> Clocked<Memory> {
         wrap: true,
         late: true,
         filler: 0,
+        idr: None,
     };
     Clocked::new(Memory::<Global>::window(0, None), quirks)
 }

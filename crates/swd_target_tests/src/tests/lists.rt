@@ -42,6 +42,7 @@ fn each_list_of_twelve_bits_is_taken(rt: HostRuntime) -> Result<(), Fail> {
         wrap: true,
         late: false,
         filler: 0,
+        idr: None,
     };
     expect_eq(&rt, &answered(rt.alloc(), 37, quirks)?, &0);
     expect_eq(&rt, &answered(rt.alloc(), 0, quirks)?, &0);

@@ -26,6 +26,7 @@ fn bench_of(alloc: Global, plan: Vec<Mark>) -> Option<ClockedBench<Memory>> {
         wrap: true,
         late: false,
         filler: 0,
+        idr: None,
     };
     let memory = Memory::new(alloc, 0x2000_0000, 1, 0).ok()?;
     ClockedBench::new(alloc, memory, quirks, plan).ok()

@@ -131,6 +131,7 @@ fn a_memory_of_more_than_65536_words_and_transfers(rt: HostRuntime) -> Result<()
         wrap: false,
         late: false,
         filler: 0,
+        idr: None,
     };
     let mut target = Target::new(memory, quirks);
     target.arrive(Register::CswWrite, data_bits(0x2300_0012));
@@ -258,6 +259,7 @@ fn a_target_is_given_back_by_its_numbers(rt: HostRuntime) {
         wrap: true,
         late: true,
         filler: 0xa5a5_a5a5,
+        idr: None,
     };
     let mut target = Target::new(Memory::<Global>::window(0, None), quirks);
     let fresh = target.fields();

@@ -19,6 +19,7 @@ const QUIRKS: Quirks = Quirks {
     wrap: true,
     late: false,
     filler: 0,
+    idr: None,
 };
 
 const MARKS: [Mark; 3] = [Mark::Wait, Mark::Flip(32), Mark::Mute(2)];

@@ -143,18 +143,26 @@ fn all_go<R: Abort, P: Debug>(rt: &R, place: &P, target: &mut Target<Memory>, st
     }
 }
 
-// So many words from this address.
+// So many words from this address, and the access port's IDR, if it has one.
 #[derive(Clone, Copy)]
 struct Words {
     base: u32,
     words: u32,
     wrap: bool,
+    idr: Option<u32>,
 }
 
 const SIXTEEN_WORDS: Words = Words {
     base: 0x2000_0000,
     words: 16,
     wrap: true,
+    idr: None,
+};
+
+// The same with the IDR of a Cortex-M4's AHB-AP.
+const IDENTIFIED: Words = Words {
+    idr: Some(0x2477_0011),
+    ..SIXTEEN_WORDS
 };
 
 // A target with these words, before any line reset.
@@ -164,6 +172,7 @@ fn made(alloc: Global, words: Words) -> Result<Target<Memory>, Fail> {
         wrap: words.wrap,
         late: false,
         filler: FILLER,
+        idr: words.idr,
     };
     Ok(Target::new(memory, quirks))
 }
@@ -192,7 +201,7 @@ const OVER_THE_END: [Step; 9] = [
     Step::Word(0xffff_fffc, 2),
 ];
 
-const ROWS: [Row; 16] = [
+const ROWS: [Row; 18] = [
     Row {
         name: "only DPIDR is answered after a line reset",
         made: SIXTEEN_WORDS,
@@ -303,6 +312,55 @@ const ROWS: [Row; 16] = [
             &[Step::Write(SELECT, 0x0100_0000)],
             &[Step::Write(SELECT, 0xff00_0000)],
             &[Step::Write(SELECT, 0x8000_0010)],
+        ],
+    },
+    // BASE, at 8 of bank f, is that of an access port without a ROM table.
+    Row {
+        name: "an access port with an IDR shows it in bank f",
+        made: IDENTIFIED,
+        opening: &UP,
+        steps: &[
+            Step::Case,
+            Step::Read(AP_READ[3], FILLER),
+            Step::Read(AP_READ[2], 0x2477_0011),
+            Step::Read(AP_READ[1], 0xffff_ffff),
+            Step::Read(AP_READ[0], 0x0000_0000),
+            Step::Read(AP_READ[3], 0x0000_0000),
+            Step::Read(RDBUFF, 0x2477_0011),
+            Step::Read(RESEND, 0x2477_0011),
+            Step::Write(AP_WRITE[3], 0x0000_0000),
+            Step::Read(AP_READ[3], FILLER),
+            Step::Read(RDBUFF, 0x2477_0011),
+            Step::Held(AP_READ[3], Reply::Waits),
+            Step::Read(RESEND, 0x2477_0011),
+            Step::Write(SELECT, 0x0000_0000),
+            Step::Read(STATUS, 0xf000_0000),
+            Step::NoTransfer,
+        ],
+        cases: &[
+            &[Step::Write(SELECT, 0x0000_00f0)],
+            &[Step::Write(SELECT, 0x0000_00ff)],
+        ],
+    },
+    Row {
+        name: "an IDR stands nowhere else",
+        made: IDENTIFIED,
+        opening: &UP,
+        steps: &[
+            Step::Case,
+            Step::Read(AP_READ[2], FILLER),
+            Step::Read(RDBUFF, 0x0000_0000),
+            Step::Write(SELECT, 0x0100_00f0),
+            Step::Read(AP_READ[3], FILLER),
+            Step::Read(AP_READ[2], 0x0000_0000),
+            Step::Read(RDBUFF, 0x0000_0000),
+        ],
+        cases: &[
+            &[Step::Write(SELECT, 0x0000_0000)],
+            &[Step::Write(SELECT, 0x0000_00e0)],
+            &[Step::Write(SELECT, 0x0000_0070)],
+            &[Step::Write(SELECT, 0x8000_00f0)],
+            &[Step::Write(SELECT, 0xff00_00f0)],
         ],
     },
     // An access port's write makes the read buffer and the last returned value unknown, also where it is
@@ -459,6 +517,7 @@ const ROWS: [Row; 16] = [
             base: 0xffff_fff8,
             words: 2,
             wrap: false,
+            idr: None,
         },
         opening: &UP,
         steps: &OVER_THE_END,
@@ -470,6 +529,7 @@ const ROWS: [Row; 16] = [
             base: 0xffff_fff8,
             words: 2,
             wrap: true,
+            idr: None,
         },
         opening: &UP,
         steps: &OVER_THE_END,

@@ -40,6 +40,7 @@ pub const QUIRKS: Quirks = Quirks {
     wrap: true,
     late: false,
     filler: FILLER,
+    idr: None,
 };
 
 /// The same, and with each of the choices made the other way.
@@ -49,16 +50,19 @@ pub const ALL_QUIRKS: [Quirks; 4] = [
         wrap: false,
         late: false,
         filler: FILLER,
+        idr: None,
     },
     Quirks {
         wrap: true,
         late: true,
         filler: FILLER,
+        idr: None,
     },
     Quirks {
         wrap: true,
         late: false,
         filler: 0xffff_ffff,
+        idr: None,
     },
 ];
 
@@ -236,7 +240,12 @@ pub(super) fn leaves<S: Simulated + Drop, R: Abort>(
     wanted: &Wanted,
     quirks: Quirks,
 ) {
-    let Quirks { wrap, late, filler } = quirks;
+    let Quirks {
+        wrap,
+        late,
+        filler,
+        ..
+    } = quirks;
     let place = (name, wrap, late, filler);
     tells(rt, &place, report, wanted);
     // Only a late transfer is still pending where a run has ended.

@@ -17,6 +17,7 @@ fn goes<W: Simulated + Drop, R: Abort>(rt: &R, alloc: Global, row: &Row) {
             wrap: row.wrap,
             late: *late,
             filler: FILLER,
+            idr: None,
         };
         match make::<W>(alloc, row.words, quirks, row.marks) {
             Some(mut wire) => {

@@ -70,6 +70,8 @@ returns-clause-clocks c = λ yes m there.
       has = sym c.fields.ensures;
       late = ap (λ (q : Quirks). q.late) c.cycle-line.ensures.quirks
           ∙ had.late;
+      unidentified = ap (λ (q : Quirks). q.idr) c.cycle-line.ensures.quirks
+          ∙ had.unidentified;
     } in
     let told : (c.from.result == 1) ≡ line = ap (λ n. n == 1) c.from.ensures ∙ bit_back line in (
       clocked_over m before,

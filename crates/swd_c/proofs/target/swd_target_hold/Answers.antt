@@ -14,6 +14,7 @@ returns-clause-holds c = λ yes m.
     let has : CApiNumbers c.fields.result after = record {
       has = sym c.fields.ensures;
       late = ap (λ (q : Quirks). q.late) c.hold.ensures.quirks ∙ had.late;
+      unidentified = ap (λ (q : Quirks). q.idr) c.hold.ensures.quirks ∙ had.unidentified;
     } in (
       clocked_over m before,
       c_api_fields_elsewhere m c.args.target.now before had,

@@ -13,6 +13,7 @@ returns c =
     let has : CApiNumbers c.fields.result made = record {
       has = sym c.fields.ensures;
       late = ap (λ (s : Simulation). s.quirks.late) c.new.ensures.exact;
+      unidentified = ap (λ (s : Simulation). s.quirks.idr) c.new.ensures.exact;
     } in
     record {
       new = λ m. (

@@ -23,6 +23,7 @@ returns-clause-settles c = λ yes a m told.
     let has : CApiNumbers c.fields.result after = record {
       has = sym c.fields.ensures;
       late = ap (λ (q : Quirks). q.late) c.settle.ensures.quirks ∙ had.late;
+      unidentified = ap (λ (q : Quirks). q.idr) c.settle.ensures.quirks ∙ had.unidentified;
     } in (
       clocked_over m before,
       c_api_fields_elsewhere m old before had,

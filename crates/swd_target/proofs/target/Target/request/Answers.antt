@@ -27,11 +27,11 @@ returns-clause-answers g c =
           after.state after.exact c.accept_after.ensures.effect c.accept_after.ensures.exact;
       elsewhere = λ m untouched ready mark legal deaf wait.
           let s = c.args.self.now in
-          let late = late_quirk_kept g.D.Device.bus c.args.waits c.reply-reply.result r q.ap s c.reply-reply.new.self
+          let late = late_quirk_kept g.D.Device.bus c.args.waits c.reply-reply.result r q s c.reply-reply.new.self
           c.apply.new.self
           untouched.late before.exact after.exact in
           let last : c.accept_after.new.self ≡ c.apply.new.self = c.accept_after.ensures.late late in
-          let log = target_log_before_reply g.D.Device.bus c.args.waits c.reply-reply.result r q.ap s
+          let log = target_log_before_reply g.D.Device.bus c.args.waits c.reply-reply.result r q s
           c.reply-reply.new.self
           c.apply.new.self c.accept_after.new.self after.state last untouched.log in
           subst (λ (t : Target _). TargetAnswersUnder bus_itself mark q (target_over_device m s) c.reply-reply.result
@@ -46,7 +46,7 @@ returns-clause-answers g c =
 pub returns-clause-quirks : goal.returns-clause-quirks
 returns-clause-quirks g c =
     quirks_kept_by_request g.D.Device.bus c.args.waits c.reply-reply.result c.register_named-register.result
-    c.args.request.ap
+    c.args.request
     c.args.self.now c.reply-reply.new.self c.apply.new.self c.accept_after.new.self
     c.reply-reply.ensures.exact c.apply.ensures.exact c.accept_after.ensures.exact
 
@@ -59,7 +59,7 @@ returns-clause-quiet g c = λ late none.
     let q = c.args.request in
     let exact = c.reply-reply.ensures.exact in
     let last = c.accept_after.ensures.late
-    (late_quirk_kept g.D.Device.bus c.args.waits c.reply-reply.result r q.ap s a after late exact
+    (late_quirk_kept g.D.Device.bus c.args.waits c.reply-reply.result r q s a after late exact
     c.apply.ensures.exact) in
     ap (λ (x : Target _). x.device) last
     ∙ (c.apply.ensures.device ∙ ap (λ (x : Target _). x.device) (c.reply-reply.ensures.rest none))
