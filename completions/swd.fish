@@ -21,7 +21,7 @@ complete -c swd -n '__fish_seen_subcommand_from decode' -l count -d 'Count each 
 complete -c swd -n '__fish_seen_subcommand_from decode' -l accesses -d 'List the accesses of memory, with their effect'
 complete -c swd -n '__fish_seen_subcommand_from decode' -l made -d 'With --accesses: the target begins in its reset state'
 complete -c swd -n '__fish_seen_subcommand_from decode' -l resync -d 'Read a capture that begins in mid-session or lost bits'
-complete -c swd -n '__fish_seen_subcommand_from decode' -l overrun -d 'With --resync, WAIT and FAULT have a data phase'
+complete -c swd -n '__fish_seen_subcommand_from decode' -l overrun -d 'With --resync, WAIT and FAULT have a data phase at first'
 complete -c swd -n '__fish_seen_subcommand_from decode' -s h -l help -d 'Print help'
 complete -c swd -n '__fish_seen_subcommand_from encode' -F
 complete -c swd -n '__fish_seen_subcommand_from encode' -s h -l help -d 'Print help'
@@ -45,7 +45,7 @@ complete -c swd -n '__fish_seen_subcommand_from target' -l trace -r -F -d 'Write
 complete -c swd -n '__fish_seen_subcommand_from target' -s h -l help -d 'Print help'
 complete -c swd -n '__fish_seen_subcommand_from draw' -F
 complete -c swd -n '__fish_seen_subcommand_from draw' -l resync -d 'Read a capture that begins in mid-session or lost bits'
-complete -c swd -n '__fish_seen_subcommand_from draw' -l overrun -d 'With --resync, WAIT and FAULT have a data phase'
+complete -c swd -n '__fish_seen_subcommand_from draw' -l overrun -d 'With --resync, WAIT and FAULT have a data phase at first'
 complete -c swd -n '__fish_seen_subcommand_from draw' -s h -l help -d 'Print help'
 complete -c swd -n '__fish_seen_subcommand_from load' -F
 complete -c swd -n '__fish_seen_subcommand_from load' -l format -x -a 'bin hex srec elf' -d 'bin, hex, srec or elf; by FILE itself without it'

@@ -434,3 +434,29 @@ pins_served_up_to_quit bus sequences more old new s t between h =
           (subst (λ x. PinsSession bus x h.goes.levels s t) whole h.goes.session),
       h.goes.gone,
     )
+
+-- The same for a host whose first character says that it drives SWDIO, whatever the pins began with.
+pub pins_served_once_driven : {D A : Type 0} (bus : D → Bus) (sequences : List Sequence) (more : List ℕ)
+    (old new : Option (List ℕ)) (s t : Pins D A)
+    → ArePinsBetweenClocks s → BitbangEndsAs bus ends.Quit old new
+    ((alphabet_byte (Drives true) ∷ all_sequence_characters true sequences) ++ alphabet_byte Quits ∷ more) s t
+    → (answers : List ℕ) × PinsWentBy bus sequences answers s t × Appends old new answers
+pins_served_once_driven bus sequences more old new s t between h =
+    let text = all_sequence_characters true sequences in
+    let stays = All-cons KeepsBitbangOpen (alphabet_byte (Drives true)) text (turn_on true)
+    (bitbang_sequences_stay_open true sequences) in
+    let whole = taken_whole bus (alphabet_byte (Drives true) ∷ text) h.taken h.goes.levels h.byte more h.more s t stays
+    h.goes.session h.ends h.is in
+    let all = subst (λ x. PinsSession bus x h.goes.levels s t) whole h.goes.session in
+    let driven = subst (λ m. PinsSession bus text all.2 m t) all.3.steps.1 all.4 in
+    let went = pins_read_sequences bus sequences true all.2 (record s { drives = true }) t refl between driven in
+    let silent = all.3.tells ∙ ap bitbang_answer_to_sign all.3.steps.0 in (
+      h.goes.levels,
+      record {
+        levels = went.levels;
+        goes = went.goes;
+        answered = all.5 ∙ ap (λ first. first ++ all.2) silent ∙ went.answered;
+        between = went.between;
+      },
+      h.goes.gone,
+    )

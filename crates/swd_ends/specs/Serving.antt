@@ -21,7 +21,8 @@ pub record IsTargetEndMade {A : Type 0} (memory : PlainMemory) (marks : List Mar
     (target : FaultyClocked PlainMemory A) : Type 0 where
   pub state : marked_clocked_state bus_of target ≡ port_made_target 0x2ba0_1477 (bus_of memory)
   -- a transfer takes effect at once, TAR wraps at the end of a kilobyte, and a value that is unknown is 0
-  pub choices : (marked_clocked_simulation bus_of target).quirks ≡ record { wrap = true; late = false; filler = 0 }
+  pub choices : (marked_clocked_simulation bus_of target).quirks
+      ≡ record { wrap = true; late = false; filler = 0; idr = None }
   pub frame : marked_clocked_frame target ≡ idle_frame
   pub unseen : marked_clocked_unseen target ≡ 0
   pub plan : marked_clocked_plan target ≡ marks

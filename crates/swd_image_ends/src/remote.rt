@@ -18,8 +18,8 @@ use swd_remote::{InitialStreams, RemoteStreams, RemoteTransport};
 ///
 /// Whatever comes back, the load ends unless the connection blocks. For every story that starts at rest over a plain
 /// memory and with which the replies are consistent, its memory contains the image if the result is `Ok`. If the target
-/// conforms to the model, one of these stories is its own. Up to the first I/O error, exactly the characters of some
-/// calls of a wire and `Q` are sent, and exactly the levels that these calls ask for are read. Nothing is sent after
+/// conforms to the model, one of these stories is its own. Up to the first I/O error, exactly `O`, the characters of
+/// some calls of a wire and `Q` are sent, and exactly the levels that these calls ask for are read. Nothing is sent after
 /// that error. The writer `report`, if there is one, gets the reports of the calls while they go on.
 ///
 /// # Errors

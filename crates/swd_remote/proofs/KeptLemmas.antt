@@ -51,12 +51,12 @@ went_well : {R W : Type 0} (remaining : R → Option (List ℕ)) (contents : W �
     → end.fault ≡ None → RemoteWentWell remaining contents sent left calls line
 went_well remaining contents sent left line calls start last end done fresh made q r w well =
     let q' = quit_well contents last.fault done last end refl q well in
-    let all = remote_quits_exactly remaining contents calls sent start last end tt made fresh.well fresh.asked
+    let all = remote_quits_exactly remaining contents calls sent (79 ∷ []) start last end tt made fresh.well fresh.asked
     fresh.writer q' in
-    let drove = subst (λ d. Appends sent (contents end.outgoing.writer) (remote_characters_of d calls ++ 81 ∷ []))
+    let drove = subst (λ d. Appends sent (contents end.outgoing.writer) (79 ∷ remote_characters_of d calls ++ 81 ∷ []))
     fresh.drives all.0 in
     record {
-      out = subst (λ x. Appends sent (contents x) (remote_characters_of true calls ++ 81 ∷ [])) (sym w) drove;
+      out = subst (λ x. Appends sent (contents x) (79 ∷ remote_characters_of true calls ++ 81 ∷ [])) (sym w) drove;
       reads = subst (λ x. Consumes x (remaining line.reader) (remote_all_levels calls)) fresh.reader
           (subst (λ x. Consumes (remaining start.reader) (remaining x) (remote_all_levels calls)) (sym r) all.1);
     }

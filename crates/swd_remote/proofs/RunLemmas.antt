@@ -394,21 +394,21 @@ remote_runs_exactly remaining contents (call ∷ calls) s t h e z =
 
 -- the end, where Q went out
 quit_at : {R W : Type 0} (remaining : R → Option (List ℕ)) (contents : W → Option (List ℕ)) (o : Option Fault)
-    (calls : List PortAttempt) (start : Option (List ℕ)) (s t u : Remote R W) (told : Unit {0})
-    → RemoteExactUpTo remaining contents o calls s t → IsOnRemoteWay contents start s.outgoing []
+    (calls : List PortAttempt) (start : Option (List ℕ)) (text : List ℕ) (s t u : Remote R W) (told : Unit {0})
+    → RemoteExactUpTo remaining contents o calls s t → IsOnRemoteWay contents start s.outgoing text
     → RemoteQuitsAt o contents (Ok told) t u
-    → Appends start (contents u.outgoing.writer) (remote_characters_of s.drives calls ++ 81 ∷ [])
+    → Appends start (contents u.outgoing.writer) ((text ++ remote_characters_of s.drives calls) ++ 81 ∷ [])
     × Consumes (remaining s.reader) (remaining u.reader) (remote_all_levels calls)
-quit_at remaining contents None calls start s t u told x h q = (
-  q.1 start (remote_characters_of s.drives calls) (x.out start [] h),
+quit_at remaining contents None calls start text s t u told x h q = (
+  q.1 start (text ++ remote_characters_of s.drives calls) (x.out start text h),
   subst (λ r. Consumes (remaining s.reader) (remaining r) (remote_all_levels calls)) (sym q.0) x.reads,
 )
-quit_at remaining contents (Some f) calls start s t u told x h q =
+quit_at remaining contents (Some f) calls start text s t u told x h q =
     absurd (IfOk-from_err {E = Disconnected} (Ok told) (λ (_ : Unit {0}). ⊥) q.0)
 
 -- for `laws::runs_exactly`, and for the end of a line
 pub remote_quits_exactly : {R W : Type 0} (remaining : R → Option (List ℕ)) (contents : W → Option (List ℕ))
     → RemoteQuitsExactly remaining contents
-remote_quits_exactly remaining contents = λ calls start s t u told made e z h q.
-    quit_at remaining contents t.fault calls start s t u told
+remote_quits_exactly remaining contents = λ calls start text s t u told made e z h q.
+    quit_at remaining contents t.fault calls start text s t u told
     (remote_runs_exactly remaining contents calls s t made e z) h q

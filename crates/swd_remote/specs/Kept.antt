@@ -1,7 +1,7 @@
 -- A remote_bitbang connection from its beginning to its end.
 use Rattle.std.specs.Prelude.{ℕ, ◌≡◌, true, List, [], ◌∷◌, ◌++◌, Option, None, Result}
 use Rattle.std.specs.Io.KnownBytes.{Appends, Consumes}
-use Rattle.swd_sequences.specs.declared.character.Character.TheVariants.{Quits}
+use Rattle.swd_sequences.specs.declared.character.Character.TheVariants.{Drives, Quits}
 use Rattle.swd_sequences.specs.Alphabet.{alphabet_byte}
 use Rattle.swd_port.specs.declared.outside.Disconnected.{Disconnected}
 use Rattle.swd_port.specs.Transports.{PortAttempt}
@@ -9,16 +9,16 @@ use Rattle.swd_remote.specs.declared.kept.RemoteStreams.{RemoteStreams}
 use Rattle.swd_remote.specs.declared.remote.Remote.{Remote}
 use Rattle.swd_remote.specs.declared.probe_transport.ProbeTransport.{ProbeTransport}
 use Rattle.swd_remote.specs.Remotes.{RemoteQuitsAt}
-use Rattle.swd_remote.specs.Runs.{AreRemoteCallsMade, RemoteExactUpTo, remote_characters_of, remote_all_levels}
+use Rattle.swd_remote.specs.Runs.{AreRemoteCallsMade, RemoteExactUpTo, remote_connection_characters, remote_all_levels}
 use Rattle.swd_remote.specs.Ways.{IsOnRemoteWay}
 
--- nothing was sent or read yet, and the host drives SWDIO
+-- nothing was sent or read yet but that the host drives SWDIO, which is on its way
 pub record IsFreshRemote {R W : Type 0} (remaining : R → Option (List ℕ)) (contents : W → Option (List ℕ))
     (sent left : Option (List ℕ)) (start : Remote R W) : Type 0 where
   pub well : start.fault ≡ None
   pub asked : start.asked ≡ 0
   pub drives : start.drives ≡ true
-  pub writer : IsOnRemoteWay contents sent start.outgoing []
+  pub writer : IsOnRemoteWay contents sent start.outgoing (alphabet_byte (Drives true) ∷ [])
   pub reader : remaining start.reader ≡ left
 
 -- exactly these calls were made since the beginning, in order
@@ -28,11 +28,11 @@ pub record AreRemoteCallsSent {R W : Type 0} (remaining : R → Option (List ℕ
   pub fresh : IsFreshRemote remaining contents sent left start
   pub made : AreRemoteCallsMade remaining contents calls start t.probe
 
--- A connection that ended without an error: exactly the characters of the calls and Q were sent, and exactly
--- the levels that the calls returned were read.
+-- A connection that ended without an error: exactly its first character, those of the calls and Q were sent, and
+-- exactly the levels that the calls returned were read.
 pub record RemoteWentWell {R W : Type 0} (remaining : R → Option (List ℕ)) (contents : W → Option (List ℕ))
     (sent left : Option (List ℕ)) (calls : List PortAttempt) (line : RemoteStreams R W) : Type 0 where
-  pub out : Appends sent (contents line.writer) (remote_characters_of true calls ++ alphabet_byte Quits ∷ [])
+  pub out : Appends sent (contents line.writer) (remote_connection_characters calls ++ alphabet_byte Quits ∷ [])
   pub reads : Consumes left (remaining line.reader) (remote_all_levels calls)
 
 -- These calls were made up to the end of a connection. Up to the first error they are exact; without an

@@ -1,7 +1,7 @@
 -- Successive calls of a wire over remote_bitbang characters: what is sent and read for all of them.
 use Rattle.std.specs.Prelude.{ℕ, ◌≡◌, Bool, true, false, List, [], ◌∷◌, ◌++◌, Option, Some, None, Result, Ok, Err}
 use Rattle.std.specs.Io.KnownBytes.{Appends, Consumes}
-use Rattle.swd_sequences.specs.declared.character.Character.TheVariants.{Quits}
+use Rattle.swd_sequences.specs.declared.character.Character.TheVariants.{Drives, Quits}
 use Rattle.swd_sequences.specs.Alphabet.{alphabet_byte}
 use Rattle.swd_port.specs.declared.outside.Disconnected.{Disconnected}
 use Rattle.swd_port.specs.declared.cue.Cue.{Cue}
@@ -34,6 +34,11 @@ remote_with_clocks (sequence ∷ more) = remote_kept_sequences (probe_has_clocks
 -- all characters of the calls, after the host drove or not
 abbrev pub remote_characters_of : Bool → List PortAttempt → List ℕ
 remote_characters_of drives calls = all_sequence_characters drives (remote_with_clocks (remote_all_sequences calls))
+
+-- The characters of a connection with these calls, up to its end: the first one says that the host drives SWDIO, whatever
+-- the server began with.
+abbrev pub remote_connection_characters : List PortAttempt → List ℕ
+remote_connection_characters calls = alphabet_byte (Drives true) ∷ remote_characters_of true calls
 
 -- how many levels a cue asks for: those of an acknowledgement, or of a word and its parity
 abbrev pub remote_level_count : Cue → ℕ
@@ -110,8 +115,9 @@ RemoteRunsExactly {R} {W} remaining contents = (calls : List PortAttempt) (s t :
 -- And if the host then sends Q, exactly these characters and Q were sent, after what the writer began with.
 abbrev pub RemoteQuitsExactly : {R W : Type 0} → (R → Option (List ℕ)) → (W → Option (List ℕ)) → Type 0
 RemoteQuitsExactly {R} {W} remaining contents =
-    (calls : List PortAttempt) (start : Option (List ℕ)) (s t u : Remote R W) (told : Unit {0})
+    (calls : List PortAttempt) (start : Option (List ℕ)) (text : List ℕ) (s t u : Remote R W) (told : Unit {0})
     → AreRemoteCallsMade remaining contents calls s t → s.fault ≡ None → s.asked ≡ 0
-    → IsOnRemoteWay contents start s.outgoing [] → RemoteQuitsAt t.fault contents (Ok told) t u
-    → Appends start (contents u.outgoing.writer) (remote_characters_of s.drives calls ++ alphabet_byte Quits ∷ [])
+    → IsOnRemoteWay contents start s.outgoing text → RemoteQuitsAt t.fault contents (Ok told) t u
+    → Appends start (contents u.outgoing.writer)
+    ((text ++ remote_characters_of s.drives calls) ++ alphabet_byte Quits ∷ [])
     × Consumes (remaining s.reader) (remaining u.reader) (remote_all_levels calls)

@@ -23,7 +23,7 @@ impl InitialStreams for Brand {
     ghost left = { None };
 }
 
-/// A transport over remote_bitbang characters whose contract has its calls: up to the first error, exactly
+/// A transport over remote_bitbang characters whose contract has its calls: up to the first error, exactly `O` and
 /// their characters were sent since the beginning, and exactly their levels were read.
 #[derive(Drop)]
 pub struct RemoteTransport<R: Read, W: Write, B: InitialStreams> {

@@ -1,5 +1,5 @@
 //! A client of OpenOCD's remote_bitbang protocol for serial wire.
-ghost use Rattle.std.specs.Prelude.{◌≡◌, ◌<◌, ◌≤◌, ℕ, List, Option, None, true, length, map, replicate};
+ghost use Rattle.std.specs.Prelude.{◌≡◌, ◌<◌, ◌≤◌, ◌++◌, ◌∷◌, [], ℕ, List, Option, None, true, length, map, replicate};
 ghost use Rattle.std.specs.Io.KnownBytes.{Appends};
 ghost use Rattle.swd_bits.specs.Bits.{low_bits};
 ghost use Rattle.swd_sequences.specs.Clocks.{sequence_characters, sequence_clocks, sequence_turn};
@@ -56,20 +56,25 @@ pub struct Remote<R, W> {
 }
 
 impl<R: Read, W: Write> Remote<R, W> {
+    ghost use Rattle.swd_sequences.specs.declared.character.Character.TheVariants.{Drives};
+    ghost use Rattle.swd_sequences.specs.Alphabet.{alphabet_byte};
     ghost use Rattle.swd_remote.specs.Remotes.{RemoteQuitsAt};
 
-    /// Returns a connection over which nothing was sent yet. SWCLK is low, and the host drives SWDIO.
+    /// Returns a connection over which nothing was sent yet. SWCLK is low. The first character, which is buffered, says
+    /// that the host drives SWDIO: a server may begin with it released.
     pub fn new(reader: R, writer: W) -> Remote<R, W>
         ensures reader { result.reader ≡ reader }
         ensures out { (start : Option (List ℕ)) (text : List ℕ) → Appends start (W.contents writer) text
-            → IsOnRemoteWay W.contents start result.outgoing text }
+            → IsOnRemoteWay W.contents start result.outgoing (text ++ alphabet_byte (Drives true) ∷ []) }
         ensures drives { result.drives ≡ true }
         ensures asked { result.asked ≡ 0 }
         ensures fault { result.fault ≡ None }
     {
+        let mut outgoing = Outgoing::new(writer);
+        outgoing.put(&[Character::Drives(true).byte()]);
         Remote {
             reader,
-            outgoing: Outgoing::new(writer),
+            outgoing,
             drives: true,
             asked: 0,
             fault: None,

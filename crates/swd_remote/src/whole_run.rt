@@ -15,13 +15,13 @@ use swd_port::{Access, Story, Tied, TransportWire};
 /// report matches the calls that were made. If the target conforms to the port model and was at rest, the report is
 /// correct, as that of `swd_host::run`. What was received can refute that it conforms, and never show it.
 ///
-/// Up to the first error, exactly the characters of the calls that the report is of are written, and then
-/// `Q`. Up to that error, exactly as many bytes are read as levels were asked for.
+/// Up to the first error, exactly `O`, by which the host drives SWDIO, the characters of the calls that the report is of,
+/// and `Q` are written. Up to that error, exactly as many bytes are read as levels were asked for.
 ///
 /// # Errors
 ///
-/// Returns `TooMany`, `Unaligned` and `Memory` as `swd_host::run` does. No call is made in these cases: only `Q` is
-/// sent.
+/// Returns `TooMany`, `Unaligned` and `Memory` as `swd_host::run` does. No call is made in these cases: only `O` and
+/// `Q` are sent.
 pub fn run_over_line<S: Story, R: Read, W: Write, A: Allocator>(
     alloc: A,
     reader: R,

@@ -45,7 +45,7 @@ pub struct DecodeLine {
     pub made: bool,
     /// Whether the trace may begin in mid-session and lose bits.
     pub resync: bool,
-    /// Whether a data phase then follows WAIT and FAULT.
+    /// Whether a data phase then follows WAIT and FAULT at the beginning.
     pub overrun: bool,
 }
 
@@ -56,7 +56,7 @@ pub struct DrawLine {
     pub file: Option<String>,
     /// Whether the trace may begin in mid-session and lose bits.
     pub resync: bool,
-    /// Whether a data phase then follows WAIT and FAULT.
+    /// Whether a data phase then follows WAIT and FAULT at the beginning.
     pub overrun: bool,
 }
 

@@ -205,9 +205,9 @@ fn an_image_ends_at_what_it_meets(rt: HostRuntime) -> Result<(), Fail> {
         expect_eq_at(&rt, &name, &line.fault, &fault);
         let server = server.into_inner();
         expect_eq_at(&rt, &name, &server.calls_after, &0);
-        // Where no call was made, Q alone is sent.
+        // Where no call was made, O and Q alone are sent.
         let is_range = wanted == Err(ImageFault::Range);
-        expect_eq_at(&rt, &name, &(server.taken == 1), &is_range);
+        expect_eq_at(&rt, &name, &(server.taken == 2), &is_range);
     }
     Ok(())
 }

@@ -25,6 +25,7 @@ const QUIRKS: Quirks = Quirks {
     wrap: true,
     late: false,
     filler: 0,
+    idr: None,
 };
 
 /// Any story.

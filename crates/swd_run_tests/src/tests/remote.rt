@@ -10,6 +10,7 @@ use super::recorded::UNDISTURBED;
 use super::sessions::calls_of;
 use super::{ended, only_trace};
 use std::cell::Cell;
+use std::process::Abort;
 use std::test::Fail;
 use swd_ends::{RemoteFault, run_remote};
 use swd_fakes::{CountingWriter, ShortWriter, WatchingReader};
@@ -28,6 +29,19 @@ impl Story for Untold {
 const SCRIPT: &[u8] = b"memory 20000000 16\nw 20000000 deadbeef\nr 20000000\n";
 
 const REPORT: &[u8] = b"w 20000000 written\nr 20000000 deadbeef\nend all 2\n";
+
+// The recorded host takes SWDIO for driven at first. This one says so: a server may begin with it released.
+fn expect_sent<R: Abort>(rt: &R, sent: &[u8]) {
+    expect_eq(rt, &sent.strip_prefix(b"O"), &Some(UNDISTURBED.characters));
+}
+
+// Whether the first of these characters were sent.
+fn began(sent: &[u8]) -> bool {
+    match sent.strip_prefix(b"O") {
+        Some(sent) => UNDISTURBED.characters.starts_with(sent),
+        None => false,
+    }
+}
 
 #[test]
 fn a_script_sends_what_was_recorded(rt: HostRuntime) {
@@ -54,7 +68,7 @@ fn a_script_sends_what_was_recorded(rt: HostRuntime) {
     expect_eq(&rt, &answer, &Ok(finished));
     expect_eq(&rt, &line.fault, &None);
     expect_eq(&rt, &report.as_slice(), &REPORT);
-    expect_eq(&rt, &sent.as_slice(), &UNDISTURBED.characters);
+    expect_sent(&rt, sent.as_slice());
 }
 
 // The trace is that of a run over the simulated target, which shows the same words. The opening shows SELECT and CSW,
@@ -96,7 +110,7 @@ fn a_remote_run_is_traced(rt: HostRuntime) {
     expect_eq(&rt, &answer, &Ok(finished));
     expect_eq(&rt, &line.fault, &None);
     expect_eq(&rt, &report.as_slice(), &REPORT);
-    expect_eq(&rt, &sent.as_slice(), &UNDISTURBED.characters);
+    expect_sent(&rt, sent.as_slice());
     let mut script = SCRIPT;
     let mut plan = b"".as_slice();
     let mut told = Vec::new(rt.alloc());
@@ -146,7 +160,7 @@ fn a_failed_write_ends_the_session(rt: HostRuntime) {
         );
         expect_eq(&rt, &report.taken(), &&REPORT[..report_room]);
         expect_eq(&rt, &trace.taken().len(), &trace_room);
-        expect_eq(&rt, &sent.as_slice(), &UNDISTURBED.characters);
+        expect_sent(&rt, sent.as_slice());
     }
 }
 
@@ -210,7 +224,7 @@ fn no_call_is_made_after_a_failed_write(rt: HostRuntime) {
         expect_eq_at(&rt, &room, &answer, &Err(RemoteFault::Engine(fault)));
         expect_eq_at(&rt, &room, &line.fault, &None);
         expect_eq_at(&rt, &room, &report.taken(), &&REPORT[..room]);
-        expect_eq_at(&rt, &room, &sent.as_slice(), &UNDISTURBED.characters);
+        expect_sent(&rt, sent.as_slice());
     }
 }
 
@@ -290,7 +304,7 @@ fn a_target_that_goes_away_is_told(rt: HostRuntime) {
         expect_eq(&rt, &answer, &Ok(finished));
         expect_eq(&rt, &line.fault, &Some(Fault::Ended));
         expect_eq(&rt, &report.as_slice(), &text);
-        assert!(rt; UNDISTURBED.characters.starts_with(sent.as_slice()));
+        assert!(rt; began(sent.as_slice()));
     }
 }
 

@@ -16,6 +16,7 @@ const QUIRKS: Quirks = Quirks {
     wrap: true,
     late: false,
     filler: 0,
+    idr: None,
 };
 
 // Takes one byte at a write.

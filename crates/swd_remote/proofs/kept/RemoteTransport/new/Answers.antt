@@ -1,4 +1,4 @@
-use Rattle.std.proofs.Common.{[], refl, sym, ap, ◌∙◌, subst}
+use Rattle.std.proofs.Common.{[], ◌∷◌, refl, sym, ap, ◌∙◌, subst}
 use Rattle.std.proofs.lemmas.Grind.{merely}
 use Rattle.std.proofs.KnownBytes.{Appends-nil}
 use Rattle.swd_remote.specs.declared.remote.Remote.{Remote}
@@ -16,9 +16,9 @@ returns g c =
         well = ap (λ (r : Remote g.row.R.Denot g.row.W.Denot). r.fault) probe ∙ c.new.ensures.fault;
         asked = ap (λ (r : Remote g.row.R.Denot g.row.W.Denot). r.asked) probe ∙ c.new.ensures.asked;
         drives = ap (λ (r : Remote g.row.R.Denot g.row.W.Denot). r.drives) probe ∙ c.new.ensures.drives;
-        writer = subst (λ o. IsOnRemoteWay contents o c.new-transport.result.probe.outgoing []) (sym c.requires.sent)
+        writer = subst (λ o. IsOnRemoteWay contents o c.new-transport.result.probe.outgoing (79 ∷ [])) (sym c.requires.sent)
             (subst (λ (r : Remote g.row.R.Denot g.row.W.Denot). IsOnRemoteWay contents (contents c.args.writer)
-            r.outgoing []) (sym probe) way);
+            r.outgoing (79 ∷ [])) (sym probe) way);
         reader = ap (λ (r : Remote g.row.R.Denot g.row.W.Denot). g.R.Read.remaining r.reader) probe
             ∙ ap g.R.Read.remaining c.new.ensures.reader ∙ sym c.requires.left;
       };
