@@ -8,14 +8,17 @@ from typing import Any, Callable, Iterable, Optional, Set, Tuple, Type, TypeVar
 from . import _images
 from ._accesses import Access, Answer, End, Read, Report, Write, block, counts, listed_accesses
 from ._errors import (
-    CallbackFailed, ConditionNotMet, Interrupted, LineFailed, Reentered, RunFailed, fail, number, word as checked_word,
+    CallbackFailed, ConditionNotMet, Interrupted, LineFailed, Reentered, RunFailed, RunStopped, fail, number,
+    word as checked_word,
 )
+from ._identities import Identification, Watch
 from ._images import Buffer, OnProgress
 from ._library import REFUSED, REST, LibraryOrPath, library_functions
 from ._lines import AnyLine, Wire
 from ._runs import OnAnswer, Run, accepted
 
 _Result = TypeVar("_Result")
+_Perform = Callable[[int, Any], int]
 
 # The lines that calls use now, and what guards that set.
 _in_use: Set[int] = set()
@@ -100,6 +103,20 @@ class _Driver:
         run = Run.resumed(accesses, report, self.tries, library=self._library)
         return self._checked(self._perform(run, on_answer), check, bus_errors)
 
+    def identify(self) -> Identification:
+        """Opens the target, also one that is open, and returns its DPIDR. No memory is read or written.
+
+        Raises what `run` raises. The message of a `RunStopped` says how far the opening came."""
+        is_astray = self._last is not None and self._last is not End.ALL
+        run = self._settling() if is_astray else Run.of_checked((), self.tries, False, False, self._library)
+        watch = Watch(self._wire.perform)
+        try:
+            self._performed(run, None, Run.report, watch.perform).check()
+        except RunStopped as stop:
+            raise RunStopped(f"{stop}; {watch}", stop.report) from None
+        assert watch.dpidr is not None  # An opening that succeeds has read it.
+        return Identification(watch.dpidr)
+
     def load(self, addr: int, data: Buffer, *, on_progress: OnProgress = None) -> None:
         """Writes bytes from `addr` on, which need not be a multiple of 4. Byte 0 of a word is bits 0 to 7. A word of
         which `data` has only some bytes is read first, and its other bytes keep their values; then each word is written
@@ -131,22 +148,24 @@ class _Driver:
         """Returns a run of a list, over a target that is at rest from here on."""
         checked = listed_accesses(accesses)
         if self._last is not None and self._last is not End.ALL:
-            self._settle()
+            self._perform(self._settling(), None).check()
         opened = not self._opens_each and self._last is not None
         return Run.of_checked(checked, self.tries, of_block, opened, self._library)
 
-    def _settle(self) -> None:
-        """Brings a target to rest, and opens it, after a run that ended early: it may be inside a transaction. This is
-        the run that continues that one, over a list of no access."""
-        ended = Report((), 0, 0, End.LOST)
-        self._perform(Run.resumed([], ended, self.tries, library=self._library), None).check()
+    def _settling(self) -> Run:
+        """Returns the run that brings a target to rest, and opens it, after one that ended early: it may be inside a
+        transaction. This run continues that one, over a list of no access."""
+        return Run.resumed([], Report((), 0, 0, End.LOST), self.tries, library=self._library)
 
     def _perform(self, run: Run, on_answer: OnAnswer) -> Report:
         """Performs a run over the line, and returns its report."""
         return self._performed(run, on_answer, Run.report)
 
-    def _performed(self, run: Run, on_answer: OnAnswer, result: Callable[[Run], _Result]) -> _Result:
-        """Performs a run over the line, and returns what this makes of it. Nothing else does."""
+    def _performed(
+        self, run: Run, on_answer: OnAnswer, result: Callable[[Run], _Result], perform: Optional[_Perform] = None,
+    ) -> _Result:
+        """Performs a run over the line, and returns what this makes of it. Nothing else does. `perform` takes the place of
+        the line's."""
         line = self._wire.over
         _claim(line)
         try:
@@ -154,7 +173,7 @@ class _Driver:
             if run.continues and self._inside:
                 _attempt(run, self._wire.leave)
             self._inside = True
-            self._follow(run, on_answer)
+            self._follow(run, on_answer, perform or self._wire.perform)
             made = result(run)
             self._last, self._inside = run.ended, False
             return made
@@ -170,9 +189,9 @@ class _Driver:
         finally:
             _in_use.discard(id(line))
 
-    def _follow(self, run: Run, on_answer: OnAnswer) -> None:
-        wire, step, cue, told = self._wire, run.step, run.first(), run.answered
-        perform, kind = wire.perform, cue.kind
+    def _follow(self, run: Run, on_answer: OnAnswer, perform: _Perform) -> None:
+        step, cue, told = run.step, run.first(), run.answered
+        kind = cue.kind
         while kind != REST:
             try:
                 reply = perform(kind, cue)
@@ -184,7 +203,7 @@ class _Driver:
                 accepted(cue, reply)
             if on_answer is not None and run.answered > told:
                 told = self._tell(run, told, on_answer)
-        _attempt(run, wire.flush)
+        _attempt(run, self._wire.flush)
 
     @staticmethod
     def _tell(run: Run, told: int, on_answer: Callable[[int, Answer], object]) -> int:

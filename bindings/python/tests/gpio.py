@@ -1,5 +1,5 @@
-"""A stand-in of the module `gpiod` 2, as far as README.md uses it: two lines of a chip, and a target behind them. A value
-put on an input, and a read of an output, fail, as a kernel lets them."""
+"""Stand-ins of the module `gpiod` 2 and 1, as far as README.md uses them: two lines of a chip, and a target behind them. A
+value put on an input, and a read of an output, fail, as a kernel lets them."""
 import enum
 import types
 
@@ -67,3 +67,62 @@ def modules_over(target):
     gpiod.request_lines = lambda path, consumer, config: Lines(target, config)
     line.Bias, line.Direction, line.Value = Bias, Direction, Value
     return {"gpiod": gpiod, "gpiod.line": line}
+
+
+class OldLine:
+    """A line of version 1. A cycle of the target is the falling edge of SWCLK."""
+
+    def __init__(self, chip, number):
+        self.chip, self.number, self.output, self.level = chip, number, None, None
+
+    def request(self, consumer, type, flags, default_val):  # pylint: disable=redefined-builtin
+        """Takes the line as an output. SWDIO, which is released later, is pulled up."""
+        assert self.output is None and (consumer, type, default_val) == ("swd", OLD_NAMES["LINE_REQ_DIR_OUT"], 1)
+        assert flags == (OLD_NAMES["LINE_REQ_FLAG_BIAS_PULL_UP"] if self.number == SWDIO else 0)
+        self.output, self.level = True, default_val
+
+    def set_direction_output(self, value):
+        """Drives the line."""
+        assert self.output is False
+        self.output, self.level = True, value
+
+    def set_direction_input(self):
+        """Releases the line."""
+        assert self.output is True
+        self.output = False
+
+    def set_value(self, value):
+        """Puts a level on an output."""
+        assert self.output and value in (0, 1)
+        if self.number == SWCLK and self.level and not value:
+            data = self.chip.lines[SWDIO]
+            self.chip.seen = self.chip.target.cycle(data.level if data.output else None)
+        self.level = value
+
+    def get_value(self):
+        """Reads an input."""
+        assert self.output is False
+        return self.chip.seen
+
+
+class OldChip:
+    """A chip of version 1."""
+
+    def __init__(self, target):
+        self.target, self.seen = target, None
+        self.lines = {number: OldLine(self, number) for number in (SWCLK, SWDIO)}
+
+    def get_line(self, number):
+        """Returns a line."""
+        return self.lines[number]
+
+
+OLD_NAMES = {"LINE_REQ_DIR_OUT": 3, "LINE_REQ_FLAG_BIAS_PULL_UP": 32}
+
+
+def old_modules_over(target):
+    """The modules of version 1 by their names, with this target behind the lines."""
+    gpiod = types.ModuleType("gpiod")
+    gpiod.Chip = lambda path: OldChip(target)
+    vars(gpiod).update(OLD_NAMES)
+    return {"gpiod": gpiod}

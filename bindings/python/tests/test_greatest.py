@@ -1,8 +1,8 @@
-"""Each list, block and image once at its greatest size. They are run as those of test_swd.py."""
+"""Each list, block, image and poll once at its greatest size. They are run as those of test_swd.py."""
 import unittest
 
 import swd
-from plain import Damaged, PlainMemory
+from plain import RDBUFF, Damaged, PlainMemory
 from swd import End, Read, Value, Write, Written
 from test_swd import BASE, library_target, plan_of
 
@@ -13,9 +13,10 @@ REQUESTS = 9 + MOST + 2 * 256
 
 
 def line_to(words, marks=None):
-    """A line to the library's target, whose memory has so many words, and the memory."""
+    """A line to the library's target, whose memory has so many words, and the memory. Damage takes half of the time."""
     memory = PlainMemory(BASE, words, 4 * words)
-    return Damaged(library_target(memory), plan_of(marks or {})), memory
+    target = library_target(memory)
+    return Damaged(target, plan_of(marks)) if marks else target, memory
 
 
 def writes():
@@ -25,6 +26,38 @@ def writes():
 
 def words():
     return tuple(Value(write.word) for write in writes())
+
+
+class Status:
+    """A line of sequences to a status that is 0, and 1 at the last of so many reads. The library's target is at its end while
+    it is opened. Afterwards the replies alone are made: a million reads of that target take minutes."""
+
+    def __init__(self, reads):
+        self.target, self.reads = library_target(PlainMemory(BASE, 1, 1)), reads
+        self.is_open, self.request = False, None
+
+    def drive(self, bits, count):
+        if not self.is_open:
+            for place in range(count):
+                self.target.drive(bits >> place & 1)
+        elif count == 8:
+            self.request = bits
+
+    def release(self, count):
+        if not self.is_open:
+            self._levels(count)
+
+    def sample(self, count):
+        if not self.is_open:
+            return sum(level << place for place, level in enumerate(self._levels(count)))
+        if count == 3:
+            return 1
+        if self.request == RDBUFF:
+            self.reads -= 1
+        return 1 | 1 << 32 if self.reads == 0 else 0
+
+    def _levels(self, count):
+        return [self.target.sample() for _ in range(count)]
 
 
 class Greatest(unittest.TestCase):
@@ -54,6 +87,14 @@ class Greatest(unittest.TestCase):
         session.load(BASE, data)
         self.assertIsNone(session.verify(BASE, data))
         self.assertEqual(session.dump(BASE, size), data)
+
+    def test_a_status_that_is_ready_at_the_last_read(self):
+        reads = 1_000_000
+        line = Status(reads)
+        with swd.Session(swd.Sequences(line)) as session:
+            line.is_open = True
+            self.assertEqual(session.until(BASE, 1, 1, reads), 1)
+            self.assertEqual(line.reads, 0)
 
 
 if __name__ == "__main__":

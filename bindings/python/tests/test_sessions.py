@@ -199,6 +199,55 @@ class Sessions(unittest.TestCase):
         self.assertLessEqual(clocks, 690 + 10 * POLL_CLOCKS)
 
 
+class Identities(unittest.TestCase):
+    """What a target says of itself while it is opened."""
+
+    def test_an_identification(self):
+        """Of IHI 0031's DPIDR for an Arm debug port of version 1: revision 2, part ba, designer 23b."""
+        for kind in (swd.Host, swd.Session):
+            line, memory = damaged()
+            host = kind(line)
+            for _ in range(2):
+                found = host.identify()
+                self.assertEqual(found, swd.Identification(0x2BA01477))
+                fields = found.designer, found.part, found.version, found.revision, found.is_minimal
+                self.assertEqual(fields, (0x23B, 0xBA, 1, 2, False))
+            self.assertEqual(str(found), "dpidr 2ba01477: designer 23b, part ba, version 1, revision 2")
+            self.assertEqual(host.run(LIST).answers, ANSWERS)
+            self.assertEqual(len(memory.log), len(LIST))
+        minimal = "dpidr 0bc12477: designer 23b, part bc, version 2, revision 0, minimal"
+        self.assertEqual(str(swd.Identification(0x0BC12477)), minimal)
+
+    def test_a_session_is_open_afterwards(self):
+        session = swd.Session(damaged()[0])
+        session.identify()
+        self.assertTrue(session.is_open)
+        self.assertEqual(session.run([Read(BASE)]).requests, POLL_REQUESTS)
+
+    def test_how_far_an_opening_came(self):
+        """Requests 1, 3 and 6 of an opening read DPIDR and CTRL/STAT, before and after power is requested."""
+        rows = [
+            (DEAD, "no request was answered OK"),
+            (damaged({1: "flip 0"})[0], "DPIDR was never read with right parity"),
+            (damaged({4: "mute 0"})[0], "DPIDR was 2ba01477"),
+            (damaged({6: "wait"})[0], "DPIDR was 2ba01477, and CTRL/STAT acknowledged no debug and no system power"),
+        ]
+        for line, told in rows:
+            with self.subTest(told), self.assertRaises(swd.RunStopped) as caught:
+                swd.Host(line, 0).identify()
+            self.assertEqual(str(caught.exception).split("; ")[1], told)
+            self.assertEqual(caught.exception.report.answers, ())
+
+    def test_a_target_that_was_lost_before(self):
+        """It is brought to rest, and identified by the opening that does so."""
+        line, memory = damaged({12: "deaf"})
+        session = swd.Session(line)
+        self.assertRaises(swd.RunStopped, session.write, BASE, WORD)
+        self.assertEqual(session.identify().word, 0x2BA01477)
+        self.assertEqual(session.run(LIST).answers, ANSWERS)
+        self.assertEqual(memory.log[0], ("w", BASE, WORD))
+
+
 class Failures(unittest.TestCase):
     """What isn't done is an exception, with a report of what was."""
 
@@ -533,7 +582,7 @@ class WithoutIo(unittest.TestCase):
 
 
 class FirstUse(unittest.TestCase):
-    """The library beside the package is found by the package alone."""
+    """The library beside the package is found by the package alone, and one that SWD_LIBRARY names before it."""
 
     def test_no_program_is_run(self):
         """PATH has nothing but programs that leave a trace of themselves."""
@@ -551,11 +600,11 @@ class FirstUse(unittest.TestCase):
                     os.symlink(os.path.join(sources, name), os.path.join(package, name))
             os.symlink(swd.Library().path, os.path.join(package, "libswd_c.so"))
             environment = {"PATH": folder, "PYTHONPATH": os.path.dirname(package)}
-            for found in (True, False):
-                if not found:
+            for found, named in ((True, {}), (False, {"SWD_LIBRARY": "/nowhere/libswd_c.so"}), (False, {})):
+                if not found and not named:
                     os.remove(os.path.join(package, "libswd_c.so"))
                 code = "import swd\ntry: print(swd.decode('000'))\nexcept swd.LibraryNotFound: print('none')"
-                told = subprocess.run([sys.executable, "-B", "-c", code], env=environment, check=True,
+                told = subprocess.run([sys.executable, "-B", "-c", code], env={**environment, **named}, check=True,
                                       stdout=subprocess.PIPE, universal_newlines=True).stdout
                 self.assertEqual(told, "[Idle(count=3)]\n" if found else "none\n")
                 self.assertEqual([name for name in os.listdir(folder) if name.endswith(".ran")], [])

@@ -548,6 +548,11 @@ class Refusals(unittest.TestCase):
         self.refused(swd.NotABit, "bit is None", swd.Target(None).drive, None)
         self.assertEqual(calls, [])
 
+    def test_no_words_at_any_address(self):
+        """A block without words has no address that could be wrong."""
+        report = swd.Host(library_target(PlainMemory(BASE, 1, 1))).run_block(BASE + 1, 0)
+        self.assertEqual((swd.block(BASE + 1, 0), report.answers, report.ended), ([], (), End.ALL))
+
     def test_addresses_at_the_end(self):
         memory = PlainMemory(0xFFFFFFF8, 2, 16)
         report = swd.Host(swd.Target(MemoryBus(memory))).run_block(0xFFFFFFF8, 2)
@@ -619,6 +624,24 @@ class Libraries(unittest.TestCase):
                     library.check_structs(function, crossing)
             library.check_structs(function, structs)
 
+    def test_a_library_with_other_structs(self):
+        """A library is refused where it is loaded, whichever struct differs."""
+        path = swd.Library().path
+        for at, (function, structs) in enumerate(bound.LAYOUTS):
+            for place, (name, kind) in enumerate(structs):
+                fields = list(kind._fields_)
+                other = type("Changed", (ctypes.Structure,), {"_fields_": [fields[-1], *fields[:-1]]})
+                changed = (*structs[:place], (name, other), *structs[place + 1:])
+                layouts = (*bound.LAYOUTS[:at], (function, changed), *bound.LAYOUTS[at + 1:])
+                with self.subTest(name, function=function), unittest.mock.patch.object(bound, "LAYOUTS", layouts):
+                    self.refused_as_another(path)
+        self.assertIsInstance(swd.Library(path), swd.Library)
+
+    def refused_as_another(self, path):
+        with self.assertRaises(swd.LibraryMismatch) as caught:
+            swd.Library(path)
+        self.assertIn(path, str(caught.exception))
+
     def test_the_names_of_the_fields(self):
         """They are those of the C example that checks the header, in that order. A run has its engine's in it."""
         with open(os.path.join(ROOT, "examples", "c", "layout.c"), encoding="ascii") as source:
@@ -671,15 +694,16 @@ class Pages(unittest.TestCase):
         self.assertTrue(logged[-1].endswith(f" requests {report.requests}"), logged[-1])
 
     def test_gpio_lines(self):
-        """The two lines of that page, over a stand-in of their module."""
-        memory = PlainMemory(BASE, 16, 100)
-        names = {}
-        with unittest.mock.patch.dict(sys.modules, gpio.modules_over(library_target(memory))):
-            exec(program_of_the_page("gpiod"), names)  # pylint: disable=exec-used
-            with swd.Session(names["Pins"]("/dev/gpiochip0", gpio.SWCLK, gpio.SWDIO)) as session:
-                session.write(BASE, WORD)
-                self.assertEqual(session.read(BASE), WORD)
-        self.assertEqual(memory.log, [("w", BASE, WORD), ("r", BASE, WORD)])
+        """The two lines of that page, over stand-ins of both versions of their module."""
+        for word, modules_over in (("class Pins", gpio.modules_over), ("class OldPins", gpio.old_modules_over)):
+            memory = PlainMemory(BASE, 16, 100)
+            names = {}
+            with self.subTest(word), unittest.mock.patch.dict(sys.modules, modules_over(library_target(memory))):
+                exec(program_of_the_page(word), names)  # pylint: disable=exec-used
+                with swd.Session(names[word[6:]]("/dev/gpiochip0", gpio.SWCLK, gpio.SWDIO)) as session:
+                    session.write(BASE, WORD)
+                    self.assertEqual(session.read(BASE), WORD)
+                self.assertEqual(memory.log, [("w", BASE, WORD), ("r", BASE, WORD)])
 
     def test_programs(self):
         line = library_target(PlainMemory(BASE, 64, 1000))

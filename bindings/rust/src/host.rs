@@ -3,7 +3,7 @@
 use crate::cut::Cut;
 use crate::ffi::{listed, stored};
 use crate::wire::{silence, Wire, REST};
-use crate::{ffi, Access, Answer, End, Error, Line, Refused, Report, Slot, MOST_ACCESSES};
+use crate::{ffi, Access, Answer, End, Error, Identification, Line, Refused, Report, Slot, MOST_ACCESSES};
 
 /// The clocks from a turnaround to the end of an acknowledgement. A run that continues releases the line for the clocks
 /// of a data phase; one that was broken off may be that far before it.
@@ -32,11 +32,14 @@ struct Driver {
     inside: bool,
     /// The write's data phase inside which the line failed.
     cut: Option<Cut>,
+    /// DPIDR, as the last opening read it.
+    dpidr: Option<u32>,
 }
 
 impl Driver {
     fn new(tries: u32, opens_each: bool) -> Driver {
-        Driver { tries, bus_errors: false, standing: Standing::Fresh, opens_each, inside: true, cut: None }
+        let standing = Standing::Fresh;
+        Driver { tries, bus_errors: false, standing, opens_each, inside: true, cut: None, dpidr: None }
     }
 
     fn run<L: Line>(
@@ -49,9 +52,7 @@ impl Driver {
         check(accesses, slots)?;
         slots[..accesses.len()].fill(Slot::EMPTY);
         if self.standing == Standing::Astray {
-            // Continued over no access, the last run brings the target to rest, and opens it.
-            self.leave(line, &again(0, self.tries))?;
-            self.conduct(line, &mut again(0, self.tries), &[], &mut [])?;
+            self.settle(line)?;
         }
         let mut run = if self.opens_each || self.standing == Standing::Fresh {
             if blocks {
@@ -88,6 +89,22 @@ impl Driver {
             .and_then(|()| self.conduct(line, &mut run, accesses, slots))
             .map_err(|error| error.since(earlier))?;
         self.checked(accesses, slots, report)
+    }
+
+    /// Brings a target to rest, and opens it: continues the last run over no access.
+    fn settle<L: Line>(&mut self, line: &mut L) -> Result<(), Error<L::Error>> {
+        self.leave(line, &again(0, self.tries))?;
+        self.conduct(line, &mut again(0, self.tries), &[], &mut []).map(|_| ())
+    }
+
+    fn identify<L: Line>(&mut self, line: &mut L) -> Result<Identification, Error<L::Error>> {
+        self.dpidr = None;
+        if self.standing == Standing::Astray {
+            self.settle(line)?;
+        } else {
+            self.conduct(line, &mut ffi::Run::new(self.tries), &[], &mut [])?;
+        }
+        Ok(Identification { word: self.dpidr.expect("an opening that succeeds has read DPIDR") })
     }
 
     /// Leaves the cue in which a run may have been broken off, before a run that continues it.
@@ -131,6 +148,7 @@ impl Driver {
         }
         wire.flush();
         self.cut = wire.cut;
+        self.dpidr = wire.dpidr.or(self.dpidr);
         let mut report = Report::of(run);
         if let Some(error) = wire.failure {
             if report.ended != End::All {
@@ -233,6 +251,15 @@ impl<L: Line> Host<L> {
         self.driver.run(&mut self.line, accesses, slots, false)
     }
 
+    /// Opens the target, also one that is open, and returns its DPIDR. No memory is read or written.
+    ///
+    /// # Errors
+    ///
+    /// As [`Host::run`].
+    pub fn identify(&mut self) -> Result<Identification, Error<L::Error>> {
+        self.driver.identify(&mut self.line)
+    }
+
     /// Performs reads at consecutive addresses, as [`block`](crate::block) gives them, at one request per further word
     /// in place of two.
     ///
@@ -309,6 +336,15 @@ impl<'l, L: Line> Session<'l, L> {
             self.run(&[], &mut [])?;
         }
         Ok(())
+    }
+
+    /// Opens the target, also one that is open, and returns its DPIDR. No memory is read or written.
+    ///
+    /// # Errors
+    ///
+    /// As [`Host::run`].
+    pub fn identify(&mut self) -> Result<Identification, Error<L::Error>> {
+        self.driver.identify(self.line)
     }
 
     /// Performs the accesses in order, each once, as [`Host::run`] does, over the open target.

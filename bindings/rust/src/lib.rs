@@ -100,6 +100,7 @@ mod error;
 #[allow(unsafe_code)]
 mod ffi;
 mod host;
+mod identity;
 mod line;
 mod target;
 mod wire;
@@ -108,6 +109,7 @@ pub use access::{block, Access, Answer, End, Report, Slot};
 pub use decoder::{decode, Ack, Decoder, Item, Items, Transaction};
 pub use error::{Error, Refused};
 pub use host::{Host, Session};
+pub use identity::Identification;
 pub use line::{Broken, Line};
 pub use target::{Bus, BusError, Target};
 

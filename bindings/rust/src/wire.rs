@@ -11,6 +11,9 @@ const TAKE: u8 = 3;
 const GIVE: u8 = 4;
 const PASS: u8 = 5;
 
+/// The request that reads DPIDR.
+const DPIDR: u8 = 0xa5;
+
 /// The sixteen bits that switch from JTAG to serial wire.
 const SWITCH_BITS: u64 = 0xe79e;
 
@@ -29,11 +32,14 @@ pub(crate) struct Wire<'l, L: Line> {
     pub failure: Option<L::Error>,
     /// The write's data phase inside which the line failed.
     pub cut: Option<Cut>,
+    /// DPIDR, as far as it was read with right parity.
+    pub dpidr: Option<u32>,
+    request: u8,
 }
 
 impl<'l, L: Line> Wire<'l, L> {
     pub fn new(line: &'l mut L) -> Self {
-        Wire { line, failure: None, cut: None }
+        Wire { line, failure: None, cut: None, dpidr: None, request: 0 }
     }
 
     /// Performs the cue, and returns the reply. Once the line has failed it makes no clock, and returns what an
@@ -58,6 +64,7 @@ impl<'l, L: Line> Wire<'l, L> {
         match cue.kind {
             LEAD => self.lead(cue)?,
             ASK => {
+                self.request = cue.request;
                 self.drive(u64::from(cue.request), 8)?;
                 self.line.release_for(1)?;
                 return self.line.sample_bits(3);
@@ -65,6 +72,9 @@ impl<'l, L: Line> Wire<'l, L> {
             TAKE => {
                 let bits = self.line.sample_bits(DATA_CLOCKS)?;
                 self.line.release_for(1)?;
+                if self.request == DPIDR && bits.count_ones() % 2 == 0 {
+                    self.dpidr = Some(bits as u32);
+                }
                 return Ok(bits);
             }
             GIVE => {

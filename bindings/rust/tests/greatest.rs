@@ -1,9 +1,11 @@
-//! Each list and block once at its greatest size.
+//! Each list, block and poll once at its greatest size.
 
 mod common;
 
 use common::{answers, plan_of, Damaged, Mark, PlainMemory, BASE};
-use swd::{block, Access, Answer, End, Error, Host, Slot, MOST_ACCESSES};
+use std::cell::Cell;
+use std::convert::Infallible;
+use swd::{block, Access, Answer, Broken, End, Error, Host, Line, Session, Slot, Target, MOST_ACCESSES};
 
 /// The requests of a list of writes at consecutive addresses: the opening, DRW for each, and in each kilobyte TAR before
 /// its first word and RDBUFF after its last one.
@@ -48,4 +50,74 @@ fn a_list_that_is_resumed_at_its_last_access() {
     let reads = block(BASE, 65_536).collect::<Vec<_>>();
     host.run_block(&reads, &mut slots).unwrap();
     assert_eq!(answers(&slots), words());
+}
+
+const RDBUFF: u64 = 0xbd;
+
+/// A line to a status that is 0, and 1 at the last of so many reads. The library's target is at its end while it is
+/// opened. Afterwards the replies alone are made: a million reads of that target take minutes.
+struct Status<'a> {
+    target: Target<PlainMemory>,
+    reads: u32,
+    is_open: &'a Cell<bool>,
+    request: u64,
+}
+
+impl Line for Status<'_> {
+    type Error = Infallible;
+
+    fn drive(&mut self, bit: bool) -> Result<(), Infallible> {
+        self.target.drive(bit)
+    }
+
+    fn release(&mut self) -> Result<(), Infallible> {
+        self.target.release()
+    }
+
+    fn sample(&mut self) -> Result<bool, Infallible> {
+        self.target.sample()
+    }
+
+    fn drive_bits(&mut self, bits: u64, count: u32) -> Result<(), Broken<Infallible>> {
+        if !self.is_open.get() {
+            return self.target.drive_bits(bits, count);
+        }
+        if count == 8 {
+            self.request = bits;
+        }
+        Ok(())
+    }
+
+    fn release_for(&mut self, count: u32) -> Result<(), Infallible> {
+        if self.is_open.get() {
+            Ok(())
+        } else {
+            self.target.release_for(count)
+        }
+    }
+
+    fn sample_bits(&mut self, count: u32) -> Result<u64, Infallible> {
+        if !self.is_open.get() {
+            return self.target.sample_bits(count);
+        }
+        if count == 3 {
+            return Ok(1);
+        }
+        if self.request == RDBUFF {
+            self.reads -= 1;
+        }
+        Ok(if self.reads == 0 { 1 | 1 << 32 } else { 0 })
+    }
+}
+
+#[test]
+fn a_status_that_is_ready_at_the_last_read() {
+    let (reads, is_open) = (1_000_000, Cell::new(false));
+    let target = Target::new(PlainMemory::new(BASE, 1, 1));
+    let mut line = Status { target, reads, is_open: &is_open, request: 0 };
+    let mut session = Session::new(&mut line, 8);
+    session.open().unwrap();
+    is_open.set(true);
+    assert_eq!(session.until(BASE, 1, 1, reads).unwrap(), 1);
+    assert_eq!(line.reads, 0);
 }

@@ -4,7 +4,7 @@ mod common;
 
 use common::{answers, plan_of, report_of, Call, Damaged, Mark, PlainMemory, Transfer, Unplugged, BASE, WORD};
 use std::error::Error as _;
-use swd::{block, Access, Answer, Broken, End, Error, Host, Line, Refused, Session, Slot, Target};
+use swd::{block, Access, Answer, Broken, End, Error, Host, Identification, Line, Refused, Session, Slot, Target};
 
 const POLL_REQUESTS: u64 = 3;
 const POLL_CLOCKS: usize = 160;
@@ -55,6 +55,38 @@ fn words_and_lists_over_one_opening() {
     assert!(!session.is_open());
     assert_eq!(session.read(BASE), Ok(WORD));
     assert_eq!(line.memory().log.len(), 17);
+}
+
+// IHI 0031's DPIDR of an Arm debug port of version 1: revision 2, part ba, designer 23b. The session is open afterwards.
+#[test]
+fn an_identification() {
+    let mut line = line_with(&[]);
+    assert_eq!(Host::new(&mut line, 8).identify(), Ok(Identification { word: 0x2ba0_1477 }));
+    let mut session = Session::new(&mut line, 8);
+    for _ in 0..2 {
+        let found = session.identify().unwrap();
+        assert_eq!((found.designer(), found.part(), found.version(), found.revision()), (0x23b, 0xba, 1, 2));
+        assert_eq!(found.to_string(), "dpidr 2ba01477: designer 23b, part ba, version 1, revision 2");
+        assert!(!found.is_minimal());
+    }
+    assert!(Identification { word: 0x0bc1_2477 }.to_string().ends_with(", version 2, revision 0, minimal"));
+    assert_eq!(session.run(&[Access::read(BASE)], &mut [Slot::EMPTY]).map(|report| report.requests), Ok(POLL_REQUESTS));
+    assert_eq!(line.memory().log.len(), 1);
+}
+
+// A target that was lost before is brought to rest by an opening, which reads DPIDR. One whose DPIDR has wrong parity, or
+// is never read, isn't identified.
+#[test]
+fn an_identification_after_a_loss() {
+    let mut line = line_with(&[(12, Mark::Deaf)]);
+    let mut session = Session::new(&mut line, 8);
+    assert!(session.write(BASE, WORD).is_err());
+    assert_eq!(session.identify(), Ok(Identification { word: 0x2ba0_1477 }));
+    assert_eq!(session.read(BASE), Ok(WORD));
+    for mark in [Mark::Flip(0), Mark::Deaf] {
+        let ended = Host::new(line_with(&[(1, mark)]), 0).identify();
+        assert!(matches!(ended, Err(Error::Stopped(report)) if report.answered == 0), "{mark}");
+    }
 }
 
 // Nine requests of the opening, TAR, DRW and RDBUFF. The next list is performed over a target that was opened again.

@@ -1,0 +1,75 @@
+"""A program over the package whose types `mypy --strict` checks, as those of the package itself (`checks/bindings`)."""
+from typing import List
+
+import swd
+
+
+class Probe:
+    def drive(self, bits: int, count: int) -> None:
+        print(bits, count)
+
+    def release(self, count: int) -> None:
+        print(count)
+
+    def sample(self, count: int) -> int:
+        return (1 << count) - 1
+
+
+class Wire:
+    def drive(self, bit: int) -> None:
+        print(bit)
+
+    def release(self) -> None:
+        print()
+
+    def sample(self) -> int:
+        return 1
+
+
+class Ram:
+    def __init__(self) -> None:
+        self.words = {0x20000000: 0}
+
+    def read(self, addr: int) -> int:
+        return self.words[addr]
+
+    def write(self, addr: int, word: int) -> None:
+        self.words[addr] = word
+
+
+def told(index: int, answer: swd.Answer) -> None:
+    print(index, answer)
+
+
+def use() -> List[int]:
+    with swd.Session(swd.Sequences(Probe()), tries=8) as session:
+        identification: swd.Identification = session.identify()
+        print(identification.word, identification)
+        session.write(0x20000000, 1)
+        word: int = session.read(0x20000000)
+        found: int = session.until(0x20000000, 1, 1, reads=10, interval=0.1)
+        session.load(0x20000000, b"abc", on_progress=lambda done, total: print(done, total))
+        data: bytes = session.dump(0x20000000, 3)
+        print(word, found, data)
+    host = swd.Host(Wire())
+    accesses: List[swd.Access] = [swd.Read(0x20000000), swd.Write(0x20000000, 7)]
+    try:
+        report = host.run(accesses, on_answer=told)
+    except swd.RunFailed as failure:
+        report = host.resume(accesses, failure.report, check=False)
+    except swd.Interrupted as stop:
+        report = stop.report
+    run = swd.Run(accesses)
+    cue = run.cue()
+    if cue is not None:
+        for step in cue.sequences():
+            if isinstance(step, swd.Drive):
+                print(step.bits, step.count)
+        run.next(0)
+    for item in swd.decode("000"):
+        if isinstance(item, swd.Transaction):
+            print(item)
+    target = swd.Target(Ram())
+    swd.Host(target).run(accesses)
+    swd.Host((lambda bit: None, lambda: 1)).run_block(0x20000000, 4)
+    return report.words()
