@@ -1,4 +1,4 @@
-"""Twenty kinds of captures, and what is found, missed and invented in them.
+"""Twenty-one kinds of captures, and what is found, missed and invented in them.
 
 A kind makes of a session a `Capture`: its bits, of each of them the place in the session (CHANGED + the place for a bit
 that was changed, ADDED for one that isn't the session's), the session's transactions, and by how many bits a place may
@@ -10,6 +10,7 @@ import subprocess
 import tempfile
 from dataclasses import dataclass
 
+from captures import openocd
 from captures.reading import TRANSACTIONS, read
 from captures.sessions import hosted, run
 
@@ -281,21 +282,31 @@ def read_here(bits, words):
             for part in parts if part.kind in TRANSACTIONS}
 
 
-def sessions(rng, over, swd):
+def a_session(rng, number, over, swd, room):
     """Of a host that switches overrun detection every fourth, of `swd run` every fourth of the plain ones."""
+    if swd and not over and number % 4 == 0:
+        return run(rng, swd, room)
+    return hosted(rng, over, over and number % 4 == 3)
+
+
+def sessions(rng, over, swd):
     with tempfile.TemporaryDirectory() as room:
-        return [run(rng, swd, room) if swd and not over and n % 4 == 0 else hosted(rng, over, over and n % 4 == 3)
-                for n in range(SESSIONS)]
+        return [a_session(rng, number, over, swd, room) for number in range(SESSIONS)]
 
 
-def table(seed):
-    """Prints the table; whether enough is found and little enough invented."""
+def of_openocd(rng):
+    with tempfile.TemporaryDirectory() as room:
+        return [openocd.session(rng, room) for _ in range(SESSIONS)]
+
+
+def table(seed, with_openocd=False):
+    """Prints the table, or that of OpenOCD's sessions; whether enough is found and little enough invented."""
     swd = os.environ.get("SWD")
     good = True
     print(f"{'capture':28} {'overrun':8} {'true':>7} {'found':>7} {'missed':>7} {'invented':>8}")
-    for over in (False, True):
+    for over in (True,) if with_openocd else (False, True):
         rng = random.Random(f"{seed} {over}")
-        made = sessions(rng, over, swd)
+        made = of_openocd(rng) if with_openocd else sessions(rng, over, swd)
         sums = {True: [0, 0, 0], False: [0, 0, 0]}
         for kind in KINDS:
             total = [0, 0, 0]
