@@ -43,14 +43,17 @@ place of its request:
   @990 gap                      stray bits from here, which may hide accesses
 ????????: the trace doesn't show this address or word. Give --made if the trace
 begins with the target in its reset state; without it the state is unknown.
+FAULT alone shows nothing: not wants a read of CTRL/STAT with the error's flag. A
+line is printed once the transaction after the one that decides it is read.
 
 With --resync the trace may begin in mid-session and lose bits. What can be read
 is listed, and the bits between have one line:
   skip 26                       26 bits that belong to nothing
 Behind it SELECT is unknown. --count counts these bits, and for --accesses they
-are a gap. With overrun detection a data phase follows WAIT and FAULT too, so
-these transactions have 46 bits. Writes of CTRL/STAT are followed, and lengths;
---overrun says that the host uses it from the first bit on.";
+are a gap, with the transaction before them. With overrun detection a data phase
+follows WAIT and FAULT too, so these transactions have 46 bits. Writes of
+CTRL/STAT are followed, and lengths; --overrun says that the host uses it from
+the first bit on.";
 
 const COUNT_ALONE: &str = "--count goes with neither --places nor --names";
 
