@@ -12,6 +12,7 @@ use Rattle.swd_capture_text.specs.declared.reading.Reading.{Reading}
 use Rattle.swd_capture_text.specs.declared.reading.Reading.TheVariants.{Trace, Capture}
 use Rattle.swd_draw.specs.Draws.{Draws}
 use Rattle.swd_words.specs.declared.command.DecodeLine.{DecodeLine}
+use Rattle.swd_words.specs.declared.command.DrawLine.{DrawLine}
 use Rattle.swd_console.specs.Statuses.{command_status_of}
 use Rattle.swd_commands.specs.declared.conversion.Conversion.{Conversion}
 use Rattle.swd_commands.specs.declared.conversion.Conversion.TheVariants.{One, Encode, Listing, Print, Draw}
@@ -30,6 +31,11 @@ decode_command_conversion decode =
     if (decode.places || decode.names) || decode.resync
     then Print reading (Lines (record { places = decode.places; names = decode.names })) else Listing
 
+-- a drawing of so many items, with names of registers or not
+abbrev pub draw_command_conversion : DrawLine → Conversion
+draw_command_conversion draw =
+    Draw (command_capture_reading draw.resync draw.overrun) (record { items = draw.items; names = draw.names })
+
 -- An input is read and an output written as the engine's contract says. The status is 0, or 2 at an error.
 abbrev pub ConvertsCommandInput : Conversion → ℕ → Option (List ℕ) → Option (List ℕ) → Option (List ℕ) → Option (List ℕ)
     → Type 0
@@ -44,6 +50,6 @@ ConvertsCommandInput Listing status text left old new =
 ConvertsCommandInput (Print reading printed) status text left old new =
     (answer : Result (Unit {0}) DecodeFault) × Prints reading printed answer text left old new
     × (status ≡ command_status_of (is_ok answer))
-ConvertsCommandInput (Draw reading) status text left old new =
-    (answer : Result (Unit {0}) DecodeFault) × Draws reading answer text left old new
+ConvertsCommandInput (Draw reading form) status text left old new =
+    (answer : Result (Unit {0}) DecodeFault) × Draws reading form answer text left old new
     × (status ≡ command_status_of (is_ok answer))

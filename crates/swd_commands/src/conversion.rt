@@ -5,20 +5,21 @@ ghost use Rattle.std.specs.String.{string_bytes};
 ghost use Rattle.swd_console.specs.Streams.{CommandEndsOver};
 ghost use Rattle.swd_commands.specs.Inputs.{IsStandardInput};
 ghost use Rattle.swd_commands.specs.Conversions.{ConvertsCommandInput, command_capture_reading};
-ghost use Rattle.swd_commands.specs.Conversions.{decode_command_conversion};
+ghost use Rattle.swd_commands.specs.Conversions.{decode_command_conversion, draw_command_conversion};
 
+use crate::found_bits::{BitFinder, FindsBits};
 use std::alloc::Allocator;
 use std::io::{Read, Write};
 use swd_bits::one_text;
 use swd_capture::{LineForm, Printed};
 use swd_capture_text::{Reading, print_capture};
 use swd_console::{
-    Console, Files, INPUT, KeepsError, Watched, cannot_open, conversion_status, named_file_of,
-    status_after,
+    Console, Files, INPUT, KeepsError, Watched, cannot_open, cannot_use, conversion_status,
+    named_file_of, status_after,
 };
-use swd_draw::draw_capture;
+use swd_draw::{DrawnForm, draw_capture};
 use swd_text::{decode_text, encode_text};
-use swd_words::DecodeLine;
+use swd_words::{DecodeLine, DrawLine};
 
 /// What an input is converted to.
 #[derive(Clone, Copy)]
@@ -32,12 +33,12 @@ pub(crate) enum Conversion {
     /// What is printed of a trace or a capture instead.
     Print(Reading, Printed),
     /// A drawing.
-    Draw(Reading),
+    Draw(Reading, DrawnForm),
 }
 
-/// Returns how bits are read: a capture may begin in mid-session and lose bits, and `over` says whether a data phase
-/// then follows WAIT and FAULT.
-pub(crate) fn reading(resync: bool, over: bool) -> Reading
+// Returns how bits are read: a capture may begin in mid-session and lose bits, and `over` says whether a data phase
+// then follows WAIT and FAULT.
+fn reading(resync: bool, over: bool) -> Reading
     ensures { result ≡ command_capture_reading resync over }
 {
     if resync {
@@ -68,10 +69,21 @@ pub(crate) fn decode_conversion(decode: &DecodeLine) -> Conversion
     Conversion::Listing
 }
 
+/// Returns what the arguments of `swd draw` ask for.
+pub(crate) fn draw_conversion(draw: &DrawLine) -> Conversion
+    ensures { result ≡ draw_command_conversion draw.now }
+{
+    let form = DrawnForm {
+        items: draw.items,
+        names: draw.names,
+    };
+    Conversion::Draw(reading(draw.resync, draw.overrun), form)
+}
+
 /// Converts a file, or standard input without a name and for `-`. Returns the status: 0, or 2 at an error, or 141 if
 /// the reader of standard output is gone.
 pub(crate) fn convert<
-    I: Read + KeepsError,
+    I: Read + KeepsError + FindsBits,
     O: Write + KeepsError,
     A: Allocator + Copy,
     F: Files,
@@ -99,7 +111,7 @@ pub(crate) fn convert<
     let own = convert_read(
         conversion,
         name,
-        &mut Watched::new(opened.file),
+        &mut Watched::new(BitFinder::new(opened.file)),
         output,
         console,
     );
@@ -117,7 +129,14 @@ fn source_of(file: &Option<String>) -> Option<&str>
 }
 
 // Converts what the reader has. `name` is the input's. Returns the status: 0, or 2 at an error.
-fn convert_read<R: Read + KeepsError, O: Write + KeepsError, A: Allocator + Copy, F, C, E: Write>(
+fn convert_read<
+    R: Read + KeepsError + FindsBits,
+    O: Write + KeepsError,
+    A: Allocator + Copy,
+    F,
+    C,
+    E: Write,
+>(
     conversion: Conversion,
     name: &str,
     input: &mut R,
@@ -138,15 +157,25 @@ fn convert_read<R: Read + KeepsError, O: Write + KeepsError, A: Allocator + Copy
         }
         Conversion::Listing => {
             let answer = decode_text(input, output);
+            tell_no_bits(console.errors, name, answer.is_err() || input.has_bits());
             conversion_status(console.errors, answer, name, input, output)
         }
         Conversion::Print(reading, printed) => {
             let answer = print_capture(reading, printed, input, output);
+            tell_no_bits(console.errors, name, answer.is_err() || input.has_bits());
             conversion_status(console.errors, answer, name, input, output)
         }
-        Conversion::Draw(reading) => {
-            let answer = draw_capture(reading, input, output);
+        Conversion::Draw(reading, form) => {
+            let answer = draw_capture(reading, form, input, output);
+            tell_no_bits(console.errors, name, answer.is_err() || input.has_bits());
             conversion_status(console.errors, answer, name, input, output)
         }
+    }
+}
+
+// Prints that an input has no bits, unless it has some or is invalid.
+fn tell_no_bits<E: Write>(errors: &mut E, name: &str, has_some: bool) {
+    if !has_some {
+        cannot_use(errors, name, &"no bits found: a trace has a character 0 or 1 for each bit");
     }
 }

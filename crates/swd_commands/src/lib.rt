@@ -4,6 +4,7 @@
 
 mod arguments;
 mod conversion;
+mod found_bits;
 mod program;
 
 pub use arguments::run_arguments;

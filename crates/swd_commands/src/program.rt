@@ -6,7 +6,8 @@ ghost use Rattle.swd_console.specs.Streams.{CommandEndsOver};
 ghost use Rattle.swd_commands.specs.Inputs.{CommandReadsStdin, command_served_file};
 ghost use Rattle.swd_commands.specs.Statuses.{PerformsCommand};
 
-use crate::conversion::{Conversion, convert, decode_conversion, reading};
+use crate::conversion::{Conversion, convert, decode_conversion, draw_conversion};
+use crate::found_bits::{BitFinder, FindsBits};
 use clap::Error;
 use std::alloc::Global;
 use std::io::{Read, Write};
@@ -33,7 +34,8 @@ pub fn run_words<I: Read, O: Write, F: Files, C: Clock, E: Write>(
     output: &mut O,
     console: &mut Console<'_, Global, F, C, E>,
 ) -> u8 {
-    let (mut input, mut output) = (Watched::new(input), Watched::new(output));
+    let mut input = Watched::new(BitFinder::new(input));
+    let mut output = Watched::new(output);
     match line(console.alloc, words) {
         Ok(line) => carry_out(&line, &mut input, &mut output, console),
         Err(fault) => refuse(fault, &mut output, console.errors),
@@ -81,7 +83,13 @@ fn print_help<O: Write + KeepsError, E: Write>(error: &Error, output: &mut O, er
 }
 
 // Performs the command.
-fn carry_out<I: Read + KeepsError, O: Write + KeepsError, F: Files, C: Clock, E: Write>(
+fn carry_out<
+    I: Read + KeepsError + FindsBits,
+    O: Write + KeepsError,
+    F: Files,
+    C: Clock,
+    E: Write,
+>(
     line: &CommandLine,
     input: &mut I,
     output: &mut O,
@@ -99,7 +107,7 @@ fn carry_out<I: Read + KeepsError, O: Write + KeepsError, F: Files, C: Clock, E:
             convert(conversion, &decode.file, input, output, console)
         }
         CommandLine::Draw(draw) => {
-            let conversion = Conversion::Draw(reading(draw.resync, draw.overrun));
+            let conversion = draw_conversion(draw);
             convert(conversion, &draw.file, input, output, console)
         }
         CommandLine::Run(run) => perform_run(run, input, output, console),

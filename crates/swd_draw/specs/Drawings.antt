@@ -1,56 +1,27 @@
 -- A whole drawing. It is this project's choice.
-use Rattle.std.specs.Prelude.{ℕ, zero, suc, ◌+◌, ◌-◌, ◌*◌, Bool, true, false, List, [], ◌∷◌, ◌++◌, length, codes}
+use Rattle.std.specs.Prelude.{ℕ, ◌+◌, ◌-◌, ◌*◌, ◌^◌, ◌==◌, min, Bool, List, [], ◌∷◌, ◌++◌, length, take, codes}
+use Rattle.std.specs.Prelude.{if◌then◌else◌}
 use Rattle.std.specs.Fmt.{decimal}
-use Rattle.swd_trace.specs.declared.item.Item.{Item}
-use Rattle.swd_trace.specs.declared.item.Item.TheVariants.{Reset, Switch, Idle, Tx, Junk, Cut}
 use Rattle.swd_resync.specs.declared.part.Part.{Part}
-use Rattle.swd_resync.specs.declared.part.Part.TheVariants.{Item as Told, Phased, Skip}
 use Rattle.swd_draw.specs.Marks.{shade_class}
 use Rattle.swd_draw.specs.Rows.{drawing_rows}
+use Rattle.swd_draw.specs.declared.drawing.DrawnForm.{DrawnForm}
 use Rattle.swd_draw.specs.declared.field.Shade.{Shade}
 use Rattle.swd_draw.specs.declared.field.Shade.TheVariants.{Host, Target, Undriven, Wrong, Unknown}
 
 -- ---- which parts are drawn
 
--- whether a part is a transaction, as a number
-abbrev pub drawn_item_weight : Item → ℕ
-drawn_item_weight (Reset n) = 0
-drawn_item_weight Switch = 0
-drawn_item_weight (Idle n) = 0
-drawn_item_weight (Tx tx) = 1
-drawn_item_weight (Junk b) = 0
-drawn_item_weight (Cut bits) = 0
+-- the most parts of a drawing are those of its form, at most 1,000
+abbrev pub most_drawn_of : DrawnForm → ℕ
+most_drawn_of form = min form.items 1000
 
-abbrev pub drawn_weight : Part → ℕ
-drawn_weight (Told item) = drawn_item_weight item
-drawn_weight (Phased tx) = 1
-drawn_weight (Skip n) = 0
+-- the first parts are drawn
+abbrev pub drawn : ℕ → List Part → List Part
+drawn most parts = take most parts
 
--- the number of transactions
-abbrev pub drawn_weights : List Part → ℕ
-drawn_weights [] = 0
-drawn_weights (part ∷ parts) = drawn_weight part + drawn_weights parts
-
--- the first parts, up to the last of `room` parts or of `txs` transactions
-unfoldable pub first_parts : ℕ → ℕ → List Part → List Part
-first_parts zero txs parts = []
-first_parts (suc room) zero parts = []
-first_parts (suc room) (suc txs) [] = []
-first_parts (suc room) (suc txs) (part ∷ parts) = part ∷ first_parts room (suc txs - drawn_weight part) parts
-
--- whether there are more parts
-unfoldable pub is_longer : ℕ → ℕ → List Part → Bool
-is_longer room txs [] = false
-is_longer zero txs (part ∷ parts) = true
-is_longer (suc room) zero (part ∷ parts) = true
-is_longer (suc room) (suc txs) (part ∷ parts) = is_longer room (suc txs - drawn_weight part) parts
-
--- a drawing has at most 200 parts, and at most 80 transactions
-abbrev pub drawn : List Part → List Part
-drawn parts = first_parts 200 80 parts
-
-abbrev pub drawing_continues : List Part → Bool
-drawing_continues parts = is_longer 200 80 parts
+-- the number of the others, at most 2^64 - 1
+abbrev pub drawing_left_out : ℕ → List Part → ℕ
+drawing_left_out most parts = min (length parts - most) (2 ^ 64 - 1)
 
 -- ---- the text
 
@@ -68,14 +39,15 @@ style_text =
     ++ codes ".h{fill:#cfe2f3}.t{fill:#d9ead3}.u{fill:#ccc}.w{fill:#f4a6a0}.n{fill:#fff}"
     ++ codes ".p{fill:#fff;stroke:none}</style><rect width='672' height='100%' class='p'/>" ++ 10 ∷ []
 
--- the number of items, and whether the trace has more
-unfoldable pub caption_end : Bool → List ℕ
-caption_end true = codes ". The trace continues after them.</text>"
-caption_end false = codes ". The trace ends here.</text>"
+-- the number of items, and how many of the trace are left out
+unfoldable pub caption_end : ℕ → List ℕ
+caption_end left_out =
+    if left_out == 0 then codes ". The trace ends here.</text>" else
+    codes ". Items left out: " ++ decimal left_out ++ codes ".</text>"
 
-unfoldable pub caption : ℕ → Bool → List ℕ
-caption count longer =
-    codes "<text x='10' y='18' class='l'>Items drawn: " ++ decimal count ++ caption_end longer
+unfoldable pub caption : ℕ → ℕ → List ℕ
+caption count left_out =
+    codes "<text x='10' y='18' class='l'>Items drawn: " ++ decimal count ++ caption_end left_out
 
 -- the meaning of a colour
 unfoldable pub key_text : ℕ → Shade → List ℕ → List ℕ
@@ -92,17 +64,17 @@ legend =
     ++ key_text 546 Unknown (codes "not known") ++ 10 ∷ []
 
 -- the beginning of a drawing of `count` parts
-unfoldable pub head : ℕ → Bool → List ℕ
-head count longer = opening (72 + 140 * count) ++ style_text ++ caption count longer ++ legend
+unfoldable pub head : ℕ → ℕ → List ℕ
+head count left_out = opening (72 + 140 * count) ++ style_text ++ caption count left_out ++ legend
 
 unfoldable pub end_text : List ℕ
 end_text = codes "</svg>" ++ 10 ∷ []
 
--- the drawing of these parts, where the trace has more of them or not
-abbrev pub drawing_of : List Part → Bool → List ℕ
-drawing_of parts longer = head (length parts) longer ++ drawing_rows [] parts ++ end_text
+-- the drawing of these parts, with names of registers or not, where so many others are left out
+abbrev pub drawing_of : Bool → List Part → ℕ → List ℕ
+drawing_of names parts left_out = head (length parts) left_out ++ drawing_rows names [] parts ++ end_text
 
--- the drawing of the parts of a trace or a capture: of the first of them. `over` says that a data phase follows WAIT
--- and FAULT.
-abbrev pub drawing : List Part → List ℕ
-drawing parts = drawing_of (drawn parts) (drawing_continues parts)
+-- the drawing of the parts of a trace or a capture: of the first of them
+abbrev pub drawing : DrawnForm → List Part → List ℕ
+drawing form parts =
+    drawing_of form.names (drawn (most_drawn_of form) parts) (drawing_left_out (most_drawn_of form) parts)

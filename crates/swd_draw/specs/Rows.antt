@@ -1,5 +1,5 @@
 -- The rows of a drawing: one for each part. The drawing is this project's choice.
-use Rattle.std.specs.Prelude.{ℕ, ◌+◌, ◌*◌, nat_lt, true, false, List, [], ◌∷◌, ◌++◌, length, codes, min}
+use Rattle.std.specs.Prelude.{ℕ, ◌+◌, ◌*◌, nat_lt, Bool, true, List, [], ◌∷◌, ◌++◌, length, codes, min}
 use Rattle.std.specs.Prelude.{if◌then◌else◌}
 use Rattle.std.specs.Fmt.{decimal}
 use Rattle.swd_bits.specs.declared.tx_bits.TxBits.{TxBits}
@@ -75,9 +75,9 @@ drawn_part_body (Skip n) = run_body InSkip n
 
 -- ---- rows
 
--- the line of a part: its place, and its line in the listing
-abbrev pub drawn_line_form : Printed
-drawn_line_form = Lines (record { places = true; names = false })
+-- the line of a part: its place, and its line in the listing, with names of registers or not
+abbrev pub drawn_line_form : Bool → Printed
+drawn_line_form names = Lines (record { places = true; names = names })
 
 -- the top of a row
 abbrev pub drawing_row_top : ℕ → ℕ
@@ -94,12 +94,13 @@ unfoldable pub row_end : List ℕ
 row_end = codes "</g>" ++ 10 ∷ []
 
 -- the row of a part after others
-abbrev pub drawing_row : List Part → Part → List ℕ
-drawing_row before part =
-    row_head (length before) ++ capture_printed_entry drawn_line_form before part ++ row_names
+abbrev pub drawing_row : Bool → List Part → Part → List ℕ
+drawing_row names before part =
+    row_head (length before) ++ capture_printed_entry (drawn_line_form names) before part ++ row_names
     ++ drawn_part_body part ++ row_end
 
 -- the rows of parts after others
-abbrev pub drawing_rows : List Part → List Part → List ℕ
-drawing_rows before [] = []
-drawing_rows before (part ∷ parts) = drawing_row before part ++ drawing_rows (before ++ part ∷ []) parts
+abbrev pub drawing_rows : Bool → List Part → List Part → List ℕ
+drawing_rows names before [] = []
+drawing_rows names before (part ∷ parts) =
+    drawing_row names before part ++ drawing_rows names (before ++ part ∷ []) parts

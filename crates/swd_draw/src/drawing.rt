@@ -9,7 +9,7 @@ ghost use Rattle.swd_text.specs.Outputs.{TextQueues};
 ghost use Rattle.swd_capture_text.specs.Readings.{SourceDecides, SourceReadsAs};
 
 use crate::head::push_drawing_head;
-use crate::kept::DrawnParts;
+use crate::kept::{DrawnParts, MOST_PARTS};
 use crate::row::{RowText, push_row};
 use std::io::{Read, Write};
 use swd_capture::{LineForm, Printed, Teller};
@@ -17,6 +17,15 @@ use swd_capture_text::{Reading, read_parts};
 use swd_io::Block;
 use swd_resync::Part;
 use swd_text::{DecodeFault, end_output};
+
+/// What of a trace is drawn, and how.
+#[derive(Clone, Copy, Debug, PartialEq, Eq)]
+pub struct DrawnForm {
+    /// The most items that are drawn. Above 1,000 it means 1,000.
+    pub items: u32,
+    /// Whether registers are printed by name, and flags that are set.
+    pub names: bool,
+}
 
 // The most bytes that are put into a block at once.
 const CHUNK: usize = 1024;
@@ -35,14 +44,14 @@ fn put_text<W: Write>(block: &mut Block<'_, W>, text: &[u8])
 }
 
 // Appends the rows of parts.
-fn put_rows<W: Write>(block: &mut Block<'_, W>, parts: &[Part])
-    requires { length parts.now ≤ 200 }
+fn put_rows<W: Write>(block: &mut Block<'_, W>, parts: &[Part], names: bool)
+    requires { length parts.now ≤ 1000 }
     ensures writer { block.new.writer.ghost_name ≡ block.old.writer.ghost_name }
-    ensures sends { BlockQueues W.contents (drawing_rows [] parts.now) block.old block.new }
+    ensures sends { BlockQueues W.contents (drawing_rows names [] parts.now) block.old block.new }
 {
     let form = LineForm {
         places: true,
-        names: false,
+        names,
     };
     let mut teller = Teller::new(Printed::Lines(form));
     let mut text = RowText::new();
@@ -56,33 +65,35 @@ fn put_rows<W: Write>(block: &mut Block<'_, W>, parts: &[Part])
 }
 
 // Appends the drawing of parts.
-fn put_drawing<W: Write>(block: &mut Block<'_, W>, parts: &[Part], longer: bool)
-    requires { length parts.now ≤ 200 }
+fn put_drawing<W: Write>(block: &mut Block<'_, W>, parts: &[Part], names: bool, left_out: u64)
+    requires { length parts.now ≤ 1000 }
     ensures writer { block.new.writer.ghost_name ≡ block.old.writer.ghost_name }
     ensures sends { (start : Option (List ℕ)) → BlockBufferSends W.contents start block.old []
-        → BlockBufferSends W.contents start block.new (drawing_of parts.now longer) }
+        → BlockBufferSends W.contents start block.new (drawing_of names parts.now left_out) }
 {
     let mut text = RowText::new();
-    push_drawing_head(&mut text, parts.len(), longer);
+    push_drawing_head(&mut text, parts.len(), left_out);
     put_text(block, text.as_str().as_bytes());
-    put_rows(block, parts);
+    put_rows(block, parts, names);
     put_text(block, b"</svg>\n");
 }
 
 // Appends the drawing of a trace text.
 fn draw_text<R: Read, W: Write>(
     reading: Reading,
+    form: DrawnForm,
     reader: &mut R,
     block: &mut Block<'_, W>,
 ) -> Result<(), DecodeFault>
     ensures { (start : Option (List ℕ)) → BlockBufferSends W.contents start block.old []
-        → TextQueues (SourceDecides reading) (SourceReadsAs reading) no_drawing drawing W.contents result
+        → TextQueues (SourceDecides reading) (SourceReadsAs reading) no_drawing (drawing form) W.contents result
         (R.remaining reader.old) (R.remaining reader.new) start block.new
         × (block.new.writer.ghost_name ≡ block.old.writer.ghost_name) }
 {
-    match read_parts(reading, reader, &mut (), DrawnParts::new()) {
+    let most = (form.items as usize).min(MOST_PARTS);
+    match read_parts(reading, reader, &mut (), DrawnParts::new(most)) {
         Ok(kept) => {
-            put_drawing(block, kept.parts(), kept.is_longer());
+            put_drawing(block, kept.parts(), form.names, kept.left_out());
             Ok(())
         }
         Err(fault) => Err(fault),
@@ -90,9 +101,9 @@ fn draw_text<R: Read, W: Write>(
 }
 
 /// Reads a trace text as a trace or as a capture, and writes a drawing of its first parts as SVG: a row for each part,
-/// with the waves of SWCLK and SWDIO, and a box for each field of a transaction. At most 80 transactions, and at most
-/// 200 parts, are drawn. The whole text is read first. It allocates nothing, its time is linear in the text, and
-/// nothing is retried.
+/// with the waves of SWCLK and SWDIO, and a box for each field of a transaction. The drawing says how many parts it
+/// leaves out. The whole text is read first. It allocates nothing, its time is linear in the text, and nothing is
+/// retried.
 ///
 /// # Errors
 ///
@@ -101,13 +112,14 @@ fn draw_text<R: Read, W: Write>(
 /// - `Write`: exactly the first `written` bytes of the drawing were written.
 pub fn draw_capture<R: Read, W: Write>(
     reading: Reading,
+    form: DrawnForm,
     reader: &mut R,
     writer: &mut W,
 ) -> Result<(), DecodeFault>
-    ensures { Draws reading result (R.remaining reader.old) (R.remaining reader.new)
+    ensures { Draws reading form result (R.remaining reader.old) (R.remaining reader.new)
         (W.contents writer.old) (W.contents writer.new) }
 {
     let mut block = Block::new(writer, 0);
-    let read = draw_text(reading, reader, &mut block);
+    let read = draw_text(reading, form, reader, &mut block);
     end_output(&mut block, read)
 }

@@ -71,40 +71,43 @@ fn push_legend(text: &mut RowText)
     text.push_str("\n");
 }
 
-// Returns whether the items are all.
+// Appends how many items are left out, or that these are all.
 #[tactic(auto, unfolding(crate::specs::Drawings::caption_end))]
-fn end_of_caption(longer: bool) -> &'static str
-    ensures bytes { result.now ≡ caption_end longer }
-    ensures len { length result.now ≤ 60 }
+fn push_caption_end(text: &mut RowText, left_out: u64)
+    requires { array_string_len text.old + 100 ≤ 8192 }
+    ensures bytes { text.new.bytes ≡ text.old.bytes ++ caption_end left_out }
+    ensures len { array_string_len text.new ≤ array_string_len text.old + 100 }
 {
-    if longer {
-        ". The trace continues after them.</text>"
+    if left_out == 0 {
+        text.push_str(". The trace ends here.</text>");
     } else {
-        ". The trace ends here.</text>"
+        text.push_str(". Items left out: ");
+        push_number(text, left_out);
+        text.push_str(".</text>");
     }
 }
 
-// Appends the line that says how many items are drawn, and whether these are all.
+// Appends the line that says how many items are drawn, and how many are left out.
 #[tactic(auto, unfolding(crate::specs::Drawings::caption))]
-fn push_caption(text: &mut RowText, count: u64, longer: bool)
+fn push_caption(text: &mut RowText, count: u64, left_out: u64)
     requires { array_string_len text.old + 200 ≤ 8192 }
-    ensures bytes { text.new.bytes ≡ text.old.bytes ++ caption count longer }
+    ensures bytes { text.new.bytes ≡ text.old.bytes ++ caption count left_out }
     ensures len { array_string_len text.new ≤ array_string_len text.old + 200 }
 {
     text.push_str("<text x='10' y='18' class='l'>Items drawn: ");
     push_number(text, count);
-    text.push_str(end_of_caption(longer));
+    push_caption_end(text, left_out);
 }
 
-/// Appends the beginning of a drawing of `count` items. `longer` says that the trace has more.
+/// Appends the beginning of a drawing of `count` items. `left_out` is how many more the trace has.
 #[tactic(auto, unfolding(crate::specs::Drawings::head))]
-pub(crate) fn push_drawing_head(text: &mut RowText, count: usize, longer: bool)
-    requires count { count ≤ 200 }
+pub(crate) fn push_drawing_head(text: &mut RowText, count: usize, left_out: u64)
+    requires count { count ≤ 1000 }
     requires room { array_string_len text.old ≡ 0 }
-    ensures { text.new.bytes ≡ text.old.bytes ++ head count longer }
+    ensures { text.new.bytes ≡ text.old.bytes ++ head count left_out }
 {
     push_opening(text, 72 + 140 * count as u64);
     push_style(text);
-    push_caption(text, count as u64, longer);
+    push_caption(text, count as u64, left_out);
     push_legend(text);
 }

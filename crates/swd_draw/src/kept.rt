@@ -1,10 +1,9 @@
 //! Keeps the parts that are drawn.
-ghost use Rattle.std.specs.Prelude.{◌≡◌, ◌≤◌, ◌∷◌, [], ◌++◌, List, length};
+ghost use Rattle.std.specs.Prelude.{◌≡◌, ◌≤◌, ◌∷◌, [], ◌++◌, ℕ, List, length};
 ghost use Rattle.swd_bits.specs.BitLists.{tx_bits_of};
 ghost use Rattle.swd_resync.specs.declared.part.Part.{Part};
 ghost use Rattle.swd_text.specs.Sinks.{LeadsSinkOn, sink_takes_nothing, sink_leads_join};
 ghost use Rattle.swd_capture.specs.Printing.{capture_junk_parts};
-ghost use Rattle.swd_draw.specs.Drawings.{drawn_weight};
 
 use swd_bits::TxBits;
 use swd_capture_text::PartSink;
@@ -12,67 +11,54 @@ use swd_resync::Part;
 use swd_trace::Item;
 
 /// The most parts of a drawing.
-pub(crate) const MOST_PARTS: usize = 200;
+pub(crate) const MOST_PARTS: usize = 1000;
 
-// The most transactions of a drawing.
-const MOST_TRANSACTIONS: u8 = 80;
-
-/// A sink of parts, which keeps the first of them, up to the last that is drawn.
+/// A sink of parts, which keeps the first of them and counts the others.
 #[derive(Drop)]
 pub(crate) struct DrawnParts {
     parts: [Part; MOST_PARTS],
-    // The number of parts that are kept.
+    // The number of parts that are kept, and how many may be.
     count: usize,
-    // The number of transactions that may still be kept.
-    left: u8,
-    // Whether there were more parts.
-    longer: bool,
-    ghost within: { count ≤ 200 },
-}
-
-// Returns 1 for a transaction, and 0 for another part.
-fn weight_of(part: &Part) -> u8
-    ensures weight { result ≡ drawn_weight part.now }
-    ensures most { result ≤ 1 }
-{
-    match part {
-        Part::Item(Item::Tx(_)) | Part::Phased(_) => 1,
-        Part::Item(_) | Part::Skip(_) => 0,
-    }
+    most: usize,
+    // The number of the others, at most 2^64 - 1.
+    left_out: u64,
+    ghost within: { count ≤ most },
+    ghost room: { most ≤ 1000 },
 }
 
 impl DrawnParts {
     ghost use Rattle.swd_draw.specs.Collecting.{drawn_kept_parts, KeepsDrawn};
 
-    /// Returns one that was given no parts.
-    pub(crate) fn new() -> DrawnParts
-        ensures { KeepsDrawn [] result }
+    /// Returns one that was given no parts. It keeps so many at most.
+    pub(crate) fn new(most: usize) -> DrawnParts
+        requires { most ≤ MOST_PARTS }
+        ensures { KeepsDrawn most [] result }
     {
         DrawnParts {
             parts: [Part::Skip(0); MOST_PARTS],
             count: 0,
-            left: MOST_TRANSACTIONS,
-            longer: false,
+            most,
+            left_out: 0,
         }
     }
 
     /// Takes the next part. It is kept if it is drawn.
     pub(crate) fn add(&mut self, part: &Part)
-        ensures { (parts : List Part) → KeepsDrawn parts self.old → KeepsDrawn (parts ++ part.now ∷ []) self.new }
+        ensures { (most : ℕ) (parts : List Part) → KeepsDrawn most parts self.old
+            → KeepsDrawn most (parts ++ part.now ∷ []) self.new }
     {
-        if self.count >= MOST_PARTS || self.left == 0 {
-            self.longer = true;
+        if self.count >= self.most {
+            self.left_out = self.left_out.saturating_add(1);
             return;
         }
         self.parts[self.count] = *part;
         self.count += 1;
-        self.left -= weight_of(part);
     }
 
     // Takes junk bits, each of them a part.
     fn add_junk(&mut self, junk: TxBits)
-        ensures { (parts : List Part) → KeepsDrawn parts self.old
-            → KeepsDrawn (parts ++ capture_junk_parts (tx_bits_of junk)) self.new }
+        ensures { (most : ℕ) (parts : List Part) → KeepsDrawn most parts self.old
+            → KeepsDrawn most (parts ++ capture_junk_parts (tx_bits_of junk)) self.new }
     {
         let mut bits = junk.bits;
         let mut left = junk.len;
@@ -91,11 +77,11 @@ impl DrawnParts {
         &self.parts[..self.count]
     }
 
-    /// Returns whether there were more parts.
-    pub(crate) fn is_longer(&self) -> bool
-        ensures { result ≡ self.now.longer }
+    /// Returns how many parts are left out, at most 2^64 - 1.
+    pub(crate) fn left_out(&self) -> u64
+        ensures { result ≡ self.now.left_out }
     {
-        self.longer
+        self.left_out
     }
 }
 

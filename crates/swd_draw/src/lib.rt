@@ -12,5 +12,5 @@ mod run;
 mod strip;
 mod tx_strip;
 
-pub use drawing::draw_capture;
+pub use drawing::{DrawnForm, draw_capture};
 pub use laws::{fields_are_the_transaction, the_first_parts_are_drawn};

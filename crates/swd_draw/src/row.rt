@@ -1,5 +1,5 @@
 //! The row of a part.
-ghost use Rattle.std.specs.Prelude.{◌≡◌, ◌+◌, ◌≤◌, ◌++◌, ◌∷◌, [], List, length};
+ghost use Rattle.std.specs.Prelude.{◌≡◌, ◌+◌, ◌≤◌, ◌++◌, ◌∷◌, [], Bool, List, length};
 ghost use Rattle.arrayvec.specs.ArrayString.{array_string_len};
 ghost use Rattle.swd_resync.specs.declared.part.Part.{Part};
 ghost use Rattle.swd_capture.specs.Tellers.{IsCaptureTellerAfter};
@@ -134,7 +134,7 @@ fn push_body(text: &mut RowText, part: &Part)
 // Appends the beginning of a row.
 #[tactic(auto, unfolding(crate::specs::Rows::row_head))]
 fn push_head(text: &mut RowText, index: usize)
-    requires index { index ≤ 200 }
+    requires index { index ≤ 1000 }
     requires room { array_string_len text.old + 200 ≤ ROOM }
     ensures bytes { text.new.bytes ≡ text.old.bytes ++ row_head index }
     ensures len { array_string_len text.new ≤ array_string_len text.old + 200 }
@@ -147,13 +147,14 @@ fn push_head(text: &mut RowText, index: usize)
 /// Appends the row of the part at an index. `teller` was given the parts before it.
 #[tactic(auto, unfolding(crate::specs::Rows::row_names, crate::specs::Rows::row_end))]
 pub(crate) fn push_row(text: &mut RowText, teller: &mut Teller, part: &Part, index: usize)
-    requires index { index ≤ 200 }
+    requires index { index ≤ 1000 }
     requires room { array_string_len text.old ≡ 0 }
-    ensures after { (before : List Part) → IsCaptureTellerAfter drawn_line_form before teller.old
-        → IsCaptureTellerAfter drawn_line_form (before ++ part.now ∷ []) teller.new }
-    ensures bytes { (before : List Part) → IsCaptureTellerAfter drawn_line_form before teller.old
+    ensures after { (names : Bool) (before : List Part) → IsCaptureTellerAfter (drawn_line_form names) before teller.old
+        → IsCaptureTellerAfter (drawn_line_form names) (before ++ part.now ∷ []) teller.new }
+    ensures bytes { (names : Bool) (before : List Part)
+        → IsCaptureTellerAfter (drawn_line_form names) before teller.old
         → index ≡ length before
-        → text.new.bytes ≡ text.old.bytes ++ drawing_row before part.now }
+        → text.new.bytes ≡ text.old.bytes ++ drawing_row names before part.now }
 {
     push_head(text, index);
     teller.tell(part, text);

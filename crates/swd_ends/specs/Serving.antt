@@ -16,13 +16,13 @@ use Rattle.swd_ends.specs.declared.serving.TargetFault.{TargetFault}
 use Rattle.swd_ends.specs.declared.serving.TargetFault.TheVariants.{Texts, Memory, Accesses}
 use Rattle.swd_run.specs.Running.{AreScriptAndPlan, AreRunTextsUnread, IsRunScriptInput, IsRunPlanInput, script_memory}
 
--- a target before its first cycle, with this memory and the marks of a plan
-pub record IsTargetEndMade {A : Type 0} (memory : PlainMemory) (marks : List Mark)
+-- a target before its first cycle, with this memory, the marks of a plan, and this IDR or none
+pub record IsTargetEndMade {A : Type 0} (memory : PlainMemory) (marks : List Mark) (idr : Option ℕ)
     (target : FaultyClocked PlainMemory A) : Type 0 where
   pub state : marked_clocked_state bus_of target ≡ port_made_target 0x2ba0_1477 (bus_of memory)
   -- a transfer takes effect at once, TAR wraps at the end of a kilobyte, and a value that is unknown is 0
   pub choices : (marked_clocked_simulation bus_of target).quirks
-      ≡ record { wrap = true; late = false; filler = 0; idr = None }
+      ≡ record { wrap = true; late = false; filler = 0; idr = idr }
   pub frame : marked_clocked_frame target ≡ idle_frame
   pub unseen : marked_clocked_unseen target ≡ 0
   pub plan : marked_clocked_plan target ≡ marks
@@ -43,14 +43,14 @@ IsTargetEndScript [] = ⊥
 IsTargetEndScript (batch ∷ []) = batch.accesses ≡ []
 IsTargetEndScript (batch ∷ next ∷ batches) = ⊥
 
--- the inputs are a script without accesses and a plan, and the pins have their target
-pub record SimulatesTargetEnd {A : Type 0} (script plan : Option (List ℕ)) (trace : Trace A)
+-- the inputs are a script without accesses and a plan, and the pins have their target with this IDR or none
+pub record SimulatesTargetEnd {A : Type 0} (script plan : Option (List ℕ)) (idr : Option ℕ) (trace : Trace A)
     (pins : Pins PlainMemory A) : Type 0 where
   pub meaning : ScriptMeaning
   pub marks : List Mark
   pub read : AreScriptAndPlan script plan meaning marks
   pub no_access : IsTargetEndScript meaning.batches
-  pub made : IsTargetEndMade (script_memory meaning) marks pins.target
+  pub made : IsTargetEndMade (script_memory meaning) marks idr pins.target
   pub rests : AreTargetEndPinsAtRest trace pins
 
 -- the script has an access or further calls

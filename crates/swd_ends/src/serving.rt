@@ -12,7 +12,7 @@ use swd_clocked::FaultyClocked;
 use swd_port::Mark;
 use swd_run::{QUIRKS, Texts, TextsFault, read_texts, zero_memory};
 use swd_script::Batch;
-use swd_target::Memory;
+use swd_target::{Memory, Quirks};
 
 /// The error of making a target to serve.
 #[derive(Clone, Copy, Debug, PartialEq, Eq, Drop)]
@@ -26,22 +26,24 @@ pub enum TargetFault {
 }
 
 /// Returns the pins of a simulated target with this memory and a plan of these marks, before the host moved any. The
-/// target's choices are those of `swd run`. The pins record in `trace`.
+/// target's choices are those of `swd run`, but for its IDR. The pins record in `trace`.
 pub fn target_pins<A: Allocator>(
     memory: Memory<A>,
     plan: Vec<Mark, A>,
+    idr: Option<u32>,
     trace: Trace<A>,
 ) -> Pins<Memory<A>, A>
     requires { IsLegalPlan plan.items }
-    ensures made { IsTargetEndMade memory plan.items result.target }
+    ensures made { IsTargetEndMade memory plan.items idr result.target }
     ensures rests { AreTargetEndPinsAtRest trace result }
 {
-    Pins::new(FaultyClocked::new(memory, QUIRKS, plan), trace)
+    let quirks = Quirks { idr, ..QUIRKS };
+    Pins::new(FaultyClocked::new(memory, quirks, plan), trace)
 }
 
 /// Reads a script and a plan, and returns the pins of the simulated target that they describe, before the host moved
-/// any. The target's memory has the script's words, all zero, and its requests use the plan's marks. The pins record
-/// in `trace`.
+/// any. The target's memory has the script's words, all zero, its requests use the plan's marks, and it has this IDR or
+/// none. The pins record in `trace`.
 ///
 /// # Errors
 ///
@@ -51,9 +53,11 @@ pub fn read_target<S: Read, P: Read, A: Allocator + Copy>(
     alloc: A,
     script: &mut S,
     plan: &mut P,
+    idr: Option<u32>,
     trace: Trace<A>,
 ) -> Result<Pins<Memory<A>, A>, TargetFault>
-    ensures made { IfOk result (λ pins. SimulatesTargetEnd (S.remaining script.old) (P.remaining plan.old) trace pins) }
+    ensures made { IfOk result (λ pins.
+        SimulatesTargetEnd (S.remaining script.old) (P.remaining plan.old) idr trace pins) }
     ensures fault { IfErr result (λ fault. IsTargetEndFault fault (S.remaining script.old) (P.remaining plan.old)) }
 {
     let Texts { script, plan } = match read_texts(alloc, script, plan) {
@@ -66,7 +70,7 @@ pub fn read_target<S: Read, P: Read, A: Allocator + Copy>(
     let Some(memory) = zero_memory(alloc, &script) else {
         return Err(TargetFault::Memory);
     };
-    Ok(target_pins(memory, plan, trace))
+    Ok(target_pins(memory, plan, idr, trace))
 }
 
 // Returns whether there is exactly one call, without accesses.

@@ -19,6 +19,7 @@ mod steps;
 mod text;
 
 use swd_clocked::Clocked;
+use swd_draw::DrawnForm;
 use swd_io::send;
 use swd_port::{Access, Cue};
 use swd_resync::Part;
@@ -89,7 +90,11 @@ fn show_traces(rt: &HostRuntime) -> anyhow::Result<()> {
     capture_text::lines(CAPTURE, &mut lines)?;
     show(rt, "swd_capture_text", lines.as_slice())?;
     let mut svg = Vec::new(rt.alloc());
-    draw::drawing(READ, &mut svg)?;
+    let form = DrawnForm {
+        items: 200,
+        names: false,
+    };
+    draw::drawing(READ, form, &mut svg)?;
     println!(rt; "swd_draw: {}", svg.starts_with(b"<svg "))?;
     Ok(())
 }

@@ -17,12 +17,13 @@ IsServedCommandStatus Quit Whole status = ((status ≡ 0) × Whole) ⊎ (status 
 IsServedCommandStatus Ended Whole status = ((status ≡ 0) × Whole) ⊎ (status ≡ 2)
 IsServedCommandStatus served Whole status = status ≡ 2
 
--- Nothing was written, or a host was served at the pins of the target of the script, under the plan.
-abbrev pub TargetCommandServesHost : (A : Type 0) → ℕ → Option (List ℕ) → Option (List ℕ) → Option (List ℕ)
+-- Nothing was written, or a host was served at the pins of the target of the script, under the plan, with this IDR or
+-- none.
+abbrev pub TargetCommandServesHost : (A : Type 0) → ℕ → Option (List ℕ) → Option (List ℕ) → Option ℕ → Option (List ℕ)
     → Option (List ℕ) → Option (List ℕ) → Option (List ℕ) → Type 0
-TargetCommandServesHost A status script plan text left old new =
+TargetCommandServesHost A status script plan idr text left old new =
     CommandNotOpened status old new
     ⊎ ((served : Served) × (trace : Trace A) × (s : Pins PlainMemory A) × (t : Pins PlainMemory A) × SimulatesTargetEnd
-    script plan trace s
+    script plan idr trace s
     × BitbangServes bus_of served text left old new s t
     × IsServedCommandStatus served (is_pins_trace_cut_off t.trace ≡ false) status)

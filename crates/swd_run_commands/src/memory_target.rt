@@ -34,7 +34,7 @@ pub(crate) fn perform_memory_target<
     console: &mut Console<'_, A, F, C, E>,
 ) -> u8
     ensures { (ram : Option (List ℕ)) × ServesMemory A result (I.remaining input.old) (I.remaining input.new)
-        (O.contents output.old) (O.contents output.new) memory.now ram }
+        (O.contents output.old) (O.contents output.new) target.now.idr memory.now ram }
 {
     let mut in_use = InUse::new(StreamsInUse::Both);
     match read_target_files(memory, &mut in_use, console) {
@@ -70,7 +70,8 @@ fn serve_held<
 ) -> u8
     requires { IsLegalPlan held.marks.items }
     ensures { ServesBytes A result (I.remaining input.old) (I.remaining input.new) (O.contents output.old)
-        (O.contents output.new) held.entry.memory.now.base held.entry.bytes.items held.entry.marks.items }
+        (O.contents output.new) target.now.idr held.entry.memory.now.base held.entry.bytes.items
+        held.entry.marks.items }
 {
     let HeldMemory {
         memory,
@@ -92,7 +93,8 @@ fn serve_held<
         Ok(files) => files,
         Err(status) => return status,
     };
-    let pins = target_pins(words, marks, files.empty_trace(console.alloc));
+    let trace = files.empty_trace(console.alloc);
+    let pins = target_pins(words, marks, target.idr, trace);
     let back = MemoryFile {
         memory,
         count: slice.len() as u64,

@@ -24,7 +24,7 @@ pub fn perform_target<
     E: Write,
 >(target: &TargetLine, input: &mut I, output: &mut O, console: &mut Console<'_, A, F, C, E>) -> u8
     ensures { CommandServesTarget A result (I.remaining input.old) (I.remaining input.new) (O.contents output.old)
-        (O.contents output.new) target.now.memory }
+        (O.contents output.new) target.now.idr target.now.memory }
 {
     match &target.memory {
         ServedMemory::Script(texts) => perform_script_target(target, texts, input, output, console),
@@ -55,7 +55,7 @@ fn perform_script_target<
     console: &mut Console<'_, A, F, C, E>,
 ) -> u8
     ensures { (script : Option (List ℕ)) × (plan : Option (List ℕ)) × TargetCommandServesHost A result script plan
-        (I.remaining input.old) (I.remaining input.new) (O.contents output.old) (O.contents output.new) }
+        target.now.idr (I.remaining input.old) (I.remaining input.new) (O.contents output.old) (O.contents output.new) }
 {
     let name = texts.script.as_str();
     let mut in_use = InUse::new(StreamsInUse::Output);
@@ -104,7 +104,7 @@ fn serve_under<
     console: &mut Console<'_, A, F, C, E>,
 ) -> u8
     ensures { TargetCommandServesHost A result (S.remaining texts.entry.script.reader)
-        (P.remaining texts.entry.plan.reader)
+        (P.remaining texts.entry.plan.reader) target.now.idr
         (I.remaining input.old) (I.remaining input.new) (O.contents output.old) (O.contents output.new) }
 {
     let TargetTexts {
@@ -117,7 +117,7 @@ fn serve_under<
         Err(status) => return status,
     };
     let kept = files.empty_trace(console.alloc);
-    match read_target(console.alloc, &mut script, &mut plan, kept) {
+    match read_target(console.alloc, &mut script, &mut plan, target.idr, kept) {
         Ok(pins) => {
             let SessionFiles { log, trace } = files;
             let (served, pins, files) = serve_logged(input, output, pins, log, trace);

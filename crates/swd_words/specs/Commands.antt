@@ -80,9 +80,22 @@ accesses_args_app = with_rule (with_rule listing_args_app accesses_rule) made_ru
 abbrev pub decode_args_app : App
 decode_args_app = with_rule (with_rule accesses_args_app resync_rule) overrun_rule
 
+-- the most items of a drawing, after --items: 1 to 1,000, and 200 without it
+abbrev pub items_rule : Rule
+items_rule =
+    let rule = new_rule (codes "items") in
+    record rule {
+      long = Some (codes "items");
+      value_names = 1;
+      parser = Some (Signed (pos 1) (pos 1000));
+      defaults = codes "200" ∷ [];
+    }
+
 -- the command `draw`
 abbrev pub draw_args_app : App
-draw_args_app = with_rule (with_rule (file_args_app (codes "draw")) resync_rule) overrun_rule
+draw_args_app =
+    with_rule (with_rule (with_rule (with_rule (file_args_app (codes "draw")) items_rule) names_rule) resync_rule)
+    overrun_rule
 
 -- the program without its commands, one of which is required
 abbrev pub bare_args_app : App
@@ -191,12 +204,16 @@ base_rule = let rule = new_rule (codes "base") in record rule { long = Some (cod
 abbrev pub served_script_rule : Rule
 served_script_rule = new_rule (codes "SCRIPT")
 
+-- the IDR of a target, after --idr
+abbrev pub idr_rule : Rule
+idr_rule = let rule = new_rule (codes "idr") in record rule { long = Some (codes "idr"); value_names = 1 }
+
 -- the command `target`: with the options for its memory, and with the files of a session
 abbrev pub memory_args_app : App
 memory_args_app = with_rule (with_rule (with_rule (new_app (codes "target")) served_script_rule) memory_rule) base_rule
 
 abbrev pub target_args_app : App
-target_args_app = with_rule (with_rule (with_rule memory_args_app plan_rule) log_rule) trace_rule
+target_args_app = with_rule (with_rule (with_rule (with_rule memory_args_app plan_rule) log_rule) trace_rule) idr_rule
 
 -- the options for the target of an image
 abbrev pub with_target_args : App → App
@@ -244,9 +261,16 @@ pub record AreDecodeArguments (decode : DecodeLine) (rows : List Row) : Type 0 w
   pub resync : (decode.resync ≡ true) ↔ (first_of (codes "resync") rows ≡ Some (codes "true"))
   pub overrun : (decode.overrun ≡ true) ↔ (first_of (codes "overrun") rows ≡ Some (codes "true"))
 
--- the file that the arguments of `draw` name, if any, and their flags
+-- the most items of a drawing are those of the argument, at most 1,000; 200 without an argument
+abbrev pub IsItemsArgument : ℕ → Option Text → Type 0
+IsItemsArgument items None = items ≡ 200
+IsItemsArgument items (Some text) = (items ≤ 1000) × (pos items ≡ signed_digits_value 10 text)
+
+-- the file that the arguments of `draw` name, if any, the most items, and the flags
 pub record AreDrawArguments (draw : DrawLine) (rows : List Row) : Type 0 where
   pub file : option_map string_bytes draw.file ≡ first_of (codes "FILE") rows
+  pub items : IsItemsArgument draw.items (first_of (codes "items") rows)
+  pub names : (draw.names ≡ true) ↔ (first_of (codes "names") rows ≡ Some (codes "true"))
   pub resync : (draw.resync ≡ true) ↔ (first_of (codes "resync") rows ≡ Some (codes "true"))
   pub overrun : (draw.overrun ≡ true) ↔ (first_of (codes "overrun") rows ≡ Some (codes "true"))
 
@@ -328,11 +352,17 @@ AreServedArguments (Script script) rows =
     AreScriptArguments script rows × (first_of (codes "memory") rows ≡ None) × (first_of (codes "base") rows ≡ None)
 AreServedArguments (File memory) rows = (first_of (codes "SCRIPT") rows ≡ None) × AreMemoryArguments memory rows
 
--- the memory, the log and the trace that the arguments name
+-- the IDR is that of the argument, and without an argument there is none
+abbrev pub IsIdrArgument : Option ℕ → Option Text → Type 0
+IsIdrArgument None text = text ≡ None
+IsIdrArgument (Some idr) text = Some idr ≡ option_and_then (λ text. script_hex_number text) text
+
+-- the memory, the log, the trace and the IDR that the arguments name
 pub record AreTargetArguments (target : TargetLine) (rows : List Row) : Type 0 where
   pub memory : AreServedArguments target.memory rows
   pub log : option_map string_bytes target.log ≡ first_of (codes "log") rows
   pub trace : option_map string_bytes target.trace ≡ first_of (codes "trace") rows
+  pub idr : IsIdrArgument target.idr (first_of (codes "idr") rows)
 
 -- Exactly one of --remote and --memory is given: the target is behind the standard streams, or has this memory. Only
 -- with --memory there may be --base and --plan.

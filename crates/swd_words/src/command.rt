@@ -12,14 +12,14 @@ pub enum CommandLine {
     /// `swd decode [FILE] [--places] [--names]`, `swd decode [FILE] --count`, or
     /// `swd decode [FILE] --accesses [--made]`. Each takes `--resync [--overrun]` too.
     Decode(DecodeLine),
-    /// `swd draw [FILE] [--resync [--overrun]]`.
+    /// `swd draw [FILE] [--items N] [--names] [--resync [--overrun]]`.
     Draw(DrawLine),
     /// `swd encode [FILE]`. Without a file it reads standard input.
     Encode(Option<String>),
     /// `swd run SCRIPT [--plan FILE]` or `swd run SCRIPT --remote --report FILE`. Both take `[--tries N] [--resume N]
     /// [--trace FILE] [--accesses FILE] [--strict] [--progress]` too.
     Run(RunLine),
-    /// `swd target MEMORY [--plan FILE] [--log FILE] [--trace FILE]`. MEMORY is SCRIPT or
+    /// `swd target MEMORY [--plan FILE] [--log FILE] [--trace FILE] [--idr WORD]`. MEMORY is SCRIPT or
     /// `--memory FILE [--base ADDR]`.
     Target(TargetLine),
     /// `swd load ADDR FILE TARGET [--format FORMAT] [--tries N] [--resume N]`, the same with `verify`, or
@@ -54,6 +54,10 @@ pub struct DecodeLine {
 pub struct DrawLine {
     /// The file of the trace, or `None` for standard input.
     pub file: Option<String>,
+    /// The most items that are drawn, at most 1,000.
+    pub items: u32,
+    /// Whether registers are printed by name.
+    pub names: bool,
     /// Whether the trace may begin in mid-session and lose bits.
     pub resync: bool,
     /// Whether a data phase then follows WAIT and FAULT at the beginning.
@@ -112,6 +116,8 @@ pub struct TargetLine {
     pub log: Option<String>,
     /// The file that the trace is written to, if one is named.
     pub trace: Option<String>,
+    /// IDR of the access port, if it has one.
+    pub idr: Option<u32>,
 }
 
 /// What is done with an image.

@@ -76,7 +76,7 @@ fn places_arg<'a>(alloc: Global) -> Arg<'a>
 }
 
 // Returns the flag for registers by name.
-fn names_arg<'a>(alloc: Global) -> Arg<'a>
+pub(crate) fn names_arg<'a>(alloc: Global) -> Arg<'a>
     ensures rule { rule_of result ≡ names_rule }
     ensures local { result.global ≡ false }
 {

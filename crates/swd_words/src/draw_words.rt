@@ -1,14 +1,15 @@
 //! The arguments of `swd draw`.
-ghost use Rattle.std.specs.Prelude.{◌≡◌, IfOk, false};
-ghost use Rattle.clap.specs.Words.{app_of, found_of, rows_of};
+ghost use Rattle.std.specs.Prelude.{◌≡◌, IfOk, IfSome, false};
+ghost use Rattle.std.specs.Option.{option_map};
+ghost use Rattle.clap.specs.Words.{app_of, found_of, rows_of, rule_of};
 ghost use Rattle.clap.specs.declared.builder.command.Command.TheViews.{out-Command};
-ghost use Rattle.swd_words.specs.Commands.{draw_args_app, AreDrawArguments};
+ghost use Rattle.swd_words.specs.Commands.{draw_args_app, items_rule, AreDrawArguments, IsItemsArgument};
 
 use crate::command::{DrawLine, LineFault};
-use crate::decode_words::{OVERRUN_WITH_RESYNC, overrun_arg, resync_arg};
-use crate::words::{file_arg, is_asked_for, owned, refused, with_arg};
+use crate::decode_words::{OVERRUN_WITH_RESYNC, names_arg, overrun_arg, resync_arg};
+use crate::words::{file_arg, is_asked_for, number_in, owned, refused, with_arg};
 use clap::error::ErrorKind;
-use clap::{ArgMatches, Command};
+use clap::{Arg, ArgMatches, Command, value_parser};
 use std::alloc::{AllocError, Global};
 
 const DRAW_ABOUT: &str = "Draw a trace's waves as an SVG picture, one row an item";
@@ -17,16 +18,36 @@ const DRAW_AFTER: &str = "\
 The picture goes to standard output. A browser shows it:
   swd draw session.trace >session.svg
 
-A row has the item's place and line, as swd decode --places prints them, the
-waves of SWCLK and SWDIO, and a box for each field of the packet request, the
-acknowledgement and the data phase, with its value. Turnarounds are grey, and
-their level lies between high and low. Each bit is one period of SWCLK, and is
-sampled at its rising edge. Of a reset, idle cycles or a skip of more than 16
-bits the wave is broken, and the box has the count.
+A row has the item's place and line, as swd decode --places prints them, or with
+--names as swd decode --places --names. Below are the waves of SWCLK and SWDIO,
+and a box for each field of the packet request, the acknowledgement and the data
+phase, with its value. Turnarounds are grey, and their level lies between high
+and low. Each bit is one period of SWCLK, and is sampled at its rising edge. Of
+a reset, idle cycles or a skip of more than 16 bits the wave is broken, and the
+box has the count.
 
-At most 80 transactions and at most 200 items are drawn, the first ones. The
-picture says whether the trace continues. The whole trace is read first: where
-it is invalid there is no picture.";
+The first items are drawn, as many as --items says. The picture says how many it
+leaves out. It is 72 pixels high, and 140 more for each item. The whole trace is
+read first: where it is invalid there is no picture.";
+
+// The most items of a drawing without --items.
+const ITEMS: u32 = 200;
+
+/// The error of a number of items that is too small or too large.
+pub(crate) const ITEMS_RANGE: &str = "the value of '--items <N>' is not in 1..=1000";
+
+// Returns the option for the most items.
+fn items_arg<'a>(alloc: Global) -> Arg<'a>
+    ensures rule { rule_of result ≡ items_rule }
+    ensures local { result.global ≡ false }
+{
+    Arg::new(alloc, "items")
+        .long("items")
+        .value_name("N")
+        .value_parser(value_parser!(u32).range(1..=1000))
+        .default_value("200")
+        .help("The most items that are drawn, from 1 to 1000")
+}
 
 /// Returns the command `draw`.
 pub(crate) fn draw_command<'a>(alloc: Global) -> Result<Command<'a>, AllocError>
@@ -37,8 +58,20 @@ pub(crate) fn draw_command<'a>(alloc: Global) -> Result<Command<'a>, AllocError>
         .about(DRAW_ABOUT)
         .after_help(DRAW_AFTER);
     let file = with_arg(bare, file_arg(alloc))?;
-    let resync = with_arg(file, resync_arg(alloc))?;
+    let items = with_arg(file, items_arg(alloc))?;
+    let names = with_arg(items, names_arg(alloc))?;
+    let resync = with_arg(names, resync_arg(alloc))?;
     with_arg(resync, overrun_arg(alloc))
+}
+
+// Returns the most items, 200 without an argument. Returns `None` if it isn't a number of 0 to 1,000.
+fn items_in(word: Option<&str>) -> Option<u32>
+    ensures { IfSome result (λ items. IsItemsArgument items (option_map (λ s. s.now) word.entry)) }
+{
+    match word {
+        Some(word) => number_in(word),
+        None => Some(ITEMS),
+    }
 }
 
 /// Returns the arguments of `swd draw`. Rejects `--overrun` without `--resync`.
@@ -54,8 +87,14 @@ pub(crate) fn draw_line(alloc: Global, matches: &ArgMatches<'_>) -> Result<DrawL
         let kind = ErrorKind::MissingRequiredArgument;
         return Err(refused(alloc, kind, OVERRUN_WITH_RESYNC));
     }
+    let Some(items) = items_in(matches.get_str("items")) else {
+        return Err(refused(alloc, ErrorKind::InvalidValue, ITEMS_RANGE));
+    };
+    let names = is_asked_for(matches.get_str("names"));
     Ok(DrawLine {
         file,
+        items,
+        names,
         resync,
         overrun,
     })

@@ -1,9 +1,10 @@
 //! The arguments of `swd target`.
-ghost use Rattle.std.specs.Prelude.{◌≡◌, IfOk, false};
+ghost use Rattle.std.specs.Prelude.{◌≡◌, IfOk, IfSome, false};
+ghost use Rattle.std.specs.Option.{option_map};
 ghost use Rattle.clap.specs.Words.{app_of, found_of, rows_of, rule_of};
 ghost use Rattle.clap.specs.declared.builder.command.Command.TheViews.{out-Command};
-ghost use Rattle.swd_words.specs.Commands.{log_rule, memory_args_app, served_script_rule, target_args_app};
-ghost use Rattle.swd_words.specs.Commands.{AreServedArguments, AreTargetArguments};
+ghost use Rattle.swd_words.specs.Commands.{idr_rule, log_rule, memory_args_app, served_script_rule, target_args_app};
+ghost use Rattle.swd_words.specs.Commands.{AreServedArguments, AreTargetArguments, IsIdrArgument};
 
 use crate::command::{LineFault, ScriptLine, ServedMemory, TargetLine};
 use crate::memory_words::{base_arg, is_missing, memory_arg, memory_line};
@@ -11,6 +12,7 @@ use crate::words::{owned, plan_arg, refused, trace_arg, with_arg};
 use clap::error::ErrorKind;
 use clap::{Arg, ArgMatches, Command};
 use std::alloc::{AllocError, Global};
+use swd_script::hex_of;
 
 const TARGET_ABOUT: &str = "Simulate a target for a debugger on the standard streams";
 
@@ -32,6 +34,10 @@ later one with a bus error, which a line on standard error says.
 
 The plan is one of swd run, with a mark for each request.
 
+pyOCD and probe-rs look for an access port by its IDR. With --idr 04770031 the
+target has an AHB-AP and no ROM table: AP bank F reads WORD at address c, and
+BASE, at 8, reads ffffffff. Otherwise both read 0.
+
 The log has a line for each transfer that took effect, and the numbers of cycles
 and requests. The trace has every bit on the line. Both are written during the
 session.
@@ -44,6 +50,8 @@ const NO_MEMORY: &str = "the memory is missing: give SCRIPT or --memory FILE";
 const TWO_MEMORIES: &str = "SCRIPT and --memory FILE are two memories: give one of them";
 
 const NO_BASE: &str = "--base ADDR goes with --memory FILE";
+
+const IDR_FORM: &str = "the value of '--idr <WORD>' is not 1 to 8 hexadecimal digits";
 
 // Returns the argument for the script's file.
 fn served_script_arg<'a>(alloc: Global) -> Arg<'a>
@@ -62,6 +70,17 @@ fn log_arg<'a>(alloc: Global) -> Arg<'a>
         .long("log")
         .value_name("FILE")
         .help("Write the log to FILE (overwrites it)")
+}
+
+// Returns the option for the IDR.
+fn idr_arg<'a>(alloc: Global) -> Arg<'a>
+    ensures rule { rule_of result ≡ idr_rule }
+    ensures local { result.global ≡ false }
+{
+    Arg::new(alloc, "idr")
+        .long("idr")
+        .value_name("WORD")
+        .help("IDR of the access port, hexadecimal; else 0")
 }
 
 // Returns the command `target` with the arguments for its memory.
@@ -85,7 +104,8 @@ pub(crate) fn target_command<'a>(alloc: Global) -> Result<Command<'a>, AllocErro
 {
     let plan = with_arg(over_memory(alloc)?, plan_arg(alloc))?;
     let log = with_arg(plan, log_arg(alloc))?;
-    with_arg(log, trace_arg(alloc))
+    let trace = with_arg(log, trace_arg(alloc))?;
+    with_arg(trace, idr_arg(alloc))
 }
 
 // Returns the memory that the arguments name.
@@ -113,6 +133,19 @@ fn served_memory(alloc: Global, matches: &ArgMatches<'_>) -> Result<ServedMemory
     Ok(ServedMemory::Script(ScriptLine { script, plan }))
 }
 
+// Returns the IDR of an argument, or `None` if it isn't a word.
+fn idr_in(word: Option<&str>) -> Option<Option<u32>>
+    ensures { IfSome result (λ idr. IsIdrArgument idr (option_map (λ s. s.now) word.entry)) }
+{
+    match word {
+        Some(word) => match hex_of(word.as_bytes()) {
+            Some(idr) => Some(Some(idr)),
+            None => None,
+        },
+        None => Some(None),
+    }
+}
+
 /// Returns the arguments of `swd target`.
 pub(crate) fn target_line(alloc: Global, matches: &ArgMatches<'_>) -> Result<TargetLine, LineFault>
     ensures { IfOk result (λ target. AreTargetArguments target (rows_of (found_of matches.now))) }
@@ -124,5 +157,13 @@ pub(crate) fn target_line(alloc: Global, matches: &ArgMatches<'_>) -> Result<Tar
     let Ok(trace) = owned(alloc, matches.get_str("trace")) else {
         return Err(LineFault::Memory);
     };
-    Ok(TargetLine { memory, log, trace })
+    let Some(idr) = idr_in(matches.get_str("idr")) else {
+        return Err(refused(alloc, ErrorKind::InvalidValue, IDR_FORM));
+    };
+    Ok(TargetLine {
+        memory,
+        log,
+        trace,
+        idr,
+    })
 }

@@ -13,7 +13,7 @@ ghost use Rattle.swd_words.specs.Commands.{IsArgumentsErrorKind, AreRunArguments
 
 use crate::command::{CommandLine, LineFault, RunLine};
 use crate::decode_words::{decode_command, decode_line};
-use crate::draw_words::{draw_command, draw_line};
+use crate::draw_words::{ITEMS_RANGE, draw_command, draw_line};
 use crate::image_words::{image_line, with_images};
 use crate::target_words::{target_command, target_line};
 use clap::error::ErrorKind;
@@ -405,17 +405,23 @@ pub(crate) fn unknown(alloc: Global) -> LineFault {
 // Returns whether an option with a number is followed by a negative one. `clap` reports that number as an unknown
 // option.
 fn asks_for_negative(words: &[&str], option: &str) -> bool {
-    has_tries(words)
-        && words.windows(2).any(|pair| {
-            pair[0] == option && pair[1].parse::<i64>().is_ok_and(|number| number < 0)
-        })
+    words.windows(2).any(|pair| {
+        pair[0] == option && pair[1].parse::<i64>().is_ok_and(|number| number < 0)
+    })
 }
 
-// Returns whether the command has the options for tries.
-fn has_tries(words: &[&str]) -> bool {
-    match words.get(1) {
-        Some(name) => matches!(*name, "run" | "load" | "verify" | "dump"),
-        None => false,
+// Returns the range of the option with a number that is followed by a negative one, if the command has that option.
+fn negative_range(words: &[&str]) -> Option<&'static str> {
+    let name = words.get(1)?;
+    match *name {
+        "run" | "load" | "verify" | "dump" if asks_for_negative(words, "--tries") => {
+            Some(TRIES_RANGE)
+        }
+        "run" | "load" | "verify" | "dump" if asks_for_negative(words, "--resume") => {
+            Some(RESUMES_RANGE)
+        }
+        "draw" if asks_for_negative(words, "--items") => Some(ITEMS_RANGE),
+        _ => None,
     }
 }
 
@@ -423,17 +429,16 @@ fn has_tries(words: &[&str]) -> bool {
 fn line_fault(alloc: Global, words: &[&str], fault: Error) -> LineFault
     ensures { IsArgumentsErrorKind (kind_of fault) result }
 {
-    if fault.kind() == ErrorKind::UnknownArgument && asks_for_negative(words, "--tries") {
-        refused(alloc, fault.kind(), TRIES_RANGE)
-    } else if fault.kind() == ErrorKind::UnknownArgument && asks_for_negative(words, "--resume") {
-        refused(alloc, fault.kind(), RESUMES_RANGE)
-    } else {
-        LineFault::Clap(fault)
+    match negative_range(words) {
+        Some(range) if fault.kind() == ErrorKind::UnknownArgument => {
+            refused(alloc, fault.kind(), range)
+        }
+        _ => LineFault::Clap(fault),
     }
 }
 
-// Returns the number of an argument, or `None` if it isn't one of 0 to 1,000.
-fn number_in(word: &str) -> Option<u32>
+/// Returns the number of an argument, or `None` if it isn't one of 0 to 1,000.
+pub(crate) fn number_in(word: &str) -> Option<u32>
     ensures { IfSome result (λ tries. IsTriesArgument tries (Some word.now)) }
 {
     let Ok(number) = word.parse::<i64>() else {

@@ -6,7 +6,7 @@ use super::expect::expect_eq_at;
 use std::alloc::Global;
 use std::test::Fail;
 use swd_capture_text::Reading;
-use swd_draw::draw_capture;
+use swd_draw::{DrawnForm, draw_capture};
 use swd_fakes::{FailingReader, OneByteReader, ShortWriter};
 use swd_text::{DecodeFault, TextFault};
 
@@ -151,11 +151,21 @@ fn count(text: &[u8], piece: &[u8]) -> usize
         .count()
 }
 
+const PLAIN: DrawnForm = DrawnForm {
+    items: 200,
+    names: false,
+};
+
 // Returns the drawing of a trace.
-fn drawing_of(alloc: Global, reading: Reading, trace: &[u8]) -> Result<Vec<u8>, Fail> {
+fn drawing_of(
+    alloc: Global,
+    reading: Reading,
+    form: DrawnForm,
+    trace: &[u8],
+) -> Result<Vec<u8>, Fail> {
     let mut reader = OneByteReader::new(trace);
     let mut drawing = Vec::new(alloc);
-    match draw_capture(reading, &mut reader, &mut drawing) {
+    match draw_capture(reading, form, &mut reader, &mut drawing) {
         Ok(()) => Ok(drawing),
         Err(_) => Err(Fail::from("no drawing")),
     }
@@ -172,10 +182,10 @@ fn repeated(alloc: Global, bits: &[u8], times: usize) -> Result<Vec<u8>, Fail> {
 
 #[test]
 fn traces_are_drawn(rt: HostRuntime) -> Result<(), Fail> {
-    let drawing = drawing_of(rt.alloc(), Reading::Trace, DPIDR)?;
+    let drawing = drawing_of(rt.alloc(), Reading::Trace, PLAIN, DPIDR)?;
     expect_eq_at(&rt, &"a read", &drawing.as_slice(), &DPIDR_DRAWING);
     for row in ROWS {
-        let drawing = drawing_of(rt.alloc(), row.reading, row.trace)?;
+        let drawing = drawing_of(rt.alloc(), row.reading, PLAIN, row.trace)?;
         if !row.has.is_empty() {
             expect_eq_at(&rt, &row.name, &count(&drawing, row.has), &row.times);
         }
@@ -183,40 +193,56 @@ fn traces_are_drawn(rt: HostRuntime) -> Result<(), Fail> {
     Ok(())
 }
 
-// What is repeated, how often, the rows that are drawn, and what is said.
-const LONG: &[(&[u8], usize, usize, &[u8])] = &[
-    (DPIDR, 80, 80, b"Items drawn: 80. The trace ends here."),
-    (
-        DPIDR,
-        81,
-        80,
-        b"Items drawn: 80. The trace continues after them.",
-    ),
+// What is repeated, how often, the most items, the rows that are drawn, and what is said.
+const LONG: &[(&[u8], usize, u32, usize, &[u8])] = &[
+    (DPIDR, 80, 80, 80, b"Items drawn: 80. The trace ends here."),
+    (DPIDR, 81, 80, 80, b"Items drawn: 80. Items left out: 1."),
     (
         b"1010010111001110111000101000000001011101010001 0",
         80,
-        159,
-        b"The trace continues after them.",
-    ),
-    (b"1", 49, 1, b"Items drawn: 1. The trace ends here."),
-    (b"10", 100, 200, b"Items drawn: 200. The trace ends here."),
-    (
-        b"10",
-        101,
         200,
-        b"Items drawn: 200. The trace continues after them.",
+        160,
+        b"Items drawn: 160. The trace ends here.",
     ),
+    (DPIDR, 200, 200, 200, b"Items drawn: 200. The trace ends here."),
+    (DPIDR, 201, 200, 200, b"Items drawn: 200. Items left out: 1."),
+    (b"1", 49, 200, 1, b"Items drawn: 1. The trace ends here."),
+    (b"10", 100, 200, 200, b"Items drawn: 200. The trace ends here."),
+    (b"10", 617, 200, 200, b"Items drawn: 200. Items left out: 1034."),
+    (b"10", 2, 1, 1, b"Items drawn: 1. Items left out: 3."),
+    (b"10", 2, 4, 4, b"Items drawn: 4. The trace ends here."),
+    (b"10", 2, 5, 4, b"Items drawn: 4. The trace ends here."),
+    (b"10", 2, 0, 0, b"Items drawn: 0. Items left out: 4."),
+    (b"", 0, 0, 0, b"Items drawn: 0. The trace ends here."),
+    (b"10", 600, 1000, 1000, b"Items drawn: 1000. Items left out: 200."),
+    (b"10", 600, 1100, 1000, b"Items drawn: 1000. Items left out: 200."),
 ];
 
 #[test]
 fn the_first_items_are_drawn(rt: HostRuntime) -> Result<(), Fail> {
-    for (bits, times, rows, said) in LONG {
+    for (bits, times, items, rows, said) in LONG {
         let trace = repeated(rt.alloc(), bits, *times)?;
-        let drawing = drawing_of(rt.alloc(), Reading::Trace, &trace)?;
-        expect_eq_at(&rt, times, &count(&drawing, b"<g "), rows);
-        if !said.is_empty() {
-            expect_eq_at(&rt, times, &count(&drawing, said), &1);
-        }
+        let form = DrawnForm {
+            items: *items,
+            names: false,
+        };
+        let drawing = drawing_of(rt.alloc(), Reading::Trace, form, &trace)?;
+        expect_eq_at(&rt, said, &count(&drawing, b"<g "), rows);
+        expect_eq_at(&rt, said, &count(&drawing, said), &1);
+    }
+    Ok(())
+}
+
+// With names a line has them, as in a listing.
+#[test]
+fn names_are_drawn(rt: HostRuntime) -> Result<(), Fail> {
+    for (names, line) in [
+        (false, b"@0 dp 0 read ok 2ba01477</text>".as_slice()),
+        (true, b"@0 dp dpidr read ok 2ba01477</text>"),
+    ] {
+        let form = DrawnForm { items: 200, names };
+        let drawing = drawing_of(rt.alloc(), Reading::Trace, form, DPIDR)?;
+        expect_eq_at(&rt, &names, &count(&drawing, line), &1);
     }
     Ok(())
 }
@@ -226,13 +252,14 @@ fn failures_are_told(rt: HostRuntime) {
     for fails_at in 0..40 {
         let mut reader = FailingReader::new(DPIDR, fails_at);
         let mut drawing = Vec::new(rt.alloc());
-        let answer = draw_capture(Reading::Trace, &mut reader, &mut drawing);
+        let answer = draw_capture(Reading::Trace, PLAIN, &mut reader, &mut drawing);
         expect_eq_at(&rt, &fails_at, &answer, &Err(DecodeFault::Read));
         expect_eq_at(&rt, &fails_at, &drawing.len(), &0);
     }
     let mut drawing = Vec::new(rt.alloc());
     let answer = draw_capture(
         Reading::Trace,
+        PLAIN,
         &mut OneByteReader::new(b"1010x"),
         &mut drawing,
     );
@@ -242,7 +269,8 @@ fn failures_are_told(rt: HostRuntime) {
     for room in 0..DPIDR_DRAWING.len() {
         for fails in [false, true] {
             let mut writer = ShortWriter::new(rt.alloc(), room, fails);
-            let answer = draw_capture(Reading::Trace, &mut OneByteReader::new(DPIDR), &mut writer);
+            let mut reader = OneByteReader::new(DPIDR);
+            let answer = draw_capture(Reading::Trace, PLAIN, &mut reader, &mut writer);
             let written = room as u64;
             expect_eq_at(&rt, &room, &answer, &Err(DecodeFault::Write { written }));
             expect_eq_at(&rt, &room, &writer.taken(), &&DPIDR_DRAWING[..room]);

@@ -88,3 +88,86 @@ fn a_record_is_none_of_the_files_that_are_read(rt: HostRuntime) {
         }
     }
 }
+
+// The word of AP bank F at address c, behind a read of DPIDR, the power-up, SELECT, and at the end the word at 8. A host
+// in another language: 0 and 1 are bits that it sends, - is a cycle that it doesn't drive, ? one whose level it asks
+// for, and o and O release and drive SWDIO.
+const IDENTIFIES: &[u8] = b"11111111111111111111111111111111111111111111111111\
+    00 10100101o-????????????????????????????????????-O\
+    10010101o-???-O 00000000000000000000000000001010 0\
+    10110001o-????????????????????????????????????-O\
+    10001101o-???-O 00001111000000000000000000000000 0\
+    11111001o-????????????????????????????????????-O\
+    10111101o-????????????????????????????????????-O\
+    11101101o-????????????????????????????????????-O\
+    10111101o-????????????????????????????????????-O 00";
+
+// Where the levels of both words are among those of this session, each with OK before and its parity behind.
+const IDR_AT: usize = 36 + 3 + 36 + 3 + 36;
+
+const BASE_AT: usize = IDR_AT + 36 + 36;
+
+const NO_WORD: &[u8] = b"100000000000000000000000000000000000";
+
+// The words, those of the IDR, and those of BASE.
+type IdrRow<'a> = (&'a [&'a str], &'a [u8], &'a [u8]);
+
+const IDRS: [IdrRow; 4] = [
+    (&["swd", "target", "memory"], NO_WORD, NO_WORD),
+    (
+        &["swd", "target", "memory", "--idr", "04770031"],
+        b"100100011000000000011101110001000000",
+        b"100111111111111111111111111111111110",
+    ),
+    (
+        &["swd", "target", "--memory", "ram"],
+        NO_WORD,
+        NO_WORD,
+    ),
+    (
+        &["swd", "target", "--memory", "ram", "--idr", "0x1"],
+        b"100100000000000000000000000000000001",
+        b"100111111111111111111111111111111110",
+    ),
+];
+
+// Returns the characters of a session.
+fn characters(alloc: Global, session: &[u8]) -> Result<Vec<u8>, Fail> {
+    let mut sent = Vec::new(alloc);
+    for step in session {
+        sent.extend_from_slice(match *step {
+            b'1' => b"eg".as_slice(),
+            b'0' | b'-' => b"df",
+            b'?' => b"dcf",
+            b'o' => b"o",
+            b'O' => b"O",
+            _ => b"",
+        })?;
+    }
+    Ok(sent)
+}
+
+// A target has the IDR that is asked for, and then no ROM table. Otherwise both words are 0.
+#[test]
+fn a_target_has_the_idr_that_is_named(rt: HostRuntime) -> Result<(), Fail> {
+    let session = characters(rt.alloc(), IDENTIFIES)?;
+    for (words, idr, base) in IDRS {
+        let ran = run_on(rt.alloc(), words, session.as_slice());
+        expect_eq_at(&rt, &words, &ran.status, &0);
+        let levels = ran.output.as_slice();
+        expect_eq_at(&rt, &words, &levels.get(IDR_AT..IDR_AT + 36), &Some(idr));
+        expect_eq_at(&rt, &words, &levels.get(BASE_AT..BASE_AT + 36), &Some(base));
+    }
+    Ok(())
+}
+
+// An IDR that is no word is refused, and nothing is served.
+#[test]
+fn an_idr_is_a_word(rt: HostRuntime) {
+    for word in ["", "x", "0x", "123456789", "-1"] {
+        let words = ["swd", "target", "memory", "--idr", word];
+        let ran = run_on(rt.alloc(), words.as_slice(), SESSION);
+        expect_eq_at(&rt, &word, &ran.status, &2);
+        expect_eq_at(&rt, &word, &ran.output.is_empty(), &true);
+    }
+}

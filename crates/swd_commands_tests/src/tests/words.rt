@@ -29,6 +29,15 @@ fn negative_numbers_are_refused_for_their_range(rt: HostRuntime) -> Result<(), F
         let said = said_of(rt.alloc(), words)?;
         assert!(rt; said.contains("is not in 0..=1000\n"));
     }
+    for words in [
+        ["swd", "draw", "--items", "-1"].as_slice(),
+        ["swd", "draw", "--items=-1"].as_slice(),
+        ["swd", "draw", "--items=0"].as_slice(),
+        ["swd", "draw", "--items=1001"].as_slice(),
+    ] {
+        let said = said_of(rt.alloc(), words)?;
+        assert!(rt; said.contains("is not in 1..=1000\n"));
+    }
     Ok(())
 }
 

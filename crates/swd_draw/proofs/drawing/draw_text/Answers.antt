@@ -1,4 +1,4 @@
-use Rattle.std.proofs.Common.{◌≡◌, ℕ, List, Bool, [], Option, Err, refl, sym, ap, ◌∙◌, subst}
+use Rattle.std.proofs.Common.{◌≡◌, ℕ, List, [], Option, Err, refl, ap, ◌∙◌, subst}
 use Rattle.swd_io.specs.Blocks.{BlockBufferSends}
 use Rattle.swd_io.specs.declared.block.Block.{Block}
 use Rattle.swd_resync.specs.declared.part.Part.{Part}
@@ -11,32 +11,33 @@ use Rattle.swd_capture_text.specs.PartSinks.{PartsGoTo}
 use Rattle.swd_capture_text.specs.Readings.{SourceDecides, SourceReadsAs}
 use Rattle.swd_draw.specs.declared.kept.DrawnParts.{DrawnParts}
 use Rattle.swd_draw.specs.Collecting.{DrawnHasTaken, KeepsDrawn, drawing_never_stops, drawn_kept_parts}
-use Rattle.swd_draw.specs.Drawings.{drawing, drawing_of, drawn}
+use Rattle.swd_draw.specs.Drawings.{drawing, drawing_of, drawn, most_drawn_of}
+use Rattle.swd_draw.specs.declared.drawing.DrawnForm.{DrawnForm}
 use Rattle.swd_draw.specs.Draws.{no_drawing}
-use Rattle.swd_draw.proofs.KeptLemmas.{kept_drawn, drawn_kept_past}
 use Rattle.swd_draw.proofs.drawing.draw_text.Goals as goal
 
 -- the drawing of what is kept is that of all the parts
-drawn_by : (parts shown : List Part) (longer : Bool) (k : DrawnParts) → KeepsDrawn parts k
-    → shown ≡ drawn_kept_parts k → longer ≡ k.longer → drawing_of shown longer ≡ drawing parts
-drawn_by parts shown longer k h front past =
-    ap (λ p. drawing_of p longer) (front ∙ sym (kept_drawn parts k.parts k.count k.left k.longer h))
-    ∙ ap (drawing_of (drawn parts)) (past ∙ sym (drawn_kept_past parts k.parts k.count k.left k.longer h))
+drawn_by : (form : DrawnForm) (parts shown : List Part) (left_out : ℕ) (k : DrawnParts)
+    → KeepsDrawn (most_drawn_of form) parts k → shown ≡ drawn_kept_parts k → left_out ≡ k.left_out
+    → drawing_of form.names shown left_out ≡ drawing form parts
+drawn_by form parts shown left_out k h front others =
+    ap (λ p. drawing_of form.names p left_out) (front ∙ h.first)
+    ∙ ap (drawing_of form.names (drawn (most_drawn_of form) parts)) (others ∙ h.others)
 
-unread : {W : Type 0} (contents : W → Option (List ℕ)) (reading : Reading) (fault : DecodeFault)
+unread : {W : Type 0} (contents : W → Option (List ℕ)) (reading : Reading) (form : DrawnForm) (fault : DecodeFault)
     (text left start : Option (List ℕ)) (before : DrawnParts × Unit {0}) (block : Block W)
     → PartsGoTo (LeadsSinkOn DrawnHasTaken) drawing_never_stops reading (Err fault) text left before tt
     → BlockBufferSends contents start block [] → TextQueues (SourceDecides reading) (SourceReadsAs reading) no_drawing
-    drawing contents (Err fault) text left start block
-unread contents reading (Text fault) text left start before block r none = (r.0, r.1, r.3, r.4, none)
-unread contents reading Read text left start before block r none = (r.0, r.1, r.3, r.4, none)
-unread contents reading (Write told) text left start before block r none = absurd r.5.2
+    (drawing form) contents (Err fault) text left start block
+unread contents reading form (Text fault) text left start before block r none = (r.0, r.1, r.3, r.4, none)
+unread contents reading form Read text left start before block r none = (r.0, r.1, r.3, r.4, none)
+unread contents reading form (Write told) text left start before block r none = absurd r.5.2
 
 pub returns-in-Err : goal.returns-in-Err
 returns-in-Err g c = λ start none.
     let text = g.R.Read.remaining c.args.reader.now in
     let left = g.R.Read.remaining c.read_parts.new.reader in (
-      unread g.W.Write.contents c.args.reading c.in-Err.fault text left start (c.new.result, tt) c.args.block.now
+      unread g.W.Write.contents c.args.reading c.args.form c.in-Err.fault text left start (c.new.result, tt) c.args.block.now
           c.in-Err.ensures none,
       refl,
     )
@@ -44,8 +45,9 @@ returns-in-Err g c = λ start none.
 pub returns-in-Ok : goal.returns-in-Ok
 returns-in-Ok g c = λ start none.
     let r = c.in-Ok.ensures in
-    let all = drawn_by r.1 c.parts.result.now c.is_longer.result c.in-Ok.kept (r.5 tt [] c.new.ensures)
-    c.parts.ensures.parts c.is_longer.ensures in (
+    let made = subst (λ (most : ℕ). KeepsDrawn most [] c.new.result) c.min-most.ensures c.new.ensures in
+    let all = drawn_by c.args.form r.1 c.parts.result.now c.left_out.result c.in-Ok.kept
+    (r.5 (most_drawn_of c.args.form) [] made) c.parts.ensures.parts c.left_out.ensures in (
       (
         r.0,
         r.1,

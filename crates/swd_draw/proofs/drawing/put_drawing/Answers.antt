@@ -8,8 +8,8 @@ pub returns-clause-sends : goal.returns-clause-sends
 unfolding end_text
 returns-clause-sends g c = λ start none.
     let parts = c.args.parts.now in
-    let top = head (length parts) c.args.longer in
-    let body = drawing_rows [] parts in
+    let top = head (length parts) c.args.left_out in
+    let body = drawing_rows c.args.names [] parts in
     let text : c.as_bytes.result.now ≡ top =
     c.as_bytes.ensures.value ∙ c.as_str.ensures.value ∙ c.push_drawing_head.ensures
     ∙ ap (λ x. x ++ top) c.new-text.ensures in

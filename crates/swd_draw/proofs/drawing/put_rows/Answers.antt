@@ -20,26 +20,27 @@ next_part parts index other h = ap (λ n. take n parts) (add-one index) ∙ take
 pub loop-index-preserved : goal.loop-index-preserved
 loop-index-preserved g c =
     let parts = c.args.parts.now in
+    let names = c.args.names in
     let index = c.loop-index.index in
     let before = take index parts in
     let part = get_or parts index (Told (Reset 0)) in
     let within : index < length parts = c.loop-index-test.true in
     let next : take (index + 1) parts ≡ before ++ part ∷ [] = next_part parts index (Told (Reset 0)) within in
     let at : index ≡ length before = sym (length-take-le index parts (omega arith)) in
-    let text : c.as_bytes.result.now ≡ drawing_row before part =
+    let text : c.as_bytes.result.now ≡ drawing_row names before part =
     c.as_bytes.ensures.value ∙ c.as_str.ensures.value
-    ∙ c.push_row.ensures.bytes before c.loop-index.invariant.after at
-    ∙ ap (λ x. x ++ drawing_row before part) c.clear.ensures in
+    ∙ c.push_row.ensures.bytes names before c.loop-index.invariant.after at
+    ∙ ap (λ x. x ++ drawing_row names before part) c.clear.ensures in
     record {
       within = omega arith;
-      after = subst (λ p. IsCaptureTellerAfter drawn_line_form p c.push_row.new.teller) (sym next)
-          (c.push_row.ensures.after before c.loop-index.invariant.after);
+      after = subst (λ p. IsCaptureTellerAfter (drawn_line_form names) p c.push_row.new.teller) (sym next)
+          (c.push_row.ensures.after names before c.loop-index.invariant.after);
       writer = c.put_text.ensures.writer ∙ c.loop-index.invariant.writer;
       sends = λ start all h.
           subst (λ x. BlockBufferSends g.W.Write.contents start c.put_text.new.block x)
-          (ap (λ x. (all ++ drawing_rows [] before) ++ x) text
-          ∙ append_assoc all (drawing_rows [] before) (drawing_row before part)
-          ∙ ap (λ x. all ++ x) (sym (drawing_rows_more [] before part) ∙ ap (drawing_rows []) (sym next)))
-          (c.put_text.ensures.sends start (all ++ drawing_rows [] before)
+          (ap (λ x. (all ++ drawing_rows names [] before) ++ x) text
+          ∙ append_assoc all (drawing_rows names [] before) (drawing_row names before part)
+          ∙ ap (λ x. all ++ x) (sym (drawing_rows_more names [] before part) ∙ ap (drawing_rows names []) (sym next)))
+          (c.put_text.ensures.sends start (all ++ drawing_rows names [] before)
           (c.loop-index.invariant.sends start all h));
     }

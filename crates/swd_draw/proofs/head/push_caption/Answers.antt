@@ -6,8 +6,7 @@ pub returns-clause-bytes : goal.returns-clause-bytes
 unfolding caption
 returns-clause-bytes c =
     rw (
-      c.push_str-2.ensures.bytes,
-      c.end_of_caption.ensures.bytes,
+      c.push_caption_end.ensures.bytes,
       c.push_number.ensures.bytes,
       c.push_str.ensures.bytes,
     ) (simp append_assoc refl)

@@ -1,6 +1,7 @@
-use Rattle.std.proofs.Common.{◌∙◌, codes}
-use Rattle.clap.specs.Words.{found_of}
+use Rattle.std.proofs.Common.{◌∙◌, Option, codes, subst}
+use Rattle.clap.specs.Words.{Text, found_of}
 use Rattle.clap.proofs.WalkLemmas.{first_value-rows}
+use Rattle.swd_words.specs.Commands.{IsIdrArgument}
 use Rattle.swd_words.proofs.target_words.target_line.Goals as goal
 
 pub returns : goal.returns
@@ -9,4 +10,6 @@ returns c = record {
   log = c.in-Ok.ensures ∙ c.get_str.ensures ∙ first_value-rows (found_of c.args.matches.now) (codes "log");
   trace = c.in-Ok-owned.ensures ∙ c.get_str-2.ensures
       ∙ first_value-rows (found_of c.args.matches.now) (codes "trace");
+  idr = subst (λ (word : Option Text). IsIdrArgument c.in-Some.idr word)
+      (c.get_str-3.ensures ∙ first_value-rows (found_of c.args.matches.now) (codes "idr")) c.in-Some.ensures;
 }

@@ -1,20 +1,14 @@
-use Rattle.std.proofs.Common.{◌≡◌, ◌-◌, ◌⊎◌, inl, inr, arith}
+use Rattle.std.proofs.Common.{arith}
 use Rattle.swd_draw.proofs.KeptLemmas.{drawn_kept_full, drawn_kept_more}
 use Rattle.swd_draw.proofs.kept.DrawnParts.add.Goals as goal
-use Rattle.swd_draw.proofs.kept.DrawnParts.add.Goals.{then-self-ge-MOST_PARTS-via-then-self-ge-MOST_PARTS}
-use Rattle.swd_draw.proofs.kept.DrawnParts.add.Goals.{then-self-ge-MOST_PARTS-via-else-self-ge-MOST_PARTS+then-self-eq0}
 
-pub returns-then-self-ge-MOST_PARTS : goal.returns-then-self-ge-MOST_PARTS
-returns-then-self-ge-MOST_PARTS c = λ parts h.
+pub returns-then-self : goal.returns-then-self
+returns-then-self c = λ most parts h.
     let k = c.args.self.now in
-    let full : (200 - k.count ≡ 0) ⊎ (k.left ≡ 0) = elim c.then-self-ge-MOST_PARTS.branch [
-      | then-self-ge-MOST_PARTS-via-then-self-ge-MOST_PARTS w ↦ inl (omega arith)
-      | then-self-ge-MOST_PARTS-via-else-self-ge-MOST_PARTS+then-self-eq0 w ↦ inr (omega arith)
-    ] in
-    drawn_kept_full parts k.parts k.count k.left k.longer c.args.part.now full h
+    let kept = drawn_kept_full most parts k.parts k.most k.count k.left_out c.args.part.now (omega arith) h in
+    rw c.saturating_add.ensures kept
 
 pub returns : goal.returns
-returns c = λ parts h.
+returns c = λ most parts h.
     let k = c.args.self.now in
-    let kept = drawn_kept_more parts k.parts k.count k.left k.longer c.args.part.now (omega arith) (omega arith) h in
-    rw c.weight_of.ensures.weight kept
+    drawn_kept_more most parts k.parts k.most k.count k.left_out c.args.part.now (omega arith) (omega arith) h

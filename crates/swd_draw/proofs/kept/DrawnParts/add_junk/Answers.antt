@@ -20,20 +20,20 @@ first_junk (suc n) v h =
     ap (λ m. Told (Junk (v % 2 == 1)) ∷ capture_junk_parts (low_bits m (v / 2))) same
 
 pub loop-left-preserved : goal.loop-left-preserved
-loop-left-preserved c = λ parts h.
-    let i = c.loop-left.invariant parts h in
+loop-left-preserved c = λ most parts h.
+    let i = c.loop-left.invariant most parts h in
     let part = Told (Junk (c.loop-left.bits % 2 == 1)) in
     let others = capture_junk_parts (low_bits (c.loop-left.left - 1) (c.loop-left.bits / 2)) in (
       i.0 ++ part ∷ [],
-      c.add.ensures i.0 i.1,
+      c.add.ensures most i.0 i.1,
       append_assoc i.0 (part ∷ []) others
           ∙ ap (λ x. i.0 ++ x) (sym (first_junk c.loop-left.left c.loop-left.bits c.loop-left-test.true)) ∙ i.2,
     )
 
 pub returns : goal.returns
-returns c = λ parts h.
-    let i = c.loop-left.invariant parts h in
+returns c = λ most parts h.
+    let i = c.loop-left.invariant most parts h in
     let none : low_bits c.loop-left.left c.loop-left.bits ≡ [] =
     decoder_bits_none c.loop-left.left c.loop-left.bits (omega (arith, c.loop-left-test.false)) in
-    subst (λ p. KeepsDrawn p c.loop-left.self)
+    subst (λ p. KeepsDrawn most p c.loop-left.self)
     (sym (append-nil i.0) ∙ ap (λ x. i.0 ++ capture_junk_parts x) (sym none) ∙ i.2) i.1
