@@ -1,4 +1,4 @@
-//! Converts an input to standard output: `swd one`, `swd encode`, `swd decode` and `swd draw`.
+//! Converts an input to standard output: `swd one`, `swd encode`, `swd decode`, `swd draw` and `swd check`.
 ghost use Rattle.std.specs.Prelude.{◌≡◌, ◌≢◌, IfSome, Some, codes};
 ghost use Rattle.std.specs.Option.{option_map};
 ghost use Rattle.std.specs.String.{string_bytes};
@@ -7,6 +7,7 @@ ghost use Rattle.swd_commands.specs.Inputs.{IsStandardInput};
 ghost use Rattle.swd_commands.specs.Conversions.{ConvertsCommandInput, command_capture_reading};
 ghost use Rattle.swd_commands.specs.Conversions.{decode_command_conversion};
 
+use crate::check::check_read;
 use std::alloc::Allocator;
 use std::io::{Read, Write};
 use swd_bits::one_text;
@@ -18,11 +19,11 @@ use swd_console::{
 };
 use swd_draw::draw_capture;
 use swd_text::{decode_text, encode_text};
-use swd_words::DecodeLine;
+use swd_words::{CheckLine, DecodeLine};
 
 /// What an input is converted to.
 #[derive(Clone, Copy)]
-pub(crate) enum Conversion {
+pub(crate) enum Conversion<'a> {
     /// The bits of one transaction.
     One,
     /// The bits of a list.
@@ -33,6 +34,8 @@ pub(crate) enum Conversion {
     Print(Reading, Printed),
     /// A drawing.
     Draw(Reading),
+    /// The verdict on a trace.
+    Check(&'a CheckLine),
 }
 
 /// Returns how bits are read: a capture may begin in mid-session and lose bits, and `over` says whether a data phase
@@ -48,7 +51,7 @@ pub(crate) fn reading(resync: bool, over: bool) -> Reading
 }
 
 /// Returns what the arguments of `swd decode` ask for.
-pub(crate) fn decode_conversion(decode: &DecodeLine) -> Conversion
+pub(crate) fn decode_conversion<'a>(decode: &DecodeLine) -> Conversion<'a>
     ensures { result ≡ decode_command_conversion decode.now }
 {
     let reading = reading(decode.resync, decode.overrun);
@@ -69,7 +72,7 @@ pub(crate) fn decode_conversion(decode: &DecodeLine) -> Conversion
 }
 
 /// Converts a file, or standard input without a name and for `-`. Returns the status: 0, or 2 at an error, or 141 if
-/// the reader of standard output is gone.
+/// the reader of standard output is gone. A verdict has a status of its own.
 pub(crate) fn convert<
     I: Read + KeepsError,
     O: Write + KeepsError,
@@ -78,7 +81,7 @@ pub(crate) fn convert<
     C,
     E: Write,
 >(
-    conversion: Conversion,
+    conversion: Conversion<'_>,
     file: &Option<String>,
     input: &mut I,
     output: &mut O,
@@ -116,9 +119,9 @@ fn source_of(file: &Option<String>) -> Option<&str>
     }
 }
 
-// Converts what the reader has. `name` is the input's. Returns the status: 0, or 2 at an error.
+// Converts what the reader has. `name` is the input's. Returns the status: 0, or 2 at an error, or that of a verdict.
 fn convert_read<R: Read + KeepsError, O: Write + KeepsError, A: Allocator + Copy, F, C, E: Write>(
-    conversion: Conversion,
+    conversion: Conversion<'_>,
     name: &str,
     input: &mut R,
     output: &mut O,
@@ -148,5 +151,6 @@ fn convert_read<R: Read + KeepsError, O: Write + KeepsError, A: Allocator + Copy
             let answer = draw_capture(reading, input, output);
             conversion_status(console.errors, answer, name, input, output)
         }
+        Conversion::Check(check) => check_read(check, name, input, output, console),
     }
 }
