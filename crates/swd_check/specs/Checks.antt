@@ -1,6 +1,7 @@
 -- What is said of a trace text that is checked.
-use Rattle.std.specs.Prelude.{◌≡◌, ℕ, ◌-◌, ◌^◌, ◌++◌, min, List, length, Option, Result, Ok, Err}
-use Rattle.std.specs.Io.KnownBytes.{Consumes, IsAtEnd}
+use Rattle.std.specs.Prelude.{◌≡◌, ℕ, ◌-◌, ◌^◌, ◌++◌, min, List, [], ◌∷◌, length, Option, Result, Ok, Err}
+use Rattle.std.specs.Io.KnownBytes.{Appends, Consumes, IsAtEnd}
+use Rattle.swd_io.specs.Blocks.{OutputStopped}
 use Rattle.swd_resync.specs.declared.part.Part.{Part}
 use Rattle.swd_text.specs.declared.fault.DecodeFault.{DecodeFault}
 use Rattle.swd_text.specs.declared.fault.DecodeFault.TheVariants.{Text, Read, Write}
@@ -9,6 +10,7 @@ use Rattle.swd_capture_text.specs.Captures.{CaptureTextReadsAs, CaptureTextDecid
 use Rattle.swd_check.specs.declared.checked.Checked.{Checked}
 use Rattle.swd_check.specs.declared.checked.Checked.TheVariants.{Fits, Breaks, Crowded, Outside}
 use Rattle.swd_check.specs.declared.text.CheckedParts.{CheckedParts}
+use Rattle.swd_check.specs.Lines.{check_line}
 
 -- the number of items that fit is this one
 abbrev pub IsCheckedCount : ℕ → Checked → Type 0
@@ -41,3 +43,17 @@ ChecksText reading (Err (Text fault)) text left =
 ChecksText reading (Err Read) text left =
     (read : List ℕ) × (parts : List Part) × Consumes text left read × CaptureTextDecides reading read parts
 ChecksText reading (Err (Write told)) text left = ⊥
+
+-- The same where the line of the verdict is written, of which any text says why an item breaks a rule. At an error of
+-- the text or of the reader nothing was written, and at one of the writer exactly the line's first bytes.
+abbrev pub WritesChecked : Reading → Result Checked DecodeFault → Option (List ℕ) → Option (List ℕ)
+    → Option (List ℕ) → Option (List ℕ) → Type 0
+WritesChecked reading (Ok checked) text left old new =
+    ChecksText reading (Ok checked) text left
+    × ((why : List ℕ) × Appends old new (check_line checked why ++ 10 ∷ []))
+WritesChecked reading (Err (Text fault)) text left old new =
+    ChecksText reading (Err (Text fault)) text left × Appends old new []
+WritesChecked reading (Err Read) text left old new = ChecksText reading (Err Read) text left × Appends old new []
+WritesChecked reading (Err (Write told)) text left old new =
+    (checked : Checked) × ChecksText reading (Ok checked) text left
+    × ((why : List ℕ) × OutputStopped told old new (check_line checked why ++ 10 ∷ []))

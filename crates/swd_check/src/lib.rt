@@ -16,5 +16,5 @@ mod why;
 pub use check::{Check, CheckOptions};
 pub use checked::{Checked, LONGEST_CHECKED};
 pub use plain::{NotPlain, PlainMemory, Read};
-pub use text::check_text;
+pub use text::{check_text, check_to};
 pub use why::{Broken, Why};

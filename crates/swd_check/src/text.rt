@@ -1,6 +1,9 @@
 //! Checks a trace or a capture from its text.
+ghost use Rattle.std.specs.Prelude.{ℕ, List, ◌∷◌, ◌++◌, []};
+ghost use Rattle.swd_io.specs.Blocks.{WritesOutput};
 ghost use Rattle.swd_text.specs.Sinks.{LeadsSinkOn, sink_takes_nothing, sink_leads_join};
-ghost use Rattle.swd_check.specs.Checks.{CheckHasTaken, ChecksText, check_never_stops};
+ghost use Rattle.swd_check.specs.Checks.{CheckHasTaken, ChecksText, WritesChecked, check_never_stops};
+ghost use Rattle.swd_check.specs.Lines.{check_line};
 
 use crate::check::Check;
 use crate::checked::Checked;
@@ -8,6 +11,7 @@ use std::alloc::Allocator;
 use std::io;
 use swd_bits::TxBits;
 use swd_capture_text::{PartSink, Reading, read_parts};
+use swd_io::Block;
 use swd_resync::{PHASE_BITS, Part};
 use swd_text::DecodeFault;
 use swd_trace::Item;
@@ -82,5 +86,45 @@ pub fn check_text<R: io::Read, A: Allocator + Copy>(
     match read_parts(reading, reader, &mut (), parts) {
         Ok(checked) => Ok(checked.check.checked(checked.parts)),
         Err(fault) => Err(fault),
+    }
+}
+
+/// Reads a trace text as [`check_text`] does, and then writes the line of the verdict. Returns the verdict.
+///
+/// # Errors
+///
+/// Returns the first error.
+/// - `Text` and `Read`: nothing was written.
+/// - `Write`: exactly the first `written` bytes of the line were written.
+pub fn check_to<R: io::Read, W: io::Write, A: Allocator + Copy>(
+    reading: Reading,
+    check: Check<A>,
+    reader: &mut R,
+    writer: &mut W,
+) -> Result<Checked, DecodeFault>
+    ensures { WritesChecked reading result (R.remaining reader.old) (R.remaining reader.new)
+        (W.contents writer.old) (W.contents writer.new) }
+{
+    let checked = match check_text(reading, check, reader) {
+        Ok(checked) => checked,
+        Err(fault) => return Err(fault),
+    };
+    match write_line(&checked, writer) {
+        Ok(()) => Ok(checked),
+        Err(written) => Err(DecodeFault::Write { written }),
+    }
+}
+
+// Writes the line of a verdict. At an error, returns how many bytes of it were written.
+fn write_line<W: io::Write>(checked: &Checked, writer: &mut W) -> Result<(), u64>
+    ensures { (why : List ℕ) × WritesOutput result (W.contents writer.old) (W.contents writer.new)
+        (check_line checked.now why ++ 10 ∷ []) }
+{
+    let line = checked.line();
+    let mut block = Block::new(writer, 0);
+    block.put_line(line.as_str().as_bytes());
+    match block.flush() {
+        Ok(_) => Ok(()),
+        Err(written) => Err(written),
     }
 }

@@ -1,5 +1,5 @@
--- What `swd one`, `swd encode`, `swd decode` and `swd draw` do with their input.
-use Rattle.std.specs.Prelude.{◌≡◌, ◌||◌, ℕ, Bool, List, Option, Result, is_ok, if◌then◌else◌}
+-- What `swd one`, `swd encode`, `swd decode`, `swd draw` and `swd check` do with their input.
+use Rattle.std.specs.Prelude.{◌≡◌, ◌≢◌, ◌⊎◌, ◌||◌, ℕ, Bool, List, [], Option, Result, Ok, Err, is_ok, if◌then◌else◌}
 use Rattle.swd_bits.specs.One.{AnswersOneTx}
 use Rattle.swd_bits.specs.declared.one.OneFault.{OneFault}
 use Rattle.swd_text.specs.Decoding.{Decodes}
@@ -11,11 +11,15 @@ use Rattle.swd_capture_text.specs.Captures.{Prints}
 use Rattle.swd_capture_text.specs.declared.reading.Reading.{Reading}
 use Rattle.swd_capture_text.specs.declared.reading.Reading.TheVariants.{Trace, Capture}
 use Rattle.swd_draw.specs.Draws.{Draws}
+use Rattle.swd_check.specs.Checks.{WritesChecked}
+use Rattle.swd_check.specs.declared.checked.Checked.{Checked}
+use Rattle.swd_check.specs.declared.checked.Checked.TheVariants.{Fits, Breaks, Crowded, Outside}
+use Rattle.swd_words.specs.declared.command.CheckLine.{CheckLine}
 use Rattle.swd_words.specs.declared.command.DecodeLine.{DecodeLine}
 use Rattle.swd_words.specs.declared.command.DrawLine.{DrawLine}
-use Rattle.swd_console.specs.Statuses.{command_status_of}
+use Rattle.swd_console.specs.Statuses.{CommandNotOpened, command_status_of}
 use Rattle.swd_commands.specs.declared.conversion.Conversion.{Conversion}
-use Rattle.swd_commands.specs.declared.conversion.Conversion.TheVariants.{One, Encode, Listing, Print, Draw}
+use Rattle.swd_commands.specs.declared.conversion.Conversion.TheVariants.{One, Encode, Listing, Print, Draw, Check}
 
 -- a capture by --resync, with data phases after WAIT and FAULT by --overrun
 abbrev pub command_capture_reading : Bool → Bool → Reading
@@ -36,6 +40,24 @@ abbrev pub draw_command_conversion : DrawLine → Conversion
 draw_command_conversion draw =
     Draw (command_capture_reading draw.resync draw.overrun) (record { items = draw.items; names = draw.names })
 
+-- the status by a verdict: 0 if the trace fits, 1 if it breaks a rule, 2 if that isn't decided, or at an error
+abbrev pub command_status_of_check : Result Checked DecodeFault → ℕ
+command_status_of_check (Ok (Fits items from faults gaps)) = 0
+command_status_of_check (Ok (Breaks broken)) = 1
+command_status_of_check (Ok (Crowded place)) = 2
+command_status_of_check (Ok (Outside place)) = 2
+command_status_of_check (Err fault) = 2
+
+-- The verdict on a trace, or on a capture, is written as the engine's contract says, and the status is the verdict's.
+-- Or there is no memory for the words of plain memory: status 2, and nothing is read or written.
+abbrev pub ChecksCommandInput : CheckLine → ℕ → Option (List ℕ) → Option (List ℕ) → Option (List ℕ) → Option (List ℕ)
+    → Type 0
+ChecksCommandInput check status text left old new =
+    ((answer : Result Checked DecodeFault)
+    × WritesChecked (command_capture_reading (check.resync || check.overrun) check.overrun) answer text left old new
+    × (status ≡ command_status_of_check answer))
+    ⊎ ((check.plain.items ≢ []) × CommandNotOpened status old new)
+
 -- An input is read and an output written as the engine's contract says. The status is 0, or 2 at an error.
 abbrev pub ConvertsCommandInput : Conversion → ℕ → Option (List ℕ) → Option (List ℕ) → Option (List ℕ) → Option (List ℕ)
     → Type 0
@@ -53,3 +75,4 @@ ConvertsCommandInput (Print reading printed) status text left old new =
 ConvertsCommandInput (Draw reading form) status text left old new =
     (answer : Result (Unit {0}) DecodeFault) × Draws reading form answer text left old new
     × (status ≡ command_status_of (is_ok answer))
+ConvertsCommandInput (Check check) status text left old new = ChecksCommandInput check.now status text left old new

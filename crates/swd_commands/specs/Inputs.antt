@@ -5,7 +5,7 @@ use Rattle.std.specs.String.{string_bytes}
 use Rattle.swd_words.specs.declared.command.CommandLine.{CommandLine}
 use Rattle.swd_words.specs.declared.command.ServedMemory.{ServedMemory}
 use Rattle.swd_words.specs.declared.command.ServedMemory.TheVariants.{Script, File}
-use Rattle.swd_words.specs.declared.command.CommandLine.TheVariants.{One, Decode, Draw, Encode, Run, Target, Image}
+use Rattle.swd_words.specs.declared.command.CommandLine.TheVariants.{One, Decode, Draw, Check, Encode, Run, Target, Image}
 
 -- the file of a served memory: its script, or its bytes
 abbrev pub command_served_file : ServedMemory → List ℕ
@@ -17,6 +17,7 @@ abbrev pub command_named_file : CommandLine → Option (List ℕ)
 command_named_file (One file) = option_map string_bytes file
 command_named_file (Decode decode) = option_map string_bytes decode.file
 command_named_file (Draw draw) = option_map string_bytes draw.file
+command_named_file (Check check) = option_map string_bytes check.file
 command_named_file (Encode file) = option_map string_bytes file
 command_named_file (Run run) = Some (string_bytes run.script)
 command_named_file (Target target) = Some (command_served_file target.memory)

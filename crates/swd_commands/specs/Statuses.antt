@@ -1,11 +1,12 @@
 -- What a command does, and its status.
 use Rattle.std.specs.Prelude.{ℕ, List, Option}
 use Rattle.swd_words.specs.declared.command.CommandLine.{CommandLine}
-use Rattle.swd_words.specs.declared.command.CommandLine.TheVariants.{One, Decode, Draw, Encode, Run, Target, Image}
+use Rattle.swd_words.specs.declared.command.CommandLine.TheVariants.{One, Decode, Draw, Check, Encode, Run, Target, Image}
 use Rattle.swd_console.specs.Statuses.{CommandNotOpened}
 use Rattle.swd_run_commands.specs.Runs.{PerformsRunCommandWhere}
 use Rattle.swd_commands.specs.declared.conversion.Conversion.TheVariants.{One as OneTx, Encode as Bits}
-use Rattle.swd_commands.specs.Conversions.{ConvertsCommandInput, decode_command_conversion, draw_command_conversion}
+use Rattle.swd_commands.specs.Conversions.{ChecksCommandInput, ConvertsCommandInput}
+use Rattle.swd_commands.specs.Conversions.{decode_command_conversion, draw_command_conversion}
 
 -- A command reads an input and writes an output as its engine's contract says. Its status is that of the engine's
 -- result.
@@ -16,6 +17,7 @@ PerformsCommand (Decode decode) status text left old new =
     ConvertsCommandInput (decode_command_conversion decode) status text left old new
 PerformsCommand (Draw draw) status text left old new =
     ConvertsCommandInput (draw_command_conversion draw) status text left old new
+PerformsCommand (Check check) status text left old new = ChecksCommandInput check status text left old new
 PerformsCommand (Encode file) status text left old new = ConvertsCommandInput Bits status text left old new
 PerformsCommand (Run run) status text left old new = PerformsRunCommandWhere run.remote run status text old new
 -- the script or the memory of a target can't be standard input, which comes from the debugger

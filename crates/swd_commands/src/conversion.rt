@@ -1,4 +1,4 @@
-//! Converts an input to standard output: `swd one`, `swd encode`, `swd decode` and `swd draw`.
+//! Converts an input to standard output: `swd one`, `swd encode`, `swd decode`, `swd draw` and `swd check`.
 ghost use Rattle.std.specs.Prelude.{◌≡◌, ◌≢◌, IfSome, Some, codes};
 ghost use Rattle.std.specs.Option.{option_map};
 ghost use Rattle.std.specs.String.{string_bytes};
@@ -8,6 +8,7 @@ ghost use Rattle.swd_commands.specs.Conversions.{ConvertsCommandInput, command_c
 ghost use Rattle.swd_commands.specs.Conversions.{decode_command_conversion, draw_command_conversion};
 
 use crate::found_bits::{BitFinder, FindsBits};
+use crate::check::check_read;
 use std::alloc::Allocator;
 use std::io::{Read, Write};
 use swd_bits::one_text;
@@ -19,11 +20,11 @@ use swd_console::{
 };
 use swd_draw::{DrawnForm, draw_capture};
 use swd_text::{decode_text, encode_text};
-use swd_words::{DecodeLine, DrawLine};
+use swd_words::{CheckLine, DecodeLine, DrawLine};
 
 /// What an input is converted to.
 #[derive(Clone, Copy)]
-pub(crate) enum Conversion {
+pub(crate) enum Conversion<'a> {
     /// The bits of one transaction.
     One,
     /// The bits of a list.
@@ -34,11 +35,13 @@ pub(crate) enum Conversion {
     Print(Reading, Printed),
     /// A drawing.
     Draw(Reading, DrawnForm),
+    /// The verdict on a trace.
+    Check(&'a CheckLine),
 }
 
-// Returns how bits are read: a capture may begin in mid-session and lose bits, and `over` says whether a data phase
-// then follows WAIT and FAULT.
-fn reading(resync: bool, over: bool) -> Reading
+/// Returns how bits are read: a capture may begin in mid-session and lose bits, and `over` says whether a data phase
+/// then follows WAIT and FAULT.
+pub(crate) fn reading(resync: bool, over: bool) -> Reading
     ensures { result ≡ command_capture_reading resync over }
 {
     if resync {
@@ -49,7 +52,7 @@ fn reading(resync: bool, over: bool) -> Reading
 }
 
 /// Returns what the arguments of `swd decode` ask for.
-pub(crate) fn decode_conversion(decode: &DecodeLine) -> Conversion
+pub(crate) fn decode_conversion<'a>(decode: &DecodeLine) -> Conversion<'a>
     ensures { result ≡ decode_command_conversion decode.now }
 {
     let reading = reading(decode.resync, decode.overrun);
@@ -70,7 +73,7 @@ pub(crate) fn decode_conversion(decode: &DecodeLine) -> Conversion
 }
 
 /// Returns what the arguments of `swd draw` ask for.
-pub(crate) fn draw_conversion(draw: &DrawLine) -> Conversion
+pub(crate) fn draw_conversion<'a>(draw: &DrawLine) -> Conversion<'a>
     ensures { result ≡ draw_command_conversion draw.now }
 {
     let form = DrawnForm {
@@ -81,7 +84,7 @@ pub(crate) fn draw_conversion(draw: &DrawLine) -> Conversion
 }
 
 /// Converts a file, or standard input without a name and for `-`. Returns the status: 0, or 2 at an error, or 141 if
-/// the reader of standard output is gone.
+/// the reader of standard output is gone. A verdict has a status of its own.
 pub(crate) fn convert<
     I: Read + KeepsError + FindsBits,
     O: Write + KeepsError,
@@ -90,7 +93,7 @@ pub(crate) fn convert<
     C,
     E: Write,
 >(
-    conversion: Conversion,
+    conversion: Conversion<'_>,
     file: &Option<String>,
     input: &mut I,
     output: &mut O,
@@ -128,7 +131,7 @@ fn source_of(file: &Option<String>) -> Option<&str>
     }
 }
 
-// Converts what the reader has. `name` is the input's. Returns the status: 0, or 2 at an error.
+// Converts what the reader has. `name` is the input's. Returns the status: 0, or 2 at an error, or that of a verdict.
 fn convert_read<
     R: Read + KeepsError + FindsBits,
     O: Write + KeepsError,
@@ -137,7 +140,7 @@ fn convert_read<
     C,
     E: Write,
 >(
-    conversion: Conversion,
+    conversion: Conversion<'_>,
     name: &str,
     input: &mut R,
     output: &mut O,
@@ -170,6 +173,7 @@ fn convert_read<
             tell_no_bits(console.errors, name, answer.is_err() || input.has_bits());
             conversion_status(console.errors, answer, name, input, output)
         }
+        Conversion::Check(check) => check_read(check, name, input, output, console),
     }
 }
 

@@ -3,6 +3,7 @@
 #![tactic(auto)]
 
 mod arguments;
+mod check;
 mod conversion;
 mod found_bits;
 mod program;

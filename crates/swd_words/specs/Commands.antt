@@ -1,16 +1,19 @@
 -- The program's command line, as the parser reads it, and the meaning of its arguments.
-use Rattle.std.specs.Prelude.{ℕ, ◌≡◌, ◌≢◌, ◌≤◌, ◌%◌, ◌↔◌, ◌⊎◌, List, [], ◌∷◌, Option, Some, None, IsSomeAnd, true}
-use Rattle.std.specs.Prelude.{Bool, false, codes, pos, if◌then◌else◌}
+use Rattle.std.specs.Prelude.{ℕ, ◌+◌, ◌*◌, ◌^◌, ◌≡◌, ◌≢◌, ◌≤◌, ◌%◌, ◌↔◌, ◌⊎◌, List, [], ◌∷◌, Option, Some, None, IsSomeAnd, true}
+use Rattle.std.specs.Prelude.{Bool, false, codes, pos, unwrap_or, if◌then◌else◌}
 use Rattle.std.specs.Option.{option_and_then, option_map}
 use Rattle.std.specs.String.{string_bytes}
 use Rattle.std.specs.Str.{bytes_eq}
 use Rattle.std.specs.Str.Parse.{signed_digits_value}
-use Rattle.clap.specs.Words.{App, HasKind, Kinds, kind_of, Row, first_of, Rule, Text, new_app, new_rule, with_rule}
+use Rattle.clap.specs.Words.{App, HasKind, Kinds, kind_of, Row, all_of, first_of, Rule, Text, new_app, new_rule}
+use Rattle.clap.specs.Words.{with_rule}
 use Rattle.clap.specs.Words.{with_subcommand}
 use Rattle.swd_words.specs.declared.command.CommandLine.{CommandLine}
-use Rattle.swd_words.specs.declared.command.CommandLine.TheVariants.{One, Decode, Draw, Encode, Run, Target, Image}
+use Rattle.swd_words.specs.declared.command.CommandLine.TheVariants.{One, Decode, Draw, Check, Encode, Run, Target, Image}
 use Rattle.swd_words.specs.declared.command.DecodeLine.{DecodeLine}
 use Rattle.swd_words.specs.declared.command.DrawLine.{DrawLine}
+use Rattle.swd_words.specs.declared.command.CheckLine.{CheckLine}
+use Rattle.swd_words.specs.declared.command.PlainWords.{PlainWords}
 use Rattle.swd_words.specs.declared.command.ImageAction.{ImageAction}
 use Rattle.swd_words.specs.declared.command.ImageAction.TheVariants.{Load, Verify, Dump}
 use Rattle.swd_words.specs.declared.command.ImageLine.{ImageLine}
@@ -28,7 +31,7 @@ use Rattle.swd_image_files.specs.declared.format.Format.{Format}
 use Rattle.swd_image_files.specs.Formats.{image_format_of_name, image_format_of_word}
 use Rattle.swd_script.specs.Numerals.{script_decimal_number, script_hex_number}
 use Rattle.clap.specs.declared.error.kind.ErrorKind.{ErrorKind}
-use Rattle.clap.specs.declared.builder.action.ArgAction.TheVariants.{SetTrue}
+use Rattle.clap.specs.declared.builder.action.ArgAction.TheVariants.{Append, SetTrue}
 use Rattle.clap.specs.declared.builder.value_parser.ValueParser.TheVariants.{Signed}
 
 -- the optional file
@@ -96,6 +99,24 @@ abbrev pub draw_args_app : App
 draw_args_app =
     with_rule (with_rule (with_rule (with_rule (file_args_app (codes "draw")) items_rule) names_rule) resync_rule)
     overrun_rule
+
+-- a flag
+abbrev pub flag_rule : Text → Rule
+flag_rule name = let rule = new_rule name in record rule { long = Some name; action = Some SetTrue }
+
+-- --plain: words of plain memory, each use with an address and a number of words
+abbrev pub plain_rule : Rule
+plain_rule = let rule = new_rule (codes "plain") in record rule
+    { long = Some (codes "plain"); action = Some Append; value_names = 2 }
+
+-- the command `check`: without the checks beside the model and the flags for captures, and with them
+abbrev pub checked_args_app : App
+checked_args_app = with_rule (with_rule (with_rule (file_args_app (codes "check")) (flag_rule (codes "made")))
+    (flag_rule (codes "rest"))) (flag_rule (codes "clean"))
+
+abbrev pub check_args_app : App
+check_args_app = with_rule (with_rule (with_rule (with_rule checked_args_app plain_rule)
+    (flag_rule (codes "exact-registers"))) (flag_rule (codes "resync"))) (flag_rule (codes "overrun"))
 
 -- the program without its commands, one of which is required
 abbrev pub bare_args_app : App
@@ -242,9 +263,10 @@ with_image_args_apps app = with_subcommand (with_subcommand (with_subcommand app
 -- the whole command
 abbrev pub swd_app : App
 swd_app =
-    with_image_args_apps (with_subcommand (with_subcommand (with_subcommand
+    with_image_args_apps (with_subcommand (with_subcommand (with_subcommand (with_subcommand
     (with_subcommand (with_subcommand (with_subcommand bare_args_app (file_args_app (codes "one")).top)
     decode_args_app.top) (file_args_app (codes "encode")).top) run_args_app.top) target_args_app.top) draw_args_app.top)
+    check_args_app.top)
 
 -- the arguments have this command, and this file or no file
 abbrev pub HasFileArgument : Text → Option Text → Option (Text × List Row) → Type 0
@@ -273,6 +295,35 @@ pub record AreDrawArguments (draw : DrawLine) (rows : List Row) : Type 0 where
   pub names : (draw.names ≡ true) ↔ (first_of (codes "names") rows ≡ Some (codes "true"))
   pub resync : (draw.resync ≡ true) ↔ (first_of (codes "resync") rows ≡ Some (codes "true"))
   pub overrun : (draw.overrun ≡ true) ↔ (first_of (codes "overrun") rows ≡ Some (codes "true"))
+
+-- words of plain memory: an address of 1 to 8 hexadecimal digits after an optional 0x, a multiple of 4, and a number of
+-- words of 1 to 10 decimal digits, at least 1; none is past ffffffff
+pub record IsPlainArgument (plain : PlainWords) (address count : Text) : Type 0 where
+  pub base : Some plain.base ≡ script_hex_number address
+  pub words : Some plain.words ≡ script_decimal_number count
+  pub aligned : plain.base % 4 ≡ 0
+  pub nonempty : 1 ≤ plain.words
+  pub within : plain.base + 4 * plain.words ≤ 2 ^ 32
+
+-- the values of --plain, two for each use
+abbrev pub ArePlainArguments : List PlainWords → List Text → Type 0
+ArePlainArguments [] [] = Unit {0}
+ArePlainArguments (plain ∷ more) (address ∷ count ∷ rest) =
+    IsPlainArgument plain address count × ArePlainArguments more rest
+ArePlainArguments plain texts = ⊥
+
+-- the file that the arguments of `check` name, if any, the words of plain memory, and the flags
+pub record AreCheckArguments (check : CheckLine) (rows : List Row) : Type 0 where
+  pub file : option_map string_bytes check.file ≡ first_of (codes "FILE") rows
+  pub made : (check.made ≡ true) ↔ (first_of (codes "made") rows ≡ Some (codes "true"))
+  pub rest : (check.rest ≡ true) ↔ (first_of (codes "rest") rows ≡ Some (codes "true"))
+  pub clean : (check.clean ≡ true) ↔ (first_of (codes "clean") rows ≡ Some (codes "true"))
+  pub plain : ArePlainArguments check.plain.items (unwrap_or (all_of (codes "plain") rows) [])
+  pub exact_registers : (check.exact_registers ≡ true)
+      ↔ (first_of (codes "exact-registers") rows ≡ Some (codes "true"))
+  pub resync : (check.resync ≡ true) ↔ (first_of (codes "resync") rows ≡ Some (codes "true"))
+  pub overrun : (check.overrun ≡ true) ↔ (first_of (codes "overrun") rows ≡ Some (codes "true"))
+  pub one_start : check.made ≡ true → check.rest ≡ false
 
 -- the number of tries is that of the argument, at most 1,000; 8 without an argument
 abbrev pub IsTriesArgument : ℕ → Option Text → Type 0
@@ -401,6 +452,7 @@ abbrev pub IsLineOfArguments : CommandLine → Option (Text × List Row) → Typ
 IsLineOfArguments (One file) rows = HasFileArgument (codes "one") (option_map string_bytes file) rows
 IsLineOfArguments (Decode decode) rows = IsSomeAnd rows (λ p. (p.0 ≡ codes "decode") × AreDecodeArguments decode p.1)
 IsLineOfArguments (Draw draw) rows = IsSomeAnd rows (λ p. (p.0 ≡ codes "draw") × AreDrawArguments draw p.1)
+IsLineOfArguments (Check check) rows = IsSomeAnd rows (λ p. (p.0 ≡ codes "check") × AreCheckArguments check p.1)
 IsLineOfArguments (Encode file) rows = HasFileArgument (codes "encode") (option_map string_bytes file) rows
 IsLineOfArguments (Run run) rows = IsSomeAnd rows (λ p. (p.0 ≡ codes "run") × AreRunArguments run p.1)
 IsLineOfArguments (Target target) rows = IsSomeAnd rows (λ p. (p.0 ≡ codes "target") × AreTargetArguments target p.1)

@@ -14,6 +14,8 @@ pub enum CommandLine {
     Decode(DecodeLine),
     /// `swd draw [FILE] [--items N] [--names] [--resync [--overrun]]`.
     Draw(DrawLine),
+    /// `swd check [FILE] [--made | --rest] [--clean] [--plain BASE WORDS].. [--exact-registers] [--overrun] [--resync]`.
+    Check(CheckLine),
     /// `swd encode [FILE]`. Without a file it reads standard input.
     Encode(Option<String>),
     /// `swd run SCRIPT [--plan FILE]` or `swd run SCRIPT --remote --report FILE`. Both take `[--tries N] [--resume N]
@@ -61,6 +63,36 @@ pub struct DrawLine {
     /// Whether the trace may begin in mid-session and lose bits.
     pub resync: bool,
     /// Whether a data phase then follows WAIT and FAULT at the beginning.
+    pub overrun: bool,
+}
+
+/// The words of a plain memory: each is the one that was written to it last.
+#[derive(Clone, Copy, Debug, PartialEq, Eq)]
+pub struct PlainWords {
+    /// The address of the first one, a multiple of 4.
+    pub base: u32,
+    /// Their number, at least 1. None is past `ffffffff`.
+    pub words: u32,
+}
+
+/// The arguments of `swd check`.
+#[derive(Drop)]
+pub struct CheckLine {
+    /// The file of the trace, or `None` for standard input.
+    pub file: Option<String>,
+    /// Whether the target begins in its reset state.
+    pub made: bool,
+    /// Whether it begins at rest, with SELECT 0.
+    pub rest: bool,
+    /// Whether nothing is damaged or lost on the wire, as in a simulation.
+    pub clean: bool,
+    /// The words of plain memory, in the order of the arguments.
+    pub plain: Vec<PlainWords>,
+    /// Whether CSW and CTRL/STAT are those of this project's simulated target.
+    pub exact_registers: bool,
+    /// Whether the trace may begin in mid-session and lose bits.
+    pub resync: bool,
+    /// Whether it may, and a data phase follows WAIT and FAULT at the beginning.
     pub overrun: bool,
 }
 

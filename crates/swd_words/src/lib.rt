@@ -1,6 +1,7 @@
 //! Parses the command line of `swd`: its commands with their arguments, the help, and the usage errors.
 #![tactic(auto)]
 
+mod check_words;
 mod command;
 mod decode_words;
 mod draw_words;
@@ -11,7 +12,7 @@ mod target_words;
 mod words;
 
 pub use command::{
-    CommandLine, DecodeLine, DrawLine, ImageAction, ImageLine, LineFault, MemoryLine, RunLine,
-    ScriptLine, ServedMemory, TargetLine,
+    CheckLine, CommandLine, DecodeLine, DrawLine, ImageAction, ImageLine, LineFault, MemoryLine,
+    PlainWords, RunLine, ScriptLine, ServedMemory, TargetLine,
 };
 pub use words::line;

@@ -11,6 +11,7 @@ ghost use Rattle.swd_words.specs.Commands.{run_here_args_app, bare_args_app, scr
 ghost use Rattle.swd_words.specs.Commands.{run_args_app, swd_app, IsResumeArgument, IsTriesArgument, IsLineOfArguments};
 ghost use Rattle.swd_words.specs.Commands.{IsArgumentsErrorKind, AreRunArguments, IsArgumentsRefusal};
 
+use crate::check_words::{check_command, check_line};
 use crate::command::{CommandLine, LineFault, RunLine};
 use crate::decode_words::{decode_command, decode_line};
 use crate::draw_words::{ITEMS_RANGE, draw_command, draw_line};
@@ -384,7 +385,8 @@ fn swd_command<'a>(alloc: Global) -> Result<Command<'a>, AllocError>
     let run = with_sub(encode, run_command(alloc)?)?;
     let target = with_sub(run, target_command(alloc)?)?;
     let draw = with_sub(target, draw_command(alloc)?)?;
-    with_images(alloc, draw)
+    let check = with_sub(draw, check_command(alloc)?)?;
+    with_images(alloc, check)
 }
 
 // Returns the error of arguments that `clap` accepted and that aren't allowed.
@@ -562,6 +564,10 @@ fn line_of(alloc: Global, matches: &ArgMatches<'_>) -> Result<CommandLine, LineF
         },
         "draw" => match draw_line(alloc, rest) {
             Ok(draw) => Ok(CommandLine::Draw(draw)),
+            Err(fault) => Err(fault),
+        },
+        "check" => match check_line(alloc, rest) {
+            Ok(check) => Ok(CommandLine::Check(check)),
             Err(fault) => Err(fault),
         },
         "encode" => Ok(CommandLine::Encode(file)),

@@ -114,7 +114,7 @@ const OUTPUTS: [Failure; 5] = [
 ];
 
 // Arguments, and standard input.
-const COMMANDS: [(&[&str], &[u8]); 19] = [
+const COMMANDS: [(&[&str], &[u8]); 20] = [
     (&["swd", "one"], DPIDR_READ),
     (&["swd", "one", "trace"], b""),
     (&["swd", "decode"], DPIDR_READ),
@@ -125,6 +125,7 @@ const COMMANDS: [(&[&str], &[u8]); 19] = [
     (&["swd", "decode", "--accesses"], DPIDR_READ),
     (&["swd", "decode", "--resync"], DPIDR_READ),
     (&["swd", "draw"], DPIDR_READ),
+    (&["swd", "check", "--made"], b""),
     (&["swd", "encode"], DPIDR_LINE),
     (&["swd", "encode", "list"], b""),
     (&["swd", "run", "-"], SCRIPT),

@@ -58,6 +58,7 @@ fn help_tells_each_word(rt: HostRuntime) -> Result<(), Fail> {
         ["swd", "encode", "--help"].as_slice(),
         ["swd", "target", "--help"].as_slice(),
         ["swd", "draw", "--help"].as_slice(),
+        ["swd", "check", "--help"].as_slice(),
         ["swd", "load", "--help"].as_slice(),
         ["swd", "verify", "--help"].as_slice(),
         ["swd", "dump", "--help"].as_slice(),

@@ -1,0 +1,80 @@
+//! `swd check`: writes whether a trace is that of a target that keeps the standard.
+ghost use Rattle.std.specs.Prelude.{◌≡◌, ◌≢◌, Ok, IfErr, []};
+ghost use Rattle.swd_commands.specs.Conversions.{ChecksCommandInput, command_status_of_check as status_of};
+
+use crate::conversion::reading;
+use std::alloc::{AllocError, Allocator};
+use std::io::{Read, Write};
+use swd_check::{Check, CheckOptions, Checked, PlainMemory, check_to};
+use swd_checker::CheckStart;
+use swd_console::{Console, DONE, FAULT, KeepsError, STOPPED, conversion_status, tell};
+use swd_words::{CheckLine, PlainWords};
+
+/// Checks what the reader has, and writes the verdict. `name` is the input's. Returns the status: 0 if the trace fits,
+/// 1 if it breaks a rule, 2 if that isn't decided, or at an error.
+pub(crate) fn check_read<
+    R: Read + KeepsError,
+    O: Write + KeepsError,
+    A: Allocator + Copy,
+    F,
+    C,
+    E: Write,
+>(
+    check: &CheckLine,
+    name: &str,
+    input: &mut R,
+    output: &mut O,
+    console: &mut Console<'_, A, F, C, E>,
+) -> u8
+    ensures { ChecksCommandInput check.now result (R.remaining input.old) (R.remaining input.new)
+        (O.contents output.old) (O.contents output.new) }
+{
+    let Ok(plain) = plain_memory(console.alloc, check.plain.as_slice()) else {
+        return tell(console.errors, "no memory");
+    };
+    let reading = reading(check.resync || check.overrun, check.overrun);
+    match check_to(reading, Check::new(options(check), plain), input, output) {
+        Ok(checked) => checked_status(&checked),
+        Err(fault) => conversion_status(console.errors, Err(fault), name, input, output),
+    }
+}
+
+// Returns how the arguments say that a trace is checked.
+fn options(check: &CheckLine) -> CheckOptions {
+    CheckOptions {
+        start: if check.made {
+            CheckStart::Made
+        } else if check.rest {
+            CheckStart::Rest
+        } else {
+            CheckStart::Any
+        },
+        clean: check.clean,
+        exact_registers: check.exact_registers,
+    }
+}
+
+// Returns the plain memory of the arguments.
+fn plain_memory<A: Allocator + Copy>(
+    alloc: A,
+    words: &[PlainWords],
+) -> Result<PlainMemory<A>, AllocError>
+    ensures { IfErr result (λ _. words.now ≢ []) }
+{
+    let mut plain = PlainMemory::new(alloc);
+    for region in words {
+        plain.add(region.base, region.words)?;
+    }
+    Ok(plain)
+}
+
+// Returns the status of a verdict.
+fn checked_status(checked: &Checked) -> u8
+    ensures { result ≡ status_of (Ok checked.now) }
+{
+    match checked {
+        Checked::Fits { .. } => DONE,
+        Checked::Breaks(_) => STOPPED,
+        Checked::Crowded { .. } | Checked::Outside { .. } => FAULT,
+    }
+}
