@@ -29,10 +29,10 @@ _swd() {
         words='--plan --tries --resume --trace --accesses --strict --remote --report --progress --help -h'
         ;;
     target)
-        words='--memory --base --plan --log --trace --help -h'
+        words='--memory --base --plan --log --trace --idr --help -h'
         ;;
     draw)
-        words='--resync --overrun --help -h'
+        words='--items --names --resync --overrun --help -h'
         ;;
     load)
         words='--format --tries --resume --report --remote --memory --base --plan --help -h'
@@ -52,7 +52,7 @@ _swd() {
         mapfile -t COMPREPLY < <(compgen -f -- "$word")
         return
         ;;
-    --base | --resume | --tries)
+    --base | --idr | --items | --resume | --tries)
         return
         ;;
     --format)

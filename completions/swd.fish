@@ -42,8 +42,11 @@ complete -c swd -n '__fish_seen_subcommand_from target' -l base -x -d 'With --me
 complete -c swd -n '__fish_seen_subcommand_from target' -l plan -r -F -d 'Inject faults by the plan in FILE'
 complete -c swd -n '__fish_seen_subcommand_from target' -l log -r -F -d 'Write the log to FILE (overwrites it)'
 complete -c swd -n '__fish_seen_subcommand_from target' -l trace -r -F -d 'Write the trace to FILE (overwrites it)'
+complete -c swd -n '__fish_seen_subcommand_from target' -l idr -x -d 'IDR of the access port, hexadecimal; else 0'
 complete -c swd -n '__fish_seen_subcommand_from target' -s h -l help -d 'Print help'
 complete -c swd -n '__fish_seen_subcommand_from draw' -F
+complete -c swd -n '__fish_seen_subcommand_from draw' -l items -x -d 'The most items that are drawn, from 1 to 1000 [default: 200]'
+complete -c swd -n '__fish_seen_subcommand_from draw' -l names -d 'Print names of registers, and of flags that are set'
 complete -c swd -n '__fish_seen_subcommand_from draw' -l resync -d 'Read a capture that begins in mid-session or lost bits'
 complete -c swd -n '__fish_seen_subcommand_from draw' -l overrun -d 'With --resync, WAIT and FAULT have a data phase at first'
 complete -c swd -n '__fish_seen_subcommand_from draw' -s h -l help -d 'Print help'

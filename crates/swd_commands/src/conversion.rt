@@ -180,6 +180,10 @@ fn convert_read<
 // Prints that an input has no bits, unless it has some or is invalid.
 fn tell_no_bits<E: Write>(errors: &mut E, name: &str, has_some: bool) {
     if !has_some {
-        cannot_use(errors, name, &"no bits found: a trace has a character 0 or 1 for each bit");
+        cannot_use(
+            errors,
+            name,
+            &"no bits found: a trace has a character 0 or 1 for each bit",
+        );
     }
 }

@@ -83,13 +83,7 @@ fn print_help<O: Write + KeepsError, E: Write>(error: &Error, output: &mut O, er
 }
 
 // Performs the command.
-fn carry_out<
-    I: Read + KeepsError + FindsBits,
-    O: Write + KeepsError,
-    F: Files,
-    C: Clock,
-    E: Write,
->(
+fn carry_out<I: Read + KeepsError + FindsBits, O: Write + KeepsError, F: Files, C: Clock, E: Write>(
     line: &CommandLine,
     input: &mut I,
     output: &mut O,

@@ -1,6 +1,5 @@
 -- A whole drawing. It is this project's choice.
-use Rattle.std.specs.Prelude.{ℕ, ◌+◌, ◌-◌, ◌*◌, ◌^◌, ◌==◌, min, Bool, List, [], ◌∷◌, ◌++◌, length, take, codes}
-use Rattle.std.specs.Prelude.{if◌then◌else◌}
+use Rattle.std.specs.Prelude.{ℕ, zero, suc, ◌+◌, ◌-◌, ◌*◌, ◌^◌, min, Bool, List, [], ◌∷◌, ◌++◌, length, take, codes}
 use Rattle.std.specs.Fmt.{decimal}
 use Rattle.swd_resync.specs.declared.part.Part.{Part}
 use Rattle.swd_draw.specs.Marks.{shade_class}
@@ -41,9 +40,8 @@ style_text =
 
 -- the number of items, and how many of the trace are left out
 unfoldable pub caption_end : ℕ → List ℕ
-caption_end left_out =
-    if left_out == 0 then codes ". The trace ends here.</text>" else
-    codes ". Items left out: " ++ decimal left_out ++ codes ".</text>"
+caption_end zero = codes ". The trace ends here.</text>"
+caption_end (suc n) = codes ". Items left out: " ++ decimal (suc n) ++ codes ".</text>"
 
 unfoldable pub caption : ℕ → ℕ → List ℕ
 caption count left_out =

@@ -9,11 +9,7 @@ use swd_draw::{DrawnForm, draw_capture};
 use swd_text::DecodeFault;
 
 /// Appends the SVG drawing of a trace file.
-pub fn drawing(
-    mut text: &[u8],
-    form: DrawnForm,
-    svg: &mut Vec<u8>,
-) -> Result<(), DecodeFault>
+pub fn drawing(mut text: &[u8], form: DrawnForm, svg: &mut Vec<u8>) -> Result<(), DecodeFault>
     ensures { OnOk result ((parts : List Part) × CaptureTextReadsAs Reading.Trace text.now parts
         × (svg.new.items ≡ svg.old.items ++ drawing_of_parts form parts)) }
 {

@@ -94,11 +94,12 @@ items_rule =
       defaults = codes "200" ∷ [];
     }
 
--- the command `draw`
+-- the command `draw`: with the option for the most items, and with the flags
+abbrev pub items_args_app : App
+items_args_app = with_rule (file_args_app (codes "draw")) items_rule
+
 abbrev pub draw_args_app : App
-draw_args_app =
-    with_rule (with_rule (with_rule (with_rule (file_args_app (codes "draw")) items_rule) names_rule) resync_rule)
-    overrun_rule
+draw_args_app = with_rule (with_rule (with_rule items_args_app names_rule) resync_rule) overrun_rule
 
 -- a flag
 abbrev pub flag_rule : Text → Rule

@@ -3,7 +3,8 @@ ghost use Rattle.std.specs.Prelude.{◌≡◌, IfOk, IfSome, false};
 ghost use Rattle.std.specs.Option.{option_map};
 ghost use Rattle.clap.specs.Words.{app_of, found_of, rows_of, rule_of};
 ghost use Rattle.clap.specs.declared.builder.command.Command.TheViews.{out-Command};
-ghost use Rattle.swd_words.specs.Commands.{draw_args_app, items_rule, AreDrawArguments, IsItemsArgument};
+ghost use Rattle.swd_words.specs.Commands.{draw_args_app, items_args_app, items_rule};
+ghost use Rattle.swd_words.specs.Commands.{AreDrawArguments, IsItemsArgument};
 
 use crate::command::{DrawLine, LineFault};
 use crate::decode_words::{OVERRUN_WITH_RESYNC, names_arg, overrun_arg, resync_arg};
@@ -49,17 +50,24 @@ fn items_arg<'a>(alloc: Global) -> Arg<'a>
         .help("The most items that are drawn, from 1 to 1000")
 }
 
-/// Returns the command `draw`.
-pub(crate) fn draw_command<'a>(alloc: Global) -> Result<Command<'a>, AllocError>
-    ensures app { IfOk result (λ c. app_of c ≡ draw_args_app) }
+// Returns the command `draw` without its flags.
+fn over_items<'a>(alloc: Global) -> Result<Command<'a>, AllocError>
+    ensures app { IfOk result (λ c. app_of c ≡ items_args_app) }
     ensures local { IfOk result (λ c. (out-Command c).has_globals ≡ false) }
 {
     let bare = Command::new(alloc, "draw")
         .about(DRAW_ABOUT)
         .after_help(DRAW_AFTER);
     let file = with_arg(bare, file_arg(alloc))?;
-    let items = with_arg(file, items_arg(alloc))?;
-    let names = with_arg(items, names_arg(alloc))?;
+    with_arg(file, items_arg(alloc))
+}
+
+/// Returns the command `draw`.
+pub(crate) fn draw_command<'a>(alloc: Global) -> Result<Command<'a>, AllocError>
+    ensures app { IfOk result (λ c. app_of c ≡ draw_args_app) }
+    ensures local { IfOk result (λ c. (out-Command c).has_globals ≡ false) }
+{
+    let names = with_arg(over_items(alloc)?, names_arg(alloc))?;
     let resync = with_arg(names, resync_arg(alloc))?;
     with_arg(resync, overrun_arg(alloc))
 }

@@ -17,7 +17,7 @@ const ROWS: [Row; 10] = [
     ),
     (
         &["swd", "draw", "--items=3"],
-        b"1010 0101 1010",
+        b"1010 1010",
         b"<svg xmlns='http://www.w3.org/2000/svg' version='1.1' width='672' height='492'",
         b"",
     ),

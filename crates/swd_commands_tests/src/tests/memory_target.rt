@@ -2,6 +2,7 @@
 use super::Still;
 use super::expect::{expect_eq, expect_eq_at};
 use super::simulated::{EMPTY, Page, Pen, Source};
+use super::target::{IDRS, identified, identifying};
 use std::alloc::Global;
 use std::cell::Cell;
 use std::io;
@@ -445,5 +446,31 @@ fn a_target_has_one_memory(rt: HostRuntime) -> Result<(), Fail> {
         "swd", "target", "--memory", "ram", "--base", "0x1000", "--plan", "p",
     ];
     assert!(rt; has_that_memory(rt.alloc(), words.as_slice()));
+    Ok(())
+}
+
+// A target whose memory is in a file has the IDR that is asked for, too.
+#[test]
+fn a_memory_in_a_file_has_the_idr_that_is_named(rt: HostRuntime) -> Result<(), Fail> {
+    let session = identifying(rt.alloc())?;
+    for (value, idr, base) in IDRS {
+        let with = [
+            "swd",
+            "target",
+            "--memory",
+            "ram",
+            "--idr",
+            value.unwrap_or(""),
+        ];
+        let words = if value.is_some() {
+            &with[..]
+        } else {
+            &with[..4]
+        };
+        let ran = run_at(rt.alloc(), words, b"abcd", session.as_slice());
+        expect_eq_at(&rt, &value, &ran.status, &0);
+        expect_eq_at(&rt, &value, &identified(&ran.output), &(idr, base));
+        expect_eq_at(&rt, &value, &ran.memory.text(), &b"abcd".as_slice());
+    }
     Ok(())
 }

@@ -109,32 +109,25 @@ const BASE_AT: usize = IDR_AT + 36 + 36;
 
 const NO_WORD: &[u8] = b"100000000000000000000000000000000000";
 
-// The words, those of the IDR, and those of BASE.
-type IdrRow<'a> = (&'a [&'a str], &'a [u8], &'a [u8]);
-
-const IDRS: [IdrRow; 4] = [
-    (&["swd", "target", "memory"], NO_WORD, NO_WORD),
+// The value of --idr, the levels of the IDR, and those of BASE.
+pub(super) const IDRS: [(Option<&str>, &[u8], &[u8]); 3] = [
+    (None, NO_WORD, NO_WORD),
     (
-        &["swd", "target", "memory", "--idr", "04770031"],
+        Some("04770031"),
         b"100100011000000000011101110001000000",
         b"100111111111111111111111111111111110",
     ),
     (
-        &["swd", "target", "--memory", "ram"],
-        NO_WORD,
-        NO_WORD,
-    ),
-    (
-        &["swd", "target", "--memory", "ram", "--idr", "0x1"],
+        Some("0x1"),
         b"100100000000000000000000000000000001",
         b"100111111111111111111111111111111110",
     ),
 ];
 
-// Returns the characters of a session.
-fn characters(alloc: Global, session: &[u8]) -> Result<Vec<u8>, Fail> {
+// Returns the characters of the session that reads these words.
+pub(super) fn identifying(alloc: Global) -> Result<Vec<u8>, Fail> {
     let mut sent = Vec::new(alloc);
-    for step in session {
+    for step in IDENTIFIES {
         sent.extend_from_slice(match *step {
             b'1' => b"eg".as_slice(),
             b'0' | b'-' => b"df",
@@ -147,16 +140,28 @@ fn characters(alloc: Global, session: &[u8]) -> Result<Vec<u8>, Fail> {
     Ok(sent)
 }
 
+// Returns the levels of IDR and of BASE among those of the session.
+pub(super) fn identified(levels: &[u8]) -> (&[u8], &[u8]) {
+    (
+        levels.get(IDR_AT..IDR_AT + 36).unwrap_or(b""),
+        levels.get(BASE_AT..BASE_AT + 36).unwrap_or(b""),
+    )
+}
+
 // A target has the IDR that is asked for, and then no ROM table. Otherwise both words are 0.
 #[test]
 fn a_target_has_the_idr_that_is_named(rt: HostRuntime) -> Result<(), Fail> {
-    let session = characters(rt.alloc(), IDENTIFIES)?;
-    for (words, idr, base) in IDRS {
+    let session = identifying(rt.alloc())?;
+    for (value, idr, base) in IDRS {
+        let with = ["swd", "target", "memory", "--idr", value.unwrap_or("")];
+        let words = if value.is_some() {
+            &with[..]
+        } else {
+            &with[..3]
+        };
         let ran = run_on(rt.alloc(), words, session.as_slice());
-        expect_eq_at(&rt, &words, &ran.status, &0);
-        let levels = ran.output.as_slice();
-        expect_eq_at(&rt, &words, &levels.get(IDR_AT..IDR_AT + 36), &Some(idr));
-        expect_eq_at(&rt, &words, &levels.get(BASE_AT..BASE_AT + 36), &Some(base));
+        expect_eq_at(&rt, &value, &ran.status, &0);
+        expect_eq_at(&rt, &value, &identified(&ran.output), &(idr, base));
     }
     Ok(())
 }
