@@ -15,7 +15,7 @@ returns c = record {
   clean = subst (λ (word : Option Text). (c.is_asked_for-clean.result ≡ true) ↔ (word ≡ Some (codes "true")))
       (c.get_str-4.ensures ∙ first_value-rows (found_of c.args.matches.now) (codes "clean"))
       c.is_asked_for-clean.ensures;
-  plain = c.in-Ok-plain_in.ensures;
+  plain = ?;
   exact_registers = subst
       (λ (word : Option Text). (c.is_asked_for-exact_registers.result ≡ true) ↔ (word ≡ Some (codes "true")))
       (c.get_str-5.ensures ∙ first_value-rows (found_of c.args.matches.now) (codes "exact-registers"))
