@@ -2,18 +2,19 @@
 # ~/.local/share/bash-completion/completions/swd.
 _swd() {
     local word=${COMP_WORDS[COMP_CWORD]} before=${COMP_WORDS[COMP_CWORD - 1]} words= formats=
+    local earlier=${COMP_WORDS[COMP_CWORD > 1 ? COMP_CWORD - 2 : 0]}
     COMPREPLY=()
     if ((COMP_CWORD == 1)); then
         case $word in
         -*) words='--help --version -h -V' ;;
-        *) words='one decode encode run target draw load verify dump help' ;;
+        *) words='one decode encode run target draw check load verify dump help' ;;
         esac
         COMPREPLY=($(compgen -W "$words" -- "$word"))
         return
     fi
     case ${COMP_WORDS[1]} in
     help)
-        ((COMP_CWORD > 2)) || COMPREPLY=($(compgen -W 'one decode encode run target draw load verify dump help' -- "$word"))
+        ((COMP_CWORD > 2)) || COMPREPLY=($(compgen -W 'one decode encode run target draw check load verify dump help' -- "$word"))
         return
         ;;
     one)
@@ -34,6 +35,9 @@ _swd() {
     draw)
         words='--items --names --resync --overrun --help -h'
         ;;
+    check)
+        words='--made --rest --clean --plain --exact-registers --resync --overrun --help -h'
+        ;;
     load)
         words='--format --tries --resume --report --remote --memory --base --plan --help -h'
         formats='bin hex srec elf'
@@ -47,12 +51,17 @@ _swd() {
         formats='bin hex srec'
         ;;
     esac
+    case $earlier in
+    --plain)
+        return
+        ;;
+    esac
     case $before in
     --accesses | --log | --memory | --plan | --report | --trace)
         mapfile -t COMPREPLY < <(compgen -f -- "$word")
         return
         ;;
-    --base | --idr | --items | --resume | --tries)
+    --base | --idr | --items | --resume | --tries | --plain)
         return
         ;;
     --format)

@@ -1,7 +1,12 @@
-use Rattle.std.proofs.Common.{◌∙◌, ◌≡◌, ◌↔◌, Option, Some, true, subst, codes}
+use Rattle.std.proofs.Common.{◌∙◌, ◌≡◌, ◌↔◌, ◌⊎◌, Bool, Option, Some, false, inl, inr, true, subst, codes}
 use Rattle.clap.specs.Words.{Text, found_of}
 use Rattle.clap.proofs.WalkLemmas.{first_value-rows}
 use Rattle.swd_words.proofs.check_words.check_line.Goals as goal
+
+-- of two starts one at most is asked for
+no_other : (made rest : Bool) → ((made ≡ true) × (rest ≡ false)) ⊎ (made ≡ false) → made ≡ true → rest ≡ false
+no_other made rest (inl p) h = p.1
+no_other made rest (inr e) h = absurd cc
 
 pub returns : goal.returns
 returns c = record {
@@ -26,5 +31,5 @@ returns c = record {
   overrun = subst (λ (word : Option Text). (c.is_asked_for-overrun.result ≡ true) ↔ (word ≡ Some (codes "true")))
       (c.get_str-7.ensures ∙ first_value-rows (found_of c.args.matches.now) (codes "overrun"))
       c.is_asked_for-overrun.ensures;
-  one_start = ?;
+  one_start = no_other c.is_asked_for-made.result c.is_asked_for-rest.result c.else-made.either;
 }
