@@ -2,8 +2,9 @@
 ghost use Rattle.std.specs.Prelude.{◌<ℤ◌, IfOk, pos};
 ghost use Rattle.std.specs.Fd.{file_raw_fd};
 
-use std::fs::{File, Metadata, OpenOptions};
-use std::io::ErrorKind;
+use crate::beside::Beside;
+use std::fs::{File, Metadata, OpenOptions, TryLockError};
+use std::io::{ErrorKind, Seek, Write};
 use std::os::fd::{AsFd, AsRawFd};
 use std::os::unix::fs::MetadataExt;
 use std::{fs, io};
@@ -15,26 +16,104 @@ pub struct Disk<'a> {
     pub rt: &'a HostRuntime,
 }
 
+/// A file that is open for writing.
+#[derive(Drop)]
+pub struct DiskFile {
+    file: File,
+    // Whether opening it created it.
+    is_new: bool,
+    // The file that takes its place, while its contents are replaced.
+    beside: Option<Beside>,
+}
+
+impl Write for DiskFile {
+    fn write(&mut self, buf: &[u8]) -> io::Result<usize> {
+        match &mut self.beside {
+            Some(beside) => beside.file.write(buf),
+            None => self.file.write(buf),
+        }
+    }
+
+    fn flush(&mut self) -> io::Result<()> {
+        match &mut self.beside {
+            Some(beside) => beside.file.flush(),
+            None => self.file.flush(),
+        }
+    }
+}
+
 impl Files for Disk<'_> {
     type File = File;
 
-    type Made = File;
+    type Made = DiskFile;
 
     fn open(&self, name: &str) -> io::Result<Opened<File>> {
         identified(fs::open(self.rt, name)?)
     }
 
-    fn open_to_write(&self, name: &str) -> io::Result<Opened<File>> {
+    fn open_to_write(&self, name: &str) -> io::Result<Opened<DiskFile>> {
         let mut how = OpenOptions::new();
         how.write(true).create(true);
-        identified(how.open(self.rt, name)?)
+        made(how.open(self.rt, name)?, false)
     }
 
-    fn cut_off(&self, file: &File) -> io::Result<()> {
-        if file.metadata()?.is_file() {
-            file.set_len(0)
+    fn cut_off(&self, file: &DiskFile) -> io::Result<()> {
+        if file.file.metadata()?.is_file() {
+            file.file.set_len(0)
         } else {
             Ok(())
+        }
+    }
+
+    fn open_to_replace(&self, name: &str) -> io::Result<Opened<DiskFile>> {
+        if let Some(file) = self.created(name)? {
+            return made(file, true);
+        }
+        let opened = self.open_to_write(name)?;
+        if let Some(beside) = self.beside(name, &opened.file.file)? {
+            beside.remove(self.rt);
+        }
+        Ok(opened)
+    }
+
+    fn lock(&self, name: &str, file: &DiskFile) -> io::Result<()> {
+        // Where the file system has no locks, the file is replaced without one.
+        if let Err(TryLockError::WouldBlock) = file.file.try_lock() {
+            return Err(io::Error::new(ErrorKind::ResourceBusy, "it is in use by another session"));
+        }
+        // A session that ended before the lock was taken may have replaced it.
+        if identity_of(&file.file.metadata()?) == identity_of(&fs::metadata(self.rt, name)?) {
+            Ok(())
+        } else {
+            Err(replaced())
+        }
+    }
+
+    fn begin_replacing(&self, name: &str, file: &mut DiskFile) -> io::Result<()> {
+        file.beside = self.beside(name, &file.file)?;
+        Ok(())
+    }
+
+    fn finish_replacing(&self, file: &mut DiskFile) -> io::Result<()> {
+        let Some(beside) = &file.beside else {
+            return end_here(&mut file.file);
+        };
+        beside.file.sync_all()?;
+        let place = fs::metadata(self.rt, beside.place.as_str())?;
+        if identity_of(&place) != identity_of(&file.file.metadata()?) {
+            return Err(replaced());
+        }
+        fs::rename(self.rt, beside.name.as_str(), beside.place.as_str())?;
+        file.beside = None;
+        Ok(())
+    }
+
+    fn give_up(&self, name: &str, file: &mut DiskFile) {
+        if let Some(beside) = file.beside.take() {
+            beside.remove(self.rt);
+        }
+        if file.is_new {
+            let _ = self.remove_empty(name, &file.file);
         }
     }
 
@@ -49,6 +128,59 @@ impl Files for Disk<'_> {
     fn standard_error(&self) -> io::Result<Option<Identity>> {
         stream_identity(&self.rt.stderr(), fs::metadata(self.rt, "/proc/self/fd/2"))
     }
+}
+
+impl Disk<'_> {
+    // Creates a file, unless one has the name.
+    fn created(&self, name: &str) -> io::Result<Option<File>> {
+        let mut how = OpenOptions::new();
+        how.write(true).create_new(true);
+        match how.open(self.rt, name) {
+            Ok(file) => Ok(Some(file)),
+            Err(error) if error.kind() == ErrorKind::AlreadyExists => Ok(None),
+            Err(error) => Err(error),
+        }
+    }
+
+    // Creates a file that is to take the place of this one. Returns `None` where it is overwritten in place, since it
+    // isn't regular or the name is another's.
+    fn beside(&self, name: &str, file: &File) -> io::Result<Option<Beside>> {
+        let like = file.metadata()?;
+        if !like.is_file() {
+            return Ok(None);
+        }
+        match fs::metadata(self.rt, name) {
+            Ok(named) if identity_of(&named) == identity_of(&like) => {
+                Ok(Some(Beside::new(self.rt, name, &like)?))
+            }
+            _ => Ok(None),
+        }
+    }
+
+    // Removes a file that is empty, if the name is still its own.
+    fn remove_empty(&self, name: &str, file: &File) -> io::Result<()> {
+        let (file, named) = (file.metadata()?, fs::metadata(self.rt, name)?);
+        if identity_of(&file) == identity_of(&named) && named.len() == 0 {
+            fs::remove_file(self.rt, name)
+        } else {
+            Ok(())
+        }
+    }
+}
+
+// Returns the error for a name that another file has got.
+fn replaced() -> io::Error {
+    io::Error::new(ErrorKind::InvalidInput, "it is another file now")
+}
+
+// Ends a file that was overwritten in place where the last write ended, if it is one with a length.
+fn end_here(file: &mut File) -> io::Result<()> {
+    if !file.metadata()?.is_file() {
+        return Ok(());
+    }
+    let end = file.stream_position()?;
+    file.set_len(end)?;
+    file.sync_all()
 }
 
 // The highest file descriptor of a standard stream: input, output and errors are 0, 1 and 2.
@@ -70,9 +202,22 @@ fn identified(file: File) -> io::Result<Opened<File>>
     Ok(Opened { file, identity })
 }
 
-// Returns the file under a file descriptor above those of the standard streams. A new file gets the lowest free one. If
-// a standard stream is closed, that is the stream's, and reads and writes of the stream would go to the file.
-fn beside_the_streams(file: File) -> io::Result<File>
+// The same for a file that is written.
+fn made(file: File, is_new: bool) -> io::Result<Opened<DiskFile>>
+    ensures { IfOk result (λ opened. pos 2 <ℤ file_raw_fd opened.file.file) }
+{
+    let Opened { file, identity } = identified(file)?;
+    let file = DiskFile {
+        file,
+        is_new,
+        beside: None,
+    };
+    Ok(Opened { file, identity })
+}
+
+/// Returns the file under a file descriptor above those of the standard streams. A new file gets the lowest free one. If
+/// a standard stream is closed, that is the stream's, and reads and writes of the stream would go to the file.
+pub(crate) fn beside_the_streams(file: File) -> io::Result<File>
     ensures { IfOk result (λ file. pos 2 <ℤ file_raw_fd file) }
 {
     if file.as_raw_fd() > LAST_STREAM {

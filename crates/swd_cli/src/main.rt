@@ -1,6 +1,7 @@
 //! The program `swd`.
 #![tactic(auto)]
 
+mod beside;
 mod disk;
 mod stopwatch;
 

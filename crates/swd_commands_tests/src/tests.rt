@@ -215,6 +215,24 @@ impl<'a> Files for Shelf<'a> {
         Ok(())
     }
 
+    fn open_to_replace(&self, name: &str) -> io::Result<Opened<Page<'a>>> {
+        self.open_to_write(name)
+    }
+
+    fn lock(&self, _name: &str, _file: &Page<'a>) -> io::Result<()> {
+        Ok(())
+    }
+
+    fn begin_replacing(&self, _name: &str, file: &mut Page<'a>) -> io::Result<()> {
+        self.cut_off(file)
+    }
+
+    fn finish_replacing(&self, _file: &mut Page<'a>) -> io::Result<()> {
+        Ok(())
+    }
+
+    fn give_up(&self, _name: &str, _file: &mut Page<'a>) {}
+
     fn standard_input(&self) -> io::Result<Option<Identity>> {
         Ok(Some(file("input", ()).identity))
     }
@@ -373,6 +391,24 @@ impl<'a> Files for Unknown<'a> {
     fn cut_off(&self, file: &Page<'a>) -> io::Result<()> {
         self.0.cut_off(file)
     }
+
+    fn open_to_replace(&self, name: &str) -> io::Result<Opened<Page<'a>>> {
+        self.open_to_write(name)
+    }
+
+    fn lock(&self, _name: &str, _file: &Page<'a>) -> io::Result<()> {
+        Ok(())
+    }
+
+    fn begin_replacing(&self, _name: &str, file: &mut Page<'a>) -> io::Result<()> {
+        self.cut_off(file)
+    }
+
+    fn finish_replacing(&self, _file: &mut Page<'a>) -> io::Result<()> {
+        Ok(())
+    }
+
+    fn give_up(&self, _name: &str, _file: &mut Page<'a>) {}
 
     fn standard_input(&self) -> io::Result<Option<Identity>> {
         self.0.standard_input()

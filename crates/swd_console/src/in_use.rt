@@ -30,9 +30,9 @@ pub enum WriteRole {
     Accesses,
     /// The report of an image's calls.
     Calls,
-    /// The image of a dump. It is truncated when its bytes are there.
+    /// The image of a dump. It is replaced when its bytes are there.
     Dump,
-    /// The memory of a simulated target, after a load or a session. It is truncated when its bytes are there.
+    /// The memory of a simulated target, after a load or a session. It is locked, and replaced when its bytes are there.
     Memory,
 }
 
@@ -211,10 +211,10 @@ impl InUse {
         }
     }
 
-    /// Opens a file for writing, or creates it. It is truncated then, but for a dump and a memory. At an error it
-    /// prints a line and returns the status 2, and an existing file isn't truncated: also for `-`, and if the file is
+    /// Opens a file for writing, or creates it. An existing file is unchanged: `cut_off` truncates it once all files of the
+    /// command are open. At an error it prints a line and returns the status 2: also for `-`, and if the file is
     /// in use in another role, under any name, or may be, or is a standard stream that is in use. The contract leaves
-    /// out the streams. A memory's file has to be the one that was read.
+    /// out the streams. A memory's file has to be the one that was read, and no other process may have locked it.
     pub fn open_write<A, F: Files, C, E: Write>(
         &mut self,
         name: &str,
@@ -260,7 +260,7 @@ impl InUse {
         }
     }
 
-    // Opens a file for writing, unless it is in use, and truncates it if it is to be at once.
+    // Opens a file for writing, unless it is in use.
     fn find_write<F: Files>(
         &self,
         name: &str,
@@ -272,12 +272,14 @@ impl InUse {
     {
         named_file(name)?;
         let (input, output) = (self.input(files)?, self.output(files)?);
-        let opened = files.open_to_write(name)?;
+        let opened = match role {
+            WriteRole::Dump | WriteRole::Memory => files.open_to_replace(name)?,
+            _ => files.open_to_write(name)?,
+        };
         self.refuse_write(role, opened.identity)?;
         refuse_written_stream(role, opened.identity, input, output)?;
-        match role {
-            WriteRole::Dump | WriteRole::Memory => {}
-            _ => files.cut_off(&opened.file)?,
+        if let WriteRole::Memory = role {
+            files.lock(name, &opened.file)?;
         }
         Ok(opened)
     }
@@ -310,6 +312,35 @@ impl InUse {
     }
 }
 
+/// Truncates a file that was opened for writing under this name. At an error it prints a line and returns the status 2.
+pub fn cut_off<A, F: Files, C, E: Write>(
+    name: &str,
+    file: &F::Made,
+    console: &mut Console<'_, A, F, C, E>,
+) -> Result<(), u8>
+    ensures status { IfErr result (λ status. status ≡ 2) }
+{
+    match console.files.cut_off(file) {
+        Ok(()) => Ok(()),
+        Err(why) => Err(cannot_open(console.errors, name, &why)),
+    }
+}
+
+/// Truncates such a file if it is named.
+pub fn cut_off_named<A, F: Files, C, E: Write>(
+    name: &Option<String>,
+    file: &Option<Watched<F::Made>>,
+    console: &mut Console<'_, A, F, C, E>,
+) -> Result<(), u8>
+    ensures named { IfErr result (λ status. is_some name.now ≡ true) }
+    ensures status { IfErr result (λ status. status ≡ 2) }
+{
+    match (name, file) {
+        (Some(name), Some(file)) => cut_off(name.as_str(), &file.stream, console),
+        _ => Ok(()),
+    }
+}
+
 // Refuses a file that is standard input or standard output, where they are in use.
 fn refuse_written_stream(
     role: WriteRole,
@@ -320,7 +351,7 @@ fn refuse_written_stream(
     let (is_input, is_output) = (input == Some(identity), output == Some(identity));
     match role {
         WriteRole::Report | WriteRole::Trace | WriteRole::Accesses if is_input => {
-            Err(refusal("it is the script or the plan"))
+            Err(refusal("it is standard input"))
         }
         WriteRole::Report | WriteRole::Trace | WriteRole::Accesses if is_output => {
             Err(refusal("it is another output"))

@@ -18,7 +18,7 @@ mod watched;
 pub use clock::Clock;
 pub use connection::{Untold, gone_status, line_streams};
 pub use destination::Destination;
-pub use in_use::{InUse, ReadRole, StreamsInUse, WriteRole, named_file_of};
+pub use in_use::{InUse, ReadRole, StreamsInUse, WriteRole, cut_off, cut_off_named, named_file_of};
 pub use machine::Console;
 pub use memory_file::{HeldMemory, MemoryFile, read_target_files, write_back};
 pub use noted::{LineStart, Seen, TrackedReader};

@@ -142,7 +142,8 @@ fn read_noted<R: Read + KeepsError, A: Allocator + Copy, F, C, E: Write>(
     }
 }
 
-/// Truncates the file of a memory, and writes its bytes. At an error it prints a line and returns the status 2.
+/// Replaces the file of a memory by its bytes. At an error it prints a line and returns the status 2, and a regular file
+/// is as it was.
 pub fn write_back<A: Allocator + Copy, F: Files, C, E: Write>(
     after: &Memory<A>,
     to: &mut MemoryFile<'_, F::Made>,
@@ -156,13 +157,18 @@ pub fn write_back<A: Allocator + Copy, F: Files, C, E: Write>(
     let Some(bytes) = memory_bytes(console.alloc, after, to.memory.base, to.count) else {
         return Err(cannot_use(console.errors, name, &"no memory"));
     };
-    if let Err(why) = console.files.cut_off(&to.file) {
+    if let Err(why) = console.files.begin_replacing(name, &mut to.file) {
         return Err(cannot_open(console.errors, name, &why));
     }
-    match send(&mut to.file, bytes.as_slice()) {
+    let sent = match send(&mut to.file, bytes.as_slice()) {
+        Ok(()) => console.files.finish_replacing(&mut to.file),
+        Err(unsent) => Err(unsent.error),
+    };
+    match sent {
         Ok(()) => Ok(()),
-        Err(unsent) => {
-            let streams = [Stream::failed(name, unsent.error)];
+        Err(error) => {
+            console.files.give_up(name, &mut to.file);
+            let streams = [Stream::failed(name, error)];
             Err(tell_failure_or(console.errors, streams.as_slice(), "write failed"))
         }
     }

@@ -1,4 +1,5 @@
 //! Opens files by name, and identifies them.
+ghost use Rattle.std.specs.Prelude.{◌≡◌};
 
 use std::io;
 use std::io::{Read, Write};
@@ -33,6 +34,27 @@ pub trait Files {
 
     /// Truncates a file to length 0, if it is one with a length.
     fn cut_off(&self, file: &Self::Made) -> io::Result<()>;
+
+    /// Opens a file whose contents are to be replaced as a whole, or creates an empty one. Fails where its folder lets no
+    /// file be created beside it.
+    fn open_to_replace(&self, name: &str) -> io::Result<Opened<Self::Made>>;
+
+    /// Locks a file that `open_to_replace` opened, until it is dropped. Fails if another process has locked it, and if
+    /// the name is another file's by now.
+    fn lock(&self, name: &str, file: &Self::Made) -> io::Result<()>;
+
+    /// Begins to replace the contents of such a file by what is written next. If it is regular, that goes to a new file
+    /// beside it, with its mode. Any other file, and one that has lost its name, is overwritten in place.
+    fn begin_replacing(&self, name: &str, file: &mut Self::Made) -> io::Result<()>
+        ensures { Self.Made.Write.contents file.new ≡ Self.Made.Write.contents file.old };
+
+    /// Gives what was written the name of the file, once it is on the disk.
+    fn finish_replacing(&self, file: &mut Self::Made) -> io::Result<()>
+        ensures { Self.Made.Write.contents file.new ≡ Self.Made.Write.contents file.old };
+
+    /// Removes what was written beside the file, which then is as it was. Removes the file, too, if `open_to_replace`
+    /// created it and it is empty.
+    fn give_up(&self, name: &str, file: &mut Self::Made);
 
     /// Returns which file standard input is, or `None` if it is closed.
     fn standard_input(&self) -> io::Result<Option<Identity>>;

@@ -2,7 +2,7 @@
 ghost use Rattle.swd_image_commands.specs.Images.{PerformsDump, PerformsLoad, PerformsVerify};
 ghost use Rattle.swd_image_commands.specs.Targeted.{PerformsImage};
 
-use crate::image_file::{read_image_file, write_image_file};
+use crate::image_file::{keep_or_give_up, read_image_file, write_image_file};
 use crate::image_report::{open_report, report_writer};
 use crate::result::{loaded_status, reached, verified_status};
 use crate::simulated_command::perform_simulated;
@@ -153,7 +153,7 @@ fn perform_verify<
     (status, line)
 }
 
-// Opens the file, and reads bytes of the memory. Then truncates the file, and writes the bytes.
+// Opens the file, and reads bytes of the memory. Then replaces the file by the bytes.
 fn perform_dump<
     P: Story,
     I: Read + KeepsError + Drop,
@@ -179,7 +179,10 @@ fn perform_dump<
     };
     let opened = match open_report(image, &mut in_use, console) {
         Ok(opened) => opened,
-        Err(status) => return (status, RemoteStreams::unused(input, output)),
+        Err(status) => {
+            keep_or_give_up(image, status, &mut file, console);
+            return (status, RemoteStreams::unused(input, output));
+        }
     };
     let mut report = report_writer(opened, &mut *console.errors);
     let (answer, line) = dump_remote::<P, _, _, _, _>(
@@ -197,9 +200,13 @@ fn perform_dump<
     match reached(console.errors, answer, line.fault, streams.as_slice()) {
         Ok(bytes) => {
             let status = write_image_file(image, bytes.as_slice(), &mut file, console);
+            keep_or_give_up(image, status, &mut file, console);
             (status, line)
         }
-        Err(status) => (status, line),
+        Err(status) => {
+            keep_or_give_up(image, status, &mut file, console);
+            (status, line)
+        }
     }
 }
 

@@ -65,7 +65,7 @@ fn read_opened_image<R: Read + Drop, A: Allocator + Copy, F, C, E: Write>(
     }
 }
 
-/// Truncates the file of a dump, and writes the bytes in its format. Returns the status: 0 or 2.
+/// Replaces the file of a dump by the bytes in its format, and prints a line with the result. Returns the status: 0 or 2.
 pub(crate) fn write_image_file<A, F: Files, C, E: Write>(
     image: &ImageLine,
     bytes: &[u8],
@@ -75,14 +75,39 @@ pub(crate) fn write_image_file<A, F: Files, C, E: Write>(
     requires { image.now.addr + length bytes.now ≤ 2 ^ 32 }
     ensures { IsCommandWritten result (image_file_of_piece image.now.format image.now.addr bytes.now) }
 {
-    if let Err(why) = console.files.cut_off(file) {
-        return cannot_open(console.errors, image.file.as_str(), &why);
+    let name = image.file.as_str();
+    if let Err(why) = console.files.begin_replacing(name, file) {
+        return cannot_open(console.errors, name, &why);
     }
-    let mut file = Watched::new(file);
-    write_bytes(image, bytes, &mut file, console.errors)
+    let mut watched = Watched::new(&mut *file);
+    let status = write_bytes(image, bytes, &mut watched, console.errors);
+    drop(watched);
+    if status != DONE {
+        return status;
+    }
+    if let Err(error) = console.files.finish_replacing(file) {
+        let streams = [Stream::failed(name, error)];
+        return tell_failure_or(console.errors, streams.as_slice(), "write failed");
+    }
+    let (count, addr) = (bytes.len(), image.addr);
+    let _ = writeln!(console.errors, "swd: dumped {count} bytes at {addr:08x}");
+    status
 }
 
-// Writes the bytes of a dump in its format, and prints a line with the result. Returns the status: 0 or 2.
+/// Gives up the file of a dump with this status, unless all was done: a file that was there is as it was, and one that
+/// was created is removed.
+pub(crate) fn keep_or_give_up<A, F: Files, C, E>(
+    image: &ImageLine,
+    status: u8,
+    file: &mut F::Made,
+    console: &Console<'_, A, F, C, E>,
+) {
+    if status != DONE {
+        console.files.give_up(image.file.as_str(), file);
+    }
+}
+
+// Writes the bytes of a dump in its format. At an error it prints a line. Returns the status: 0 or 2.
 fn write_bytes<M: Write + KeepsError, E: Write>(
     image: &ImageLine,
     bytes: &[u8],
@@ -93,12 +118,8 @@ fn write_bytes<M: Write + KeepsError, E: Write>(
     ensures { CommandWritesBytes result (M.contents file.old) (M.contents file.new)
         (image_file_of_piece image.now.format image.now.addr bytes.now) }
 {
-    let addr = image.addr;
-    match write_image(image.format, addr, bytes, file) {
-        Ok(()) => {
-            let _ = writeln!(errors, "swd: dumped {} bytes at {addr:08x}", bytes.len());
-            DONE
-        }
+    match write_image(image.format, image.addr, bytes, file) {
+        Ok(()) => DONE,
         Err(_) => tell_failure_or(
             errors,
             [Stream::written(image.file.as_str(), file)].as_slice(),

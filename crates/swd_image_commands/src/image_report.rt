@@ -2,7 +2,7 @@
 ghost use Rattle.std.specs.Prelude.{◌≡◌, IfErr, IfOk, is_some};
 
 use std::io::Write;
-use swd_console::{Console, Destination, Files, InUse, Watched, WriteRole};
+use swd_console::{Console, Destination, Files, InUse, Watched, WriteRole, cut_off};
 use swd_words::ImageLine;
 
 /// Where the report goes, if one is asked for.
@@ -11,8 +11,8 @@ pub(crate) type ReportTo<M> = Option<Destination<M, ()>>;
 /// The writer of the report, if one is asked for.
 pub(crate) type ReportWriter<'a, M, E> = Option<Watched<Destination<M, &'a mut E>>>;
 
-/// Opens the file of the report, if one is named. `-` is standard error, which isn't truncated. At an error it prints a
-/// line and returns the status 2.
+/// Opens the file of the report, if one is named, and truncates it: it is the last file that a command opens. `-` is
+/// standard error, which isn't truncated. At an error it prints a line and returns the status 2.
 pub(crate) fn open_report<A, F: Files, C, E: Write>(
     image: &ImageLine,
     in_use: &mut InUse,
@@ -27,8 +27,12 @@ pub(crate) fn open_report<A, F: Files, C, E: Write>(
     if name.as_str() == "-" {
         return Ok(Some(Destination::Errors(())));
     }
-    match in_use.open_write(name.as_str(), WriteRole::Calls, console) {
-        Ok(opened) => Ok(Some(Destination::File(opened.file))),
+    let file = match in_use.open_write(name.as_str(), WriteRole::Calls, console) {
+        Ok(opened) => opened.file,
+        Err(status) => return Err(status),
+    };
+    match cut_off(name.as_str(), &file, console) {
+        Ok(()) => Ok(Some(Destination::File(file))),
         Err(status) => Err(status),
     }
 }

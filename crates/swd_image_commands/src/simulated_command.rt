@@ -10,7 +10,7 @@ ghost use Rattle.swd_image_commands.specs.Simulated.{SimulatesImage, SimulatesCo
 ghost use Rattle.swd_image_commands.specs.Simulated.{SimulatesDump, SimulatesLoad, SimulatesVerify};
 ghost use Rattle.swd_image_commands.specs.Simulated.{VerifyCommandSimulated};
 
-use crate::image_file::{read_image_file, write_image_file};
+use crate::image_file::{keep_or_give_up, read_image_file, write_image_file};
 use crate::image_report::{ReportTo, open_report, report_writer};
 use crate::result::{loaded_status, reached, verified_status};
 use std::alloc::Allocator;
@@ -236,7 +236,7 @@ fn verify_over<M: Write + Drop, A: Allocator + Copy, F, C, E: Write>(
     )
 }
 
-// Opens the file, and reads bytes of the memory. Then truncates the file, and writes the bytes.
+// Opens the file, and reads bytes of the memory. Then replaces the file by the bytes.
 fn simulate_dump<A: Allocator + Copy, F: Files, C, E: Write>(
     image: &ImageLine,
     count: u32,
@@ -254,16 +254,26 @@ fn simulate_dump<A: Allocator + Copy, F: Files, C, E: Write>(
     };
     let report = match open_report(image, in_use, console) {
         Ok(report) => report,
-        Err(status) => return status,
+        Err(status) => {
+            keep_or_give_up(image, status, &mut file, console);
+            return status;
+        }
     };
     let spare = spare_room(1, count as u64, held.marks.len());
     match target_of(held, spare, console) {
-        Ok(bench) => dump_over(image, count, bench, &mut file, report, console),
-        Err(status) => status,
+        Ok(bench) => {
+            let status = dump_over(image, count, bench, &mut file, report, console);
+            keep_or_give_up(image, status, &mut file, console);
+            status
+        }
+        Err(status) => {
+            keep_or_give_up(image, status, &mut file, console);
+            status
+        }
     }
 }
 
-// Reads bytes of the target's memory. Then truncates the file, and writes the bytes.
+// Reads bytes of the target's memory. Then replaces the file by the bytes.
 fn dump_over<A: Allocator + Copy, F: Files, C, E: Write>(
     image: &ImageLine,
     count: u32,

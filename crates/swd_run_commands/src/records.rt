@@ -3,12 +3,12 @@ ghost use Rattle.std.specs.Prelude.{◌≡◌, IfErr, IfOk, is_some, true};
 ghost use Rattle.swd_run_commands.specs.Runs.{run_command_names_file};
 
 use std::io::Write;
-use swd_console::{Console, Files, InUse, Watched, WriteRole};
+use swd_console::{Console, Files, InUse, Watched, WriteRole, cut_off_named};
 use swd_run::Records;
 use swd_words::RunLine;
 
-/// Opens the files that a run writes beside its report, as far as they are named. `made` says that the target begins in
-/// its reset state. At an error it prints a line and returns the status 2.
+/// Opens the files that a run writes beside its report, as far as they are named, and truncates them once both are open.
+/// `made` says that the target begins in its reset state. At an error it prints a line and returns the status 2.
 pub(crate) fn open_records<A, F: Files, C, E: Write>(
     run: &RunLine,
     made: bool,
@@ -23,8 +23,15 @@ pub(crate) fn open_records<A, F: Files, C, E: Write>(
         Ok(trace) => trace,
         Err(status) => return Err(status),
     };
-    match in_use.open_named(&run.accesses, WriteRole::Accesses, console) {
-        Ok(accesses) => Ok(Records {
+    let accesses = match in_use.open_named(&run.accesses, WriteRole::Accesses, console) {
+        Ok(accesses) => accesses,
+        Err(status) => return Err(status),
+    };
+    if let Err(status) = cut_off_named(&run.trace, &trace, console) {
+        return Err(status);
+    }
+    match cut_off_named(&run.accesses, &accesses, console) {
+        Ok(()) => Ok(Records {
             trace,
             accesses,
             made,

@@ -13,8 +13,8 @@ use std::alloc::Allocator;
 use std::io::{Read, Write};
 use swd_console::{
     Clock, Console, Destination, ERRORS, FAULT, Files, InUse, KeepsError, Seen, Stream,
-    TrackedReader, Watched, WriteRole, cannot_open, gone_status, line_streams, name_or_nothing,
-    run_status, script_status, tell, tell_failure,
+    TrackedReader, Watched, WriteRole, cannot_open, cut_off, gone_status, line_streams,
+    name_or_nothing, run_status, script_status, tell, tell_failure,
 };
 use swd_ends::{RemoteFault, run_remote, run_remote_script};
 use swd_port::Story;
@@ -23,7 +23,7 @@ use swd_run::{Finished, Records};
 use swd_script::read_script;
 use swd_words::RunLine;
 
-// Opens the file of the report. `-` is standard error, which isn't truncated. At an error it prints a line and returns
+// Opens the file of the report, which isn't truncated yet. `-` is standard error. At an error it prints a line and returns
 // the status 2.
 fn open_report<A, F: Files, C, E: Write>(
     name: &str,
@@ -85,6 +85,9 @@ pub(crate) fn perform_remote<
     };
     match report {
         Destination::File(file) => {
+            if let Err(status) = cut_off(name.as_str(), &file, console) {
+                return (status, RemoteStreams::unused(input, output));
+            }
             let report = Watched::new(file);
             let files = RemoteFiles { report, records };
             report_to_file::<P, _, _, _, _, _, _, _, _, _>(

@@ -36,7 +36,11 @@ pub fn perform_run<
         let own = run_standard_input(run, input, output, console);
         return status_after(output.kept_error(), own);
     };
-    let mut in_use = InUse::new(StreamsInUse::Output);
+    let mut in_use = InUse::new(if run.remote {
+        StreamsInUse::Both
+    } else {
+        StreamsInUse::Output
+    });
     let script = match in_use.open_read(name, ReadRole::Script, console) {
         Ok(opened) => opened.file,
         Err(status) => return status,

@@ -8,7 +8,7 @@ use std::io::Write;
 use swd_bitbang::{Served, Trace};
 use swd_console::{
     Console, DONE, FAULT, Files, INPUT, InUse, KeepsError, Stream, Watched, WriteRole,
-    tell_failure_or,
+    cut_off_named, tell_failure_or,
 };
 use swd_ends::LiveFiles;
 use swd_words::TargetLine;
@@ -30,8 +30,8 @@ impl<M> SessionFiles<M> {
     }
 }
 
-/// Opens the files of a session, as far as they are named, and truncates them. At an error it prints a line and returns
-/// the status 2.
+/// Opens the files of a session, as far as they are named, and truncates them once both are open. At an error it prints a
+/// line and returns the status 2.
 pub(crate) fn open_session<A, F: Files, C, E: Write>(
     target: &TargetLine,
     in_use: &mut InUse,
@@ -45,8 +45,15 @@ pub(crate) fn open_session<A, F: Files, C, E: Write>(
         Ok(log) => log,
         Err(status) => return Err(status),
     };
-    match in_use.open_named(&target.trace, WriteRole::Trace, console) {
-        Ok(trace) => Ok(SessionFiles { log, trace }),
+    let trace = match in_use.open_named(&target.trace, WriteRole::Trace, console) {
+        Ok(trace) => trace,
+        Err(status) => return Err(status),
+    };
+    if let Err(status) = cut_off_named(&target.log, &log, console) {
+        return Err(status);
+    }
+    match cut_off_named(&target.trace, &trace, console) {
+        Ok(()) => Ok(SessionFiles { log, trace }),
         Err(status) => Err(status),
     }
 }

@@ -58,7 +58,7 @@ fn perform_script_target<
         target.now.idr (I.remaining input.old) (I.remaining input.new) (O.contents output.old) (O.contents output.new) }
 {
     let name = texts.script.as_str();
-    let mut in_use = InUse::new(StreamsInUse::Output);
+    let mut in_use = InUse::new(StreamsInUse::Both);
     let opened = match in_use.open_read(name, ReadRole::Script, console) {
         Ok(opened) => opened,
         Err(status) => return status,
@@ -69,14 +69,8 @@ fn perform_script_target<
         let texts = TargetTexts { script, plan };
         return serve_under(target, texts, in_use, input, output, console);
     };
-    // Standard input comes from the debugger.
-    let mut debugger = InUse::new(StreamsInUse::Both);
-    match debugger.open_read(name.as_str(), ReadRole::Plan, console) {
+    match in_use.open_read(name.as_str(), ReadRole::Plan, console) {
         Ok(opened) => {
-            let in_use = InUse {
-                plan: Some(opened.identity),
-                ..in_use
-            };
             let plan = TrackedReader::new(name.as_str(), Watched::new(opened.file));
             let texts = TargetTexts { script, plan };
             serve_under(target, texts, in_use, input, output, console)

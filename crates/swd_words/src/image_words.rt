@@ -43,14 +43,16 @@ With --remote the standard streams connect to a server of OpenOCD's
 remote_bitbang protocol for SWD, such as swd target.
 
 With --memory the target is simulated. The memory's FILE has its bytes from
---base on, a multiple of 4 of them, the byte at the lowest address first. It is
-overwritten after a load, however the run ended. The plan is one of swd run, and
-injects faults.
+--base on, a multiple of 4 of them, the byte at the lowest address first. A load
+locks it, and replaces it once the run has ended, however that was. If that
+fails, or a signal ends the program, it is unchanged. The plan is one of swd
+run, and injects faults.
 
 --report FILE has the lines of swd run for each access of the load: the reads of
 the partial words, and then up to 65,536 writes in a call. FILE is overwritten,
-and written while the load goes on, so after a load that was killed it shows
-which words were certainly written. With - it is appended to standard error.
+and written while the load goes on. So after a load with --remote that was
+killed it shows which words were certainly written; with --memory none were.
+With - it is appended to standard error.
 
 A line on standard error has the result, or the first error of FILE:
   swd: loaded 65536 bytes at 20000000
@@ -87,8 +89,9 @@ only read. --report is as for swd verify. FILE is hex, srec or bin by its name,
 as for swd load, or by --format. In a hex or srec file the addresses are the
 target's.
 
-FILE is overwritten once all bytes are read; otherwise it is unchanged. A line
-on standard error has the result:
+FILE is replaced once all bytes are read, by a new file beside it that gets its
+name. At an error it is unchanged, or isn't created. A line on standard error
+has the result:
   swd: dumped 65536 bytes at 20000000
 
 Status: 0 if all was dumped, 1 if the run ended early, an access met a bus error

@@ -26,11 +26,13 @@ SCRIPT or --memory names the target's memory. SCRIPT has only the lines memory
 and room of swd run, and can't be standard input. Its words are all zero.
 
 With --memory the memory has the words of FILE from --base on, the least
-significant byte first. Once the session has ended, FILE is overwritten with the
-memory, so that the next session continues with it. FILE must be another file
-than the plan, the log, the trace and the standard streams. In a session the
-target does at least 16 transfers for each word and 65536 more. It answers each
-later one with a bus error, which a line on standard error says.
+significant byte first. Once the session has ended, FILE is replaced by a new
+file with the memory, so that the next session continues with it. If that fails,
+or a signal ends the program, FILE is unchanged. Until then it is locked, so
+that another session at it ends with status 2. FILE must be another file than
+the plan, the log, the trace and the standard streams. In a session the target
+does at least 16 transfers for each word and 65536 more. It answers each later
+one with a bus error, which a line on standard error says.
 
 The plan is one of swd run, with a mark for each request.
 

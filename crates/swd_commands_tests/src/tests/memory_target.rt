@@ -106,6 +106,7 @@ impl<'a> Files for Shelf<'a> {
         let pen = Pen {
             page,
             is_full: name == "full",
+            beside: None,
         };
         match name {
             "locked" => Err(io::Error::from(ErrorKind::PermissionDenied)),
@@ -117,6 +118,33 @@ impl<'a> Files for Shelf<'a> {
         self.cuts.set(self.cuts.get().saturating_add(1));
         file.page.set(EMPTY);
         Ok(())
+    }
+
+    fn open_to_replace(&self, name: &str) -> io::Result<Opened<Pen<'a>>> {
+        self.open_to_write(name)
+    }
+
+    fn lock(&self, name: &str, _file: &Pen<'a>) -> io::Result<()> {
+        match name {
+            "used" => Err(io::Error::from(ErrorKind::ResourceBusy)),
+            _ => Ok(()),
+        }
+    }
+
+    // It counts as one that is cut off.
+    fn begin_replacing(&self, _name: &str, file: &mut Pen<'a>) -> io::Result<()> {
+        self.cuts.set(self.cuts.get().saturating_add(1));
+        file.beside = Some(EMPTY);
+        Ok(())
+    }
+
+    fn finish_replacing(&self, file: &mut Pen<'a>) -> io::Result<()> {
+        file.replace();
+        Ok(())
+    }
+
+    fn give_up(&self, _name: &str, file: &mut Pen<'a>) {
+        file.beside = None;
     }
 
     fn standard_input(&self) -> io::Result<Option<Identity>> {
@@ -257,7 +285,7 @@ fn each_end_of_a_session_leaves_the_memory(rt: HostRuntime) {
 // What is wrong with a file of the session ends the command before the host is heard, and before a file is truncated.
 #[test]
 fn a_file_that_cannot_be_used_is_refused(rt: HostRuntime) {
-    let rows: [(&[&str], &[u8], &[u8]); 19] = [
+    let rows: [(&[&str], &[u8], &[u8]); 20] = [
         (
             &["swd", "target", "--memory", "ram"],
             b"abc",
@@ -350,7 +378,12 @@ fn a_file_that_cannot_be_used_is_refused(rt: HostRuntime) {
         (
             &["swd", "target", "--memory", "ram", "--trace", "input"],
             b"abcd",
-            b"swd: cannot open input: it is the script or the plan\n",
+            b"swd: cannot open input: it is standard input\n",
+        ),
+        (
+            &["swd", "target", "--memory", "used"],
+            b"abcd",
+            b"swd: cannot open used: resource busy\n",
         ),
         (
             &["swd", "target", "--memory", "ram", "--trace", "output"],
@@ -384,10 +417,12 @@ fn a_file_that_cannot_be_used_is_refused(rt: HostRuntime) {
     let ran = run_at(rt.alloc(), words.as_slice(), b"abcd", SESSION);
     let line: &[u8] = b"swd: cannot open log-again: it is another output\n";
     expect_eq(&rt, &ran.errors.as_slice(), &line);
+    expect_eq(&rt, &ran.cuts, &0);
     expect_eq(&rt, &ran.status, &2);
 }
 
-// A memory that can't be written back takes one line, also where the session failed.
+// A memory that can't be written back takes one line, also where the session failed. Its file is as it was, although some
+// bytes could be written.
 #[test]
 fn a_memory_that_cannot_be_written_takes_one_line(rt: HostRuntime) {
     for session in [SESSION, b"x".as_slice()] {
@@ -395,6 +430,7 @@ fn a_memory_that_cannot_be_written_takes_one_line(rt: HostRuntime) {
         let ran = run_at(rt.alloc(), words.as_slice(), b"abcd", session);
         let line: &[u8] = b"swd: write failed: full: no storage space\n";
         expect_eq_at(&rt, &session, &ran.errors.as_slice(), &line);
+        expect_eq_at(&rt, &session, &ran.memory.text(), &b"".as_slice());
         expect_eq_at(&rt, &session, &ran.status, &2);
     }
 }

@@ -54,8 +54,8 @@ fn its_trace_goes_to_a_file_of_its_own(rt: HostRuntime) {
     expect_eq(&rt, &ran.status, &1);
     expect_eq(&rt, &ran.cuts, &2);
     assert!(rt; ran.traced > b"resume 0 begun 0\n".len() + LOST.len());
-    // The report's file is none for the trace or the accesses.
-    for trace in ["traced", "script", "output", "-", "locked"] {
+    // The report's file is none for the trace or the accesses, and no file is truncated before that is known.
+    for trace in ["traced", "script", "input", "output", "-", "locked"] {
         for record in ["--trace", "--accesses"] {
             let words = [
                 "swd", "run", "script", "--remote", "--report", "traced", record, trace,
@@ -64,8 +64,49 @@ fn its_trace_goes_to_a_file_of_its_own(rt: HostRuntime) {
             expect_eq(&rt, &ran.status, &2);
             assert!(rt; ran.errors.starts_with(b"swd: cannot open "));
             assert!(rt; ran.output.is_empty());
-            expect_eq(&rt, &ran.cuts, &1);
+            expect_eq(&rt, &ran.cuts, &0);
         }
+    }
+    // Nor is standard input one for the report, and one file isn't both.
+    let rows: [(&[&str], &[u8]); 3] = [
+        (
+            &["swd", "run", "script", "--remote", "--report", "input"],
+            b"swd: cannot open input: it is standard input\n",
+        ),
+        (
+            &[
+                "swd",
+                "run",
+                "script",
+                "--remote",
+                "--report",
+                "-",
+                "--trace",
+                "traced",
+                "--accesses",
+                "traced",
+            ],
+            b"swd: cannot open traced: it is another output\n",
+        ),
+        (
+            &[
+                "swd",
+                "run",
+                "script",
+                "--trace",
+                "traced",
+                "--accesses",
+                "traced",
+            ],
+            b"swd: cannot open traced: it is another output\n",
+        ),
+    ];
+    for (words, line) in rows {
+        let ran = run_on(rt.alloc(), words, b"111".as_slice());
+        expect_eq_at(&rt, &words, &ran.errors.as_slice(), &line);
+        expect_eq_at(&rt, &words, &ran.cuts, &0);
+        expect_eq_at(&rt, &words, &ran.output.is_empty(), &true);
+        expect_eq_at(&rt, &words, &ran.status, &2);
     }
 }
 

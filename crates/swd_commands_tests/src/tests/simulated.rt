@@ -45,31 +45,51 @@ impl Page {
     }
 }
 
+/// A file that is open for writing. A full one takes three bytes.
 #[derive(Drop)]
 pub(super) struct Pen<'a> {
     pub(super) page: &'a Cell<Page>,
     pub(super) is_full: bool,
+    /// What is to replace it.
+    pub(super) beside: Option<Page>,
 }
 
 impl Write for Pen<'_> {
     fn write(&mut self, buf: &[u8]) -> io::Result<usize> {
-        if self.is_full {
-            return Err(io::Error::from(ErrorKind::StorageFull));
-        }
-        let mut page = self.page.get();
+        let mut page = self.beside.unwrap_or(self.page.get());
+        let mut count: usize = 0;
         for byte in buf {
             let end = page.len;
+            if self.is_full && end >= 3 {
+                break;
+            }
             if let Some(place) = page.bytes.get_mut(end) {
                 *place = *byte;
                 page.len = page.len.saturating_add(1);
             }
+            count = count.saturating_add(1);
         }
-        self.page.set(page);
-        Ok(buf.len())
+        if count == 0 && !buf.is_empty() {
+            return Err(io::Error::from(ErrorKind::StorageFull));
+        }
+        match self.beside {
+            Some(_) => self.beside = Some(page),
+            None => self.page.set(page),
+        }
+        Ok(count)
     }
 
     fn flush(&mut self) -> io::Result<()> {
         Ok(())
+    }
+}
+
+impl Pen<'_> {
+    /// Gives what is to replace the file its name.
+    pub(super) fn replace(&mut self) {
+        if let Some(page) = self.beside.take() {
+            self.page.set(page);
+        }
     }
 }
 
@@ -130,7 +150,7 @@ impl<'a> Files for Desk<'a> {
 
     fn open(&self, name: &str) -> io::Result<Opened<Source>> {
         match name {
-            "ram" | "ram-again" | "full" | "locked" | "moved" => {
+            "ram" | "ram-again" | "full" | "locked" | "moved" | "used" => {
                 Ok(file(name, Source::Text(self.ram), 0))
             }
             "image" | "image-again" | "image.hex" => Ok(file(name, Source::Text(self.image), 0)),
@@ -148,6 +168,7 @@ impl<'a> Files for Desk<'a> {
                 self.written
             },
             is_full: name == "full",
+            beside: None,
         };
         match name {
             "locked" => Err(io::Error::from(ErrorKind::PermissionDenied)),
@@ -161,6 +182,33 @@ impl<'a> Files for Desk<'a> {
         self.cuts.set(self.cuts.get().saturating_add(1));
         file.page.set(EMPTY);
         Ok(())
+    }
+
+    fn open_to_replace(&self, name: &str) -> io::Result<Opened<Pen<'a>>> {
+        self.open_to_write(name)
+    }
+
+    fn lock(&self, name: &str, _file: &Pen<'a>) -> io::Result<()> {
+        match name {
+            "used" => Err(io::Error::from(ErrorKind::ResourceBusy)),
+            _ => Ok(()),
+        }
+    }
+
+    // It counts as one that is cut off.
+    fn begin_replacing(&self, _name: &str, file: &mut Pen<'a>) -> io::Result<()> {
+        self.cuts.set(self.cuts.get().saturating_add(1));
+        file.beside = Some(EMPTY);
+        Ok(())
+    }
+
+    fn finish_replacing(&self, file: &mut Pen<'a>) -> io::Result<()> {
+        file.replace();
+        Ok(())
+    }
+
+    fn give_up(&self, _name: &str, file: &mut Pen<'a>) {
+        file.beside = None;
     }
 
     // The standard streams are unknown: no command at a simulated target asks for them.
@@ -576,7 +624,7 @@ fn a_verification_and_a_dump_only_read(rt: HostRuntime) {
 // Nothing is written or cut off where a file can't be used.
 #[test]
 fn a_file_that_is_refused_changes_nothing(rt: HostRuntime) {
-    let rows: [(&[&str], &[u8], &[u8]); 21] = [
+    let rows: [(&[&str], &[u8], &[u8]); 22] = [
         (
             &["swd", "load", "0", "image", "--memory", "nowhere"],
             b"abcd",
@@ -694,6 +742,11 @@ fn a_file_that_is_refused_changes_nothing(rt: HostRuntime) {
             b"swd: cannot open moved: it is another file now\n",
         ),
         (
+            &["swd", "load", "0", "image", "--memory", "used"],
+            b"abcd",
+            b"swd: cannot open used: resource busy\n",
+        ),
+        (
             &["swd", "dump", "0", "1", "locked", "--memory", "ram"],
             b"abcd",
             b"swd: cannot open locked: permission denied\n",
@@ -732,12 +785,17 @@ fn a_file_that_is_refused_changes_nothing(rt: HostRuntime) {
         expect_at(&rt, &words, !ran.spoke);
         expect_eq_at(&rt, &words, &ran.status, &2);
     }
-    // A disk that is full is found out when the memory is written back.
-    let words = ["swd", "load", "20000000", "image", "--memory", "full"];
-    let ran = run_at(rt.alloc(), words.as_slice(), b"abcd", b"1", b"");
-    let errors = b"swd: write failed: full: no storage space\n".as_slice();
-    expect_eq(&rt, &ran.errors.as_slice(), &errors);
-    expect_eq(&rt, &ran.status, &2);
+    // A disk that is full is found out when the memory is written back, or a dump, and neither file has changed then.
+    for words in [
+        ["swd", "load", "20000000", "image", "--memory", "full"].as_slice(),
+        &["swd", "dump", "20000000", "4", "full", "--memory", "ram"],
+    ] {
+        let ran = run_at(rt.alloc(), words, b"abcd", b"1", b"");
+        let errors = b"swd: write failed: full: no storage space\n".as_slice();
+        expect_eq_at(&rt, &words, &ran.errors.as_slice(), &errors);
+        expect_eq_at(&rt, &words, &ran.written.text(), &b"".as_slice());
+        expect_eq_at(&rt, &words, &ran.status, &2);
+    }
     // Two bytes of an image for one address are refused as at a remote target.
     let words = ["swd", "load", "0", "image.hex", "--memory", "ram"];
     let ran = run_at(rt.alloc(), words.as_slice(), b"abcd", TWICE, b"");
