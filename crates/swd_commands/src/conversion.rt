@@ -7,6 +7,7 @@ ghost use Rattle.swd_commands.specs.Inputs.{IsStandardInput};
 ghost use Rattle.swd_commands.specs.Conversions.{ConvertsCommandInput, command_capture_reading};
 ghost use Rattle.swd_commands.specs.Conversions.{decode_command_conversion};
 
+use crate::character::trace_status;
 use std::alloc::Allocator;
 use std::io::{Read, Write};
 use swd_bits::one_text;
@@ -138,15 +139,15 @@ fn convert_read<R: Read + KeepsError, O: Write + KeepsError, A: Allocator + Copy
         }
         Conversion::Listing => {
             let answer = decode_text(input, output);
-            conversion_status(console.errors, answer, name, input, output)
+            trace_status(console.errors, answer, Reading::Trace, name, input, output)
         }
         Conversion::Print(reading, printed) => {
             let answer = print_capture(reading, printed, input, output);
-            conversion_status(console.errors, answer, name, input, output)
+            trace_status(console.errors, answer, reading, name, input, output)
         }
         Conversion::Draw(reading) => {
             let answer = draw_capture(reading, input, output);
-            conversion_status(console.errors, answer, name, input, output)
+            trace_status(console.errors, answer, reading, name, input, output)
         }
     }
 }

@@ -3,8 +3,10 @@
 #![tactic(auto)]
 
 mod arguments;
+mod character;
 mod conversion;
 mod program;
+mod usage;
 
 pub use arguments::run_arguments;
 pub use program::run_words;
