@@ -2,12 +2,13 @@
 ghost use Rattle.std.specs.Prelude.{◌≡◌, ◌≢◌, Ok, IfErr, []};
 ghost use Rattle.swd_commands.specs.Conversions.{ChecksCommandInput, command_status_of_check as status_of};
 
+use crate::character::trace_status;
 use crate::conversion::reading;
 use std::alloc::{AllocError, Allocator};
 use std::io::{Read, Write};
 use swd_check::{Check, CheckOptions, Checked, PlainMemory, check_to};
 use swd_checker::CheckStart;
-use swd_console::{Console, DONE, FAULT, KeepsError, STOPPED, conversion_status, tell};
+use swd_console::{Console, DONE, FAULT, KeepsError, STOPPED, tell};
 use swd_words::{CheckLine, PlainWords};
 
 /// Checks what the reader has, and writes the verdict. `name` is the input's. Returns the status: 0 if the trace fits,
@@ -35,7 +36,7 @@ pub(crate) fn check_read<
     let reading = reading(check.resync || check.overrun, check.overrun);
     match check_to(reading, Check::new(options(check), plain), input, output) {
         Ok(checked) => checked_status(&checked),
-        Err(fault) => conversion_status(console.errors, Err(fault), name, input, output),
+        Err(fault) => trace_status(console.errors, Err(fault), reading, name, input, output),
     }
 }
 

@@ -7,7 +7,7 @@ ghost use Rattle.swd_commands.specs.Inputs.{IsStandardInput};
 ghost use Rattle.swd_commands.specs.Conversions.{ConvertsCommandInput, command_capture_reading};
 ghost use Rattle.swd_commands.specs.Conversions.{decode_command_conversion, draw_command_conversion};
 
-use crate::found_bits::{BitFinder, FindsBits};
+use crate::character::trace_status;
 use crate::check::check_read;
 use std::alloc::Allocator;
 use std::io::{Read, Write};
@@ -15,7 +15,7 @@ use swd_bits::one_text;
 use swd_capture::{LineForm, Printed};
 use swd_capture_text::{Reading, print_capture};
 use swd_console::{
-    Console, Files, INPUT, KeepsError, Watched, cannot_open, cannot_use, conversion_status,
+    Console, Files, INPUT, KeepsError, Watched, cannot_open, conversion_status,
     named_file_of, status_after,
 };
 use swd_draw::{DrawnForm, draw_capture};
@@ -86,7 +86,7 @@ pub(crate) fn draw_conversion<'a>(draw: &DrawLine) -> Conversion<'a>
 /// Converts a file, or standard input without a name and for `-`. Returns the status: 0, or 2 at an error, or 141 if
 /// the reader of standard output is gone. A verdict has a status of its own.
 pub(crate) fn convert<
-    I: Read + KeepsError + FindsBits,
+    I: Read + KeepsError,
     O: Write + KeepsError,
     A: Allocator + Copy,
     F: Files,
@@ -114,7 +114,7 @@ pub(crate) fn convert<
     let own = convert_read(
         conversion,
         name,
-        &mut Watched::new(BitFinder::new(opened.file)),
+        &mut Watched::new(opened.file),
         output,
         console,
     );
@@ -133,7 +133,7 @@ fn source_of(file: &Option<String>) -> Option<&str>
 
 // Converts what the reader has. `name` is the input's. Returns the status: 0, or 2 at an error, or that of a verdict.
 fn convert_read<
-    R: Read + KeepsError + FindsBits,
+    R: Read + KeepsError,
     O: Write + KeepsError,
     A: Allocator + Copy,
     F,
@@ -160,30 +160,16 @@ fn convert_read<
         }
         Conversion::Listing => {
             let answer = decode_text(input, output);
-            tell_no_bits(console.errors, name, answer.is_err() || input.has_bits());
-            conversion_status(console.errors, answer, name, input, output)
+            trace_status(console.errors, answer, Reading::Trace, name, input, output)
         }
         Conversion::Print(reading, printed) => {
             let answer = print_capture(reading, printed, input, output);
-            tell_no_bits(console.errors, name, answer.is_err() || input.has_bits());
-            conversion_status(console.errors, answer, name, input, output)
+            trace_status(console.errors, answer, reading, name, input, output)
         }
         Conversion::Draw(reading, form) => {
             let answer = draw_capture(reading, form, input, output);
-            tell_no_bits(console.errors, name, answer.is_err() || input.has_bits());
-            conversion_status(console.errors, answer, name, input, output)
+            trace_status(console.errors, answer, reading, name, input, output)
         }
         Conversion::Check(check) => check_read(check, name, input, output, console),
-    }
-}
-
-// Prints that an input has no bits, unless it has some or is invalid.
-fn tell_no_bits<E: Write>(errors: &mut E, name: &str, has_some: bool) {
-    if !has_some {
-        cannot_use(
-            errors,
-            name,
-            &"no bits found: a trace has a character 0 or 1 for each bit",
-        );
     }
 }

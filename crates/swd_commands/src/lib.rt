@@ -3,10 +3,11 @@
 #![tactic(auto)]
 
 mod arguments;
+mod character;
 mod check;
 mod conversion;
-mod found_bits;
 mod program;
+mod usage;
 
 pub use arguments::run_arguments;
 pub use program::run_words;

@@ -7,7 +7,7 @@ ghost use Rattle.swd_commands.specs.Inputs.{CommandReadsStdin, command_served_fi
 ghost use Rattle.swd_commands.specs.Statuses.{PerformsCommand};
 
 use crate::conversion::{Conversion, convert, decode_conversion, draw_conversion};
-use crate::found_bits::{BitFinder, FindsBits};
+use crate::usage::tell_usage;
 use clap::Error;
 use std::alloc::Global;
 use std::io::{Read, Write};
@@ -34,39 +34,43 @@ pub fn run_words<I: Read, O: Write, F: Files, C: Clock, E: Write>(
     output: &mut O,
     console: &mut Console<'_, Global, F, C, E>,
 ) -> u8 {
-    let mut input = Watched::new(BitFinder::new(input));
-    let mut output = Watched::new(output);
+    let (mut input, mut output) = (Watched::new(input), Watched::new(output));
     match line(console.alloc, words) {
         Ok(line) => carry_out(&line, &mut input, &mut output, console),
-        Err(fault) => refuse(fault, &mut output, console.errors),
+        Err(fault) => refuse(fault, words, &mut output, console),
     }
 }
 
 // Prints why the arguments are no command, or the help or the version, and returns the status.
-fn refuse<O: Write + KeepsError, E: Write>(fault: LineFault, output: &mut O, errors: &mut E) -> u8
+fn refuse<O: Write + KeepsError, F, C, E: Write>(
+    fault: LineFault,
+    words: &[&str],
+    output: &mut O,
+    console: &mut Console<'_, Global, F, C, E>,
+) -> u8
     ensures memory { fault ≡ LineFault.Memory → result ≡ 2 }
     ensures clap { (fault ≡ LineFault.Memory)
         ⊎ CommandEndsOver (O.kept output.new) (λ status. (status ≡ 0) ⊎ (status ≡ 2)) result }
 {
     match fault {
-        LineFault::Clap(error) => answer_by_clap(&error, output, errors),
-        LineFault::Memory => tell(errors, "no memory"),
+        LineFault::Clap(error) => answer_by_clap(&error, words, output, console),
+        LineFault::Memory => tell(console.errors, "no memory"),
     }
 }
 
 // Prints the help or the version, or the usage error.
-fn answer_by_clap<O: Write + KeepsError, E: Write>(
+fn answer_by_clap<O: Write + KeepsError, F, C, E: Write>(
     error: &Error,
+    words: &[&str],
     output: &mut O,
-    errors: &mut E,
+    console: &mut Console<'_, Global, F, C, E>,
 ) -> u8
     ensures { CommandEndsOver (O.kept output.new) (λ status. (status ≡ 0) ⊎ (status ≡ 2)) result }
 {
     let status = if error.use_stderr() {
-        let _ = write!(errors, "{error}");
-        FAULT
+        tell_usage(console.alloc, console.errors, error, words)
     } else {
-        print_help(error, output, errors)
+        print_help(error, output, console.errors)
     };
     status_after(output.kept_error(), status)
 }
@@ -83,7 +87,7 @@ fn print_help<O: Write + KeepsError, E: Write>(error: &Error, output: &mut O, er
 }
 
 // Performs the command.
-fn carry_out<I: Read + KeepsError + FindsBits, O: Write + KeepsError, F: Files, C: Clock, E: Write>(
+fn carry_out<I: Read + KeepsError, O: Write + KeepsError, F: Files, C: Clock, E: Write>(
     line: &CommandLine,
     input: &mut I,
     output: &mut O,

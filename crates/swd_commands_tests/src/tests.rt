@@ -32,6 +32,7 @@ mod remote;
 mod simulated;
 mod streams;
 mod target;
+mod usage;
 mod verdicts;
 mod verified;
 mod words;

@@ -160,9 +160,8 @@ impl InUse {
             ReadRole::Plan if file == self.script || file == self.memory => {
                 Err(refusal("it is read already"))
             }
-            ReadRole::Image if file == self.memory || file == self.plan => {
-                Err(refusal("it is the memory or the plan"))
-            }
+            ReadRole::Image if file == self.memory => Err(refusal("it is the memory")),
+            ReadRole::Image if file == self.plan => Err(refusal("it is the plan")),
             _ => Ok(()),
         }
     }
@@ -291,8 +290,10 @@ impl InUse {
         let file = Some(identity);
         let why = match role {
             WriteRole::Report | WriteRole::Trace | WriteRole::Accesses => {
-                if file == self.script || file == self.plan {
-                    "it is the script or the plan"
+                if file == self.script {
+                    "it is the script"
+                } else if file == self.plan {
+                    "it is the plan"
                 } else if file == self.memory {
                     "it is the memory"
                 } else if file == self.report || file == self.trace {
@@ -302,9 +303,8 @@ impl InUse {
                 }
             }
             WriteRole::Calls if file == self.image => "it is the image",
-            WriteRole::Calls | WriteRole::Dump if file == self.memory || file == self.plan => {
-                "it is the memory or the plan"
-            }
+            WriteRole::Calls | WriteRole::Dump if file == self.memory => "it is the memory",
+            WriteRole::Calls | WriteRole::Dump if file == self.plan => "it is the plan",
             WriteRole::Memory if file != self.memory => "it is another file now",
             WriteRole::Calls | WriteRole::Dump | WriteRole::Memory => return Ok(()),
         };

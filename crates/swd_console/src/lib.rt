@@ -12,6 +12,7 @@ mod noted;
 mod open_files;
 mod reason;
 mod report;
+mod sample;
 mod streams;
 mod watched;
 
@@ -21,12 +22,14 @@ pub use destination::Destination;
 pub use in_use::{InUse, ReadRole, StreamsInUse, WriteRole, cut_off, cut_off_named, named_file_of};
 pub use machine::Console;
 pub use memory_file::{HeldMemory, MemoryFile, read_target_files, write_back};
-pub use noted::{LineStart, Seen, TrackedReader};
+pub use noted::{Seen, SeenLine, TrackedReader};
 pub use open_files::{Files, Identity, Opened};
 pub use reason::{script_status, texts_status};
 pub use report::{
-    DONE, FAULT, STOPPED, cannot_open, cannot_use, engine_status, run_status, tell, tell_used_up,
+    DONE, Escaped, FAULT, STOPPED, cannot_open, cannot_use, engine_status, run_status, tell,
+    tell_used_up,
 };
+pub use sample::Sample;
 pub use streams::{
     ERRORS, INPUT, Stream, conversion_status, name_or_nothing, status_after, streams_status,
     tell_failure, tell_failure_or,

@@ -96,7 +96,8 @@ fn read_memory<R: Read + KeepsError, A: Allocator + Copy, F, C, E: Write>(
         }
     };
     if bytes.len() % 4 != 0 {
-        return Err(cannot_use(console.errors, name, &"its length is no multiple of 4"));
+        let why = "its length is no multiple of 4, and a memory has whole words";
+        return Err(cannot_use(console.errors, name, &why));
     }
     Ok(bytes)
 }

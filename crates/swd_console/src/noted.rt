@@ -1,26 +1,107 @@
 //! Keeps the line of a script or a plan that is being read, so that an error can show it.
 ghost use Rattle.std.specs.Prelude.{◌≡◌};
 
+use crate::sample::Sample;
 use crate::streams::Stream;
 use crate::watched::KeepsError;
 use arrayvec::ArrayVec;
 use std::io::Read;
-use std::{io, slice};
+use std::{io, slice, str};
 
 // The most bytes that one read takes. They are kept until the next read.
 const PIECE: usize = 4096;
 
-// The most bytes of a line that are kept.
-const SHOWN: usize = 64;
+// The most bytes that are kept of the words of a line, and of each of them. No line of a script or a plan has a word
+// that is longer, nor more words than these have room for.
+const SHOWN: usize = 192;
 
-/// The first bytes of a line.
-pub type LineStart = ArrayVec<u8, SHOWN>;
+const WORD: usize = 24;
+
+/// What is kept of a line before its comment.
+#[derive(Drop)]
+pub struct SeenLine {
+    // The beginnings of its words, with a blank between two.
+    words: ArrayVec<u8, SHOWN>,
+    // How many bytes of the last word were passed. It is 0 behind a blank.
+    length: usize,
+    // Whether the comment has begun, and whether the last byte is a carriage return.
+    is_comment: bool,
+    is_returned: bool,
+    // The first byte that is neither printable ASCII nor a space or a tab.
+    odd: Option<u8>,
+}
+
+impl SeenLine {
+    // No byte was passed.
+    fn new() -> SeenLine {
+        SeenLine {
+            words: ArrayVec::new(),
+            length: 0,
+            is_comment: false,
+            is_returned: false,
+            odd: None,
+        }
+    }
+
+    // Returns the same line again.
+    fn copied(&self) -> SeenLine {
+        let mut words = ArrayVec::new();
+        let _ = words.try_extend_from_slice(self.words.as_slice());
+        SeenLine { words, ..*self }
+    }
+
+    // Passes a byte that isn't a line feed.
+    fn pass(&mut self, byte: u8) {
+        if self.is_comment {
+            return;
+        }
+        self.end();
+        match byte {
+            b'#' => self.is_comment = true,
+            b'\r' => self.is_returned = true,
+            b' ' | b'\t' => self.length = 0,
+            _ => self.extend(byte),
+        }
+    }
+
+    // Passes the end of the text, or a byte behind a carriage return: no line feed follows that.
+    fn end(&mut self) {
+        if self.is_returned {
+            self.is_returned = false;
+            self.extend(b'\r');
+        }
+    }
+
+    // Passes a byte of a word.
+    fn extend(&mut self, byte: u8) {
+        if self.odd.is_none() && !byte.is_ascii_graphic() {
+            self.odd = Some(byte);
+        }
+        if self.length == 0 && !self.words.is_empty() {
+            let _ = self.words.try_push(b' ');
+        }
+        if self.length < WORD {
+            let _ = self.words.try_push(byte);
+        }
+        self.length = self.length.saturating_add(1);
+    }
+
+    /// Returns the first byte that is neither printable ASCII nor a space or a tab.
+    pub fn odd_byte(&self) -> Option<u8> {
+        self.odd
+    }
+
+    /// Returns the beginnings of its words, with a blank between two, or nothing if it isn't text.
+    pub fn text(&self) -> &str {
+        str::from_utf8(self.words.as_slice()).unwrap_or("")
+    }
+}
 
 // A place in a text: the number of a line, from 1 and at most 2^64 - 1, and what of it was passed.
 #[derive(Drop)]
 struct TextPosition {
     line: u64,
-    start: LineStart,
+    start: SeenLine,
 }
 
 impl TextPosition {
@@ -33,13 +114,14 @@ impl TextPosition {
         }
         let rest = match bytes.iter().rposition(|byte| *byte == b'\n') {
             Some(end) => {
-                self.start.clear();
+                self.start = SeenLine::new();
                 &bytes[end + 1..]
             }
             None => bytes,
         };
-        let more = self.start.remaining_capacity().min(rest.len());
-        let _ = self.start.try_extend_from_slice(&rest[..more]);
+        for byte in rest {
+            self.start.pass(*byte);
+        }
     }
 }
 
@@ -58,7 +140,7 @@ impl Seen {
         Seen {
             from: TextPosition {
                 line: 1,
-                start: ArrayVec::new(),
+                start: SeenLine::new(),
             },
             piece: ArrayVec::new(),
         }
@@ -71,24 +153,23 @@ impl Seen {
         let _ = self.piece.try_extend_from_slice(piece);
     }
 
-    /// Returns the first bytes of the line with this number, if it is in the piece that was read last.
-    pub fn line(&self, number: u64) -> LineStart {
+    /// Returns the line with this number, if it is in the piece that was read last.
+    pub fn line(&self, number: u64) -> SeenLine {
         let mut place = TextPosition {
             line: self.from.line,
-            start: ArrayVec::new(),
+            start: self.from.start.copied(),
         };
-        place.pass(self.from.start.as_slice());
         for byte in self.piece.as_slice() {
             if place.line == number && *byte == b'\n' {
                 return place.start;
             }
             place.pass(slice::from_ref(byte));
         }
-        if place.line == number {
-            place.start
-        } else {
-            ArrayVec::new()
+        if place.line != number {
+            return SeenLine::new();
         }
+        place.start.end();
+        place.start
     }
 }
 
@@ -125,6 +206,10 @@ impl<R: KeepsError> KeepsError for TrackedReader<'_, R> {
 
     fn kept_error(&self) -> Option<io::Error> {
         self.reader.kept_error()
+    }
+
+    fn sample(&self) -> &Sample {
+        self.reader.sample()
     }
 }
 

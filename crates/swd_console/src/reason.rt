@@ -1,92 +1,109 @@
 //! Says why a line of a script or a plan is refused.
 ghost use Rattle.std.specs.Prelude.{◌≡◌};
 
-use crate::noted::{LineStart, Seen};
+use crate::noted::{Seen, SeenLine};
 use crate::report::{FAULT, tell};
+use std::fmt;
 use std::fmt::{Display, Formatter};
 use std::io::Write;
-use std::{fmt, str};
 use swd_run::TextsFault;
-use swd_script::ScriptFault;
+use swd_script::{ScriptFault, decimal_of, hex_of};
 
-// A command of a script.
-#[derive(Clone, Copy)]
-struct Form {
-    // Its words, and their number.
-    text: &'static str,
-    words: usize,
-    // What its arguments have to be.
-    range: &'static str,
-    // Where it may stand.
-    place: &'static str,
+// The commands of a script, with their arguments.
+const COMMANDS: [&str; 9] = [
+    "memory ADDR WORDS",
+    "room COUNT",
+    "r ADDR",
+    "w ADDR VALUE",
+    "rn ADDR COUNT",
+    "block ADDR COUNT",
+    "verify ADDR VALUE",
+    "until ADDR MASK VALUE COUNT",
+    "next",
+];
+
+// Returns the first word of a line.
+fn first_of(text: &str) -> &str {
+    text.split_ascii_whitespace().next().unwrap_or("")
 }
 
-const ONE_WORD: &str = "ADDR is a multiple of 4, and a call has at most 65536 accesses";
-
-const MANY_WORDS: &str =
-    "ADDR is a multiple of 4, COUNT at least 1, no address past ffffffff, and a call has at most 65536 accesses";
-
-const ALONE: &str = "a block is the only access of its call, and next starts another";
-
-// Returns the command of a script that has this name.
-fn form_of(name: &str) -> Option<Form> {
-    let (text, words, range, place) = match name {
-        "memory" => (
-            "memory ADDR WORDS",
-            3,
-            "ADDR is a multiple of 4, WORDS 1 to 65536, and no address past ffffffff",
-            "there is one memory already",
-        ),
-        "room" => (
-            "room COUNT",
-            2,
-            "COUNT is at most 65536",
-            "room comes once, before the first access and before next",
-        ),
-        "r" => ("r ADDR", 2, ONE_WORD, ALONE),
-        "w" => ("w ADDR VALUE", 3, ONE_WORD, ALONE),
-        "verify" => ("verify ADDR VALUE", 3, ONE_WORD, ALONE),
-        "rn" => ("rn ADDR COUNT", 3, MANY_WORDS, ALONE),
-        "block" => ("block ADDR COUNT", 3, MANY_WORDS, ALONE),
-        "until" => (
-            "until ADDR MASK VALUE COUNT",
-            5,
-            "ADDR is a multiple of 4, VALUE has no bit outside MASK, and COUNT is 1 to 1000000",
-            ALONE,
-        ),
-        "next" => ("next", 1, "", ""),
-        _ => return None,
-    };
-    Some(Form {
-        text,
-        words,
-        range,
-        place,
-    })
+// Returns the command of a script that has this name, with its arguments.
+fn form_of(name: &str) -> Option<&'static str> {
+    COMMANDS.iter().copied().find(|form| first_of(form) == name)
 }
 
-// Returns the bytes of a line before its comment, without the carriage return of its end.
-fn said(line: &[u8]) -> &[u8] {
-    let said = match line.iter().position(|byte| *byte == b'#') {
-        Some(place) => &line[..place],
-        None => line,
-    };
-    match said.split_last() {
-        Some((b'\r', rest)) => rest,
-        _ => said,
+// Returns the number that a word is, as an argument of this name.
+fn number_of(argument: &str, word: &str) -> Option<u32> {
+    match argument {
+        "ADDR" | "MASK" | "VALUE" => hex_of(word.as_bytes()),
+        _ => decimal_of(word.as_bytes()),
     }
 }
 
-// Returns the first byte of a line before its comment that is neither printable ASCII nor a space or a tab.
-fn odd_byte(line: &[u8]) -> Option<u8> {
-    said(line).iter().copied().find(|byte| !byte.is_ascii_graphic()
-        && *byte != b' '
-        && *byte != b'\t')
+// Returns the number of a line's argument of this name, or 0 if there is none.
+fn argument(form: &str, text: &str, name: &str) -> u32 {
+    let pairs = form
+        .split_ascii_whitespace()
+        .zip(text.split_ascii_whitespace());
+    for (argument, word) in pairs {
+        if argument == name {
+            return number_of(argument, word).unwrap_or(0);
+        }
+    }
+    0
 }
 
-// Returns the text of a line before its comment, or nothing if it isn't text.
-fn text_of(line: &[u8]) -> &str {
-    str::from_utf8(said(line)).unwrap_or("")
+// Displays where a command may stand.
+fn place<W: fmt::Write>(f: &mut Formatter<W>, name: &str) -> fmt::Result {
+    f.write_str(match name {
+        "memory" => "there is one memory already",
+        "room" => "room comes once, before the first access and before next",
+        _ => "a block is the only access of its call, and next starts another",
+    })
+}
+
+// Displays which argument is no number.
+fn number<W: fmt::Write>(f: &mut Formatter<W>, form: &str, text: &str) -> fmt::Result {
+    let pairs = form
+        .split_ascii_whitespace()
+        .zip(text.split_ascii_whitespace());
+    for (argument, word) in pairs.skip(1) {
+        if number_of(argument, word).is_some() {
+            continue;
+        }
+        let digits = match argument {
+            "ADDR" | "MASK" | "VALUE" => "hexadecimal",
+            _ => "decimal",
+        };
+        return write!(
+            f,
+            "'{word}' is no {digits} number below 2^32; expected {form}"
+        );
+    }
+    write!(f, "expected {form}")
+}
+
+// Displays which argument is out of its range.
+fn range<W: fmt::Write>(f: &mut Formatter<W>, form: &str, text: &str) -> fmt::Result {
+    let addr = argument(form, text, "ADDR");
+    if addr % 4 != 0 {
+        return write!(f, "ADDR {addr:08x} is no multiple of 4");
+    }
+    let (words, count) = (argument(form, text, "WORDS"), argument(form, text, "COUNT"));
+    match first_of(form) {
+        "memory" if words == 0 || words > 65_536 => write!(f, "WORDS is 1 to 65536, not {words}"),
+        "memory" => f.write_str("no address is past ffffffff"),
+        "room" => write!(f, "COUNT is at most 65536, not {count}"),
+        "rn" | "block" if count == 0 => f.write_str("COUNT is at least 1"),
+        "rn" | "block" if u64::from(addr) + 4 * u64::from(count) > 1 << 32 => {
+            f.write_str("no address is past ffffffff")
+        }
+        "until" if argument(form, text, "VALUE") & !argument(form, text, "MASK") != 0 => {
+            f.write_str("VALUE has no bit outside MASK")
+        }
+        "until" => write!(f, "COUNT is 1 to 1000000, not {count}"),
+        _ => f.write_str("a call has at most 65536 accesses, and next starts another"),
+    }
 }
 
 // Displays what is wrong with a byte that no line may have.
@@ -105,47 +122,38 @@ fn odd<W: fmt::Write>(f: &mut Formatter<W>, byte: u8) -> fmt::Result {
 #[derive(Drop)]
 struct ScriptReason {
     fault: ScriptFault,
-    line: LineStart,
+    line: SeenLine,
 }
 
 impl ScriptReason {
     // Displays why the words of the line are no command here.
     fn words<W: fmt::Write>(&self, f: &mut Formatter<W>) -> fmt::Result {
-        let line = self.line.as_slice();
-        if let Some(byte) = odd_byte(line) {
+        if let Some(byte) = self.line.odd_byte() {
             return odd(f, byte);
         }
-        let text = text_of(line);
-        let name = text.split_ascii_whitespace().next().unwrap_or("");
-        match form_of(name) {
-            None => write!(f, "'{name}' is no command"),
-            Some(form) if text.split_ascii_whitespace().count() == form.words => {
-                f.write_str(form.place)
-            }
-            Some(form) => write!(f, "expected {}", form.text),
+        let text = self.line.text();
+        let name = first_of(text);
+        let Some(form) = form_of(name) else {
+            return write!(
+                f,
+                "'{name}' is no command; the commands are memory, room, r, w, rn, block, verify, until and next"
+            );
+        };
+        if text.split_ascii_whitespace().count() == form.split_ascii_whitespace().count() {
+            place(f, name)
+        } else {
+            write!(f, "expected {form}")
         }
-    }
-
-    // Returns the command of the line.
-    fn form(&self) -> Option<Form> {
-        form_of(
-            text_of(self.line.as_slice())
-                .split_ascii_whitespace()
-                .next()?,
-        )
     }
 }
 
 impl Display for ScriptReason {
     fn fmt<W: fmt::Write>(&self, f: &mut Formatter<W>) -> fmt::Result {
-        match (self.fault, self.form()) {
+        let text = self.line.text();
+        match (self.fault, form_of(first_of(text))) {
             (ScriptFault::Word { .. }, _) => self.words(f),
-            (ScriptFault::Number { .. }, Some(form)) => write!(
-                f,
-                "expected {}, with ADDR, MASK and VALUE hexadecimal, WORDS and COUNT decimal, all below 2^32",
-                form.text
-            ),
-            (ScriptFault::Range { .. }, Some(form)) => f.write_str(form.range),
+            (ScriptFault::Number { .. }, Some(form)) => number(f, form, text),
+            (ScriptFault::Range { .. }, Some(form)) => range(f, form, text),
             (ScriptFault::NoMemoryLine { .. }, _) => {
                 f.write_str("memory ADDR WORDS has to come first")
             }
@@ -159,17 +167,16 @@ impl Display for ScriptReason {
 #[derive(Drop)]
 struct PlanReason {
     fault: ScriptFault,
-    line: LineStart,
+    line: SeenLine,
 }
 
 impl PlanReason {
     // Displays why the words of the line are no mark.
     fn words<W: fmt::Write>(&self, f: &mut Formatter<W>) -> fmt::Result {
-        let line = self.line.as_slice();
-        if let Some(byte) = odd_byte(line) {
+        if let Some(byte) = self.line.odd_byte() {
             return odd(f, byte);
         }
-        let name = text_of(line).split_ascii_whitespace().next().unwrap_or("");
+        let name = first_of(self.line.text());
         match name {
             "." | "wait" | "deaf" => write!(f, "expected {name} alone"),
             "flip" | "mute" => write!(f, "expected {name} BIT"),
@@ -179,16 +186,27 @@ impl PlanReason {
             ),
         }
     }
+
+    // Returns the bit that the line names.
+    fn bit(&self) -> &str {
+        let mut words = self.line.text().split_ascii_whitespace();
+        let _ = words.next();
+        words.next().unwrap_or("")
+    }
 }
 
 impl Display for PlanReason {
     fn fmt<W: fmt::Write>(&self, f: &mut Formatter<W>) -> fmt::Result {
         match self.fault {
             ScriptFault::Word { .. } => self.words(f),
-            ScriptFault::Number { .. } => f.write_str("BIT is a decimal number"),
-            ScriptFault::Range { .. } => f.write_str(
-                "BIT is at most 32 for flip, at most 2 for mute",
-            ),
+            ScriptFault::Number { .. } => write!(f, "'{}' is no decimal number", self.bit()),
+            ScriptFault::Range { .. } => {
+                let most = match first_of(self.line.text()) {
+                    "flip" => 32,
+                    _ => 2,
+                };
+                write!(f, "BIT is at most {most}, not {}", self.bit())
+            }
             ScriptFault::NoMemoryLine { .. } | ScriptFault::Memory { .. } => {
                 f.write_str("out of memory")
             }

@@ -95,8 +95,8 @@ pub fn run_status<E: Write, F: Display + Drop>(
 }
 
 /// Returns the status of a run that has a report: 0, or 1 if it ended early, a word differs from the script's, the word
-/// of an `until` never came, or a strict run met a bus error. Prints a line for the word that differs. If an access met
-/// a bus error and the simulated target's room is used up, prints a line for that first.
+/// of an `until` never came, or a strict run met a bus error. Prints a line for the word that differs, or that never
+/// came. If an access met a bus error and the simulated target's room is used up, prints a line for that first.
 pub fn finished_status<E: Write>(errors: &mut E, finished: Finished, strict: bool) -> u8
     ensures { result ≡ command_status_of_end (command_run_failed strict finished) finished.ended }
 {
@@ -104,6 +104,12 @@ pub fn finished_status<E: Write>(errors: &mut E, finished: Finished, strict: boo
     if let Some(difference) = finished.differs {
         tell_difference(errors, difference);
         return STOPPED;
+    }
+    if finished.never_came {
+        let _ = tell(
+            errors,
+            "the word of an until never came: the report ends with its last read",
+        );
     }
     let failed = strict && finished.bus_fault || finished.never_came;
     match finished.ended {

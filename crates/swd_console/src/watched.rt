@@ -5,6 +5,7 @@ ghost use Rattle.std.specs.Io.KnownBytes.{Keeps, ReadConsumes, WriteAppends};
 ghost use Rattle.std_io.specs.declared.io.error.Error.{Error};
 ghost use Rattle.swd_console.specs.Streams.{stream_kind_after_call, stream_kind_after_write, stream_error_kind};
 
+use crate::sample::Sample;
 use std::io;
 use std::io::{ErrorKind, Read, Write};
 
@@ -15,6 +16,9 @@ pub trait KeepsError {
     /// Returns the error of the last call that failed, or `None` if none did.
     fn kept_error(&self) -> Option<io::Error>
         ensures { result ≡ kept self.now };
+
+    /// Returns what passed through the stream.
+    fn sample(&self) -> &Sample;
 }
 
 impl<S: KeepsError> KeepsError for &mut S {
@@ -22,6 +26,10 @@ impl<S: KeepsError> KeepsError for &mut S {
 
     fn kept_error(&self) -> Option<io::Error> {
         (**self).kept_error()
+    }
+
+    fn sample(&self) -> &Sample {
+        (**self).sample()
     }
 }
 
@@ -33,6 +41,7 @@ impl<S: KeepsError> KeepsError for &mut S {
 pub struct Watched<S> {
     pub stream: S,
     error: Option<io::Error>,
+    sample: Sample,
 }
 
 impl<S> Watched<S> {
@@ -44,6 +53,7 @@ impl<S> Watched<S> {
         Watched {
             stream,
             error: None,
+            sample: Sample::new(),
         }
     }
 }
@@ -53,6 +63,10 @@ impl<S> KeepsError for Watched<S> {
 
     fn kept_error(&self) -> Option<io::Error> {
         self.error
+    }
+
+    fn sample(&self) -> &Sample {
+        &self.sample
     }
 }
 
@@ -68,6 +82,11 @@ impl<R: Read> Read for Watched<R> {
         let result = self.stream.read(buf);
         if let Err(error) = &result {
             self.error = Some(*error);
+        }
+        if let Ok(count) = &result
+            && let Some(bytes) = buf.get(..*count)
+        {
+            self.sample.note_read(bytes);
         }
         result
     }
@@ -85,7 +104,11 @@ impl<W: Write> Write for Watched<W> {
         let result = self.stream.write(buf);
         match &result {
             Ok(0) if !buf.is_empty() => self.error = Some(io::Error::from(ErrorKind::WriteZero)),
-            Ok(_) => {}
+            Ok(count) => {
+                if let Some(bytes) = buf.get(..*count) {
+                    self.sample.note_written(bytes);
+                }
+            }
             Err(error) => self.error = Some(*error),
         }
         result

@@ -9,10 +9,12 @@ mod format_words;
 mod image_words;
 mod memory_words;
 mod target_words;
+mod usage;
 mod words;
 
 pub use command::{
     CheckLine, CommandLine, DecodeLine, DrawLine, ImageAction, ImageLine, LineFault, MemoryLine,
     PlainWords, RunLine, ScriptLine, ServedMemory, TargetLine,
 };
+pub use usage::{commands_line, usage_line};
 pub use words::line;

@@ -65,8 +65,8 @@ const RUN_ABOUT: &str = "Run a script's accesses at a target";
 const RUN_AFTER: &str = "\
 SCRIPT may be - for standard input. The plan, the trace and the accesses must be
 files, not -. The plan must be another file than the script. The trace and the
-accesses must be two files, and none of the script, the plan, the report and
-standard output.
+accesses must be two files, and none of the script, the plan, the report and a
+standard stream that is in use. Nothing is overwritten before that is known.
 
 With --remote the standard streams connect to a server of OpenOCD's
 remote_bitbang protocol for SWD, such as swd target. The report goes to the file
@@ -139,13 +139,14 @@ The trace has every bit on the line, one item per line: see swd decode. The
 accesses are those of the target's memory that the trace shows, one per line:
 what swd decode --accesses --made prints of the trace, with --remote without
 --made. The trace is written while the run goes on, the accesses after the last
-call.
+call. Once the other end of --remote went away, the trace also has the bits that
+were to be sent to it.
 
 Status: 0 if each call ended all, 1 if one ended otherwise, 2 at an error. A bus
 error is an answer, and fails the run only with --strict: status 1. The status
 is also 1 if the word of until never came, and if a word to verify differed or
 met a bus error. A line on standard error then names the first word to verify,
-with its line in the script, and both words.
+with its line in the script, and both words, or says that an until's never came.
 An error in a script or plan is printed with its line, counted from 1, and with
 what was expected there:
   word            an unknown command or mark, or one in the wrong place
@@ -374,7 +375,7 @@ fn bare_command<'a>(alloc: Global) -> Command<'a>
 }
 
 // Returns the program with its commands.
-fn swd_command<'a>(alloc: Global) -> Result<Command<'a>, AllocError>
+pub(crate) fn swd_command<'a>(alloc: Global) -> Result<Command<'a>, AllocError>
     ensures app { IfOk result (λ c. app_of c ≡ swd_app) }
     ensures local { IfOk result (λ c. (out-Command c).has_globals ≡ false) }
 {

@@ -82,7 +82,7 @@ const READS: [Call; 16] = [
         b"001x",
         2,
         b"@0 idle 2\n",
-        b"swd: trace byte 3: bad character\n",
+        b"swd: trace byte 3: bad character 'x': a trace has 0, 1, blanks and comments\n",
     ),
     (
         "encode reads standard input",
@@ -254,7 +254,7 @@ const RUNS: [Call; 16] = [
         b"memory 0 1\nr 2",
         2,
         b"",
-        b"swd: script line 2: range: ADDR is a multiple of 4, and a call has at most 65536 accesses\n",
+        b"swd: script line 2: range: ADDR 00000002 is no multiple of 4\n",
     ),
     (
         "the plan's fault is told",
@@ -262,7 +262,7 @@ const RUNS: [Call; 16] = [
         b"",
         2,
         b"",
-        b"swd: plan line 1: range: BIT is at most 32 for flip, at most 2 for mute\n",
+        b"swd: plan line 1: range: BIT is at most 32, not 33\n",
     ),
     (
         "several calls report one after the other",
@@ -275,7 +275,7 @@ const RUNS: [Call; 16] = [
     ),
 ];
 
-const FAULTS: [Call; 11] = [
+const FAULTS: [Call; 16] = [
     (
         "the script is opened before the plan",
         &["swd", "run", "nope", "--plan", "none"],
@@ -317,6 +317,47 @@ const FAULTS: [Call; 11] = [
         b"swd: trace byte 2: bad character\n",
     ),
     (
+        "decode: a CSV export",
+        &["swd", "decode"],
+        b"Time [s],Channel 0\n0.0,1\n",
+        2,
+        b"",
+        b"swd: trace byte 0: bad character 'T': this is a CSV export, and docs/CAPTURES.md converts it\n",
+    ),
+    (
+        "decode: a VCD file",
+        &["swd", "decode", "--resync"],
+        b"$date today $end\n",
+        2,
+        b"",
+        b"swd: trace byte 0: bad character '$': this is a VCD file, and docs/CAPTURES.md converts it\n",
+    ),
+    (
+        "draw: a sigrok session",
+        &["swd", "draw"],
+        b"PK\x03\x04\x14",
+        2,
+        b"",
+        b"swd: trace byte 0: bad character 'P': this is a sigrok session (.sr), and docs/CAPTURES.md converts it\n",
+    ),
+    (
+        "decode: a byte that isn't printable",
+        &["swd", "decode", "--count"],
+        b"10\x00",
+        2,
+        b"",
+        b"swd: trace byte 2: bad character 00: a trace has 0, 1, blanks and comments\n",
+    ),
+    (
+        "decode: stray bits",
+        &["swd", "decode"],
+        b"10000000 10000000 10000000 10000000 10000000 10000000 10000000 10000000 10000000",
+        0,
+        b"junk 1\nidle 7\njunk 1\nidle 7\njunk 1\nidle 7\njunk 1\nidle 7\njunk 1\nidle 7\njunk 1\nidle 7\n\
+          junk 1\nidle 7\njunk 1\nidle 7\njunk 1\nidle 7\n",
+        b"swd: 9 stray bits (junk) or more: if the capture lost bits or begins in mid-session, --resync reads it\n",
+    ),
+    (
         "one: a bit alone",
         &["swd", "one"],
         b"1",
@@ -330,7 +371,7 @@ const FAULTS: [Call; 11] = [
         b"10x",
         2,
         b"",
-        b"swd: trace byte 2: bad character\n",
+        b"swd: trace byte 2: bad character 'x': a trace has 0, 1, blanks and comments\n",
     ),
     (
         "encode: a bad line",

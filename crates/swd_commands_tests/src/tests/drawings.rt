@@ -61,7 +61,7 @@ const ROWS: [Row; 10] = [
         &["swd", "draw"],
         b"10x",
         b"",
-        b"swd: trace byte 2: bad character\n",
+        b"swd: trace byte 2: bad character 'x': a trace has 0, 1, blanks and comments\n",
     ),
     (
         &["swd", "draw", "--overrun"],

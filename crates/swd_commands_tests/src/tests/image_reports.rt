@@ -64,8 +64,8 @@ fn a_report_that_is_not_written(rt: HostRuntime) {
     expect_eq_at(&rt, &words, &ran.written.text(), &b"12345678".as_slice());
     expect_eq_at(&rt, &words, &ran.status, &2);
     let image = b"swd: cannot open image-again: it is the image\n".as_slice();
-    let memory = b"swd: cannot open ram-again: it is the memory or the plan\n".as_slice();
-    let plan = b"swd: cannot open plan-again: it is the memory or the plan\n".as_slice();
+    let memory = b"swd: cannot open ram-again: it is the memory\n".as_slice();
+    let plan = b"swd: cannot open plan-again: it is the plan\n".as_slice();
     let locked = b"swd: cannot open locked: permission denied\n".as_slice();
     for (name, errors) in [
         ("image-again", image),

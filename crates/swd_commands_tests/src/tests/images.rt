@@ -52,7 +52,7 @@ fn a_target_that_goes_away_ends_each_command(rt: HostRuntime) {
         (b"10", b"swd: the other end went away\n", b"dcf"),
         (
             b"x00",
-            b"swd: the other end sent byte 120, which is no level\n",
+            b"swd: the other end sent byte 120, which is no level: these are 0 and 1\n",
             b"dcf",
         ),
         (b"111", b"swd: the run ended early: lost\n", b"dcfQ"),

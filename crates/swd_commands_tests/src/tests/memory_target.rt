@@ -289,7 +289,7 @@ fn a_file_that_cannot_be_used_is_refused(rt: HostRuntime) {
         (
             &["swd", "target", "--memory", "ram"],
             b"abc",
-            b"swd: ram: its length is no multiple of 4\n",
+            b"swd: ram: its length is no multiple of 4, and a memory has whole words\n",
         ),
         (
             &["swd", "target", "--memory", "ram", "--base", "fffffffc"],
@@ -349,7 +349,7 @@ fn a_file_that_cannot_be_used_is_refused(rt: HostRuntime) {
         (
             &["swd", "target", "--memory", "ram", "--plan", "wrong"],
             b"abcd",
-            b"swd: plan line 1: range: BIT is at most 32 for flip, at most 2 for mute\n",
+            b"swd: plan line 1: range: BIT is at most 2, not 3\n",
         ),
         (
             &["swd", "target", "--memory", "ram", "--log", "ram-again"],
@@ -373,7 +373,7 @@ fn a_file_that_cannot_be_used_is_refused(rt: HostRuntime) {
                 "plan",
             ],
             b"abcd",
-            b"swd: cannot open plan-again: it is the script or the plan\n",
+            b"swd: cannot open plan-again: it is the plan\n",
         ),
         (
             &["swd", "target", "--memory", "ram", "--trace", "input"],

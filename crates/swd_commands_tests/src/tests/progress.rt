@@ -303,7 +303,7 @@ fn a_remote_run_says_how_far_it_is(rt: HostRuntime) {
             "-",
             b"111",
             2,
-            b"error: with --report - there is no --progress\n\nUsage: swd\n\n\
+            b"error: with --report - there is no --progress\n\nUsage: swd run [OPTIONS] <SCRIPT>\n\n\
               For more information, try '--help'.\n",
             b"",
         ),

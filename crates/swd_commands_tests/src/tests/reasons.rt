@@ -5,14 +5,15 @@ use super::run_on;
 use std::io;
 
 // Scripts with an error.
-pub(super) const SCRIPTS: [Call; 25] = [
+pub(super) const SCRIPTS: [Call; 33] = [
     (
         "an unknown command",
         &["swd", "run", "-"],
         b"memory 0 1\nwx 0 1\nr 0\n",
         2,
         b"",
-        b"swd: script line 2: word: 'wx' is no command\n",
+        b"swd: script line 2: word: 'wx' is no command; the commands are memory, room, r, w, rn, block, verify, \
+            until and next\n",
     ),
     (
         "an unknown command behind blanks, before a comment",
@@ -20,7 +21,8 @@ pub(super) const SCRIPTS: [Call; 25] = [
         b"memory 0 1\n \twx\t# r 0",
         2,
         b"",
-        b"swd: script line 2: word: 'wx' is no command\n",
+        b"swd: script line 2: word: 'wx' is no command; the commands are memory, room, r, w, rn, block, verify, \
+            until and next\n",
     ),
     (
         "too few arguments",
@@ -68,7 +70,8 @@ pub(super) const SCRIPTS: [Call; 25] = [
         b"memory 0 1\r\nwx\r\n",
         2,
         b"",
-        b"swd: script line 2: word: 'wx' is no command\n",
+        b"swd: script line 2: word: 'wx' is no command; the commands are memory, room, r, w, rn, block, verify, \
+            until and next\n",
     ),
     (
         "a byte that is no text",
@@ -84,7 +87,8 @@ pub(super) const SCRIPTS: [Call; 25] = [
         b"# \xef\xbb\xbf\r\nmemory 0 1\nx # \xef\r\n",
         2,
         b"",
-        b"swd: script line 3: word: 'x' is no command\n",
+        b"swd: script line 3: word: 'x' is no command; the commands are memory, room, r, w, rn, block, verify, \
+            until and next\n",
     ),
     (
         "a second memory",
@@ -132,8 +136,7 @@ pub(super) const SCRIPTS: [Call; 25] = [
         b"memory 0 1\nw 0 0xg\n",
         2,
         b"",
-        b"swd: script line 2: number: expected w ADDR VALUE, with ADDR, MASK and VALUE hexadecimal, WORDS and COUNT \
-            decimal, all below 2^32\n",
+        b"swd: script line 2: number: '0xg' is no hexadecimal number below 2^32; expected w ADDR VALUE\n",
     ),
     (
         "a number past 32 bits",
@@ -141,8 +144,7 @@ pub(super) const SCRIPTS: [Call; 25] = [
         b"memory 0 1\nrn 0 4294967296\n",
         2,
         b"",
-        b"swd: script line 2: number: expected rn ADDR COUNT, with ADDR, MASK and VALUE hexadecimal, WORDS and COUNT \
-            decimal, all below 2^32\n",
+        b"swd: script line 2: number: '4294967296' is no decimal number below 2^32; expected rn ADDR COUNT\n",
     ),
     (
         "a memory without words",
@@ -150,7 +152,7 @@ pub(super) const SCRIPTS: [Call; 25] = [
         b"memory 0 0\n",
         2,
         b"",
-        b"swd: script line 1: range: ADDR is a multiple of 4, WORDS 1 to 65536, and no address past ffffffff\n",
+        b"swd: script line 1: range: WORDS is 1 to 65536, not 0\n",
     ),
     (
         "too much room",
@@ -158,7 +160,7 @@ pub(super) const SCRIPTS: [Call; 25] = [
         b"memory 0 1\nroom 65537\n",
         2,
         b"",
-        b"swd: script line 2: range: COUNT is at most 65536\n",
+        b"swd: script line 2: range: COUNT is at most 65536, not 65537\n",
     ),
     (
         "a write between words",
@@ -166,7 +168,7 @@ pub(super) const SCRIPTS: [Call; 25] = [
         b"memory 0 1\nw 1 0\n",
         2,
         b"",
-        b"swd: script line 2: range: ADDR is a multiple of 4, and a call has at most 65536 accesses\n",
+        b"swd: script line 2: range: ADDR 00000001 is no multiple of 4\n",
     ),
     (
         "no reads",
@@ -174,8 +176,7 @@ pub(super) const SCRIPTS: [Call; 25] = [
         b"memory 0 1\nrn 0 0\n",
         2,
         b"",
-        b"swd: script line 2: range: ADDR is a multiple of 4, COUNT at least 1, no address past ffffffff, and a call \
-            has at most 65536 accesses\n",
+        b"swd: script line 2: range: COUNT is at least 1\n",
     ),
     (
         "a block past the last address",
@@ -183,8 +184,7 @@ pub(super) const SCRIPTS: [Call; 25] = [
         b"memory 0 1\nblock fffffffc 2\n",
         2,
         b"",
-        b"swd: script line 2: range: ADDR is a multiple of 4, COUNT at least 1, no address past ffffffff, and a call \
-            has at most 65536 accesses\n",
+        b"swd: script line 2: range: no address is past ffffffff\n",
     ),
     (
         "a word that can't come",
@@ -192,8 +192,71 @@ pub(super) const SCRIPTS: [Call; 25] = [
         b"memory 0 1\nuntil 0 1 2 1\n",
         2,
         b"",
-        b"swd: script line 2: range: ADDR is a multiple of 4, VALUE has no bit outside MASK, and COUNT is 1 to \
-            1000000\n",
+        b"swd: script line 2: range: VALUE has no bit outside MASK\n",
+    ),
+    (
+        "a carriage return that ends the file",
+        &["swd", "run", "-"],
+        b"memory 20000000 4\nnext\r",
+        2,
+        b"",
+        b"swd: script line 2: word: a carriage return that no line feed follows\n",
+    ),
+    (
+        "a carriage return behind a memory ends the file",
+        &["swd", "run", "-"],
+        b"memory 20000000 16\r",
+        2,
+        b"",
+        b"swd: script line 1: word: a carriage return that no line feed follows\n",
+    ),
+    (
+        "a word behind many blanks",
+        &["swd", "run", "-"],
+        b"memory 0 1\nnext                                                                x\n",
+        2,
+        b"",
+        b"swd: script line 2: word: expected next\n",
+    ),
+    (
+        "an address behind many blanks",
+        &["swd", "run", "-"],
+        b"memory 0 1\n                                                                        r 20000001\n",
+        2,
+        b"",
+        b"swd: script line 2: range: ADDR 20000001 is no multiple of 4\n",
+    ),
+    (
+        "a byte that is no text behind many words",
+        &["swd", "run", "-"],
+        b"memory 0 1\nr 00000000000000000000000000000000000000000000000000000000000000000000\x7f\n",
+        2,
+        b"",
+        b"swd: script line 2: word: byte 7f is neither printable ASCII nor a space or a tab\n",
+    ),
+    (
+        "a memory past the last address",
+        &["swd", "run", "-"],
+        b"memory fffffffc 2\n",
+        2,
+        b"",
+        b"swd: script line 1: range: no address is past ffffffff\n",
+    ),
+    (
+        "too many reads",
+        &["swd", "run", "-"],
+        b"memory 0 1\nrn 0 65537\n",
+        2,
+        b"",
+        b"swd: script line 2: range: a call has at most 65536 accesses, and next starts another\n",
+    ),
+    (
+        "a wait that never reads",
+        &["swd", "run", "-"],
+        b"memory 0 1\nuntil 0 1 1 0\n",
+        2,
+        b"",
+        b"swd: script line 2: range: COUNT is 1 to 1000000, not 0\n",
     ),
     (
         "no memory",
@@ -245,7 +308,7 @@ pub(super) const FILES: [Call; 9] = [
         b"",
         2,
         b"",
-        b"swd: plan line 1: number: BIT is a decimal number\n",
+        b"swd: plan line 1: number: 'one' is no decimal number\n",
     ),
     (
         "a bit past the data phase",
@@ -253,7 +316,7 @@ pub(super) const FILES: [Call; 9] = [
         b"",
         2,
         b"",
-        b"swd: plan line 1: range: BIT is at most 32 for flip, at most 2 for mute\n",
+        b"swd: plan line 1: range: BIT is at most 32, not 33\n",
     ),
     (
         "a byte order mark of a plan",
@@ -269,7 +332,8 @@ pub(super) const FILES: [Call; 9] = [
         b"",
         2,
         b"",
-        b"swd: script line 2: word: 'wx' is no command\n",
+        b"swd: script line 2: word: 'wx' is no command; the commands are memory, room, r, w, rn, block, verify, \
+            until and next\n",
     ),
     (
         "a target's plan",
@@ -285,7 +349,8 @@ pub(super) const FILES: [Call; 9] = [
         b"",
         2,
         b"",
-        b"swd: script line 2: word: 'wx' is no command\n",
+        b"swd: script line 2: word: 'wx' is no command; the commands are memory, room, r, w, rn, block, verify, \
+            until and next\n",
     ),
 ];
 
@@ -299,7 +364,10 @@ fn a_word_is_named_wherever_a_read_ends(rt: HostRuntime) -> io::Result<()> {
         }
         script.extend_from_slice(b"\nwx 20000000\n")?;
         let ran = run_on(rt.alloc(), &["swd", "run", "-"], script.as_slice());
-        let errors = b"swd: script line 2: word: 'wx' is no command\n".as_slice();
+        let errors =
+            b"swd: script line 2: word: 'wx' is no command; the commands are memory, room, r, w, rn, block, verify, \
+            until and next\n"
+                .as_slice();
         expect_eq_at(&rt, &length, &ran.errors.as_slice(), &errors);
         expect_eq(&rt, &ran.status, &2);
     }

@@ -15,7 +15,7 @@ fn a_target_that_goes_away_takes_one_line(rt: HostRuntime) {
         (b"10", b"swd: the other end went away\n"),
         (
             b"x00",
-            b"swd: the other end sent byte 120, which is no level\n",
+            b"swd: the other end sent byte 120, which is no level: these are 0 and 1\n",
         ),
         (b"1001110111000101", b"swd: the other end went away\n"),
     ];

@@ -643,7 +643,7 @@ fn a_file_that_is_refused_changes_nothing(rt: HostRuntime) {
         (
             &["swd", "load", "0", "image", "--memory", "ram"],
             b"abcde",
-            b"swd: ram: its length is no multiple of 4\n",
+            b"swd: ram: its length is no multiple of 4, and a memory has whole words\n",
         ),
         (
             &[
@@ -655,17 +655,17 @@ fn a_file_that_is_refused_changes_nothing(rt: HostRuntime) {
         (
             &["swd", "load", "0", "ram-again", "--memory", "ram"],
             b"abcd",
-            b"swd: cannot open ram-again: it is the memory or the plan\n",
+            b"swd: cannot open ram-again: it is the memory\n",
         ),
         (
             &["swd", "verify", "0", "ram", "--memory", "ram"],
             b"abcd",
-            b"swd: cannot open ram: it is the memory or the plan\n",
+            b"swd: cannot open ram: it is the memory\n",
         ),
         (
             &["swd", "dump", "0", "1", "ram-again", "--memory", "ram"],
             b"abcd",
-            b"swd: cannot open ram-again: it is the memory or the plan\n",
+            b"swd: cannot open ram-again: it is the memory\n",
         ),
         (
             &[
@@ -679,7 +679,7 @@ fn a_file_that_is_refused_changes_nothing(rt: HostRuntime) {
                 "plan",
             ],
             b"abcd",
-            b"swd: cannot open plan-again: it is the memory or the plan\n",
+            b"swd: cannot open plan-again: it is the plan\n",
         ),
         (
             &[
@@ -694,7 +694,7 @@ fn a_file_that_is_refused_changes_nothing(rt: HostRuntime) {
                 "plan",
             ],
             b"abcd",
-            b"swd: cannot open plan-again: it is the memory or the plan\n",
+            b"swd: cannot open plan-again: it is the plan\n",
         ),
         (
             &[

@@ -27,10 +27,14 @@ fn a_word_that_differs_takes_one_line(rt: HostRuntime) {
         (b"memory 20000000 1\nuntil 20000000 1 0 3\n", b"", 0),
         (
             b"memory 20000000 1\nuntil 20000000 1 1 3\nr 20000000\n",
-            b"",
+            b"swd: the word of an until never came: the report ends with its last read\n",
             1,
         ),
-        (b"memory 20000000 1\nuntil 30000000 0 0 3\n", b"", 1),
+        (
+            b"memory 20000000 1\nuntil 30000000 0 0 3\n",
+            b"swd: the word of an until never came: the report ends with its last read\n",
+            1,
+        ),
         (
             b"memory 20000000 1\nverify 20000000 6\nuntil 20000000 1 1 3\n",
             b"swd: script line 2: 20000000 has 00000000, not 00000006\n",

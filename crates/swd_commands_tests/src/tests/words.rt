@@ -25,6 +25,7 @@ fn negative_numbers_are_refused_for_their_range(rt: HostRuntime) -> Result<(), F
         ["swd", "load", "0", "image", "--remote", "--tries", "-1"].as_slice(),
         ["swd", "verify", "0", "image", "--remote", "--tries=1001"].as_slice(),
         ["swd", "dump", "0", "1", "image", "--remote", "--resume=-1"].as_slice(),
+        ["swd", "dump", "--tries", "-1"].as_slice(),
     ] {
         let said = said_of(rt.alloc(), words)?;
         assert!(rt; said.contains("is not in 0..=1000\n"));

@@ -1,0 +1,80 @@
+//! What passed through a stream, as far as a line on standard error can name it.
+
+use arrayvec::ArrayVec;
+use swd_bits::{Scan, Sign};
+
+// The most bytes that are kept of what was read.
+const FIRST: usize = 256;
+
+// How the line of a stray bit begins in a listing.
+const STRAY: &[u8] = b"junk ";
+
+// How many bytes of each write are looked at.
+const LOOKED_AT: usize = 128;
+
+// Returns how many lines of stray bits these bytes have.
+fn stray_in(bytes: &[u8]) -> u64 {
+    let mut count: u64 = 0;
+    for place in 0..bytes.len() {
+        if bytes[place..].starts_with(STRAY) {
+            count = count.saturating_add(1);
+        }
+    }
+    count
+}
+
+/// The first bytes that were read, whether a bit of a trace was among all of them, and how many lines of stray bits were
+/// written.
+#[derive(Drop)]
+pub struct Sample {
+    first: ArrayVec<u8, FIRST>,
+    scan: Scan,
+    has_bits: bool,
+    stray: u64,
+}
+
+impl Sample {
+    // Nothing has passed.
+    pub(crate) fn new() -> Sample {
+        Sample {
+            first: ArrayVec::new(),
+            scan: Scan::new(),
+            has_bits: false,
+            stray: 0,
+        }
+    }
+
+    // Notes bytes that were read.
+    pub(crate) fn note_read(&mut self, bytes: &[u8]) {
+        let more = self.first.remaining_capacity().min(bytes.len());
+        let _ = self.first.try_extend_from_slice(&bytes[..more]);
+        for byte in bytes {
+            if self.has_bits {
+                break;
+            }
+            self.has_bits = matches!(self.scan.byte(*byte), Sign::Bit(_));
+        }
+    }
+
+    // Notes bytes that were written. All of them are looked at only where a line of a stray bit is among the first.
+    pub(crate) fn note_written(&mut self, bytes: &[u8]) {
+        if stray_in(&bytes[..bytes.len().min(LOOKED_AT)]) > 0 {
+            self.stray = self.stray.saturating_add(stray_in(bytes));
+        }
+    }
+
+    /// Returns the first bytes that were read.
+    pub fn first(&self) -> &[u8] {
+        self.first.as_slice()
+    }
+
+    /// Returns whether a bit was read, if this is the text of a trace.
+    pub fn has_bits(&self) -> bool {
+        self.has_bits
+    }
+
+    /// Returns how many lines of stray bits were written, as far as they were looked at.
+    pub fn stray(&self) -> u64 {
+        self.stray
+    }
+}
