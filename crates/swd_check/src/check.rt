@@ -193,8 +193,8 @@ impl<A: Allocator + Copy> Check<A> {
         }
     }
 
-    // Takes a transaction by the rules of the port model. Returns whether it did: not where a rule is broken, nor outside
-    // the model.
+    // Takes a transaction by the rules of the port model. Returns whether it did: not where a rule is broken, nor
+    // outside the model.
     fn follows(&mut self, tx: &Tx, place: u64) -> bool {
         if self.broken.is_some() {
             return false;
