@@ -23,6 +23,8 @@ pub struct CheckOptions {
     pub clean: bool,
     /// Whether CSW and CTRL/STAT are those of this project's simulated target.
     pub exact_registers: bool,
+    /// Whether overrun detection is on before the first item.
+    pub overrun: bool,
 }
 
 /// Checks the items of a trace, one after the other.
@@ -64,7 +66,7 @@ impl<A: Allocator + Copy> Check<A> {
                 TraceObserver::new()
             },
             looks: options.exact_registers || !plain.is_empty(),
-            overrun: Overrun::off(),
+            overrun: Overrun::new(options.overrun, options.clean),
             clean: options.clean,
             exact: if !options.exact_registers {
                 None
