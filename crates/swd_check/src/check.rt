@@ -7,7 +7,7 @@ use crate::overrun::Overrun;
 use crate::plain::{NotPlain, PlainMemory};
 use crate::why::{Broken, Why};
 use std::alloc::Allocator;
-use swd_bits::Tx;
+use swd_bits::{MOVED_BITS, REFUSED_BITS, Tx, TxEnd, UNACKNOWLEDGED_BITS};
 use swd_checker::{CheckStart, Checker, Origins, Verdict};
 use swd_observer::{Observations, ObservedAccess, Observer, ShownItem, TraceObserver};
 use swd_trace::Item;
@@ -23,6 +23,8 @@ pub struct CheckOptions {
     pub clean: bool,
     /// Whether CSW and CTRL/STAT are those of this project's simulated target.
     pub exact_registers: bool,
+    /// Whether overrun detection is on before the first item.
+    pub overrun: bool,
 }
 
 /// Checks the items of a trace, one after the other.
@@ -30,8 +32,9 @@ pub struct CheckOptions {
 pub struct Check<A: Allocator> {
     checker: Checker,
     origins: Origins,
-    /// It has the place of the next item.
+    /// It has the place of the next item. It watches transactions only if something is looked at beside the rules.
     observer: TraceObserver,
+    looks: bool,
     overrun: Overrun,
     clean: bool,
     exact: Option<ExactRegisters>,
@@ -62,7 +65,8 @@ impl<A: Allocator + Copy> Check<A> {
             } else {
                 TraceObserver::new()
             },
-            overrun: Overrun::off(),
+            looks: options.exact_registers || !plain.is_empty(),
+            overrun: Overrun::new(options.overrun, options.clean),
             clean: options.clean,
             exact: if !options.exact_registers {
                 None
@@ -82,18 +86,20 @@ impl<A: Allocator + Copy> Check<A> {
     /// Takes the next item.
     pub fn watch(&mut self, item: &Item) {
         let place = self.observer.place;
-        let before = self.observer.observer;
+        if let Item::Tx(tx) = item {
+            self.transact(tx, place);
+            return;
+        }
         let shown = self.observer.watch(item);
         if self.broken.is_some() {
             return;
         }
         match item {
-            Item::Tx(tx) => self.transact(&before, tx, shown, place),
             Item::Reset(_) => {
                 self.is_outside = false;
                 self.rule(item, place);
             }
-            Item::Switch | Item::Idle(_) => {}
+            Item::Tx(_) | Item::Switch | Item::Idle(_) => {}
             Item::Junk(_) | Item::Cut(_) => {
                 self.checker.watch(item, place);
                 self.origins.note(&self.checker, item, place);
@@ -158,15 +164,17 @@ impl<A: Allocator + Copy> Check<A> {
     }
 
     // Takes a transaction.
-    fn transact(&mut self, before: &Observer, tx: &Tx, shown: ShownItem, place: u64) {
-        if self.overrun.leaves(tx) && !self.is_outside {
-            self.leave(place);
-        }
-        if self.is_outside {
-            return;
-        }
-        self.rule(&Item::Tx(*tx), place);
-        let why = self.why(before, tx, &shown);
+    fn transact(&mut self, tx: &Tx, place: u64) {
+        let why = if self.looks {
+            self.observe(tx, place)
+        } else {
+            self.observer.place = place.saturating_add(bits_in(tx));
+            if self.follows(tx, place) {
+                self.broken_rule(tx)
+            } else {
+                None
+            }
+        };
         if let Some(why) = why {
             self.broken = Some(Broken {
                 place,
@@ -176,10 +184,46 @@ impl<A: Allocator + Copy> Check<A> {
         }
     }
 
+    // Takes a transaction, and what it shows beside the rules. Returns why it breaks a rule, if it does.
+    fn observe(&mut self, tx: &Tx, place: u64) -> Option<Why> {
+        let before = self.observer.observer;
+        let shown = self.observer.watch(&Item::Tx(*tx));
+        if self.follows(tx, place) {
+            self.why(&before, tx, &shown)
+        } else {
+            None
+        }
+    }
+
+    // Takes a transaction by the rules of the port model. Returns whether it did: not where a rule is broken, nor
+    // outside the model.
+    fn follows(&mut self, tx: &Tx, place: u64) -> bool {
+        if self.broken.is_some() {
+            return false;
+        }
+        if self.overrun.leaves(tx) && !self.is_outside {
+            self.leave(place);
+        }
+        if self.is_outside {
+            return false;
+        }
+        self.rule(&Item::Tx(*tx), place);
+        true
+    }
+
+    // Returns which rule of the port model a transaction breaks, which the checker has watched.
+    fn broken_rule(&self, tx: &Tx) -> Option<Why> {
+        match self.checker.reason(tx, &self.origins) {
+            Some(reason) => Some(Why::Rule(reason)),
+            None => None,
+        }
+    }
+
     // Returns why a transaction breaks a rule, which the checker has watched.
     fn why(&mut self, before: &Observer, tx: &Tx, shown: &ShownItem) -> Option<Why> {
-        if let Some(reason) = self.checker.reason(tx, &self.origins) {
-            return Some(Why::Rule(reason));
+        let rule = self.broken_rule(tx);
+        if rule.is_some() {
+            return rule;
         }
         if let Some(due) = self.compare(before, tx) {
             return Some(Why::Register(due));
@@ -252,4 +296,13 @@ impl<A: Allocator + Copy> Check<A> {
             self.exact = Some(ExactRegisters::unknown());
         }
     }
+}
+
+// Returns how many bits a transaction has.
+fn bits_in(tx: &Tx) -> u64 {
+    u64::from(match tx.result {
+        TxEnd::Moved { .. } => MOVED_BITS,
+        TxEnd::Wait | TxEnd::Fault => REFUSED_BITS,
+        TxEnd::NoAck(_) => UNACKNOWLEDGED_BITS,
+    })
 }

@@ -72,6 +72,11 @@ impl<A: Allocator + Copy> PlainMemory<A> {
         Ok(())
     }
 
+    /// Returns whether there is no memory.
+    pub(crate) fn is_empty(&self) -> bool {
+        self.regions.is_empty()
+    }
+
     /// Forgets what is known.
     pub(crate) fn forget(&mut self) {
         self.forgotten = self.forgotten.saturating_add(1);

@@ -1,5 +1,6 @@
 //! The tests.
 mod lines;
+mod memory;
 
 use std::alloc::Global;
 use std::test::Fail;

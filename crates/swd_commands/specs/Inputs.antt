@@ -5,7 +5,8 @@ use Rattle.std.specs.String.{string_bytes}
 use Rattle.swd_words.specs.declared.command.CommandLine.{CommandLine}
 use Rattle.swd_words.specs.declared.command.ServedMemory.{ServedMemory}
 use Rattle.swd_words.specs.declared.command.ServedMemory.TheVariants.{Script, File}
-use Rattle.swd_words.specs.declared.command.CommandLine.TheVariants.{One, Decode, Draw, Check, Encode, Run, Target, Image}
+use Rattle.swd_words.specs.declared.command.CommandLine.TheVariants.{One, Decode, Draw, Check, Encode, Run, Target}
+use Rattle.swd_words.specs.declared.command.CommandLine.TheVariants.{Image}
 
 -- the file of a served memory: its script, or its bytes
 abbrev pub command_served_file : ServedMemory → List ℕ

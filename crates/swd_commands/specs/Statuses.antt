@@ -1,7 +1,8 @@
 -- What a command does, and its status.
 use Rattle.std.specs.Prelude.{ℕ, List, Option}
 use Rattle.swd_words.specs.declared.command.CommandLine.{CommandLine}
-use Rattle.swd_words.specs.declared.command.CommandLine.TheVariants.{One, Decode, Draw, Check, Encode, Run, Target, Image}
+use Rattle.swd_words.specs.declared.command.CommandLine.TheVariants.{One, Decode, Draw, Check, Encode, Run, Target}
+use Rattle.swd_words.specs.declared.command.CommandLine.TheVariants.{Image}
 use Rattle.swd_console.specs.Statuses.{CommandNotOpened}
 use Rattle.swd_run_commands.specs.Runs.{PerformsRunCommandWhere}
 use Rattle.swd_commands.specs.declared.conversion.Conversion.TheVariants.{One as OneTx, Encode as Bits}

@@ -52,6 +52,7 @@ fn options(check: &CheckLine) -> CheckOptions {
         },
         clean: check.clean,
         exact_registers: check.exact_registers,
+        overrun: check.overrun,
     }
 }
 

@@ -25,8 +25,10 @@ use swd_words::{CommandLine, ImageLine, LineFault, ServedMemory, TargetLine, lin
 /// | Status | Meaning |
 /// |---|---|
 /// | 0 | all was done |
-/// | 1 | a call ended early, a word differs or never came, a byte differs, a strict run or an image met a bus error, a trace breaks a rule |
-/// | 2 | a usage, input, I/O or out-of-memory error: one line on standard error, or the lines of `clap`; a verdict that isn't decided |
+/// | 1 | a call ended early, a word differs or never came, a byte differs, a strict run or an image met a bus error |
+/// | 1 | a trace breaks a rule |
+/// | 2 | a usage, input, I/O or out-of-memory error: one line on standard error, or the lines of `clap` |
+/// | 2 | a verdict isn't decided |
 /// | 141 | the reader of standard output is gone, and a command writes its result there: no line on standard error |
 pub fn run_words<I: Read, O: Write, F: Files, C: Clock, E: Write>(
     words: &[&str],
@@ -109,7 +111,13 @@ fn carry_out<I: Read + KeepsError, O: Write + KeepsError, F: Files, C: Clock, E:
             convert(conversion, &draw.file, input, output, console)
         }
         CommandLine::Check(check) => {
-            convert(Conversion::Check(check), &check.file, input, output, console)
+            convert(
+                Conversion::Check(check),
+                &check.file,
+                input,
+                output,
+                console,
+            )
         }
         CommandLine::Run(run) => perform_run(run, input, output, console),
         CommandLine::Target(target) => carry_out_target(target, input, output, console),

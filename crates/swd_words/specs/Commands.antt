@@ -1,6 +1,6 @@
 -- The program's command line, as the parser reads it, and the meaning of its arguments.
-use Rattle.std.specs.Prelude.{ℕ, ◌+◌, ◌*◌, ◌^◌, ◌≡◌, ◌≢◌, ◌≤◌, ◌%◌, ◌↔◌, ◌⊎◌, List, [], ◌∷◌, Option, Some, None, IsSomeAnd, true}
-use Rattle.std.specs.Prelude.{Bool, false, codes, pos, unwrap_or, if◌then◌else◌}
+use Rattle.std.specs.Prelude.{ℕ, ◌≡◌, ◌≢◌, ◌≤◌, ◌%◌, ◌↔◌, ◌⊎◌, List, [], ◌∷◌, Option, Some, None, IsSomeAnd, true}
+use Rattle.std.specs.Prelude.{◌+◌, ◌*◌, ◌^◌, Bool, false, codes, pos, unwrap_or, if◌then◌else◌}
 use Rattle.std.specs.Option.{option_and_then, option_map}
 use Rattle.std.specs.String.{string_bytes}
 use Rattle.std.specs.Str.{bytes_eq}
@@ -9,7 +9,8 @@ use Rattle.clap.specs.Words.{App, HasKind, Kinds, kind_of, Row, all_of, first_of
 use Rattle.clap.specs.Words.{with_rule}
 use Rattle.clap.specs.Words.{with_subcommand}
 use Rattle.swd_words.specs.declared.command.CommandLine.{CommandLine}
-use Rattle.swd_words.specs.declared.command.CommandLine.TheVariants.{One, Decode, Draw, Check, Encode, Run, Target, Image}
+use Rattle.swd_words.specs.declared.command.CommandLine.TheVariants.{One, Decode, Draw, Check, Encode, Run, Target}
+use Rattle.swd_words.specs.declared.command.CommandLine.TheVariants.{Image}
 use Rattle.swd_words.specs.declared.command.DecodeLine.{DecodeLine}
 use Rattle.swd_words.specs.declared.command.DrawLine.{DrawLine}
 use Rattle.swd_words.specs.declared.command.CheckLine.{CheckLine}

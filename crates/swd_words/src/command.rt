@@ -14,7 +14,8 @@ pub enum CommandLine {
     Decode(DecodeLine),
     /// `swd draw [FILE] [--items N] [--names] [--resync [--overrun]]`.
     Draw(DrawLine),
-    /// `swd check [FILE] [--made | --rest] [--clean] [--plain BASE WORDS].. [--exact-registers] [--overrun] [--resync]`.
+    /// `swd check [FILE] [--made | --rest] [--clean] [--plain BASE WORDS].. [--exact-registers] [--resync]
+    /// [--overrun]`.
     Check(CheckLine),
     /// `swd encode [FILE]`. Without a file it reads standard input.
     Encode(Option<String>),

@@ -9,6 +9,7 @@ const MADE: CheckOptions = CheckOptions {
     start: CheckStart::Made,
     clean: false,
     exact_registers: false,
+    overrun: false,
 };
 
 const REST: CheckOptions = CheckOptions {
@@ -18,6 +19,11 @@ const REST: CheckOptions = CheckOptions {
 
 const CLEAN: CheckOptions = CheckOptions {
     clean: true,
+    ..MADE
+};
+
+const OVERRUN: CheckOptions = CheckOptions {
+    overrun: true,
     ..MADE
 };
 
@@ -39,7 +45,7 @@ struct Row {
     said: &'static str,
 }
 
-const ROWS: [Row; 24] = [
+const ROWS: [Row; 28] = [
     Row {
         name: "the session fits",
         options: MADE,
@@ -174,6 +180,34 @@ const ROWS: [Row; 24] = [
         said: "outside @334",
     },
     Row {
+        name: "overrun detection isn't switched off by a write in another bank",
+        options: MADE,
+        plain: false,
+        then: b"dp 4 write ok 50000001\ndp 8 write ok 00000001\ndp 4 write ok 00000000\ndp 8 write ok 00000000\nap c read wait\n",
+        said: "outside @426",
+    },
+    Row {
+        name: "overrun detection is switched off",
+        options: MADE,
+        plain: false,
+        then: b"dp 4 write ok 50000001\ndp 4 write ok 50000000\ndp 4 read ok f0000000\nap c read wait\n",
+        said: "fits 10",
+    },
+    Row {
+        name: "a write with wrong parity may switch overrun detection on",
+        options: MADE,
+        plain: false,
+        then: b"dp 4 write bad 50000001\ndp c read fault\n",
+        said: "outside @288",
+    },
+    Row {
+        name: "it doesn't where nothing is damaged on the wire",
+        options: CLEAN,
+        plain: false,
+        then: b"dp 4 write bad 50000001\ndp c read fault\n",
+        said: "fits 8",
+    },
+    Row {
         name: "after a line reset it is decided again",
         options: MADE,
         plain: false,
@@ -223,6 +257,17 @@ fn each_verdict_is_one_line(rt: HostRuntime) -> Result<(), Fail> {
     for row in &ROWS {
         let line = said(rt.alloc(), row)?.line();
         assert_eq!(rt; line.as_str(), row.said, "{}", row.name);
+    }
+    Ok(())
+}
+
+// Overrun detection may be on before the first item.
+#[test]
+fn overrun_detection_is_on_at_first(rt: HostRuntime) -> Result<(), Fail> {
+    let listing = b"reset 56\nidle 2\ndp 0 read ok 2ba01477\ndp c read wait\n".as_slice();
+    for (options, said) in [(OVERRUN, "outside @104"), (MADE, "fits 4")] {
+        let line = checked(rt.alloc(), options, false, listing)?.line();
+        assert_eq!(rt; line.as_str(), said);
     }
     Ok(())
 }

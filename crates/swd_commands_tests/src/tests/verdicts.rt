@@ -85,15 +85,7 @@ const ROWS: [Row; 17] = [
     ),
     (
         &[
-            "swd",
-            "check",
-            "--made",
-            "--plain",
-            "20000004",
-            "1",
-            "--plain",
-            "1ffffffc",
-            "1",
+            "swd", "check", "--made", "--plain", "20000004", "1", "--plain", "1ffffffc", "1",
         ],
         CHANGED,
         b"fits 11\n",
@@ -106,12 +98,7 @@ const ROWS: [Row; 17] = [
         b"breaks @242 dp 4 read ok f0000f00: exact registers: this project's target reads f0000000\n",
         1,
     ),
-    (
-        &["swd", "check", "--made"],
-        OVERRUN,
-        b"outside @288\n",
-        2,
-    ),
+    (&["swd", "check", "--made"], OVERRUN, b"outside @288\n", 2),
     // of a capture the data phase behind a WAIT counts
     (
         &["swd", "check", "--made", "--resync"],
@@ -126,12 +113,7 @@ const ROWS: [Row; 17] = [
         0,
     ),
     // the last item is cut off
-    (
-        &["swd", "check", "--made"],
-        b"cut 1010\n",
-        b"fits 7\n",
-        0,
-    ),
+    (&["swd", "check", "--made"], b"cut 1010\n", b"fits 7\n", 0),
 ];
 
 // The trace of a session.
@@ -234,7 +216,8 @@ fn what_is_not_checked_has_no_verdict(rt: HostRuntime) {
 // The file of the arguments is read: a transaction that no target shows in its reset state.
 #[test]
 fn a_file_is_checked(rt: HostRuntime) {
-    let said = b"breaks @0 dp 0 read ok 2ba01477: after a line reset only a read of DPIDR is answered; expected no acknowledgement: there was no line reset\n";
+    let said =
+        b"breaks @0 dp 0 read ok 2ba01477: after a line reset only a read of DPIDR is answered; expected no acknowledgement: there was no line reset\n";
     for (words, trace) in [
         (["swd", "check", "trace", "--made"], b"".as_slice()),
         (["swd", "check", "-", "--made"], DPIDR_READ),
