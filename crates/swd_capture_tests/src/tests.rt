@@ -9,6 +9,7 @@ mod expect;
 mod observed;
 mod part_rows;
 mod parts;
+mod phase_rows;
 mod printed;
 
 use std::alloc::Global;

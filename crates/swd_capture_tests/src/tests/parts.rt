@@ -1,9 +1,12 @@
 //! Worked captures, read bit by bit, and many bits at once.
 ghost use Rattle.std.specs.Prelude.{◌<◌, ◌≤◌, length};
 
-use super::part_rows::ROWS;
+use super::expect::expect_eq_at;
+use super::part_rows::{ROWS, Row};
+use super::phase_rows::PHASE_ROWS;
 use arrayvec::ArrayString;
 use std::alloc::{AllocError, Global};
+use std::process::Abort;
 use std::test::Fail;
 use swd_resync::{CaptureDecoder, Part};
 use swd_trace::LONGEST_LINE;
@@ -69,13 +72,24 @@ fn lines_at_once(alloc: Global, over: bool, bits: &[u8]) -> Result<String, Alloc
     Ok(text)
 }
 
-#[test]
-fn worked_captures(rt: HostRuntime) -> Result<(), Fail> {
-    for row in ROWS {
-        let lines = lines_of(rt.alloc(), row.over, row.bits.as_bytes())?;
-        assert_eq!(rt; lines.as_str(), row.lines, "at {}", row.name);
-        let at_once = lines_at_once(rt.alloc(), row.over, row.bits.as_bytes())?;
-        assert_eq!(rt; at_once.as_str(), row.lines, "at once, at {}", row.name);
+// Compares the lines of each capture, read bit by bit, and many bits at once.
+fn expect_lines<R: Abort>(rt: &R, alloc: Global, rows: &[Row]) -> Result<(), Fail> {
+    for row in rows {
+        let bits = row.bits.as_bytes();
+        let lines = lines_of(alloc, row.over, bits)?;
+        expect_eq_at(rt, &row.name, &lines.as_str(), &row.lines);
+        let at_once = lines_at_once(alloc, row.over, bits)?;
+        expect_eq_at(rt, &row.name, &at_once.as_str(), &row.lines);
     }
     Ok(())
+}
+
+#[test]
+fn worked_captures(rt: HostRuntime) -> Result<(), Fail> {
+    expect_lines(&rt, rt.alloc(), ROWS)
+}
+
+#[test]
+fn worked_data_phases(rt: HostRuntime) -> Result<(), Fail> {
+    expect_lines(&rt, rt.alloc(), PHASE_ROWS)
 }
