@@ -98,7 +98,8 @@ impl Worlds {
         }
     }
 
-    /// Takes a transaction in each of these worlds: its worlds are added. Where `clean` is true, nothing is damaged or lost.
+    /// Takes a transaction in each of these worlds: adds the worlds after it. Where `clean` is true, nothing is damaged
+    /// or lost.
     pub(crate) fn step_each(&mut self, before: &[Kept], tx: &Tx, clean: bool) {
         for kept in before {
             self.step(kept.world, kept.faults, tx, clean);
