@@ -11,6 +11,7 @@ use swd_port::{Register, Reply, Reset};
 
 impl World {
     /// Returns the register that a request names.
+    #[inline(always)]
     pub(crate) fn register(self, request: Request) -> Register
         ensures { result ≡ world_register self request }
     {
@@ -18,6 +19,7 @@ impl World {
     }
 
     /// Returns the answer to a request where nothing is pending, and no WAIT is asked for.
+    #[inline(always)]
     pub(crate) fn due(self, request: Request) -> Reply
         ensures { result ≡ world_due self request }
     {
@@ -41,6 +43,7 @@ impl World {
     }
 
     // Returns whether a request for the register is acknowledged.
+    #[inline(always)]
     fn answers(self, register: Register) -> bool
         ensures { result ≡ port_is_answered self.reset register }
     {

@@ -1,10 +1,14 @@
 //! The checker of a trace.
 
+ghost use Rattle.std.specs.Prelude.{◌≤◌};
+ghost use Rattle.arrayvec.specs.ArrayVec.{array_vec_len};
+
 use crate::near::{Near, Words};
 use crate::opening::Opening;
 use crate::rule::{Rule, broken_rule};
 use crate::world::World;
-use crate::worlds::{Kept, Worlds};
+use crate::worlds::{Kept, MOST_WORLDS, Worlds};
+use arrayvec::ArrayVec;
 use swd_bits::{Reg4, Tx, TxEnd};
 use swd_trace::Item;
 
@@ -163,7 +167,7 @@ impl Checker {
     // Forgets the worlds.
     fn forget(&mut self) {
         self.faults_before = self.faults();
-        self.worlds = Worlds::none();
+        self.worlds.empty();
         self.opening = Opening::Anything;
     }
 
@@ -171,7 +175,7 @@ impl Checker {
     fn reset(&mut self) {
         self.in_gap = false;
         self.stray = 0;
-        self.worlds = self.worlds.after_reset();
+        self.worlds.reset();
     }
 
     // Takes a transaction.
@@ -181,12 +185,8 @@ impl Checker {
         } else {
             0
         };
-        if let Some(worlds) = self.opening.worlds_before(tx) {
-            self.worlds = worlds;
-            self.opening = Opening::Over;
-            if self.began.is_none() {
-                self.began = Some(place);
-            }
+        if self.opening != Opening::Over {
+            self.begin(tx, place);
         }
         if self.opening == Opening::Over {
             self.step(tx, place);
@@ -198,34 +198,44 @@ impl Checker {
         }
     }
 
-    // Takes a transaction in each of the worlds.
-    fn step(&mut self, tx: &Tx, place: u64) {
-        if self.worlds.kept.len() == 1 {
-            let alone = self.worlds.kept[0];
-            self.step_alone(alone, tx, place);
-            return;
-        }
-        let next = self.worlds.after_tx(tx, self.clean);
-        if next.crowded {
-            self.crowd(place);
-        } else if next.kept.is_empty() {
-            self.broken = Some((place, self.rule_broken(tx)));
-        } else {
-            self.worlds = next;
+    // Begins the check at a transaction, if the worlds before it are few enough.
+    #[inline(never)]
+    fn begin(&mut self, tx: &Tx, place: u64) {
+        if self.worlds.open(self.opening, tx) {
+            self.opening = Opening::Over;
+            if self.began.is_none() {
+                self.began = Some(place);
+            }
         }
     }
 
-    // Takes a transaction in the only world. Mostly one is left, which then takes the place of that world.
-    fn step_alone(&mut self, before: Kept, tx: &Tx, place: u64) {
-        self.worlds.kept.clear();
-        self.worlds
-            .step(before.world, before.faults, tx, self.clean);
+    // Takes a transaction in each of the worlds. Only those that are held are copied: mostly one.
+    fn step(&mut self, tx: &Tx, place: u64) {
+        let count = self.worlds.kept.len();
+        if count <= 1 {
+            self.step_few::<1>(tx, place);
+        } else if count <= 8 {
+            self.step_few::<8>(tx, place);
+        } else {
+            self.step_few::<MOST_WORLDS>(tx, place);
+        }
+    }
+
+    // The same where there are at most so many.
+    #[inline(never)]
+    fn step_few<const MOST: usize>(&mut self, tx: &Tx, place: u64)
+        requires most { MOST ≤ MOST_WORLDS }
+        requires few { array_vec_len self.old.worlds.kept ≤ MOST }
+    {
+        let mut before: ArrayVec<Kept, MOST> = ArrayVec::new();
+        let _ = before.try_extend_from_slice(self.worlds.kept.as_slice());
+        self.worlds.empty();
+        self.worlds.step_each(before.as_slice(), tx, self.clean);
         if self.worlds.crowded {
-            self.worlds = Worlds::none();
-            self.worlds.add(before.world, before.faults);
+            self.worlds.restore(before.as_slice());
             self.crowd(place);
         } else if self.worlds.kept.is_empty() {
-            self.worlds.add(before.world, before.faults);
+            self.worlds.restore(before.as_slice());
             self.broken = Some((place, self.rule_broken(tx)));
         }
     }

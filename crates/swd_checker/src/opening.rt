@@ -23,20 +23,6 @@ pub(crate) enum Opening {
 }
 
 impl Opening {
-    /// Returns the worlds before this transaction, if they are few enough.
-    pub(crate) fn worlds_before(self, tx: &Tx) -> Option<Worlds> {
-        let TxEnd::Moved { word, parity_ok } = tx.result else {
-            return None;
-        };
-        match self {
-            Opening::Resting if parity_ok && is_status(tx.request) => Some(worlds_at_status(word)),
-            Opening::Selected(select) if !passes(tx.request) && !is_abort(tx.request) => {
-                Some(worlds_at_okay(select))
-            }
-            _ => None,
-        }
-    }
-
     /// Returns what is known after a transaction.
     pub(crate) fn after(self, tx: &Tx) -> Opening {
         match tx.result {
@@ -75,6 +61,48 @@ impl Opening {
 }
 
 impl Worlds {
+    /// Adds the worlds before this transaction, if they are few enough. Returns whether they are.
+    pub(crate) fn open(&mut self, opening: Opening, tx: &Tx) -> bool {
+        let TxEnd::Moved { word, parity_ok } = tx.result else {
+            return false;
+        };
+        match opening {
+            Opening::Resting if parity_ok && is_status(tx.request) => {
+                self.open_at_status(word);
+                true
+            }
+            Opening::Selected(select) if !passes(tx.request) && !is_abort(tx.request) => {
+                self.open_at_okay(select);
+                true
+            }
+            _ => false,
+        }
+    }
+
+    // Adds the worlds of a target at rest whose CTRL/STAT reads this word.
+    fn open_at_status(&mut self, word: u32) {
+        self.add_any(World {
+            sticky_error: bit(word, 5),
+            read_ok: bit(word, 6),
+            write_error: bit(word, 7),
+            ..unknown()
+        });
+    }
+
+    // Adds the worlds of a target that answers OK to a request that it may refuse, after SELECT was written: no flag is
+    // set, so the write arrived, and nothing is pending.
+    fn open_at_okay(&mut self, select: u32) {
+        let world = selecting(unknown(), select);
+        self.add_any(World {
+            read_ok: false,
+            ..world
+        });
+        self.add_any(World {
+            read_ok: true,
+            ..world
+        });
+    }
+
     // Adds this world with AddrInc single and off, and with each state of each power.
     fn add_any(&mut self, world: World) {
         self.add_any_system(World {
@@ -124,34 +152,6 @@ impl Worlds {
             0,
         );
     }
-}
-
-// Returns the worlds of a target at rest whose CTRL/STAT reads this word.
-fn worlds_at_status(word: u32) -> Worlds {
-    let mut worlds = Worlds::none();
-    worlds.add_any(World {
-        sticky_error: bit(word, 5),
-        read_ok: bit(word, 6),
-        write_error: bit(word, 7),
-        ..unknown()
-    });
-    worlds
-}
-
-// Returns the worlds of a target that answers OK to a request that it may refuse, after SELECT was written: no flag is
-// set, so the write arrived, and nothing is pending.
-fn worlds_at_okay(select: u32) -> Worlds {
-    let mut worlds = Worlds::none();
-    let world = selecting(unknown(), select);
-    worlds.add_any(World {
-        read_ok: false,
-        ..world
-    });
-    worlds.add_any(World {
-        read_ok: true,
-        ..world
-    });
-    worlds
 }
 
 // Returns a world that is live, with no flag set, nothing pending and SELECT 0, of which no word is known.

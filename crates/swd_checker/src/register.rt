@@ -10,6 +10,7 @@ use swd_port::Register;
 
 /// Returns the register that a request names, where SELECT names bank 0 of access port 0 or doesn't, and DPBANKSEL is 0
 /// or isn't.
+#[inline(always)]
 pub(crate) fn register_named(mem_ap: bool, bank0: bool, request: Request) -> Register
     ensures { result ≡ checked_register mem_ap bank0 request }
 {

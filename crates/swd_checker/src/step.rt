@@ -40,6 +40,7 @@ struct Asked {
 
 impl Worlds {
     /// Adds the worlds after a transaction in this world. Where `clean` is true, nothing is damaged or lost.
+    #[inline(always)]
     pub(crate) fn step(&mut self, world: World, faults: u64, tx: &Tx, clean: bool) {
         let request = tx.request;
         let asked = Asked {
@@ -58,6 +59,7 @@ impl Worlds {
     }
 
     // Adds the world if the condition holds.
+    #[inline(always)]
     fn add_if(&mut self, condition: bool, world: World, faults: u64)
         ensures keeps { WorldsKeep self.old self.new }
         ensures adds { condition ≡ true → (x : Target) → WorldDescribes world x → WorldsHold self.new world.awaits x }
@@ -103,6 +105,7 @@ impl Worlds {
     }
 
     // Adds the worlds after OK and a data phase.
+    #[inline(always)]
     fn moves(&mut self, asked: Asked, word: u32, parity_ok: bool) {
         let Some(now) = asked.accepted(false) else {
             return;
@@ -139,6 +142,7 @@ impl Worlds {
     }
 
     // Adds the worlds after a read that returned one of these words. `parity_ok` says that no bit of it was changed.
+    #[inline(always)]
     fn read(&mut self, now: Asked, seen: Near, parity_ok: bool) {
         match now.register {
             Register::CtrlStatRead => self.read_status(now, seen, parity_ok),
@@ -196,6 +200,7 @@ impl Worlds {
     }
 
     // Adds the worlds after an AP read or RDBUFF read that returned the read buffer.
+    #[inline(always)]
     fn post(&mut self, now: Asked, buffer: Held) {
         let world = posted(now.world, buffer);
         match now.register {
@@ -293,6 +298,7 @@ impl Worlds {
     }
 
     // Adds the worlds after a write whose word was sent: it arrives, or arrives damaged.
+    #[inline(always)]
     fn write(&mut self, now: Asked, word: u32) {
         self.add_if(
             !now.clean,
@@ -320,6 +326,7 @@ impl Worlds {
     }
 
     // Adds the worlds after a write's word arrived.
+    #[inline]
     fn arrive(&mut self, now: Asked, word: u32) {
         match now.register {
             Register::AbortWrite => self.abort(now.world, now.faults, word),
@@ -386,6 +393,7 @@ impl Worlds {
 impl Asked {
     // Returns the same in the world once the target answered OK, before what the request does, where write data is
     // awaited or not. The pending transfer succeeded, unless the request is never refused.
+    #[inline(always)]
     fn accepted(self, awaits: bool) -> Option<Asked>
         ensures same { IfSome result (λ now. IsAskedAlike now self × (now.world.awaits ≡ awaits)) }
         ensures world { (c : Choice) (x : Target) → IsAskedBy self → WorldDescribes self.world x
@@ -399,6 +407,7 @@ impl Asked {
     }
 
     // The same where OK is due.
+    #[inline(always)]
     fn okayed(self, awaits: bool) -> Asked
         ensures same { IsAskedAlike result self }
         ensures awaits { result.world.awaits ≡ awaits }
@@ -473,6 +482,7 @@ fn live(world: World) -> World
 }
 
 // Returns the world after the read buffer was returned, of which this is known.
+#[inline(always)]
 fn posted(world: World, buffer: Held) -> World
     ensures { result ≡ world_posted buffer world }
 {
@@ -521,6 +531,7 @@ pub(crate) fn selecting(world: World, word: u32) -> World
 }
 
 // Returns the world after a word arrived at an access port: the read buffer and the last returned value are unknown.
+#[inline(always)]
 fn written(world: World) -> World
     ensures { result ≡ world_written world }
 {

@@ -140,6 +140,7 @@ impl World {
     }
 
     /// Returns the world once the pending transfer succeeded.
+    #[inline(always)]
     pub(crate) fn succeeded(self) -> World
         ensures { result ≡ world_succeeded self }
     {
@@ -173,6 +174,7 @@ impl World {
 
     /// Returns the world once OK was answered to a request that can be refused, before what the request does. It is one
     /// of an access port, or of the debug port.
+    #[inline(always)]
     pub(crate) fn confirmed(self, ap: bool) -> World
         ensures { result ≡ world_confirmed ap self }
     {

@@ -1,5 +1,5 @@
 //! The list of worlds.
-ghost use Rattle.std.specs.Prelude.{◌≡◌, [], false};
+ghost use Rattle.std.specs.Prelude.{◌≡◌, ◌≤◌, [], false, length};
 ghost use Rattle.swd_port.specs.Port.{Target};
 ghost use Rattle.swd_checker.specs.Described.{WorldDescribes};
 ghost use Rattle.swd_checker.specs.Holding.{WorldsHold, WorldsKeep, IsKeptJoined};
@@ -48,15 +48,23 @@ impl Worlds {
         }
     }
 
-    /// Returns no world, where there were more of these than are held.
-    pub(crate) fn emptied(&self) -> Worlds
-        ensures empty { result.kept.items ≡ [] }
-        ensures crowded { result.crowded ≡ self.now.crowded }
+    /// Forgets the worlds.
+    pub(crate) fn empty(&mut self)
+        ensures empty { self.new.kept.items ≡ [] }
+        ensures crowded { self.new.crowded ≡ false }
     {
-        Worlds {
-            kept: ArrayVec::new(),
-            crowded: self.crowded,
-        }
+        self.kept.clear();
+        self.crowded = false;
+    }
+
+    /// Holds these worlds again, and no others.
+    pub(crate) fn restore(&mut self, kept: &[Kept])
+        requires { length kept.now ≤ MOST_WORLDS }
+        ensures kept { self.new.kept.items ≡ kept.now }
+        ensures crowded { self.new.crowded ≡ false }
+    {
+        self.empty();
+        let _ = self.kept.try_extend_from_slice(kept);
     }
 
     /// Adds a world. One that is covered goes, and two that join become one.
@@ -79,22 +87,23 @@ impl Worlds {
         }
     }
 
-    /// Returns the worlds after a line reset.
-    pub(crate) fn after_reset(&self) -> Worlds {
-        let mut next = self.emptied();
-        for kept in &self.kept {
-            next.add(kept.world.after_reset(), kept.faults);
+    /// Takes a line reset in each of the worlds.
+    #[inline(never)]
+    pub(crate) fn reset(&mut self) {
+        let mut before: ArrayVec<Kept, MOST_WORLDS> = ArrayVec::new();
+        let _ = before.try_extend_from_slice(self.kept.as_slice());
+        self.empty();
+        for kept in &before {
+            self.add(kept.world.after_reset(), kept.faults);
         }
-        next
     }
 
-    /// Returns the worlds after a transaction. Where `clean` is true, nothing is damaged or lost.
-    pub(crate) fn after_tx(&self, tx: &Tx, clean: bool) -> Worlds {
-        let mut next = self.emptied();
-        for kept in &self.kept {
-            next.step(kept.world, kept.faults, tx, clean);
+    /// Takes a transaction in each of these worlds: adds the worlds after it. Where `clean` is true, nothing is damaged
+    /// or lost.
+    pub(crate) fn step_each(&mut self, before: &[Kept], tx: &Tx, clean: bool) {
+        for kept in before {
+            self.step(kept.world, kept.faults, tx, clean);
         }
-        next
     }
 
     /// Returns the number of the world that has fewest damaged or lost requests.
@@ -107,6 +116,7 @@ impl Worlds {
     }
 
     // Returns the first world that joins with this one, and what they are together.
+    #[inline]
     fn joining(&self, added: &Kept) -> Option<(usize, Kept)>
         ensures { IsKeptJoined self.now.kept.items added.now result }
     {
