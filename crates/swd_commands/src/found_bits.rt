@@ -1,4 +1,4 @@
-//! Notes whether an input has bits.
+//! Notes which bits an input has.
 ghost use Rattle.std.specs.Prelude.{◌≡◌};
 
 use std::io;
@@ -6,12 +6,38 @@ use std::io::Read;
 use swd_bits::{Scan, Sign};
 use swd_console::Watched;
 
-/// A reader of a trace text, or of another one. It notes whether it had a bit.
+// What was found in a trace text, or among the levels of a connection, up to the first other character or until both
+// bits were found.
+#[derive(Drop)]
+struct Found {
+    scan: Scan,
+    zero: bool,
+    one: bool,
+    other: bool,
+}
+
+impl Found {
+    // Takes the next piece.
+    fn look(&mut self, piece: &[u8]) {
+        for byte in piece {
+            if self.other || self.zero && self.one {
+                return;
+            }
+            match self.scan.byte(*byte) {
+                Sign::Bit(true) => self.one = true,
+                Sign::Bit(false) => self.zero = true,
+                Sign::Passed => {}
+                Sign::Bad => self.other = true,
+            }
+        }
+    }
+}
+
+/// A reader of a trace text, of levels, or of another text. It notes which bits it had.
 #[derive(Drop)]
 pub(crate) struct BitFinder<R> {
     reader: R,
-    scan: Scan,
-    found: bool,
+    found: Found,
 }
 
 impl<R> BitFinder<R> {
@@ -21,20 +47,14 @@ impl<R> BitFinder<R> {
     {
         BitFinder {
             reader,
-            scan: Scan::new(),
-            found: false,
+            found: Found {
+                scan: Scan::new(),
+                zero: false,
+                one: false,
+                other: false,
+            },
         }
     }
-}
-
-// Returns whether a piece of a trace text has a bit. `scan` was given the bytes before it.
-fn has_bit(scan: &mut Scan, piece: &[u8]) -> bool {
-    for byte in piece {
-        if let Sign::Bit(_) = scan.byte(*byte) {
-            return true;
-        }
-    }
-    false
 }
 
 impl<R: Read> Read for BitFinder<R> {
@@ -42,21 +62,31 @@ impl<R: Read> Read for BitFinder<R> {
 
     fn read(&mut self, buf: &mut [u8]) -> io::Result<usize> {
         let count = self.reader.read(buf)?;
-        if !self.found {
-            self.found = has_bit(&mut self.scan, &buf[..count]);
-        }
+        self.found.look(&buf[..count]);
         Ok(count)
     }
 }
 
-/// A reader that notes whether it had a bit.
+/// A reader that notes which bits it had.
 pub(crate) trait FindsBits {
     /// Returns whether it had a bit.
     fn has_bits(&self) -> bool;
+
+    /// Returns the only bit that it had, if it had no other character either.
+    fn only_bit(&self) -> Option<bool>;
 }
 
 impl<R> FindsBits for Watched<BitFinder<R>> {
     fn has_bits(&self) -> bool {
-        self.stream.found
+        self.stream.found.zero || self.stream.found.one
+    }
+
+    fn only_bit(&self) -> Option<bool> {
+        let found = &self.stream.found;
+        if found.other || found.zero == found.one {
+            None
+        } else {
+            Some(found.one)
+        }
     }
 }
