@@ -6,7 +6,7 @@ use crate::beside::Beside;
 use std::fs::{File, Metadata, OpenOptions, TryLockError};
 use std::io::{ErrorKind, Seek, Write};
 use std::os::fd::{AsFd, AsRawFd};
-use std::os::unix::fs::MetadataExt;
+use std::os::unix::fs::{FileTypeExt, MetadataExt};
 use std::{fs, io};
 use swd_console::{Files, Identity, Opened};
 
@@ -127,6 +127,27 @@ impl Files for Disk<'_> {
 
     fn standard_error(&self) -> io::Result<Option<Identity>> {
         stream_identity(&self.rt.stderr(), fs::metadata(self.rt, "/proc/self/fd/2"))
+    }
+
+    fn shows_output(&self) -> bool {
+        match fs::metadata(self.rt, "/proc/self/fd/1") {
+            Ok(metadata) => is_terminal(&metadata),
+            Err(_) => false,
+        }
+    }
+}
+
+// Returns whether a file is a terminal by the device numbers of Linux: a pseudoterminal, a console of the machine, or
+// `/dev/tty`. A serial line has others.
+fn is_terminal(metadata: &Metadata) -> bool {
+    if !metadata.file_type().is_char_device() {
+        return false;
+    }
+    let device = metadata.rdev();
+    match device >> 8 & 0xfff {
+        4 => device & 0xff < 64,
+        5 | 136..=143 => true,
+        _ => false,
     }
 }
 

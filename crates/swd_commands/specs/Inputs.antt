@@ -1,5 +1,5 @@
 -- What a command reads.
-use Rattle.std.specs.Prelude.{ℕ, ◌≡◌, ◌⊎◌, List, Option, Some, None, codes}
+use Rattle.std.specs.Prelude.{ℕ, ◌≡◌, ◌⊎◌, Bool, false, List, Option, Some, None, codes, is_none}
 use Rattle.std.specs.Option.{option_map}
 use Rattle.std.specs.String.{string_bytes}
 use Rattle.swd_words.specs.declared.command.CommandLine.{CommandLine}
@@ -30,3 +30,9 @@ IsStandardInput name = (name ≡ None) ⊎ (name ≡ Some (codes "-"))
 
 abbrev pub CommandReadsStdin : CommandLine → Type 0
 CommandReadsStdin line = IsStandardInput (command_named_file line)
+
+-- the target is behind the standard streams
+abbrev pub is_remote_command : CommandLine → Bool
+is_remote_command (Run run) = run.remote
+is_remote_command (Image image) = is_none image.memory
+is_remote_command _ = false

@@ -6,9 +6,7 @@ use std::fmt;
 use std::fmt::{Display, Formatter};
 use std::io::Write;
 use swd_capture_text::Reading;
-use swd_console::{
-    DONE, FAULT, KeepsError, Stream, cannot_use, conversion_status, tell_failure,
-};
+use swd_console::{DONE, FAULT, KeepsError, Stream, cannot_use, conversion_status, tell_failure};
 use swd_text::{DecodeFault, TextFault};
 
 // From so many lines of stray bits on, a capture may be one that has lost bits.

@@ -15,8 +15,8 @@ use swd_bits::one_text;
 use swd_capture::{LineForm, Printed};
 use swd_capture_text::{Reading, print_capture};
 use swd_console::{
-    Console, Files, INPUT, KeepsError, Watched, cannot_open, conversion_status,
-    named_file_of, status_after,
+    Console, Files, INPUT, KeepsError, Watched, cannot_open, conversion_status, named_file_of,
+    status_after,
 };
 use swd_draw::{DrawnForm, draw_capture};
 use swd_text::{decode_text, encode_text};
@@ -132,14 +132,7 @@ fn source_of(file: &Option<String>) -> Option<&str>
 }
 
 // Converts what the reader has. `name` is the input's. Returns the status: 0, or 2 at an error, or that of a verdict.
-fn convert_read<
-    R: Read + KeepsError,
-    O: Write + KeepsError,
-    A: Allocator + Copy,
-    F,
-    C,
-    E: Write,
->(
+fn convert_read<R: Read + KeepsError, O: Write + KeepsError, A: Allocator + Copy, F, C, E: Write>(
     conversion: Conversion<'_>,
     name: &str,
     input: &mut R,

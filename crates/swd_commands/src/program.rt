@@ -3,7 +3,7 @@ ghost use Rattle.std.specs.Prelude.{◌≡◌, ◌⊎◌, codes};
 ghost use Rattle.std.specs.String.{string_bytes};
 ghost use Rattle.swd_console.specs.Statuses.{CommandNotOpened};
 ghost use Rattle.swd_console.specs.Streams.{CommandEndsOver};
-ghost use Rattle.swd_commands.specs.Inputs.{CommandReadsStdin, command_served_file};
+ghost use Rattle.swd_commands.specs.Inputs.{CommandReadsStdin, command_served_file, is_remote_command};
 ghost use Rattle.swd_commands.specs.Statuses.{PerformsCommand};
 
 use crate::conversion::{Conversion, convert, decode_conversion, draw_conversion};
@@ -12,8 +12,8 @@ use clap::Error;
 use std::alloc::Global;
 use std::io::{Read, Write};
 use swd_console::{
-    Clock, Console, DONE, FAULT, Files, KeepsError, Stream, Untold, Watched, named_file_of,
-    status_after, tell, tell_failure,
+    Clock, Console, DONE, FAULT, Files, KeepsError, STOPPED, Stream, Untold, Watched,
+    named_file_of, status_after, tell, tell_failure,
 };
 use swd_image_commands::perform_image;
 use swd_run_commands::{perform_run, perform_target};
@@ -88,8 +88,57 @@ fn print_help<O: Write + KeepsError, E: Write>(error: &Error, output: &mut O, er
     FAULT
 }
 
-// Performs the command.
+const SHOWN: &str = "\
+--remote: standard output is a terminal, not a target's line: connect it, as by \
+socat TCP:localhost:4711,nodelay EXEC:'swd ..'";
+
+// Returns whether a command speaks to a target over the standard streams.
+fn is_remote(line: &CommandLine) -> bool
+    ensures { result ≡ is_remote_command line.now }
+{
+    match line {
+        CommandLine::Run(run) => run.remote,
+        CommandLine::Image(image) => image.memory.is_none(),
+        _ => false,
+    }
+}
+
+// Performs the command. In a terminal none speaks to a target: its characters would fill the screen. If a target gave no
+// reply at all, prints a line that says so.
 fn carry_out<I: Read + KeepsError, O: Write + KeepsError, F: Files, C: Clock, E: Write>(
+    line: &CommandLine,
+    input: &mut I,
+    output: &mut O,
+    console: &mut Console<'_, Global, F, C, E>,
+) -> u8
+    ensures { CommandReadsStdin line.now → CommandEndsOver (O.kept output.new)
+        (λ status. PerformsCommand line.now status (I.remaining input.old) (I.remaining input.new)
+        (O.contents output.old) (O.contents output.new)) result }
+{
+    if is_remote(line) && console.files.shows_output() {
+        return status_after(output.kept_error(), tell(console.errors, SHOWN));
+    }
+    let status = perform(line, input, output, console);
+    if is_remote(line) && status == STOPPED {
+        tell_no_reply(console.errors, input.sample().only_bit());
+    }
+    status
+}
+
+// Prints that a target that can't be reached gave no reply: an acknowledgement has a 0 and a 1, and all levels that came
+// were this one.
+fn tell_no_reply<E: Write>(errors: &mut E, only: Option<bool>) {
+    if let Some(level) = only {
+        let _ = writeln!(
+            errors,
+            "swd: no reply to the first request, SWDIO read {}: is it driven, and the target connected and powered?",
+            u8::from(level)
+        );
+    }
+}
+
+// Performs the command at whatever the streams are.
+fn perform<I: Read + KeepsError, O: Write + KeepsError, F: Files, C: Clock, E: Write>(
     line: &CommandLine,
     input: &mut I,
     output: &mut O,

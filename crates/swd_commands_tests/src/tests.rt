@@ -1,5 +1,5 @@
 //! What the program does with its words.
-use expect::expect_eq;
+use expect::{expect_eq, expect_eq_at};
 use std::alloc::Global;
 use std::cell::Cell;
 use std::fmt::Display;
@@ -245,6 +245,10 @@ impl<'a> Files for Shelf<'a> {
     fn standard_error(&self) -> io::Result<Option<Identity>> {
         Ok(Some(file("errors", ()).identity))
     }
+
+    fn shows_output(&self) -> bool {
+        false
+    }
 }
 
 // What a run of the program gave.
@@ -372,7 +376,7 @@ fn a_trace_is_none_of_the_other_files(rt: HostRuntime) {
     }
 }
 
-// Files whose standard output is open, and can't be told from another.
+// Files whose standard output is a terminal, and can't be told from another.
 #[derive(Drop)]
 struct Unknown<'a>(Shelf<'a>);
 
@@ -421,6 +425,53 @@ impl<'a> Files for Unknown<'a> {
 
     fn standard_error(&self) -> io::Result<Option<Identity>> {
         self.0.standard_error()
+    }
+
+    fn shows_output(&self) -> bool {
+        true
+    }
+}
+
+// In a terminal no command speaks to a target, whatever it is given. Nothing is sent, no file is opened, and each other
+// command is as ever.
+#[test]
+fn a_terminal_is_no_target(rt: HostRuntime) {
+    let rows: [(&[&str], bool); 7] = [
+        (
+            &["swd", "run", "script", "--remote", "--report", "traced"],
+            true,
+        ),
+        (&["swd", "run", "-", "--remote", "--report", "traced"], true),
+        (&["swd", "load", "20000000", "hex", "--remote"], true),
+        (&["swd", "verify", "20000000", "hex", "--remote"], true),
+        (
+            &["swd", "dump", "20000000", "4", "traced", "--remote"],
+            true,
+        ),
+        (&["swd", "dump", "20000000", "4", "-", "--remote"], true),
+        (&["swd", "run", "script"], false),
+    ];
+    for (words, refused) in rows {
+        let (written, cuts) = (Cell::new(0), Cell::new(0));
+        let files = Unknown(Shelf {
+            written: &written,
+            cuts: &cuts,
+        });
+        let mut output = Vec::new(rt.alloc());
+        let mut errors = Vec::new(rt.alloc());
+        let mut input = b"".as_slice();
+        let mut console = Console {
+            alloc: rt.alloc(),
+            files: &files,
+            clock: &Still,
+            errors: &mut errors,
+        };
+        let status = run_words(words, &mut input, &mut output, &mut console);
+        expect_eq_at(&rt, &words, &status, &if refused { 2 } else { 0 });
+        expect_eq_at(&rt, &words, &output.is_empty(), &refused);
+        expect_eq_at(&rt, &words, &cuts.get(), &0);
+        let line = b"swd: --remote: standard output is a terminal, ";
+        expect_eq_at(&rt, &words, &errors.starts_with(line), &refused);
     }
 }
 

@@ -64,4 +64,7 @@ pub trait Files {
 
     /// Returns which file standard error is, or `None` if it is closed.
     fn standard_error(&self) -> io::Result<Option<Identity>>;
+
+    /// Returns whether standard output is a terminal, in which someone reads what is written. A serial line isn't one.
+    fn shows_output(&self) -> bool;
 }

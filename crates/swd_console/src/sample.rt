@@ -23,13 +23,48 @@ fn stray_in(bytes: &[u8]) -> u64 {
     count
 }
 
-/// The first bytes that were read, whether a bit of a trace was among all of them, and how many lines of stray bits were
-/// written.
+// What was found in a trace text, or among the levels of a connection, up to the first other character or until both
+// bits were found.
+#[derive(Drop)]
+struct Found {
+    scan: Scan,
+    zero: bool,
+    one: bool,
+    other: bool,
+}
+
+impl Found {
+    // Nothing yet.
+    fn new() -> Found {
+        Found {
+            scan: Scan::new(),
+            zero: false,
+            one: false,
+            other: false,
+        }
+    }
+
+    // Takes the next piece.
+    fn look(&mut self, piece: &[u8]) {
+        for byte in piece {
+            if self.other || self.zero && self.one {
+                return;
+            }
+            match self.scan.byte(*byte) {
+                Sign::Bit(true) => self.one = true,
+                Sign::Bit(false) => self.zero = true,
+                Sign::Passed => {}
+                Sign::Bad => self.other = true,
+            }
+        }
+    }
+}
+
+/// The first bytes that were read, which bits were among all of them, and how many lines of stray bits were written.
 #[derive(Drop)]
 pub struct Sample {
     first: ArrayVec<u8, FIRST>,
-    scan: Scan,
-    has_bits: bool,
+    found: Found,
     stray: u64,
 }
 
@@ -38,8 +73,7 @@ impl Sample {
     pub(crate) fn new() -> Sample {
         Sample {
             first: ArrayVec::new(),
-            scan: Scan::new(),
-            has_bits: false,
+            found: Found::new(),
             stray: 0,
         }
     }
@@ -48,12 +82,7 @@ impl Sample {
     pub(crate) fn note_read(&mut self, bytes: &[u8]) {
         let more = self.first.remaining_capacity().min(bytes.len());
         let _ = self.first.try_extend_from_slice(&bytes[..more]);
-        for byte in bytes {
-            if self.has_bits {
-                break;
-            }
-            self.has_bits = matches!(self.scan.byte(*byte), Sign::Bit(_));
-        }
+        self.found.look(bytes);
     }
 
     // Notes bytes that were written. All of them are looked at only where a line of a stray bit is among the first.
@@ -70,7 +99,16 @@ impl Sample {
 
     /// Returns whether a bit was read, if this is the text of a trace.
     pub fn has_bits(&self) -> bool {
-        self.has_bits
+        self.found.zero || self.found.one
+    }
+
+    /// Returns the only bit that was read, if no other character was.
+    pub fn only_bit(&self) -> Option<bool> {
+        if self.found.other || self.found.zero == self.found.one {
+            None
+        } else {
+            Some(self.found.one)
+        }
     }
 
     /// Returns how many lines of stray bits were written, as far as they were looked at.

@@ -40,7 +40,8 @@ word are the least significant first. Words of which FILE has only some bytes
 are read first, so that their other bytes keep their values.
 
 With --remote the standard streams connect to a server of OpenOCD's
-remote_bitbang protocol for SWD, such as swd target.
+remote_bitbang protocol for SWD, such as swd target. For a server on a socket:
+  socat TCP:localhost:4711,nodelay EXEC:'swd load ADDR FILE --remote'
 
 With --memory the target is simulated. The memory's FILE has its bytes from
 --base on, a multiple of 4 of them, the byte at the lowest address first. A load

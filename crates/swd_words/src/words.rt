@@ -72,7 +72,8 @@ With --remote the standard streams connect to a server of OpenOCD's
 remote_bitbang protocol for SWD, such as swd target. The report goes to the file
 that --report names, which is overwritten; with - it is appended to standard
 error. SCRIPT must be a file. There is no plan, and the script's memory and room
-are ignored.
+are ignored. For a server on a socket:
+  socat TCP:localhost:4711,nodelay EXEC:'swd run SCRIPT --remote --report FILE'
 
 A script has one command per line; # begins a comment. BASE, ADDR, VALUE and
 MASK are 1 to 8 hexadecimal digits, which may follow 0x, and addresses multiples

@@ -158,6 +158,10 @@ impl<'a> Files for Shelf<'a> {
     fn standard_error(&self) -> io::Result<Option<Identity>> {
         Ok(Some(identity(10)))
     }
+
+    fn shows_output(&self) -> bool {
+        false
+    }
 }
 
 // What a session gave.

@@ -32,11 +32,27 @@ fn a_target_that_goes_away_takes_one_line(rt: HostRuntime) {
 
 #[test]
 fn a_lost_acknowledgement_is_no_fault_of_the_line(rt: HostRuntime) {
-    let ran = run_on(rt.alloc(), WORDS.as_slice(), b"111".as_slice());
-    assert!(rt; ran.errors.is_empty());
-    expect_eq(&rt, &ran.status, &1);
-    expect_eq(&rt, &ran.traced, &LOST.len());
-    assert!(rt; ran.output.ends_with(b"dcfQ"));
+    // A target that isn't there drives nothing: each level is the same. Three levels that differ are from something.
+    let rows: [(&[u8], &[u8]); 4] = [
+        (
+            b"111",
+            b"swd: no reply to the first request, SWDIO read 1: is it driven,",
+        ),
+        (
+            b"000",
+            b"swd: no reply to the first request, SWDIO read 0: is it driven,",
+        ),
+        (b"101", b""),
+        (b"110", b""),
+    ];
+    for (levels, said) in rows {
+        let ran = run_on(rt.alloc(), WORDS.as_slice(), levels);
+        assert!(rt; ran.errors.starts_with(said), "at {levels:?}");
+        expect_eq_at(&rt, &levels, &ran.errors.is_empty(), &said.is_empty());
+        expect_eq(&rt, &ran.status, &1);
+        expect_eq(&rt, &ran.traced, &LOST.len());
+        assert!(rt; ran.output.ends_with(b"dcfQ"));
+    }
 }
 
 #[test]

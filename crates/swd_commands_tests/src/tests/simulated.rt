@@ -223,6 +223,10 @@ impl<'a> Files for Desk<'a> {
     fn standard_error(&self) -> io::Result<Option<Identity>> {
         Err(io::Error::from(ErrorKind::NotFound))
     }
+
+    fn shows_output(&self) -> bool {
+        false
+    }
 }
 
 /// What a run gave.
