@@ -63,6 +63,11 @@ pub(crate) fn tell_usage<E: Write>(
         return tell(errors, "no memory");
     };
     let text = text.as_str();
+    // Then the lines of the text can't be told from those of the arguments.
+    if words.iter().any(|word| word.contains('\n')) {
+        let _ = writeln!(errors, "{}", Escaped(text));
+        return FAULT;
+    }
     let is_unknown = matches!(error.kind(), ErrorKind::InvalidSubcommand);
     let commands = if is_unknown && !text.contains("tip:") {
         commands_line(alloc)

@@ -14,6 +14,7 @@ use crate::report::{FAULT, cannot_open, cannot_use};
 use crate::streams::{Stream, tell_failure, tell_failure_or};
 use crate::watched::{KeepsError, Watched};
 use std::alloc::Allocator;
+use std::io;
 use std::io::{Read, Write};
 use swd_image_ends::{FileFault, memory_bytes, read_file};
 use swd_io::{Unread, send};
@@ -161,16 +162,26 @@ pub fn write_back<A: Allocator + Copy, F: Files, C, E: Write>(
     if let Err(why) = console.files.begin_replacing(name, &mut to.file) {
         return Err(cannot_open(console.errors, name, &why));
     }
-    let sent = match send(&mut to.file, bytes.as_slice()) {
-        Ok(()) => console.files.finish_replacing(&mut to.file),
-        Err(unsent) => Err(unsent.error),
-    };
-    match sent {
-        Ok(()) => Ok(()),
-        Err(error) => {
-            console.files.give_up(name, &mut to.file);
-            let streams = [Stream::failed(name, error)];
-            Err(tell_failure_or(console.errors, streams.as_slice(), "write failed"))
-        }
+    if let Err(unsent) = send(&mut to.file, bytes.as_slice()) {
+        return Err(give_back(name, &mut to.file, unsent.error, console));
     }
+    match console.files.finish_replacing(&mut to.file) {
+        Ok(()) => Ok(()),
+        Err(error) => Err(give_back(name, &mut to.file, error, console)),
+    }
+}
+
+// Leaves the file of a memory as it was, prints why it could not be written, and returns the status 2.
+fn give_back<A, F: Files, C, E: Write>(
+    name: &str,
+    file: &mut F::Made,
+    error: io::Error,
+    console: &mut Console<'_, A, F, C, E>,
+) -> u8
+    ensures status { result ≡ 2 }
+    ensures same { F.Made.Write.contents file.new ≡ F.Made.Write.contents file.old }
+{
+    console.files.give_up(name, file);
+    let streams = [Stream::failed(name, error)];
+    tell_failure_or(console.errors, streams.as_slice(), "write failed")
 }

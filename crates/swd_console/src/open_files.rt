@@ -54,7 +54,8 @@ pub trait Files {
 
     /// Removes what was written beside the file, which then is as it was. Removes the file, too, if `open_to_replace`
     /// created it and it is empty.
-    fn give_up(&self, name: &str, file: &mut Self::Made);
+    fn give_up(&self, name: &str, file: &mut Self::Made)
+        ensures { Self.Made.Write.contents file.new ≡ Self.Made.Write.contents file.old };
 
     /// Returns which file standard input is, or `None` if it is closed.
     fn standard_input(&self) -> io::Result<Option<Identity>>;

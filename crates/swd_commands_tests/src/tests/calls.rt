@@ -351,11 +351,11 @@ const FAULTS: [Call; 16] = [
     (
         "decode: stray bits",
         &["swd", "decode"],
-        b"10000000 10000000 10000000 10000000 10000000 10000000 10000000 10000000 10000000",
+        b"10000000 10000000",
         0,
-        b"junk 1\nidle 7\njunk 1\nidle 7\njunk 1\nidle 7\njunk 1\nidle 7\njunk 1\nidle 7\njunk 1\nidle 7\n\
-          junk 1\nidle 7\njunk 1\nidle 7\njunk 1\nidle 7\n",
-        b"swd: 9 stray bits (junk) or more: if the capture lost bits or begins in mid-session, --resync reads it\n",
+        b"junk 1\njunk 0\njunk 0\njunk 0\njunk 0\njunk 0\njunk 0\njunk 0\n\
+            junk 1\njunk 0\njunk 0\njunk 0\njunk 0\njunk 0\njunk 0\njunk 0\n",
+        b"swd: 16 stray bits (junk) or more: if the capture lost bits or begins in mid-session, --resync reads it\n",
     ),
     (
         "one: a bit alone",

@@ -3,7 +3,7 @@ use super::expect::expect_eq_at;
 use super::run_on;
 
 // The arguments, and all lines.
-const ROWS: [(&[&str], &[u8]); 11] = [
+const ROWS: [(&[&str], &[u8]); 12] = [
     (
         &["swd", "run", "s", "--remote"],
         b"error: --remote and --report FILE go together\n\nUsage: swd run [OPTIONS] <SCRIPT>\n\n\
@@ -56,9 +56,14 @@ const ROWS: [(&[&str], &[u8]); 11] = [
           Usage: swd <COMMAND>\n\nFor more information, try '--help'.\n",
     ),
     (
-        &["swd", "one", "a", "\x1b[2J\x07\n"],
-        b"error: unexpected argument '\\u{1b}[2J\\u{7}\n' found\n\nUsage: swd one [FILE]\n\n\
+        &["swd", "one", "a", "\x1b[2J\x07"],
+        b"error: unexpected argument '\\u{1b}[2J\\u{7}' found\n\nUsage: swd one [FILE]\n\n\
           For more information, try '--help'.\n",
+    ),
+    (
+        &["swd", "one", "a", "b\nswd: done"],
+        b"error: unexpected argument 'b\\nswd: done' found\\n\\nUsage: swd one [FILE]\\n\\n\
+          For more information, try '--help'.\\n\n",
     ),
 ];
 
