@@ -6,8 +6,8 @@ use std::io::Read;
 use swd_bits::{Scan, Sign};
 use swd_console::Watched;
 
-// What was found in a trace text, or among the levels of a connection, up to the first other character or until both
-// bits were found.
+// What was found in a trace text, or among the levels of a connection, until both bits were found or something else: a
+// character that isn't allowed there, the end, or an error.
 #[derive(Drop)]
 struct Found {
     scan: Scan,
@@ -61,9 +61,12 @@ impl<R: Read> Read for BitFinder<R> {
     ghost remaining = { λ finder. R.remaining finder.reader };
 
     fn read(&mut self, buf: &mut [u8]) -> io::Result<usize> {
-        let count = self.reader.read(buf)?;
-        self.found.look(&buf[..count]);
-        Ok(count)
+        let result = self.reader.read(buf);
+        match &result {
+            Ok(count) if *count > 0 => self.found.look(&buf[..*count]),
+            _ => self.found.other = true,
+        }
+        result
     }
 }
 
@@ -72,7 +75,7 @@ pub(crate) trait FindsBits {
     /// Returns whether it had a bit.
     fn has_bits(&self) -> bool;
 
-    /// Returns the only bit that it had, if it had no other character either.
+    /// Returns the only bit that it had, if it had no other character either, nor came to its end.
     fn only_bit(&self) -> Option<bool>;
 }
 
