@@ -23,8 +23,8 @@ fn stray_in(bytes: &[u8]) -> u64 {
     count
 }
 
-// What was found in a trace text, or among the levels of a connection, up to the first other character or until both
-// bits were found.
+// What was found in a trace text, or among the levels of a connection, until both bits were found or something else: a
+// character that isn't allowed there, the end, or an error.
 #[derive(Drop)]
 struct Found {
     scan: Scan,
@@ -78,11 +78,12 @@ impl Sample {
         }
     }
 
-    // Notes bytes that were read.
+    // Notes bytes that were read, none at the end and at an error.
     pub(crate) fn note_read(&mut self, bytes: &[u8]) {
         let more = self.first.remaining_capacity().min(bytes.len());
         let _ = self.first.try_extend_from_slice(&bytes[..more]);
         self.found.look(bytes);
+        self.found.other = self.found.other || bytes.is_empty();
     }
 
     // Notes bytes that were written. All of them are looked at only where a line of a stray bit is among the first.
@@ -102,7 +103,7 @@ impl Sample {
         self.found.zero || self.found.one
     }
 
-    /// Returns the only bit that was read, if no other character was.
+    /// Returns the only bit that was read, if no other character was, nor the end.
     pub fn only_bit(&self) -> Option<bool> {
         if self.found.other || self.found.zero == self.found.one {
             None

@@ -83,9 +83,8 @@ impl<R: Read> Read for Watched<R> {
         if let Err(error) = &result {
             self.error = Some(*error);
         }
-        if let Ok(count) = &result
-            && let Some(bytes) = buf.get(..*count)
-        {
+        let count = *result.as_ref().unwrap_or(&0);
+        if let Some(bytes) = buf.get(..count) {
             self.sample.note_read(bytes);
         }
         result

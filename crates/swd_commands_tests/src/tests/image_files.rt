@@ -1,5 +1,6 @@
 //! The files of images in their formats: what the arguments make of them before anything is sent.
 use super::expect::{expect_eq, expect_eq_at};
+use super::remote::LOST_LINES;
 use super::run_on;
 use std::test::Fail;
 use swd_image_files::{ElfChoice, Format};
@@ -148,8 +149,7 @@ fn an_invalid_image_file_is_named_with_its_line(rt: HostRuntime) {
     // A valid one is: the target doesn't acknowledge the first request.
     let words = ["swd", "load", "0", "two.hex", "--remote"];
     let ran = run_on(rt.alloc(), words.as_slice(), b"111".as_slice());
-    let errors = b"swd: the run ended early: lost\n".as_slice();
-    expect_eq(&rt, &ran.errors.as_slice(), &errors);
+    expect_eq(&rt, &ran.errors.as_slice(), &LOST_LINES);
     expect_eq(&rt, &ran.output.ends_with(b"dcfQ"), &true);
     expect_eq(&rt, &ran.status, &1);
 }

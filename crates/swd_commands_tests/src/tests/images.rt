@@ -1,5 +1,6 @@
 //! Images at a target behind the standard streams: what the arguments make of them.
 use super::expect::{expect_at, expect_eq, expect_eq_at};
+use super::remote::LOST_LINES;
 use super::run_on;
 use std::test::Fail;
 use swd_words::{CommandLine, ImageAction, line};
@@ -55,7 +56,7 @@ fn a_target_that_goes_away_ends_each_command(rt: HostRuntime) {
             b"swd: the other end sent byte 120, which is no level: these are 0 and 1\n",
             b"dcf",
         ),
-        (b"111", b"swd: the run ended early: lost\n", b"dcfQ"),
+        (b"111", LOST_LINES, b"dcfQ"),
     ];
     for words in COMMANDS {
         for (levels, errors, last) in rows {

@@ -5,6 +5,14 @@ use super::run_on;
 // The report of a run that was lost before its first access.
 const LOST: &[u8] = b"end lost 0 begun 0\n";
 
+/// The line where the target gave no reply, and those of an image's command.
+pub(super) const NO_REPLY: &[u8] = b"swd: no reply to the first request, SWDIO read 1: \
+    is it driven, and the target connected and powered?\n";
+
+pub(super) const LOST_LINES: &[u8] = b"swd: the run ended early: lost\n\
+    swd: no reply to the first request, SWDIO read 1: \
+    is it driven, and the target connected and powered?\n";
+
 const WORDS: [&str; 6] = ["swd", "run", "script", "--remote", "--report", "traced"];
 
 #[test]
@@ -34,10 +42,7 @@ fn a_target_that_goes_away_takes_one_line(rt: HostRuntime) {
 fn a_lost_acknowledgement_is_no_fault_of_the_line(rt: HostRuntime) {
     // A target that isn't there drives nothing: each level is the same. Three levels that differ are from something.
     let rows: [(&[u8], &[u8]); 4] = [
-        (
-            b"111",
-            b"swd: no reply to the first request, SWDIO read 1: is it driven,",
-        ),
+        (b"111", NO_REPLY),
         (
             b"000",
             b"swd: no reply to the first request, SWDIO read 0: is it driven,",

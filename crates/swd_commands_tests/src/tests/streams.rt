@@ -1,5 +1,6 @@
 //! Streams that fail: the line on standard error, and the status.
 use super::expect::{expect_at, expect_eq, expect_eq_at};
+use super::remote::NO_REPLY;
 use super::{DPIDR_LINE, DPIDR_READ, REPORT, SCRIPT, Shelf, Still, run_on, target};
 use std::alloc::Global;
 use std::cell::Cell;
@@ -450,7 +451,7 @@ fn a_remote_run_names_the_file_that_fails(rt: HostRuntime) {
                 "--accesses",
                 "full",
             ],
-            b"",
+            NO_REPLY,
         ),
     ];
     for (words, line) in rows {
@@ -460,7 +461,7 @@ fn a_remote_run_names_the_file_that_fails(rt: HostRuntime) {
             &rt,
             &words,
             &ran.status,
-            &if line.is_empty() { 1 } else { 2 },
+            &if line == NO_REPLY { 1 } else { 2 },
         );
         expect_at(&rt, &words, ran.output.ends_with(b"dcfQ"));
     }
