@@ -43,8 +43,8 @@ place of its request:
   @990 gap                      stray bits from here, which may hide accesses
 ????????: the trace doesn't show this address or word. Give --made if the trace
 begins with the target in its reset state; without it the state is unknown.
-FAULT alone shows nothing: not wants a read of CTRL/STAT with the error's flag. A
-line is printed once the transaction after the one that decides it is read.
+FAULT alone shows nothing: not wants a read of CTRL/STAT with the error's flag.
+A line is printed once the transaction after the one that decides it is read.
 
 With --resync the trace may begin in mid-session and lose bits. What can be read
 is listed, and the bits between have one line:

@@ -47,7 +47,7 @@ const ROWS: [(&[&str], &[u8]); 12] = [
     (
         &["swd", "rnu"],
         b"error: unrecognized subcommand 'rnu'\n\
-          \x20 [subcommands: one, decode, encode, run, target, draw, load, verify, dump, help]\n\n\
+          \x20 [subcommands: one, decode, encode, run, target, draw, check, load, verify, dump, help]\n\n\
           Usage: swd <COMMAND>\n\nFor more information, try '--help'.\n",
     ),
     (

@@ -184,12 +184,12 @@ const REFUSED: [Refused; 13] = [
     (
         &["swd", "check"],
         b"10x",
-        b"swd: trace byte 2: bad character\n",
+        b"swd: trace byte 2: bad character 'x': a trace has 0, 1, blanks and comments\n",
     ),
     (
         &["swd", "check", "--resync"],
         b"10x",
-        b"swd: trace byte 2: bad character\n",
+        b"swd: trace byte 2: bad character 'x': a trace has 0, 1, blanks and comments\n",
     ),
     (
         &["swd", "check", "missing"],
