@@ -11,7 +11,7 @@ returns g c =
     c.args.held.marks.items)
     c.as_slice-slice.ensures.value (inr (
       c.target_pins-pins.result,
-      c.empty_trace.result,
+      c.empty_trace-trace.result,
       record {
         memory = c.in-Some.words;
         words = c.in-Some.ensures.words;
