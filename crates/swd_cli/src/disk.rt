@@ -236,8 +236,8 @@ fn made(file: File, is_new: bool) -> io::Result<Opened<DiskFile>>
     Ok(Opened { file, identity })
 }
 
-/// Returns the file under a file descriptor above those of the standard streams. A new file gets the lowest free one. If
-/// a standard stream is closed, that is the stream's, and reads and writes of the stream would go to the file.
+/// Returns the file under a file descriptor above those of the standard streams. A new file gets the lowest free one.
+/// If a standard stream is closed, that is the stream's, and reads and writes of the stream would go to the file.
 pub(crate) fn beside_the_streams(file: File) -> io::Result<File>
     ensures { IfOk result (λ file. pos 2 <ℤ file_raw_fd file) }
 {

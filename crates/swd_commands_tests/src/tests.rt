@@ -25,6 +25,7 @@ mod image_files;
 mod image_reports;
 mod images;
 mod memory_target;
+mod pen;
 mod plan;
 mod progress;
 mod reasons;

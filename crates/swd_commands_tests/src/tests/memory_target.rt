@@ -1,7 +1,7 @@
 //! A target on the standard streams whose memory is in a file: what words make of it.
 use super::Still;
 use super::expect::{expect_eq, expect_eq_at};
-use super::simulated::{EMPTY, Page, Pen, Source};
+use super::pen::{EMPTY, Page, Pen, Source};
 use super::target::{IDRS, identified, identifying};
 use std::alloc::Global;
 use std::cell::Cell;
@@ -425,8 +425,8 @@ fn a_file_that_cannot_be_used_is_refused(rt: HostRuntime) {
     expect_eq(&rt, &ran.status, &2);
 }
 
-// A memory that can't be written back takes one line, also where the session failed. Its file is as it was, although some
-// bytes could be written.
+// A memory that can't be written back takes one line, also where the session failed. Its file is as it was, although
+// some bytes could be written.
 #[test]
 fn a_memory_that_cannot_be_written_takes_one_line(rt: HostRuntime) {
     for session in [SESSION, b"x".as_slice()] {

@@ -62,7 +62,8 @@ fn a_long_session_is_traced_whole(rt: HostRuntime) -> Result<(), Fail> {
     Ok(())
 }
 
-// A log or a trace that is the script, the plan or standard input, under whatever name, is refused with nothing cut off.
+// A log or a trace that is the script, the plan or standard input, under whatever name, is refused with nothing cut
+// off.
 #[test]
 fn a_record_is_none_of_the_files_that_are_read(rt: HostRuntime) {
     for record in ["--log", "--trace"] {
