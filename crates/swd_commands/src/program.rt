@@ -120,9 +120,14 @@ fn carry_out<I: Read + KeepsError, O: Write + KeepsError, F: Files, C: Clock, E:
     }
     let status = perform(line, input, output, console);
     if is_remote(line) && status == STOPPED {
-        tell_no_reply(console.errors, input.sample().only_bit());
+        tell_no_reply(console.errors, only_bit(input));
     }
     status
+}
+
+// Returns the only bit that an input had, if it had no other character, nor came to its end.
+fn only_bit<I: KeepsError>(input: &I) -> Option<bool> {
+    input.sample().only_bit()
 }
 
 // Prints that a target that can't be reached gave no reply: an acknowledgement has a 0 and a 1, and all levels that came
