@@ -100,7 +100,7 @@ pub(crate) fn convert<
     console: &mut Console<'_, A, F, C, E>,
 ) -> u8
     ensures { IsStandardInput (option_map string_bytes file.now) → CommandEndsOver (O.kept output.new)
-        (λ status. ConvertsCommandInput conversion status (I.remaining input.old) (I.remaining input.new)
+        (λ status. ConvertsCommandInput conversion.entry status (I.remaining input.old) (I.remaining input.new)
         (O.contents output.old) (O.contents output.new)) result }
 {
     let Some(name) = source_of(file) else {
@@ -139,7 +139,7 @@ fn convert_read<R: Read + KeepsError, O: Write + KeepsError, A: Allocator + Copy
     output: &mut O,
     console: &mut Console<'_, A, F, C, E>,
 ) -> u8
-    ensures { ConvertsCommandInput conversion result (R.remaining input.old) (R.remaining input.new)
+    ensures { ConvertsCommandInput conversion.entry result (R.remaining input.old) (R.remaining input.new)
         (O.contents output.old) (O.contents output.new) }
 {
     match conversion {
