@@ -87,7 +87,8 @@ pub(crate) fn trace_status<I: KeepsError, O: KeepsError, E: Write>(
     if status == DONE && stray >= STRAY && matches!(reading, Reading::Trace) {
         let _ = writeln!(
             errors,
-            "swd: {stray} stray bits (junk) or more: if the capture lost bits or begins in mid-session, --resync reads it"
+            "swd: {stray} stray bits (junk) or more: if the capture lost bits or begins in mid-session, \
+                --resync reads it"
         );
     }
     status
