@@ -4,8 +4,8 @@ use Rattle.swd_console.specs.Streams.{command_status_over}
 use Rattle.swd_commands.proofs.RemoteLemmas.{remote_command_ends}
 use Rattle.swd_commands.proofs.program.carry_out.Goals as goal
 
-pub returns-then-is_remote : goal.returns-then-is_remote
-returns-then-is_remote g c = λ reads. (
+pub returns-then-shows_output : goal.returns-then-shows_output
+returns-then-shows_output g c = λ reads. (
   c.tell.result,
   remote_command_ends c.args.line.now c.tell.result (g.I.Read.remaining c.args.input.now)
       (g.I.Read.remaining c.args.input.now) (g.O.Write.contents c.args.output.now)
