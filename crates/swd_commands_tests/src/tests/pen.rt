@@ -34,20 +34,21 @@ pub(super) struct Pen<'a> {
 impl Write for Pen<'_> {
     fn write(&mut self, buf: &[u8]) -> io::Result<usize> {
         let mut page = self.beside.unwrap_or(self.page.get());
-        let mut count: usize = 0;
-        for byte in buf {
+        let room = if self.is_full {
+            3_usize.saturating_sub(page.len)
+        } else {
+            buf.len()
+        };
+        let count = buf.len().min(room);
+        if count == 0 && !buf.is_empty() {
+            return Err(io::Error::from(ErrorKind::StorageFull));
+        }
+        for byte in &buf[..count] {
             let end = page.len;
-            if self.is_full && end >= 3 {
-                break;
-            }
             if let Some(place) = page.bytes.get_mut(end) {
                 *place = *byte;
                 page.len = page.len.saturating_add(1);
             }
-            count = count.saturating_add(1);
-        }
-        if count == 0 && !buf.is_empty() {
-            return Err(io::Error::from(ErrorKind::StorageFull));
         }
         match self.beside {
             Some(_) => self.beside = Some(page),
