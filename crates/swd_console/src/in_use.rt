@@ -32,7 +32,8 @@ pub enum WriteRole {
     Calls,
     /// The image of a dump. It is replaced when its bytes are there.
     Dump,
-    /// The memory of a simulated target, after a load or a session. It is locked, and replaced when its bytes are there.
+    /// The memory of a simulated target, after a load or a session. It is locked, and replaced when its bytes are
+    /// there.
     Memory,
 }
 
@@ -210,10 +211,10 @@ impl InUse {
         }
     }
 
-    /// Opens a file for writing, or creates it. An existing file is unchanged: `cut_off` truncates it once all files of the
-    /// command are open. At an error it prints a line and returns the status 2: also for `-`, and if the file is
-    /// in use in another role, under any name, or may be, or is a standard stream that is in use. The contract leaves
-    /// out the streams. A memory's file has to be the one that was read, and no other process may have locked it.
+    /// Opens a file for writing, or creates it. An existing file is unchanged: `cut_off` truncates it once all files of
+    /// the command are open. At an error it prints a line and returns the status 2: also for `-`, and if the file is in
+    /// use in another role, under any name, or may be, or is a standard stream that is in use. The contract leaves out
+    /// the streams. A memory's file has to be the one that was read, and no other process may have locked it.
     pub fn open_write<A, F: Files, C, E: Write>(
         &mut self,
         name: &str,

@@ -144,8 +144,8 @@ fn read_noted<R: Read + KeepsError, A: Allocator + Copy, F, C, E: Write>(
     }
 }
 
-/// Replaces the file of a memory by its bytes. At an error it prints a line and returns the status 2, and a regular file
-/// is as it was.
+/// Replaces the file of a memory by its bytes. At an error it prints a line and returns the status 2, and a regular
+/// file is as it was.
 pub fn write_back<A: Allocator + Copy, F: Files, C, E: Write>(
     after: &Memory<A>,
     to: &mut MemoryFile<'_, F::Made>,

@@ -35,8 +35,8 @@ pub trait Files {
     /// Truncates a file to length 0, if it is one with a length.
     fn cut_off(&self, file: &Self::Made) -> io::Result<()>;
 
-    /// Opens a file whose contents are to be replaced as a whole, or creates an empty one. Fails where its folder lets no
-    /// file be created beside it.
+    /// Opens a file whose contents are to be replaced as a whole, or creates an empty one. Fails where its folder lets
+    /// no file be created beside it.
     fn open_to_replace(&self, name: &str) -> io::Result<Opened<Self::Made>>;
 
     /// Locks a file that `open_to_replace` opened, until it is dropped. Fails if another process has locked it, and if

@@ -65,7 +65,8 @@ fn read_opened_image<R: Read + Drop, A: Allocator + Copy, F, C, E: Write>(
     }
 }
 
-/// Replaces the file of a dump by the bytes in its format, and prints a line with the result. Returns the status: 0 or 2.
+/// Replaces the file of a dump by the bytes in its format, and prints a line with the result. Returns the status: 0 or
+/// 2.
 pub(crate) fn write_image_file<A, F: Files, C, E: Write>(
     image: &ImageLine,
     bytes: &[u8],

@@ -7,8 +7,8 @@ use swd_console::{Console, Files, InUse, Watched, WriteRole, cut_off_named};
 use swd_run::Records;
 use swd_words::RunLine;
 
-/// Opens the files that a run writes beside its report, as far as they are named, and truncates them once both are open.
-/// `made` says that the target begins in its reset state. At an error it prints a line and returns the status 2.
+/// Opens the files that a run writes beside its report, as far as they are named, and truncates them once both are
+/// open. `made` says that the target begins in its reset state. At an error it prints a line and returns the status 2.
 pub(crate) fn open_records<A, F: Files, C, E: Write>(
     run: &RunLine,
     made: bool,

@@ -23,8 +23,8 @@ use swd_run::{Finished, Records};
 use swd_script::read_script;
 use swd_words::RunLine;
 
-// Opens the file of the report, which isn't truncated yet. `-` is standard error. At an error it prints a line and returns
-// the status 2.
+// Opens the file of the report, which isn't truncated yet. `-` is standard error. At an error it prints a line and
+// returns the status 2.
 fn open_report<A, F: Files, C, E: Write>(
     name: &str,
     in_use: &mut InUse,

@@ -30,8 +30,8 @@ impl<M> SessionFiles<M> {
     }
 }
 
-/// Opens the files of a session, as far as they are named, and truncates them once both are open. At an error it prints a
-/// line and returns the status 2.
+/// Opens the files of a session, as far as they are named, and truncates them once both are open. At an error it prints
+/// a line and returns the status 2.
 pub(crate) fn open_session<A, F: Files, C, E: Write>(
     target: &TargetLine,
     in_use: &mut InUse,
