@@ -502,12 +502,8 @@ fn a_memory_in_a_file_has_the_idr_that_is_named(rt: HostRuntime) -> Result<(), F
             "--idr",
             value.unwrap_or(""),
         ];
-        let words = if value.is_some() {
-            &with[..]
-        } else {
-            &with[..4]
-        };
-        let ran = run_at(rt.alloc(), words, b"abcd", session.as_slice());
+        let count = if value.is_some() { with.len() } else { 4 };
+        let ran = run_at(rt.alloc(), &with[..count], b"abcd", session.as_slice());
         expect_eq_at(&rt, &value, &ran.status, &0);
         expect_eq_at(&rt, &value, &identified(&ran.output), &(idr, base));
         expect_eq_at(&rt, &value, &ran.memory.text(), &b"abcd".as_slice());

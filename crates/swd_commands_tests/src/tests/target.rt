@@ -156,12 +156,8 @@ fn a_target_has_the_idr_that_is_named(rt: HostRuntime) -> Result<(), Fail> {
     let session = identifying(rt.alloc())?;
     for (value, idr, base) in IDRS {
         let with = ["swd", "target", "memory", "--idr", value.unwrap_or("")];
-        let words = if value.is_some() {
-            &with[..]
-        } else {
-            &with[..3]
-        };
-        let ran = run_on(rt.alloc(), words, session.as_slice());
+        let count = if value.is_some() { with.len() } else { 3 };
+        let ran = run_on(rt.alloc(), &with[..count], session.as_slice());
         expect_eq_at(&rt, &value, &ran.status, &0);
         expect_eq_at(&rt, &value, &identified(&ran.output), &(idr, base));
     }
