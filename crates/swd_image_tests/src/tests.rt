@@ -11,8 +11,9 @@ mod reports;
 
 use std::alloc::{Allocator, Global};
 use std::test::Fail;
-use swd_image::{ByteDifference, ImageFault, dump, load, verify};
+use swd_image::{ByteDifference, ImageFault, NoReports, dump, load, verify};
 use swd_port::{Access, Due, Mark, Wire};
+use swd_run::Limits;
 use swd_target::{Bench, Memory, Quirks};
 
 /// Where most memories begin.
@@ -78,6 +79,14 @@ fn target_of(
     Ok(Some(Bench::new(memory, QUIRKS, plan)))
 }
 
+/// The tries of these tests, and so many resumes.
+fn limits(resumes: u32) -> Limits {
+    Limits {
+        tries: TRIES,
+        resumes,
+    }
+}
+
 /// A load, where nothing is due.
 fn load_at<W: Wire, A: Allocator + Copy>(
     alloc: A,
@@ -87,7 +96,14 @@ fn load_at<W: Wire, A: Allocator + Copy>(
     resumes: u32,
 ) -> Option<Result<(), ImageFault>> {
     match wire.due() {
-        Due::Nothing => Some(load(alloc, wire, addr, bytes, TRIES, resumes)),
+        Due::Nothing => Some(load(
+            alloc,
+            wire,
+            addr,
+            bytes,
+            limits(resumes),
+            &mut NoReports,
+        )),
         _ => None,
     }
 }
@@ -101,7 +117,14 @@ fn dump_at<W: Wire, A: Allocator + Copy>(
     resumes: u32,
 ) -> Option<Result<Vec<u8, A>, ImageFault>> {
     match wire.due() {
-        Due::Nothing => Some(dump(alloc, wire, addr, count, TRIES, resumes)),
+        Due::Nothing => Some(dump(
+            alloc,
+            wire,
+            addr,
+            count,
+            limits(resumes),
+            &mut NoReports,
+        )),
         _ => None,
     }
 }
@@ -115,7 +138,14 @@ fn verify_at<W: Wire, A: Allocator + Copy>(
     resumes: u32,
 ) -> Option<Result<Option<ByteDifference>, ImageFault>> {
     match wire.due() {
-        Due::Nothing => Some(verify(alloc, wire, addr, bytes, TRIES, resumes)),
+        Due::Nothing => Some(verify(
+            alloc,
+            wire,
+            addr,
+            bytes,
+            limits(resumes),
+            &mut NoReports,
+        )),
         _ => None,
     }
 }
