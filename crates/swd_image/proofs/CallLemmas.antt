@@ -294,7 +294,8 @@ module _ {W : Type 0} (wire : Ghosts W) (limits : Limits) where
   calls_law s t list answers
       (more {list = xs} {answers = vs} {t = r} {u = v} {batch = batch} {run = run} before call all done) law =
       calls_law s r xs vs before
-      (law_before wire.port wire.plan wire.lawful (batch_limit batch) batch.accesses limits.tries r run.stops run.told v call.goes.went law)
+      (law_before wire.port wire.plan wire.lawful (batch_limit batch) batch.accesses limits.tries r run.stops
+          run.told v call.goes.went law)
 
   -- a call that failed in a list, after those before it
   pub fails_in : (s t u : W) (xs ys zs list : List Access) (vs : List Answer) (fault : ImageFault)
@@ -311,7 +312,8 @@ module _ {W : Type 0} (wire : Ghosts W) (limits : Limits) where
     pub at_rest : IsAtRest (wire.port t)
     pub plain : IsPlain (wire.port t).target.memory
     pub held : Held want P (plain_words_of (wire.port s).target.memory) (plain_words_of (wire.port t).target.memory)
-    pub tells : AllTell want P (plain_words_of (wire.port s).target.memory) (plain_words_of (wire.port t).target.memory) list
+    pub tells : AllTell want P (plain_words_of (wire.port s).target.memory) (plain_words_of (wire.port
+        t).target.memory) list
         answers
 
   -- over a lawful wire, from a target at rest, consecutive calls leave it at rest
@@ -322,17 +324,21 @@ module _ {W : Type 0} (wire : Ghosts W) (limits : Limits) where
       (more {list = xs} {answers = vs} {t = r} {u = v} {batch = batch} {run = run} before call all done) law rest =
       let n : ℕ = batch_limit batch in
       let went = call.goes.went in
-      let back : wire.lawful r = law_before wire.port wire.plan wire.lawful n batch.accesses limits.tries r run.stops run.told v went law in
-      rests wire.port wire.plan wire.lawful n batch.accesses limits.tries r (calls_rest s r xs vs before back rest) run.stops run.told v went
+      let back : wire.lawful r = law_before wire.port wire.plan wire.lawful n batch.accesses limits.tries r
+          run.stops run.told v went law in
+      rests wire.port wire.plan wire.lawful n batch.accesses limits.tries r (calls_rest s r xs vs before back rest)
+          run.stops run.told v went
       law all
 
-  module _ (want : ℕ → ℕ) (P : ℕ → Type 0) (s : W) (rest : IsAtRest (wire.port s)) (plain : IsPlain (wire.port s).target.memory)
+  module _ (want : ℕ → ℕ) (P : ℕ → Type 0) (s : W) (rest : IsAtRest (wire.port s)) (plain : IsPlain (wire.port
+      s).target.memory)
     where
       -- over a lawful wire, from a target at rest, consecutive calls leave it at rest; each word is the one before or
       -- the one to write there; a read word is the one before, unless its address is written; a written word is there
       pub leaves : (t : W) (list : List Access) (answers : List Answer)
           → Calls wire limits s list answers t
-          → AllIn want P (plain_words_of (wire.port s).target.memory) list → wire.lawful t → Leaves want P s list answers t
+          → AllIn want P (plain_words_of (wire.port s).target.memory) list → wire.lawful t → Leaves want P s list
+              answers t
       leaves t list answers none i law =
           record { at_rest = rest; plain = plain; held = λ q. inl refl; tells = tt }
       leaves t list answers
@@ -340,11 +346,14 @@ module _ {W : Type 0} (wire : Ghosts W) (limits : Limits) where
           let words = (plain_words_of (wire.port s).target.memory) in
           let n : ℕ = batch_limit batch in
           let went = call.goes.went in
-          let back : wire.lawful r = law_before wire.port wire.plan wire.lawful n batch.accesses limits.tries r run.stops run.told v went law in
+          let back : wire.lawful r = law_before wire.port wire.plan wire.lawful n batch.accesses limits.tries r
+              run.stops run.told v went law in
           let h = leaves r xs vs before (all_front want P words xs batch.accesses i) back in
           let turns =
-          (tell_of wire.port wire.plan wire.lawful n batch.accesses limits.tries r h.at_rest run.stops run.told v went law).turns in
-          let kept = chain_keeps want P words n batch.accesses (wire.port r).target.memory turns.calls run.told turns.memory
+          (tell_of wire.port wire.plan wire.lawful n batch.accesses limits.tries r h.at_rest run.stops run.told v
+              went law).turns in
+          let kept = chain_keeps want P words n batch.accesses (wire.port r).target.memory turns.calls run.told
+              turns.memory
           h.plain
           (all_back want P words xs batch.accesses i) h.held turns.chain in
           let there : Kept want P words batch.accesses (plain_words_of (wire.port r).target.memory)
@@ -357,12 +366,14 @@ module _ {W : Type 0} (wire : Ghosts W) (limits : Limits) where
             plain = subst IsPlain (turns.left all)
                 (resume_chain_plain n batch.accesses (wire.port r).target.memory turns.calls
                 run.told turns.memory h.plain turns.chain);
-            at_rest = rests wire.port wire.plan wire.lawful n batch.accesses limits.tries r h.at_rest run.stops run.told v went law all;
+            at_rest = rests wire.port wire.plan wire.lawful n batch.accesses limits.tries r h.at_rest run.stops
+                run.told v went law all;
             held = there.held;
             tells = tells_both want P words (plain_words_of (wire.port v).target.memory) xs batch.accesses vs
                 run.told.answers
                 (calls_done s r xs vs before)
-                (all_later want P words (plain_words_of (wire.port r).target.memory) (plain_words_of (wire.port v).target.memory)
+                (all_later want P words (plain_words_of (wire.port r).target.memory) (plain_words_of (wire.port
+                    v).target.memory)
                 xs vs there.later
                 h.tells) there.tells;
           }

@@ -122,8 +122,10 @@ module _ {W : Type 0} (wire : Ghosts W) (limits : Limits) where
   pub record HasRead (list : List Access) (words : List ℕ) (s t : W) : Type 0 where
     pub at_rest : IsAtRest (wire.port t)
     pub plain : IsPlain (wire.port t).target.memory
-    pub same : (q : ℕ) → get (plain_words_of (wire.port t).target.memory) q ≡ get (plain_words_of (wire.port s).target.memory) q
-    pub words_are : words ≡ map (λ a. image_word_in (plain_words_of (wire.port s).target.memory) (plain_address a)) list
+    pub same : (q : ℕ) → get (plain_words_of (wire.port t).target.memory) q ≡ get (plain_words_of (wire.port
+        s).target.memory) q
+    pub words_are : words ≡ map (λ a. image_word_in (plain_words_of (wire.port s).target.memory) (plain_address a))
+        list
 
   -- over a lawful wire, from a target at rest, calls that only read return the memory's words, change none and leave
   -- the target at rest
@@ -176,7 +178,8 @@ module _ {W : Type 0} (wire : Ghosts W) (limits : Limits) where
         let r = has_read s reached (image_edge_list addr len) (image_edge_words addr len head tail)
         (edge_reads (image_needs_head addr len) (image_needs_tail addr len) (image_word_of addr)
         (image_last_word addr len)) edges back rest plain in
-        let e = edged (λ a. image_word_in old (plain_address a)) (image_needs_head addr len) (image_needs_tail addr len)
+        let e = edged (λ a. image_word_in old (plain_address a)) (image_needs_head addr len) (image_needs_tail addr
+            len)
         (image_word_of addr) (image_last_word addr len) head tail r.words_are in
         let l = leaves wire limits word (InImageWords addr len) reached r.at_rest r.plain t list
         made.answers
@@ -184,7 +187,8 @@ module _ {W : Type 0} (wire : Ghosts W) (limits : Limits) where
         (λ k low. record { low = omega arith; high = omega arith; aligned = omega arith })) law in
         let written : (k : ℕ) → k < image_word_count addr len
         → get now (image_word_of addr + 4 * k) ≡ Some (word (image_word_of addr + 4 * k))
-        = λ k low. written_at word (InImageWords addr len) middle now (image_word_of addr) (image_word_count addr len) k
+        = λ k low. written_at word (InImageWords addr len) middle now (image_word_of addr) (image_word_count addr
+            len) k
         made.answers (calls_done wire limits reached t list made.answers made.calls) l.tells low in
         let held : (q : ℕ) → (get now q ≡ get old q) ⊎ InImageWords addr len q =
         λ q. elim (l.held q) [ inl same ↦ inl (same ∙ r.same q) | inr both ↦ inr both.0 ] in (

@@ -156,7 +156,8 @@ module _ {W : Type 0} (wire : Ghosts W) (limits : Limits) where
   -- no access, and no call
   pub to_nothing : (s : W) (list : List Access) (a : Option (Option (List ℕ))) → list ≡ []
       → ReportsTo wire limits list None s s a a
-  to_nothing s list a empty = to_none s list None a (λ e. empty) (λ end e. no_fault (StoppedAt end) e) (no_fault Report)
+  to_nothing s list a empty = to_none s list None a (λ e. empty) (λ end e. no_fault (StoppedAt end) e) (no_fault
+      Report)
 
   -- memory ran out before a call
   pub to_unmade : (s : W) (list : List Access) (a : Option (Option (List ℕ)))
@@ -197,7 +198,8 @@ module _ {W : Type 0} (wire : Ghosts W) (limits : Limits) where
 
   -- one call of which the writer got the first bytes alone
   pub to_failed : (s t : W) (batch : ScriptListed) (told : HostReport) (sent : ℕ) (start now : Option (List ℕ))
-      → ReportsBatchRunFrom wire.port wire.plan wire.lawful wire.notes false limits.tries limits.resumes batch s t start now
+      → ReportsBatchRunFrom wire.port wire.plan wire.lawful wire.notes false limits.tries limits.resumes batch s t
+          start now
       told (Err sent) → batch.until ≡ None
       → IsScriptBatch batch
       → ReportsTo wire limits batch.accesses (Some Report) s t (Some start) (Some now)

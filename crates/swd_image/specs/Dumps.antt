@@ -25,9 +25,11 @@ module _ {W : Type 0} (wire : Ghosts W) (limits : Limits) where
     pub are : bytes ≡ image_bytes_of words (addr % 4) count
     pub memory : wire.lawful t → IsAtRest (wire.port s) → IsPlain (wire.port s).target.memory
         → bytes ≡ image_bytes_at (plain_of (wire.port s).target.memory) addr count
-    pub plain : wire.lawful t → IsAtRest (wire.port s) → IsPlain (wire.port s).target.memory → IsPlain (wire.port t).target.memory
+    pub plain : wire.lawful t → IsAtRest (wire.port s) → IsPlain (wire.port s).target.memory → IsPlain (wire.port
+        t).target.memory
     pub same : wire.lawful t → IsAtRest (wire.port s) → IsPlain (wire.port s).target.memory
-        → (q : ℕ) → get (plain_words_of (wire.port t).target.memory) q ≡ get (plain_words_of (wire.port s).target.memory) q
+        → (q : ℕ) → get (plain_words_of (wire.port t).target.memory) q ≡ get (plain_words_of (wire.port
+            s).target.memory) q
     pub rests : wire.lawful t → IsAtRest (wire.port s) → IsAtRest (wire.port t)
 
   -- the error of a dump: for a range that extends past the addresses no call was made
@@ -44,7 +46,8 @@ ComparesImage addr bytes found (Some difference) =
 
 -- The bytes of an image's range were read and compared. If the wire was lawful and the target at rest, the result
 -- holds for the memory's bytes.
-pub record VerifiesImage {W : Type 0} (wire : Ghosts W) (limits : Limits) (addr : ℕ) (bytes : List ℕ) (difference : Option ByteDifference) (s t : W) : Type 0 where
+pub record VerifiesImage {W : Type 0} (wire : Ghosts W) (limits : Limits) (addr : ℕ) (bytes : List ℕ) (difference :
+    Option ByteDifference) (s t : W) : Type 0 where
   pub found : List ℕ
   pub dumps : Dumps wire limits addr (length bytes) found s t
   pub tells : ComparesImage addr bytes found difference

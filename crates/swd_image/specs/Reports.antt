@@ -31,7 +31,8 @@ module _ {W : Type 0} (wire : Ghosts W) (limits : Limits) where
         → Reported s All list text t → Call wire limits batch t run u → batch.until ≡ None
         → Reported s run.told.ended (list ++ batch.accesses) (text ++ script_run_report batch 1 run) u
 
-  -- One call, between two states of the wire, whose last part has this report. A writer got the call's report, if there
+  -- One call, between two states of the wire, whose last part has this report. A writer got the call's report, if
+  -- there
   -- is one.
   pub record MakesOne (batch : ScriptListed) (s t : W) (told : HostReport) (before after : Option (Option (List ℕ))) :
       Type 0 where
@@ -79,7 +80,8 @@ module _ {W : Type 0} (wire : Ghosts W) (limits : Limits) where
   ReportsTo list fault s t (Some start) after =
       (now : Option (List ℕ)) × (after ≡ Some now) × Reports list fault s t start now
 
-  -- What a writer got of a load: the accesses are the reads of the partial words and the writes. What the written words
+  -- What a writer got of a load: the accesses are the reads of the partial words and the writes. What the written
+  -- words
   -- are is no part of a report.
   abbrev pub LoadReports : ℕ → List ℕ → Option ImageFault → W → W → Option (Option (List ℕ))
       → Option (Option (List ℕ)) → Type 0

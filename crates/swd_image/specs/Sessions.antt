@@ -92,7 +92,8 @@ module _ {W : Type 0} (wire : Ghosts W) (limits : Limits) where
     pub split : list ≡ before ++ (batch.accesses ++ rest)
     pub ended : P batch run
 
-  -- Calls before the next one was made: they ended `All` with each access done, and their accesses are the first ones of
+  -- Calls before the next one was made: they ended `All` with each access done, and their accesses are the first
+  -- ones of
   -- the list. So with some replies a call over the whole list makes these calls first.
   pub record FailsNext (list : List Access) (s u : W) : Type 0 where
     pub before : List Access

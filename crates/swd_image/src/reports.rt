@@ -70,7 +70,8 @@ impl CallReports for NoReports {
     }
 }
 
-/// The writer gets for each call the lines that `swd run` writes, each at the latest 1,024 lines after it is known, and
+/// The writer gets for each call the lines that `swd run` writes, each at the latest 1,024 lines after it is known,
+/// and
 /// all before the next call. Without a writer no report is written.
 impl<O: Write> CallReports for Option<O> {
     ghost held = { λ report. run_file_held O.contents report };

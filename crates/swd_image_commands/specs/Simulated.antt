@@ -35,7 +35,8 @@ abbrev pub IsSimulatedCommandStatus : ℕ → Result (Unit {0}) ℕ → ℕ → 
 IsSimulatedCommandStatus status (Ok done) own = own ≡ status
 IsSimulatedCommandStatus status (Err error) own = own ≡ error
 
--- The pieces were loaded at a target s, or not all of them. Its memory after that was written to its file, whatever the
+-- The pieces were loaded at a target s, or not all of them. Its memory after that was written to its file, whatever
+-- the
 -- answer is. If a file is named for the reports of the calls, it had the contents `blank` and has `filled` now.
 pub record LoadCommandSimulated {A : Type 0} (image : ImageLine) (pieces : List ImageFileBytes)
     (s : Bench PlainMemory A)
@@ -78,7 +79,8 @@ pub record DumpCommandSimulated {A : Type 0} (image : ImageLine) (count : ℕ) (
   pub blank : Option (Option (List ℕ))
   pub filled : Option (Option (List ℕ))
   pub named : is_some blank ≡ is_some image.report
-  pub came : DumpCame (image_bench_wire A) (command_limits image) (λ bytes. bytes) image.addr count answer s after blank
+  pub came : DumpCame (image_bench_wire A) (command_limits image) (λ bytes. bytes) image.addr count answer s after
+      blank
       filled
   pub dumped : IsCommandDumped image.format image.addr (command_result_reached None answer) status
 

@@ -23,7 +23,8 @@ pub(crate) fn limits_of(image: &ImageLine) -> Limits
     }
 }
 
-/// Opens the file of the report, if one is named. `-` is standard error, which isn't truncated. At an error it prints a
+/// Opens the file of the report, if one is named. `-` is standard error, which isn't truncated. At an error it
+/// prints a
 /// line and returns the status 2.
 pub(crate) fn open_report<A, F: Files, C, E: Write>(
     image: &ImageLine,

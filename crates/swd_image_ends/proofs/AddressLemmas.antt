@@ -101,12 +101,15 @@ module _ {W : Type 0} (wire : Ghosts W) (limits : Limits) (always : (w : W) → 
       let n : ℕ = batch_limit batch in
       let went = call.goes.went in
       let turns =
-      (tell_of wire.port wire.plan wire.lawful n batch.accesses limits.tries r h.at_rest run.stops run.told v went (always v)).turns in
+      (tell_of wire.port wire.plan wire.lawful n batch.accesses limits.tries r h.at_rest run.stops run.told v went
+          (always v)).turns in
       let same = same_chain n batch.accesses (wire.port r).target.memory turns.calls run.told turns.memory h.plain
       turns.chain in
       record {
-        at_rest = rests wire.port wire.plan wire.lawful n batch.accesses limits.tries r h.at_rest run.stops run.told v went (always v) all;
-        plain = subst IsPlain (turns.left all) (resume_chain_plain n batch.accesses (wire.port r).target.memory turns.calls
+        at_rest = rests wire.port wire.plan wire.lawful n batch.accesses limits.tries r h.at_rest run.stops run.told
+            v went (always v) all;
+        plain = subst IsPlain (turns.left all) (resume_chain_plain n batch.accesses (wire.port r).target.memory
+            turns.calls
             run.told turns.memory h.plain turns.chain);
         addresses = λ q. ap (λ x. is_some (get (plain_words_of x) q)) (sym (turns.left all)) ∙ same q ∙ h.addresses q;
       }
@@ -133,7 +136,8 @@ module _ {W : Type 0} (wire : Ghosts W) (limits : Limits) (always : (w : W) → 
       same_each rest h.0 u one.at_rest one.plain h.2 q ∙ one.addresses q
 
   -- what a load of pieces over such a wire leaves of the memory
-  pub loaded_there : (pieces : List ImageFileBytes) (s u : W) → IsAtRest (wire.port s) → IsPlain (wire.port s).target.memory
+  pub loaded_there : (pieces : List ImageFileBytes) (s u : W) → IsAtRest (wire.port s) → IsPlain (wire.port
+      s).target.memory
       → LoadsAll wire limits pieces s u
       → LoadsSimulatedMemory pieces (plain_of (wire.port s).target.memory) (plain_of (wire.port u).target.memory)
   loaded_there pieces s u rest plain h = record {
@@ -149,11 +153,13 @@ module _ {W : Type 0} (wire : Ghosts W) (limits : Limits) (always : (w : W) → 
   same_words (piece ∷ rest) difference s u at_rest plain (inl here) q = here.2.dumps.same (always u) at_rest plain q
   same_words (piece ∷ rest) difference s u at_rest plain (inr later) q =
       let h = later.1.dumps in
-      same_words rest difference later.0 u (h.rests (always later.0) at_rest) (h.plain (always later.0) at_rest plain) later.2 q
+      same_words rest difference later.0 u (h.rests (always later.0) at_rest) (h.plain (always later.0) at_rest
+          plain) later.2 q
       ∙ h.same (always later.0) at_rest plain q
 
   -- and a verification
-  pub verified_there : (pieces : List ImageFileBytes) (difference : Option ByteDifference) (s u : W) → IsAtRest (wire.port s)
+  pub verified_there : (pieces : List ImageFileBytes) (difference : Option ByteDifference) (s u : W) → IsAtRest
+      (wire.port s)
       → IsPlain (wire.port s).target.memory
       → VerifiesAll wire limits pieces difference s u
       → VerifiesSimulatedMemory pieces difference (plain_of (wire.port s).target.memory)

@@ -1,4 +1,5 @@
--- What a load, a verification and a dump state of the calls that were made of a wire: over any wire, at a target of which
+-- What a load, a verification and a dump state of the calls that were made of a wire: over any wire, at a target of
+-- which
 -- nothing is proved, and at a simulated one.
 use Rattle.std.specs.Prelude.{ℕ, ◌≡◌, List, [], length, Option, Result, OnOk, IfOk, IfErr}
 use Rattle.swd_port.specs.declared.call.Call.{Call}
@@ -18,7 +19,8 @@ use Rattle.swd_image_files.specs.Images.{ImageFileBytes}
 use Rattle.swd_image_ends.specs.PieceReports.{LoadsReported, VerifiesReported}
 use Rattle.swd_image_ends.specs.Pieces.{LoadFailsAt, LoadsAll, VerifiesAll, VerifyFailsAt}
 
--- A wire to a target of which nothing is proved, by the calls that were made of it, the last one first. It is lawful if
+-- A wire to a target of which nothing is proved, by the calls that were made of it, the last one first. It is
+-- lawful if
 -- they are consistent with the story.
 abbrev pub image_story_wire : (ℕ → Port) → Ghosts (List Call)
 image_story_wire story = record {

@@ -1,4 +1,5 @@
--- What holds of images of which no two pieces have an address, and what calls mean for the memory of a simulated target.
+-- What holds of images of which no two pieces have an address, and what calls mean for the memory of a simulated
+-- target.
 use Rattle.std.specs.Prelude.{ℕ, ◌≡◌, ◌+◌, ◌<◌, List, ◌∷◌, ◌++◌, length, slice_index, Option}
 use Rattle.swd_port.specs.PlainMemory.{PlainMemory}
 use Rattle.swd_port.specs.Bus.{bus_of, plain_of}

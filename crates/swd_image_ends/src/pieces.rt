@@ -14,8 +14,10 @@ use swd_run::Limits;
 /// Loads the pieces of an image in their order, each by `swd_image::load`, over a wire on which nothing is
 /// due.
 ///
-/// Over a target that conforms to the model and was at rest, with a plain memory, this memory contains each piece after
-/// a load that succeeds. If two pieces have an address, it contains the later one's byte. All other memory is unchanged
+/// Over a target that conforms to the model and was at rest, with a plain memory, this memory contains each piece
+/// after
+/// a load that succeeds. If two pieces have an address, it contains the later one's byte. All other memory is
+/// unchanged
 /// then. `report` gets the reports of the calls while they go on.
 ///
 /// # Errors

@@ -125,7 +125,8 @@ ReportWritesOn (Ok told) start now all = HasReportWritten start now all told
 ReportWritesOn (Err told) start now all = OutputStopped told start now all
 
 -- One run of a batch that is no `until`, from the wire s to the wire t, whose last call has this report. `opened` says
--- whether the target is open at s. The calls made of the wire are those that the reports tell. A writer had the contents
+-- whether the target is open at s. The calls made of the wire are those that the reports tell. A writer had the
+-- contents
 -- `old`, and has `new` now: all of the run's report was written, or exactly its first bytes and not all.
 pub record ReportsBatchRunFrom {W : Type 0} (port : W → Port) (plan : W → List Mark) (lawful : W → Type 0)
     (notes : List Call → W → Type 0) (opened : Bool) (tries resumes : ℕ) (batch : ScriptListed) (s t : W)

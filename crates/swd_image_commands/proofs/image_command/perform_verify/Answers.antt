@@ -16,7 +16,8 @@ returns g c =
       _,
       run_file_is_some _ c.report_writer.result ∙ c.report_writer.ensures ∙ c.in-Ok-open_report.ensures.named,
       calls,
-      subst (λ limits. VerifyCame (image_story_wire g.P.Story.at) limits pieces answer [] calls _ _) c.limits_of.ensures came,
+      subst (λ limits. VerifyCame (image_story_wire g.P.Story.at) limits pieces answer [] calls _ _)
+          c.limits_of.ensures came,
       over,
       c.verified_status-status.ensures,
     )
