@@ -22,7 +22,7 @@ returns-in_default g c =
       report = to_one g.W.Wire c.args.limits c.args.wire.now
           c.make_call.new.wire (script_batch_listed c.args.batch.now) (host_report_of c.in_ok-made.made)
           (Some (Stopped c.in_ok-made.made.ended)) (g.S.CallReports.held c.args.report.now)
-          (g.S.CallReports.held c.make_call.new.report) made
+          (g.S.CallReports.held c.make_call.new.self) made
           c.requires.plain (λ e. absurd cc) (λ end e. cc) (λ e. cc);
       plan = c.in_ok-made.ensures.plan;
     }
@@ -61,7 +61,7 @@ returns-in-Some-clause-report g c =
     to_one g.W.Wire c.args.limits c.args.wire.now
     c.make_call.new.wire (script_batch_listed c.args.batch.now) (host_report_of c.in_ok-made.made)
     (Some (FaultAt c.in-Some.addr))
-    (g.S.CallReports.held c.args.report.now) (g.S.CallReports.held c.make_call.new.report)
+    (g.S.CallReports.held c.args.report.now) (g.S.CallReports.held c.make_call.new.self)
     c.in_ok-made.ensures.call c.requires.plain (λ e. absurd cc) (λ end e. absurd cc) (λ e. cc)
 
 pub returns-in-None-clause-call : goal.returns-in-None-clause-call
@@ -85,5 +85,5 @@ pub returns-in-None-clause-report : goal.returns-in-None-clause-report
 returns-in-None-clause-report g c =
     to_one g.W.Wire c.args.limits c.args.wire.now
     c.make_call.new.wire (script_batch_listed c.args.batch.now) (host_report_of c.in_ok-made.made) None
-    (g.S.CallReports.held c.args.report.now) (g.S.CallReports.held c.make_call.new.report)
+    (g.S.CallReports.held c.args.report.now) (g.S.CallReports.held c.make_call.new.self)
     c.in_ok-made.ensures.call c.requires.plain (λ e. c.in-All.is) (λ end e. absurd cc) (λ e. cc)

@@ -10,6 +10,6 @@ loop-index-preserved g c =
         c.args.self.now.edges.tail in
     let index = c.loop-index.index in
     let here = c.args.at + 4 * index in
-    c.in-Ok-push.ensures.items ∙ ap (λ l. l ++ Write here c.word.result ∷ []) c.loop-index.invariant
-    ∙ ap (λ w. image_writes word c.args.at index ++ Write here w ∷ []) c.word.ensures
+    c.in-Ok-push.ensures.items ∙ ap (λ l. l ++ Write here c.word-word.result ∷ []) c.loop-index.invariant
+    ∙ ap (λ w. image_writes word c.args.at index ++ Write here w ∷ []) c.word-word.ensures
     ∙ sym (image_writes_next word c.args.at index)
