@@ -2,6 +2,7 @@
 ghost use Rattle.std.specs.Prelude.{IsTrue};
 ghost use Rattle.swd_target.specs.Marks.{IsLegalPlan};
 
+mod broken;
 mod dumps;
 mod expect;
 mod loads;

@@ -174,9 +174,7 @@ pub(crate) fn make_call<W: Wire, A: Allocator + Copy>(
     requires due { (W.port wire.old).link.due ≡ Nothing }
     ensures goes { IfSome result (λ resumed. RunsBatchFrom W.port W.plan W.lawful options.opened
         (batch_limit (script_batch_listed batch.now)) options.tries options.resumes
-        (script_batch_listed batch.now) wire.old (script_run_of resumed) wire.new
-        × HostCalls W.notes (ScriptReportsCalls (script_batch_listed batch.now).accesses (script_run_of resumed).stops
-        (script_run_of resumed).told) wire.old wire.new) }
+        (script_batch_listed batch.now) wire.old (script_run_of resumed) wire.new) }
     ensures refused { IfNone result (IsBatchRefused W.port W.plan W.lawful options.opened
         (batch_limit (script_batch_listed batch.now)) options.tries options.resumes
         (script_batch_listed batch.now) wire.old wire.new) }
@@ -212,9 +210,7 @@ pub fn run_on<W: Wire, A: Allocator + Copy>(
     requires due { (W.port wire.old).link.due ≡ Nothing }
     ensures goes { IfSome result (λ resumed. RunsBatch W.port W.plan W.lawful
         (batch_limit (script_batch_listed batch.now)) tries resumes
-        (script_batch_listed batch.now) wire.old (script_run_of resumed) wire.new
-        × HostCalls W.notes (ScriptReportsCalls (script_batch_listed batch.now).accesses (script_run_of resumed).stops
-        (script_run_of resumed).told) wire.old wire.new) }
+        (script_batch_listed batch.now) wire.old (script_run_of resumed) wire.new) }
     ensures refused { IfNone result (IsBatchRefused W.port W.plan W.lawful false
         (batch_limit (script_batch_listed batch.now)) tries resumes
         (script_batch_listed batch.now) wire.old wire.new) }
