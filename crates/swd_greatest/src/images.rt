@@ -2,8 +2,7 @@
 use crate::fault::Fault;
 use crate::targets::{BASE, TRIES, bench, is_ready};
 use std::alloc::{AllocError, Global};
-use swd_image::{NoReports, dump, load, verify};
-use swd_run::Limits;
+use swd_image::{Limits, NoReports, dump, load, verify};
 
 /// The bytes of the image.
 const BYTES: u32 = (1 << 20) + 4;

@@ -21,7 +21,7 @@ use Rattle.swd_run.specs.GoingOn.{ScriptCalls, ran, resumed}
 use Rattle.swd_run.specs.Sessions.{ScriptRun, batch_limit}
 use Rattle.swd_run.specs.declared.going_on.Stop.{Stop}
 use Rattle.swd_run.proofs.WentLemmas.{law_before, rests, tell_of}
-use Rattle.swd_run.specs.declared.options.Limits.{Limits}
+use Rattle.swd_image.specs.declared.limits.Limits.{Limits}
 use Rattle.swd_port.specs.declared.wire.Wire.{Ghosts}
 use Rattle.swd_image.specs.Sessions.{AreImageDone, Call, Calls, Fails, FailsAs, FailsNext, MadeAll, ReadsAs, image_first_failed}
 use Rattle.swd_image.specs.Sessions.{is_image_done, none, more, image_words_read}

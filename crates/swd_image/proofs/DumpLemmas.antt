@@ -7,7 +7,7 @@ use Rattle.std.specs.FinMap.{FinMap}
 use Rattle.swd_port.specs.PlainMemory.{PlainMemory}
 use Rattle.swd_port.specs.Bus.{plain_of}
 use Rattle.swd_port.specs.PlainBus.{IsPlain, plain_words_of}
-use Rattle.swd_run.specs.declared.options.Limits.{Limits}
+use Rattle.swd_image.specs.declared.limits.Limits.{Limits}
 use Rattle.swd_port.specs.declared.wire.Wire.{Ghosts}
 use Rattle.swd_image.proofs.CallLemmas.{calls_rest}
 use Rattle.swd_host.specs.Reports.{IsAtRest}

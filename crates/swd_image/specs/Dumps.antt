@@ -4,7 +4,7 @@ use Rattle.std.specs.FinMap.{get}
 use Rattle.swd_port.specs.Bus.{plain_of}
 use Rattle.swd_port.specs.PlainBus.{IsPlain, plain_words_of}
 use Rattle.swd_host.specs.Reports.{IsAtRest}
-use Rattle.swd_run.specs.declared.options.Limits.{Limits}
+use Rattle.swd_image.specs.declared.limits.Limits.{Limits}
 use Rattle.swd_image.specs.declared.fault.ImageFault.{ImageFault}
 use Rattle.swd_image.specs.declared.fault.ImageFault.TheVariants.{Range}
 use Rattle.swd_image.specs.declared.verifying.ByteDifference.{ByteDifference}

@@ -7,7 +7,7 @@ use Rattle.swd_host.specs.declared.outcome.End.{End}
 use Rattle.swd_host.specs.declared.outcome.End.TheVariants.{All}
 use Rattle.swd_host.specs.Reports.{HostReport}
 use Rattle.swd_script.specs.Scripts.{ScriptListed}
-use Rattle.swd_run.specs.declared.options.Limits.{Limits}
+use Rattle.swd_image.specs.declared.limits.Limits.{Limits}
 use Rattle.swd_run.specs.Records.{ForRunFile}
 use Rattle.swd_run.specs.Reports.{script_run_report}
 use Rattle.swd_run.specs.Sessions.{ScriptRun}

@@ -10,11 +10,11 @@ ghost use Rattle.swd_image.specs.Reports.{ReportsTo, image_fault_of};
 ghost use Rattle.swd_image.specs.Sessions.{AreImageDone, Call, FailsAs, image_first_failed, is_image_done};
 
 use crate::fault::ImageFault;
+use crate::limits::Limits;
 use crate::reports::CallReports;
 use std::alloc::Allocator;
 use swd_host::End;
 use swd_port::{Access, Answer, Wire};
-use swd_run::Limits;
 use swd_script::Batch;
 
 // Returns whether an access succeeded: a read has a word, a write is written.

@@ -7,12 +7,12 @@ ghost use Rattle.swd_image.specs.Dumps.{DumpFails, Dumps};
 ghost use Rattle.swd_image.specs.Reports.{DumpReports, image_fault_of};
 
 use crate::fault::ImageFault;
+use crate::limits::Limits;
 use crate::range::{word_count, word_of};
 use crate::reading::read_words;
 use crate::reports::CallReports;
 use std::alloc::Allocator;
 use swd_port::Wire;
-use swd_run::Limits;
 
 // Returns byte `place % 4` of a word, the least significant byte first.
 fn byte_in(word: u32, place: u64) -> u8

@@ -5,6 +5,7 @@
 mod calls;
 mod dumping;
 mod fault;
+mod limits;
 mod loading;
 mod range;
 mod reading;
@@ -14,6 +15,7 @@ mod writing;
 
 pub use dumping::dump;
 pub use fault::ImageFault;
+pub use limits::Limits;
 pub use loading::load;
 pub use reports::{CallReports, NoReports};
 pub use verifying::{ByteDifference, verify};

@@ -7,13 +7,13 @@ ghost use Rattle.swd_image.specs.Reports.{LoadReports, ReportsTo, image_fault_of
 ghost use Rattle.swd_image.specs.Sessions.{FailsAs, ReadsAs};
 
 use crate::fault::ImageFault;
+use crate::limits::Limits;
 use crate::range::{last_word, needs_head, needs_tail, word_count, word_of};
 use crate::reading::read_words;
 use crate::reports::CallReports;
 use crate::writing::{Edges, Loading, write_words};
 use std::alloc::Allocator;
 use swd_port::Wire;
-use swd_run::Limits;
 
 // Reads the word at an address if it is needed, and otherwise returns 0.
 fn read_word<W: Wire, S: CallReports, A: Allocator + Copy>(

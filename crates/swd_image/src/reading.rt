@@ -9,10 +9,10 @@ ghost use Rattle.swd_image.specs.Sessions.{FailsAs, ReadsAs, image_word_read, im
 
 use crate::calls::run_call;
 use crate::fault::ImageFault;
+use crate::limits::Limits;
 use crate::reports::CallReports;
 use std::alloc::Allocator;
 use swd_port::{Answer, MOST_ACCESSES, Wire, push_reads};
-use swd_run::Limits;
 use swd_script::Batch;
 
 // Returns the call that reads `count` words from `at` on as a block.

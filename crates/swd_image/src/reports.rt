@@ -1,5 +1,6 @@
 //! Where the reports of the calls of a load, a dump or a verification go.
 ghost use Rattle.std.specs.Prelude.{◌≡◌, ℕ, IfErr, IfOk, List, None, Option, Some};
+ghost use Rattle.std.specs.Vec.{vec_capacity};
 ghost use Rattle.swd_host.specs.Reports.{host_report_of};
 ghost use Rattle.swd_port.specs.declared.wire.Due.TheVariants.{Nothing};
 ghost use Rattle.swd_script.specs.Readers.{script_batch_listed};
@@ -9,11 +10,13 @@ ghost use Rattle.swd_image.specs.Reports.{MakesOne, ReportsTo};
 ghost use Rattle.swd_image.specs.Sessions.{FailsAs};
 
 use crate::fault::ImageFault;
+use crate::limits::Limits;
 use std::alloc::Allocator;
+use std::convert::Infallible;
 use std::io::Write;
-use swd_host::Report;
-use swd_port::Wire;
-use swd_run::{Limits, run_on_reporting, run_on_to};
+use swd_host::{AnswerSink, Report};
+use swd_port::{Answer, Wire};
+use swd_run::{RunSink, Stop, run_on_reporting, run_on_to};
 use swd_script::Batch;
 
 /// Where the reports of the calls of a load, a dump or a verification go: [`NoReports`], or an optional writer.
@@ -46,6 +49,46 @@ pub trait CallReports {
         ensures plan { W.plan wire.new ≡ W.plan wire.old };
 }
 
+// Keeps the answers of a call, as many as there is capacity for, and no place where it was resumed.
+#[derive(Drop)]
+struct CallAnswers<A: Allocator> {
+    answers: Vec<Answer, A>,
+}
+
+impl<A: Allocator> AnswerSink for CallAnswers<A> {
+    ghost taken = { λ kept. kept.answers.items };
+
+    ghost most = { λ kept. vec_capacity kept.answers };
+
+    ghost keeps = { λ _ _. Unit {0} };
+
+    fn count(&self) -> usize {
+        self.answers.len()
+    }
+
+    fn take(&mut self, answer: Answer) {
+        self.answers.push(answer).unwrap();
+    }
+
+    ghost keeps_all = { λ a. tt };
+
+    ghost keeps_on = { λ a b c first next. tt };
+}
+
+impl<A: Allocator> RunSink for CallAnswers<A> {
+    type Refusal = Infallible;
+
+    ghost follows = { λ _ _ _. Unit {0} };
+
+    fn stop(&mut self, _stop: Stop) -> Result<(), Infallible> {
+        Ok(())
+    }
+
+    ghost answers_follow = { λ a b kept. tt };
+
+    ghost follows_on = { λ a b c first next i j. tt };
+}
+
 /// No report is written.
 #[derive(Clone, Copy, Debug)]
 pub struct NoReports;
@@ -60,11 +103,12 @@ impl CallReports for NoReports {
         batch: &Batch<A>,
         limits: Limits,
     ) -> Result<Report<A>, ImageFault> {
-        let Ok(mut answers) = Vec::with_capacity(alloc, batch.accesses.len()) else {
+        let Ok(answers) = Vec::with_capacity(alloc, batch.accesses.len()) else {
             return Err(ImageFault::Memory);
         };
-        match run_on_to(wire, batch, limits.tries, limits.resumes, &mut answers) {
-            Ok(ending) => Ok(ending.with(answers)),
+        let mut kept = CallAnswers { answers };
+        match run_on_to(wire, batch, limits.tries, limits.resumes, &mut kept) {
+            Ok(ending) => Ok(ending.with(kept.answers)),
             Err(never) => match never {},
         }
     }

@@ -6,10 +6,10 @@ ghost use Rattle.swd_image.specs.Reports.{DumpReports, image_fault_of};
 
 use crate::dumping::dump;
 use crate::fault::ImageFault;
+use crate::limits::Limits;
 use crate::reports::CallReports;
 use std::alloc::Allocator;
 use swd_port::Wire;
-use swd_run::Limits;
 
 /// A byte of the memory that differs from the image.
 #[derive(Clone, Copy, Debug, PartialEq, Eq)]

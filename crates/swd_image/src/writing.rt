@@ -10,10 +10,10 @@ ghost use Rattle.swd_image.specs.Sessions.{FailsAs, MadeAll};
 
 use crate::calls::run_call;
 use crate::fault::ImageFault;
+use crate::limits::Limits;
 use crate::reports::CallReports;
 use std::alloc::Allocator;
 use swd_port::{Access, MOST_ACCESSES, Wire};
-use swd_run::Limits;
 use swd_script::Batch;
 
 /// The words that an image covers only in part, as they were read: the first one and the last one.

@@ -4,7 +4,7 @@ use Rattle.std.proofs.Common.{sym}
 use Rattle.std.specs.Prelude.{◌^◌, IfOk}
 use Rattle.swd_port.specs.declared.wire.Wire.{Ghosts}
 use Rattle.swd_remote.specs.declared.remote.Fault.{Fault}
-use Rattle.swd_run.specs.declared.options.Limits.{Limits}
+use Rattle.swd_image.specs.declared.limits.Limits.{Limits}
 use Rattle.swd_image.specs.declared.fault.ImageFault.{ImageFault}
 use Rattle.swd_image.specs.Dumps.{Dumps}
 use Rattle.swd_image.proofs.DumpLemmas.{dump_bytes_length}

@@ -4,7 +4,7 @@ ghost use Rattle.swd_image_commands.specs.Images.{command_limits};
 
 use std::io::Write;
 use swd_console::{Console, Destination, Files, InUse, Watched, WriteRole};
-use swd_run::Limits;
+use swd_image::Limits;
 use swd_words::ImageLine;
 
 /// Where the report goes, if one is asked for.

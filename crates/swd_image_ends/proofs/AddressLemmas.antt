@@ -17,7 +17,7 @@ use Rattle.swd_host.specs.Plain.{memory_after}
 use Rattle.swd_host.proofs.ReadChains.{resume_chain_plain}
 use Rattle.swd_port.proofs.PlainBusLaws.{is_plain_next, plain_of_next}
 use Rattle.swd_host.specs.Reports.{IsAtRest, HostReport}
-use Rattle.swd_run.specs.declared.options.Limits.{Limits}
+use Rattle.swd_image.specs.declared.limits.Limits.{Limits}
 use Rattle.swd_run.specs.Sessions.{batch_limit}
 use Rattle.swd_run.proofs.WentLemmas.{rests, tell_of}
 use Rattle.swd_image.specs.declared.verifying.ByteDifference.{ByteDifference}

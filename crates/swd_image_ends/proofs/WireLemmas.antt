@@ -7,7 +7,7 @@ use Rattle.swd_port.specs.declared.wire.Wire.{Ghosts}
 use Rattle.swd_host.specs.declared.outcome.End.{End}
 use Rattle.swd_host.specs.declared.outcome.End.TheVariants.{All}
 use Rattle.swd_script.specs.Scripts.{ScriptListed}
-use Rattle.swd_run.specs.declared.options.Limits.{Limits}
+use Rattle.swd_image.specs.declared.limits.Limits.{Limits}
 use Rattle.swd_run.specs.Sessions.{ScriptRun}
 use Rattle.swd_run.proofs.EngineLemmas.{goes_by}
 use Rattle.swd_image.specs.declared.fault.ImageFault.{ImageFault}
@@ -35,7 +35,6 @@ module _ {W V : Type 0} (by : W → V) (wire : Ghosts V) (limits : Limits) where
     call_by batch s run t call = record {
       fits = call.fits;
       goes = goes_by by wire.port wire.plan wire.lawful limits.tries limits.resumes batch s run t call.goes;
-      told = call.told;
     }
 
     calls_by : (s : W) (list : List Access) (answers : List Answer) (t : W)

@@ -6,7 +6,7 @@ use Rattle.swd_port.specs.Bus.{bus_of, plain_of}
 use Rattle.swd_host.specs.Reports.{IsAtRest}
 use Rattle.swd_target.specs.declared.bench.Bench.{Bench}
 use Rattle.swd_target.specs.Benches.{bench_port}
-use Rattle.swd_run.specs.declared.options.Limits.{Limits}
+use Rattle.swd_image.specs.declared.limits.Limits.{Limits}
 use Rattle.swd_image.specs.declared.verifying.ByteDifference.{ByteDifference}
 use Rattle.swd_image.specs.Bytes.{image_byte_at}
 use Rattle.swd_image.specs.Dumps.{Dumps}

@@ -2,7 +2,7 @@
 use Rattle.std.specs.Prelude.{ℕ, ◌≡◌, List, [], ◌∷◌, ◌++◌, length, Option, None, Result, Ok}
 use Rattle.swd_port.specs.declared.access.Access.{Access}
 use Rattle.swd_port.specs.declared.wire.Wire.{Ghosts}
-use Rattle.swd_run.specs.declared.options.Limits.{Limits}
+use Rattle.swd_image.specs.declared.limits.Limits.{Limits}
 use Rattle.swd_image.specs.declared.fault.ImageFault.{ImageFault}
 use Rattle.swd_image.specs.declared.verifying.ByteDifference.{ByteDifference}
 use Rattle.swd_image.specs.Lists.{image_dump_list, image_edge_list, image_load_list}

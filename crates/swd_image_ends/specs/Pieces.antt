@@ -7,7 +7,7 @@ use Rattle.swd_port.specs.PlainMemory.{PlainMemory}
 use Rattle.swd_port.specs.Bus.{plain_of}
 use Rattle.swd_port.specs.PlainBus.{IsPlain}
 use Rattle.swd_host.specs.Reports.{IsAtRest}
-use Rattle.swd_run.specs.declared.options.Limits.{Limits}
+use Rattle.swd_image.specs.declared.limits.Limits.{Limits}
 use Rattle.swd_image.specs.declared.fault.ImageFault.{ImageFault}
 use Rattle.swd_image.specs.declared.verifying.ByteDifference.{ByteDifference}
 use Rattle.swd_image.specs.Bytes.{image_byte_at, image_bytes_at}

@@ -4,11 +4,10 @@ ghost use Rattle.swd_image_ends.specs.Pieces.{pieces_to_load};
 
 use crate::pieces::{load_pieces, verify_pieces};
 use std::alloc::Allocator;
-use swd_image::{ByteDifference, CallReports, ImageFault, dump};
+use swd_image::{ByteDifference, CallReports, ImageFault, Limits, dump};
 use swd_image_files::Image;
 use swd_port::{Story, Tied, Transport, TransportWire};
 use swd_remote::LineJob;
-use swd_run::Limits;
 
 /// A load of the pieces of an image, by [`load_pieces`].
 #[derive(Drop)]

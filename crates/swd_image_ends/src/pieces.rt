@@ -6,10 +6,9 @@ ghost use Rattle.swd_image_ends.specs.PieceReports.{LoadsReported, VerifiesRepor
 ghost use Rattle.swd_image_ends.specs.Pieces.{LoadFailsAt, LoadsAll, VerifiesAll, VerifyFailsAt, pieces_to_load};
 
 use std::alloc::Allocator;
-use swd_image::{ByteDifference, CallReports, ImageFault, load, verify};
+use swd_image::{ByteDifference, CallReports, ImageFault, Limits, load, verify};
 use swd_image_files::Image;
 use swd_port::Wire;
-use swd_run::Limits;
 
 /// Loads the pieces of an image in their order, each by `swd_image::load`, over a wire on which nothing is
 /// due.

@@ -12,9 +12,8 @@ mod reports;
 
 use std::alloc::{Allocator, Global};
 use std::test::Fail;
-use swd_image::{ByteDifference, ImageFault, NoReports, dump, load, verify};
+use swd_image::{ByteDifference, ImageFault, Limits, NoReports, dump, load, verify};
 use swd_port::{Access, Due, Mark, Wire};
-use swd_run::Limits;
 use swd_target::{Bench, Memory, Quirks};
 
 /// Where most memories begin.

@@ -7,9 +7,8 @@ ghost use Rattle.swd_host.specs.Reports.{IsAtRest};
 ghost use Rattle.swd_image.specs.Images.{IsImageLoaded};
 
 use std::alloc::Global;
-use swd_image::{ImageFault, NoReports, load};
+use swd_image::{ImageFault, Limits, NoReports, load};
 use swd_port::Wire;
-use swd_run::Limits;
 
 /// Writes bytes from an address on. Each access may meet eight events, and a call is resumed once after a lost
 /// acknowledgement.

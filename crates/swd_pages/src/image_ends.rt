@@ -6,12 +6,11 @@ ghost use Rattle.swd_port.specs.Port.{port_made};
 
 use std::alloc::Global;
 use std::io::{Read, Write};
-use swd_image::{ImageFault, NoReports};
+use swd_image::{ImageFault, Limits, NoReports};
 use swd_image_ends::{LoadJob, over_line};
 use swd_image_files::Image;
 use swd_port::Story;
 use swd_remote::RemoteStreams;
-use swd_run::Limits;
 
 // An instance of `Story`. Which one is irrelevant: the contract of the call is proved for each.
 struct Untold;

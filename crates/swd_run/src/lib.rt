@@ -27,7 +27,6 @@ pub use counting::count_accesses;
 pub use engine::{Finished, run_batches};
 pub use fault::{EngineFault, RunFault, TextsFault};
 pub use going_on::{Resumed, Stop, run_on, run_on_to};
-pub use options::Limits;
 pub use records::Records;
 pub use report::{ReportLine, answer_line, last_line, resume_line};
 pub use run_sink::RunSink;

@@ -1,14 +1,5 @@
 //! How a call is made.
 
-/// What a call may meet before it ends early, as the functions over images take it.
-#[derive(Clone, Copy, Debug, PartialEq, Eq)]
-pub struct Limits {
-    /// The number of events that the opening, and each access, may meet.
-    pub tries: u32,
-    /// How often the call is resumed at most, each time after a lost acknowledgement.
-    pub resumes: u32,
-}
-
 /// How a call is made.
 #[derive(Clone, Copy)]
 pub(crate) struct CallOptions {

@@ -7,7 +7,6 @@ ghost use Rattle.swd_run.specs.Leads.{run_sink_no_more, run_sink_grows_twice, ru
 
 use crate::going_on::Stop;
 use std::alloc::Allocator;
-use std::convert::Infallible;
 use swd_host::AnswerSink;
 use swd_port::Answer;
 
@@ -80,19 +79,4 @@ impl<A: Allocator> RunSink for KeptAnswers<A> {
     ghost answers_follow = { λ a b kept. run_sink_no_more a.stops.items b.stops.items kept };
 
     ghost follows_on = { λ a b c first next. run_sink_grows_twice a.stops.items b.stops.items c.stops.items first next };
-}
-
-/// Takes each place, and keeps none.
-impl<A: Allocator> RunSink for Vec<Answer, A> {
-    type Refusal = Infallible;
-
-    ghost follows = { λ _ _ _. Unit {0} };
-
-    fn stop(&mut self, _stop: Stop) -> Result<(), Infallible> {
-        Ok(())
-    }
-
-    ghost answers_follow = { λ a b kept. tt };
-
-    ghost follows_on = { λ a b c first next i j. tt };
 }

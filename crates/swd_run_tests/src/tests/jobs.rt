@@ -4,11 +4,10 @@ use super::memory_server::{BASE, End, Untold};
 use std::alloc::{AllocError, Global};
 use std::test::Fail;
 use swd_host::End as RunEnd;
-use swd_image::{ByteDifference, ImageFault, NoReports};
+use swd_image::{ByteDifference, ImageFault, Limits, NoReports};
 use swd_image_ends::{DumpJob, LoadJob, VerifyJob, over_line};
 use swd_image_files::{Image, Range};
 use swd_remote::RemoteStreams;
-use swd_run::Limits;
 
 type Line<'a> = RemoteStreams<End<'a>, End<'a>>;
 

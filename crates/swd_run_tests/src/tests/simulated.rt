@@ -3,10 +3,9 @@ use super::expect::{expect_eq, expect_eq_at};
 use linked_list_allocator::LocalHeap;
 use std::alloc::Allocator;
 use std::test::Fail;
-use swd_image::{ByteDifference, ImageFault, NoReports, dump};
+use swd_image::{ByteDifference, ImageFault, Limits, NoReports, dump};
 use swd_image_ends::{load_pieces, memory_bytes, simulated_target, verify_pieces};
 use swd_image_files::{Format, read_image};
-use swd_run::Limits;
 
 const LIMITS: Limits = Limits {
     tries: 3,

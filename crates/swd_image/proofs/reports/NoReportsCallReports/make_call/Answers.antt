@@ -15,10 +15,10 @@ returns-in_default-clause-report g c = (refl, λ e. cc)
 
 pub returns-in-Ok-clause-call : goal.returns-in-Ok-clause-call
 returns-in-Ok-clause-call g c =
-    let (stops, follows, goes, told) = c.in-Ok.ensures.goes in
+    let (stops, follows, goes) = c.in-Ok.ensures.goes in
     record {
-      run = record { stops = stops; told = host_report_to c.run_on_to.new.sink.items c.in-Ok.ending };
+      run = record { stops = stops; told = host_report_to c.run_on_to.new.sink.answers.items c.in-Ok.ending };
       last = sym c.with.ensures;
-      call = record { fits = c.requires.batch; goes = goes; told = told };
+      call = record { fits = c.requires.batch; goes = goes };
       writes = refl;
     }

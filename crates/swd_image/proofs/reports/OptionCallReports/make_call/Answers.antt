@@ -1,8 +1,8 @@
-use Rattle.std.proofs.Common.{[], None, Some, ap, false, refl, subst, sym}
+use Rattle.std.proofs.Common.{[], None, Some, ap, refl, subst, sym}
 use Rattle.swd_host.specs.Reports.{host_report_of}
 use Rattle.swd_script.specs.Readers.{script_batch_listed}
 use Rattle.swd_run.specs.Records.{run_file_held}
-use Rattle.swd_run.specs.Reports.{ReportsBatchRunFrom}
+use Rattle.swd_run.specs.Reports.{ReportsBatchRun}
 use Rattle.swd_image.specs.declared.fault.ImageFault.TheVariants.{Memory, Report}
 use Rattle.swd_image.specs.Reports.{ReportsTo}
 use Rattle.swd_image.specs.Sessions.{FailsNext, none}
@@ -20,8 +20,9 @@ returns-in_default-run_on_reporting-clause-fault g c =
 pub returns-in-Err-clause-fault : goal.returns-in-Err-clause-fault
 returns-in-Err-clause-fault g c =
     let h = c.in-Some-run_on_reporting.ensures.reports in
-    call_fails g.W.Wire c.args.limits c.args.wire.now c.run_on_reporting.new.wire (script_batch_listed c.args.batch.now)
-    h.run _ (record { fits = c.requires.batch; goes = h.goes; told = h.calls }) tt
+    call_fails g.W.Wire c.args.limits c.args.wire.now c.run_on_reporting.new.wire (script_batch_listed
+        c.args.batch.now)
+    h.run _ (record { fits = c.requires.batch; goes = h.goes }) tt
 
 pub returns-in_default-run_on_reporting-clause-report : goal.returns-in_default-run_on_reporting-clause-report
 returns-in_default-run_on_reporting-clause-report g c =
@@ -46,6 +47,6 @@ returns-in-Err-clause-report g c =
     subst (λ a. ReportsTo g.W.Wire c.args.limits batch.accesses (Some Report) c.args.wire.now t a (Some now))
     (sym (ap (run_file_held g.O.Write.contents) c.in-Some.is))
     (to_failed g.W.Wire c.args.limits c.args.wire.now t batch told c.in-Err.field-0 start now
-    (subst (λ w. ReportsBatchRunFrom g.W.Wire.port g.W.Wire.plan g.W.Wire.lawful g.W.Wire.notes false
-    c.args.limits.tries c.args.limits.resumes batch c.args.wire.now t start now told w) c.in-Err.is
+    (subst (λ w. ReportsBatchRun g.W.Wire.port g.W.Wire.plan g.W.Wire.lawful c.args.limits.tries
+        c.args.limits.resumes batch c.args.wire.now t start now told w) c.in-Err.is
     c.in-Some-run_on_reporting.ensures.reports) c.requires.plain c.requires.batch)
