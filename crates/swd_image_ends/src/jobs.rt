@@ -1,4 +1,5 @@
 //! The jobs of an image, for [`over_line`](swd_remote::over_line).
+ghost use Rattle.std.specs.Prelude.{[]};
 ghost use Rattle.swd_image_ends.specs.Came.{DumpCame, LoadCame, VerifyCame, image_story_wire};
 ghost use Rattle.swd_image_ends.specs.Pieces.{pieces_to_load};
 
