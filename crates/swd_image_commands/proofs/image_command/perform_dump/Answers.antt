@@ -1,8 +1,11 @@
 use Rattle.std.proofs.Common.{◌+◌, ◌≤◌, ◌∙◌, [], inr, length, subst, sym}
 use Rattle.std.specs.Prelude.{◌^◌}
+use Rattle.swd_run.specs.Records.{run_file_held}
 use Rattle.swd_run.proofs.EngineLemmas.{run_file_is_some}
 use Rattle.swd_image_files.specs.Texts.{image_file_of_piece}
 use Rattle.swd_image_ends.specs.Came.{DumpCame, image_story_wire}
+use Rattle.swd_console.specs.Destinations.{console_report_contents}
+use Rattle.swd_console.specs.Streams.{stream_watched}
 use Rattle.swd_image_commands.specs.Images.{IsCommandWritten}
 use Rattle.swd_image_commands.proofs.ImageLemmas.{dump_command_as_list, dump_command_came_list, dump_command_done}
 use Rattle.swd_image_commands.proofs.ImageLemmas.{dump_command_fits, dump_command_stopped}
@@ -21,19 +24,22 @@ write_image_file-status-requires g c =
 pub returns-in-Ok-reached : goal.returns-in-Ok-reached
 returns-in-Ok-reached g c =
     let (calls, came, over) = c.over_line-answer.ensures in
+    let bytes = stream_watched (console_report_contents g.F.Made.Write.contents (λ e. g.E.Write.contents e.now)) in
+    let before = run_file_held bytes c.report_writer.result in
+    let after = run_file_held bytes c.over_line-answer.new.job.report in
     let image = c.args.image.now in
     let answer = c.over_line-answer.result.0 in
     let line = c.over_line-answer.result.1 in
     inr (
       dump_command_as_list (λ v. v.items) answer,
-      _,
-      _,
-      run_file_is_some _ c.report_writer.result ∙ c.report_writer.ensures ∙ c.in-Ok-open_report.ensures.named,
+      before,
+      after,
+      run_file_is_some bytes c.report_writer.result ∙ c.report_writer.ensures ∙ c.in-Ok-open_report.ensures.named,
       calls,
       subst (λ limits. DumpCame (image_story_wire g.P.Story.at) limits (λ bytes. bytes) image.addr c.args.count
-          (dump_command_as_list (λ v. v.items) answer) [] calls _ _) c.limits_of.ensures
+          (dump_command_as_list (λ v. v.items) answer) [] calls before after) c.limits_of.ensures
           (dump_command_came_list (λ v. v.items) (image_story_wire g.P.Story.at) c.limits_of.result image.addr
-          c.args.count answer [] calls _ _ came),
+          c.args.count answer [] calls before after came),
       over,
       dump_command_done (λ v. v.items) image.format image.addr line.fault answer c.in-Ok-reached.bytes
           c.write_image_file-status.result c.in-Ok-reached.ensures
@@ -45,19 +51,22 @@ returns-in-Ok-reached g c =
 pub returns : goal.returns
 returns g c =
     let (calls, came, over) = c.over_line-answer.ensures in
+    let bytes = stream_watched (console_report_contents g.F.Made.Write.contents (λ e. g.E.Write.contents e.now)) in
+    let before = run_file_held bytes c.report_writer.result in
+    let after = run_file_held bytes c.over_line-answer.new.job.report in
     let image = c.args.image.now in
     let answer = c.over_line-answer.result.0 in
     let line = c.over_line-answer.result.1 in
     inr (
       dump_command_as_list (λ v. v.items) answer,
-      _,
-      _,
-      run_file_is_some _ c.report_writer.result ∙ c.report_writer.ensures ∙ c.in-Ok-open_report.ensures.named,
+      before,
+      after,
+      run_file_is_some bytes c.report_writer.result ∙ c.report_writer.ensures ∙ c.in-Ok-open_report.ensures.named,
       calls,
       subst (λ limits. DumpCame (image_story_wire g.P.Story.at) limits (λ bytes. bytes) image.addr c.args.count
-          (dump_command_as_list (λ v. v.items) answer) [] calls _ _) c.limits_of.ensures
+          (dump_command_as_list (λ v. v.items) answer) [] calls before after) c.limits_of.ensures
           (dump_command_came_list (λ v. v.items) (image_story_wire g.P.Story.at) c.limits_of.result image.addr
-          c.args.count answer [] calls _ _ came),
+          c.args.count answer [] calls before after came),
       over,
       dump_command_stopped (λ v. v.items) image.format image.addr line.fault answer c.in-Err-reached.status
           c.in-Err-reached.ensures,

@@ -1,9 +1,12 @@
 use Rattle.std.proofs.Common.{◌∙◌, refl, subst}
 use Rattle.std.proofs.lemmas.Result.{IfOk-weaker}
+use Rattle.swd_run.specs.Records.{run_file_held}
 use Rattle.swd_run.proofs.EngineLemmas.{run_file_is_some}
 use Rattle.swd_image_ends.specs.Came.{VerifyCame, image_bench_wire}
 use Rattle.swd_image_ends.specs.Pieces.{pieces_to_load}
 use Rattle.swd_image_ends.proofs.AddressLemmas.{verified_there}
+use Rattle.swd_console.specs.Destinations.{console_report_contents}
+use Rattle.swd_console.specs.Streams.{stream_watched}
 use Rattle.swd_image_commands.proofs.simulated_command.verify_over.Goals as goal
 
 pub verify_pieces-answer-requires : goal.verify_pieces-answer-requires
@@ -12,6 +15,9 @@ verify_pieces-answer-requires g c = c.requires.rests.due
 pub returns : goal.returns
 returns g c =
     let verified = c.verify_pieces-answer in
+    let bytes = stream_watched (console_report_contents g.M.Write.contents (λ e. g.E.Write.contents e.now)) in
+    let before = run_file_held bytes c.report_writer-report.result in
+    let after = run_file_held bytes verified.new.report in
     let pieces = pieces_to_load c.args.whole.now in
     record {
       answer = verified.result;
@@ -19,11 +25,11 @@ returns g c =
       memory = IfOk-weaker verified.result _ _ (λ difference. verified_there (image_bench_wire g.A)
           c.limits_of-limits.result (λ w. tt) pieces difference c.args.bench verified.new.wire c.requires.rests refl)
           verified.ensures.verifies;
-      blank = _;
-      filled = _;
-      named = run_file_is_some _ c.report_writer-report.result ∙ c.report_writer-report.ensures ∙ c.requires.named;
+      blank = before;
+      filled = after;
+      named = run_file_is_some bytes c.report_writer-report.result ∙ c.report_writer-report.ensures ∙ c.requires.named;
       came = subst (λ limits. VerifyCame (image_bench_wire g.A) limits pieces verified.result c.args.bench
-          verified.new.wire _ _) c.limits_of-limits.ensures (record {
+          verified.new.wire before after) c.limits_of-limits.ensures (record {
             verifies = verified.ensures.verifies;
             fault = verified.ensures.fault;
             report = verified.ensures.report;
