@@ -116,7 +116,7 @@ fn ended_by(alloc: Global, job: &str, levels: &[u8]) -> Result<(Option<ImageFaul
 fn a_job_stops_where_the_target_breaks_the_protocol(rt: HostRuntime) -> Result<(), Fail> {
     for job in ["load", "verify", "dump"] {
         for (levels, end, line) in [
-            (WAITS, RunEnd::Confused, b"end confused 0\n".as_slice()),
+            (WAITS, RunEnd::Confused, b"end confused 0 begun 0\n".as_slice()),
             (ZEROS, RunEnd::WrongId(0), b"end id 00000000\n".as_slice()),
         ] {
             let (fault, report) = ended_by(rt.alloc(), job, levels)?;
