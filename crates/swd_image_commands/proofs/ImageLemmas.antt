@@ -21,8 +21,8 @@ dump_command_as_list list (Err fault) = Err fault
 -- what a dump states of a result, it states of the result with its bytes as a list
 pub dump_command_came_list : {V W : Type 0} (list : V → List ℕ) (wire : Ghosts W) (limits : Limits) (addr count : ℕ)
     (answer : Result V ImageFault) (s t : W) (a b : Option (Option (List ℕ)))
-    → DumpCame wire limits list addr count answer s t a b
-    → DumpCame wire limits (λ bytes. bytes) addr count (dump_command_as_list list answer) s t a b
+    → DumpCame wire limits addr count answer list s t a b
+    → DumpCame wire limits addr count (dump_command_as_list list answer) (λ bytes. bytes) s t a b
 dump_command_came_list list wire limits addr count (Ok value) s t a b came =
     record { dumps = came.dumps; fault = tt; report = came.report }
 dump_command_came_list list wire limits addr count (Err fault) s t a b came =

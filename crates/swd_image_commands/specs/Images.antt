@@ -118,7 +118,7 @@ module _ {R W : Type 0} (story : ℕ → Port) (image : ImageLine) (status : ℕ
       × (before : Option (Option (List ℕ))) × (after : Option (Option (List ℕ)))
       × (is_some before ≡ is_some image.report)
       × (calls : List Call)
-      × DumpCame (image_story_wire story) (command_limits image) (λ bytes. bytes) image.addr count answer [] calls
+      × DumpCame (image_story_wire story) (command_limits image) image.addr count answer (λ bytes. bytes) [] calls
           before
       after
       × CommandWentOver remaining contents sent left line calls

@@ -109,10 +109,10 @@ module _ {W V : Type 0} (by : W → V) (wire : Ghosts V) (limits : Limits) where
     }
 
     -- a dump does
-    pub dump_came_by : {X : Type 0} (list : X → List ℕ) (addr count : ℕ) (answer : Result X ImageFault) (s t : W)
-        (a b : Option (Option (List ℕ))) → DumpCame (image_wire_under by wire) limits list addr count answer s t a b
-        → DumpCame wire limits list addr count answer (by s) (by t) a b
-    dump_came_by list addr count answer s t a b came = record {
+    pub dump_came_by : {X : Type 0} (addr count : ℕ) (answer : Result X ImageFault) (list : X → List ℕ) (s t : W)
+        (a b : Option (Option (List ℕ))) → DumpCame (image_wire_under by wire) limits addr count answer list s t a b
+        → DumpCame wire limits addr count answer list (by s) (by t) a b
+    dump_came_by addr count answer list s t a b came = record {
       dumps = IfOk-weaker answer _ _ (λ bytes. dumps_by by wire limits addr count (list bytes) s t) came.dumps;
       fault = IfErr-weaker answer _ _ (dump_fails_by by wire limits addr count s t) came.fault;
       report = reports_by by wire limits (image_dump_list addr count) (image_fault_of answer) s t a b came.report;

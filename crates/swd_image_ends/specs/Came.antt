@@ -56,7 +56,7 @@ module _ {W : Type 0} (wire : Ghosts W) (limits : Limits) where
     pub report : VerifiesReported wire limits pieces answer s t before after
 
   -- `count` bytes were read, or not all of them; `list` gives the bytes of a result
-  pub record DumpCame {V : Type 0} (list : V → List ℕ) (addr count : ℕ) (answer : Result V ImageFault) (s t : W)
+  pub record DumpCame {V : Type 0} (addr count : ℕ) (answer : Result V ImageFault) (list : V → List ℕ) (s t : W)
       (before after : Option (Option (List ℕ))) : Type 0 where
     pub dumps : IfOk answer (λ bytes. Dumps wire limits addr count (list bytes) s t)
     pub fault : IfErr answer (DumpFails wire limits addr count s t)

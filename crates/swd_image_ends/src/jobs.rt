@@ -82,8 +82,8 @@ pub struct DumpJob<S, A: Allocator> {
 impl<S: CallReports, A: Allocator + Copy> LineJob for DumpJob<S, A> {
     type Answer = Result<Vec<u8, A>, ImageFault>;
 
-    ghost came = { λ story old new answer calls. DumpCame (image_story_wire story) old.limits (λ bytes. bytes.items)
-        old.addr old.count answer [] calls (S.held old.report) (S.held new.report) };
+    ghost came = { λ story old new answer calls. DumpCame (image_story_wire story) old.limits old.addr old.count
+        answer (λ bytes. bytes.items) [] calls (S.held old.report) (S.held new.report) };
 
     fn perform<T: Transport, P: Story>(
         &mut self,

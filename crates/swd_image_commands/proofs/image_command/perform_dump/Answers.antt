@@ -36,8 +36,8 @@ returns-in-Ok-reached g c =
       after,
       run_file_is_some bytes c.report_writer.result ∙ c.report_writer.ensures ∙ c.in-Ok-open_report.ensures.named,
       calls,
-      subst (λ limits. DumpCame (image_story_wire g.P.Story.at) limits (λ bytes. bytes) image.addr c.args.count
-          (dump_command_as_list (λ v. v.items) answer) [] calls before after) c.limits_of.ensures
+      subst (λ limits. DumpCame (image_story_wire g.P.Story.at) limits image.addr c.args.count
+          (dump_command_as_list (λ v. v.items) answer) (λ bytes. bytes) [] calls before after) c.limits_of.ensures
           (dump_command_came_list (λ v. v.items) (image_story_wire g.P.Story.at) c.limits_of.result image.addr
           c.args.count answer [] calls before after came),
       over,
@@ -63,8 +63,8 @@ returns g c =
       after,
       run_file_is_some bytes c.report_writer.result ∙ c.report_writer.ensures ∙ c.in-Ok-open_report.ensures.named,
       calls,
-      subst (λ limits. DumpCame (image_story_wire g.P.Story.at) limits (λ bytes. bytes) image.addr c.args.count
-          (dump_command_as_list (λ v. v.items) answer) [] calls before after) c.limits_of.ensures
+      subst (λ limits. DumpCame (image_story_wire g.P.Story.at) limits image.addr c.args.count
+          (dump_command_as_list (λ v. v.items) answer) (λ bytes. bytes) [] calls before after) c.limits_of.ensures
           (dump_command_came_list (λ v. v.items) (image_story_wire g.P.Story.at) c.limits_of.result image.addr
           c.args.count answer [] calls before after came),
       over,

@@ -15,11 +15,10 @@ returns g c =
     let new = c.dump.new.wire in
     let before = g.S.CallReports.held job.report in
     let after = g.S.CallReports.held c.dump.new.report in
-    subst (λ calls. DumpCame (image_story_wire g.P.Story.at) job.limits (λ bytes. bytes.items) job.addr job.count
-        c.dump.result calls (wire_calls new)
-    before after) c.requires (dump_came_by (λ w. wire_calls w) (image_story_wire g.P.Story.at) job.limits (λ bytes.
-        bytes.items) job.addr job.count
-    c.dump.result old new before after (record {
+    subst (λ calls. DumpCame (image_story_wire g.P.Story.at) job.limits job.addr job.count c.dump.result
+    (λ bytes. bytes.items) calls (wire_calls new) before after) c.requires
+    (dump_came_by (λ w. wire_calls w) (image_story_wire g.P.Story.at) job.limits job.addr job.count c.dump.result
+    (λ bytes. bytes.items) old new before after (record {
       dumps = c.dump.ensures.dumps;
       fault = c.dump.ensures.fault;
       report = c.dump.ensures.report;
