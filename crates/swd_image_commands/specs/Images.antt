@@ -119,8 +119,7 @@ module _ {R W : Type 0} (story : ℕ → Port) (image : ImageLine) (status : ℕ
       × (is_some before ≡ is_some image.report)
       × (calls : List Call)
       × DumpCame (image_story_wire story) (command_limits image) image.addr count answer (λ bytes. bytes) [] calls
-          before
-      after
+      before after
       × CommandWentOver remaining contents sent left line calls
       × IsCommandDumped image.format image.addr (command_result_reached line.fault answer) status)
 

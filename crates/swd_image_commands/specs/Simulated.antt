@@ -80,8 +80,7 @@ pub record DumpCommandSimulated {A : Type 0} (image : ImageLine) (count : ℕ) (
   pub filled : Option (Option (List ℕ))
   pub named : is_some blank ≡ is_some image.report
   pub came : DumpCame (image_bench_wire A) (command_limits image) image.addr count answer (λ bytes. bytes) s after
-      blank
-      filled
+      blank filled
   pub dumped : IsCommandDumped image.format image.addr (command_result_reached None answer) status
 
 module _ (A : Type 0) (image : ImageLine) where
