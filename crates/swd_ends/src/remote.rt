@@ -96,9 +96,9 @@ pub fn run_remote<
 /// Whatever comes back, the run ends unless the connection blocks, and each report has at most as many requests as its
 /// tries allow. For every story that starts at rest and with which the replies are consistent, the reports are as
 /// `run_batches` promises. If the target conforms to the model, one of these stories is its own. Up to the first I/O
-/// error, exactly `O`, the characters of some calls of a wire and `Q` are sent, and exactly the levels that these calls
-/// ask for are read. Nothing is sent after that error. Without such a story it isn't stated that the reports count all
-/// these calls.
+/// error, exactly `O`, the characters of the calls of a wire and `Q` are sent, and exactly the levels that these calls
+/// ask for are read. Nothing is sent after that error. The reports describe all these calls, with or without such a
+/// story.
 ///
 /// # Errors
 ///

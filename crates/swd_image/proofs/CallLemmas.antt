@@ -111,14 +111,14 @@ module _ (want : ℕ → ℕ) (P : ℕ → Type 0) (words : FinMap nat_cmp ℕ) 
 
 -- ---- one call
 
-module _ {W : Type 0} (port : W → Port) (plan : W → List Mark) (lawful : W → Type 0) (limit : ℕ) (list : List Access)
+module _ {W : Type 0} (wire : Ghosts W) (limit : ℕ) (list : List Access)
     (tries : ℕ) (s : W) where
   -- a run that ended all answered each access
   pub answered_all : (stops : List Stop) (told : HostReport) (t : W)
-      → ScriptCalls port plan lawful limit list tries s stops told t
+      → ScriptCalls wire limit list tries s stops told t
       → told.ended ≡ All → length told.answers ≡ length list
-  answered_all stops told t (ran same closes over) all = closes.whole all
-  answered_all stops told t (resumed {earlier = e} {told = a} went lost same goes over) all =
+  answered_all stops told t (ran same closes over says) all = closes.whole all
+  answered_all stops told t (resumed {earlier = e} {told = a} went lost same goes over says) all =
       let h = goes.closes.whole all in
       let kept = ap length goes.kept ∙ length-append e.answers (resume_added e a) in
       let rest = length-drop (length e.answers) list in
@@ -294,7 +294,7 @@ module _ {W : Type 0} (wire : Ghosts W) (limits : Limits) where
   calls_law s t list answers
       (more {list = xs} {answers = vs} {t = r} {u = v} {batch = batch} {run = run} before call all done) law =
       calls_law s r xs vs before
-      (law_before wire.port wire.plan wire.lawful (batch_limit batch) batch.accesses limits.tries r run.stops
+      (law_before wire (batch_limit batch) batch.accesses limits.tries r run.stops
           run.told v call.goes.went law)
 
   -- a call that failed in a list, after those before it
@@ -324,9 +324,9 @@ module _ {W : Type 0} (wire : Ghosts W) (limits : Limits) where
       (more {list = xs} {answers = vs} {t = r} {u = v} {batch = batch} {run = run} before call all done) law rest =
       let n : ℕ = batch_limit batch in
       let went = call.goes.went in
-      let back : wire.lawful r = law_before wire.port wire.plan wire.lawful n batch.accesses limits.tries r
+      let back : wire.lawful r = law_before wire n batch.accesses limits.tries r
           run.stops run.told v went law in
-      rests wire.port wire.plan wire.lawful n batch.accesses limits.tries r (calls_rest s r xs vs before back rest)
+      rests wire n batch.accesses limits.tries r (calls_rest s r xs vs before back rest)
           run.stops run.told v went
       law all
 
@@ -346,11 +346,11 @@ module _ {W : Type 0} (wire : Ghosts W) (limits : Limits) where
           let words = (plain_words_of (wire.port s).target.memory) in
           let n : ℕ = batch_limit batch in
           let went = call.goes.went in
-          let back : wire.lawful r = law_before wire.port wire.plan wire.lawful n batch.accesses limits.tries r
+          let back : wire.lawful r = law_before wire n batch.accesses limits.tries r
               run.stops run.told v went law in
           let h = leaves r xs vs before (all_front want P words xs batch.accesses i) back in
           let turns =
-          (tell_of wire.port wire.plan wire.lawful n batch.accesses limits.tries r h.at_rest run.stops run.told v
+          (tell_of wire n batch.accesses limits.tries r h.at_rest run.stops run.told v
               went law).turns in
           let kept = chain_keeps want P words n batch.accesses (wire.port r).target.memory turns.calls run.told
               turns.memory
@@ -366,7 +366,7 @@ module _ {W : Type 0} (wire : Ghosts W) (limits : Limits) where
             plain = subst IsPlain (turns.left all)
                 (resume_chain_plain n batch.accesses (wire.port r).target.memory turns.calls
                 run.told turns.memory h.plain turns.chain);
-            at_rest = rests wire.port wire.plan wire.lawful n batch.accesses limits.tries r h.at_rest run.stops
+            at_rest = rests wire n batch.accesses limits.tries r h.at_rest run.stops
                 run.told v went law all;
             held = there.held;
             tells = tells_both want P words (plain_words_of (wire.port v).target.memory) xs batch.accesses vs

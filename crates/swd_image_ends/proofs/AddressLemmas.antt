@@ -101,12 +101,12 @@ module _ {W : Type 0} (wire : Ghosts W) (limits : Limits) (always : (w : W) → 
       let n : ℕ = batch_limit batch in
       let went = call.goes.went in
       let turns =
-      (tell_of wire.port wire.plan wire.lawful n batch.accesses limits.tries r h.at_rest run.stops run.told v went
+      (tell_of wire n batch.accesses limits.tries r h.at_rest run.stops run.told v went
           (always v)).turns in
       let same = same_chain n batch.accesses (wire.port r).target.memory turns.calls run.told turns.memory h.plain
       turns.chain in
       record {
-        at_rest = rests wire.port wire.plan wire.lawful n batch.accesses limits.tries r h.at_rest run.stops run.told
+        at_rest = rests wire n batch.accesses limits.tries r h.at_rest run.stops run.told
             v went (always v) all;
         plain = subst IsPlain (turns.left all) (resume_chain_plain n batch.accesses (wire.port r).target.memory
             turns.calls

@@ -52,7 +52,7 @@ fn run_reporting<W: Wire, O: Write, A: Allocator>(
     ensures writer { report.new.block.now.writer.ghost_name ≡ report.old.block.now.writer.ghost_name }
     ensures answers { report.new.answers.ghost_name ≡ report.old.answers.ghost_name }
     ensures goes { (stops : List StopType) × Goes O.contents (λ answers. answers.items) report.old stops report.new
-        × RunsBatchFrom W.port W.plan W.lawful options.opened (batch_limit (script_batch_listed batch.now))
+        × RunsBatchFrom W.Wire options.opened (batch_limit (script_batch_listed batch.now))
         options.tries options.resumes (script_batch_listed batch.now) wire.old
         (record { stops = stops; told = host_report_to report.new.answers.now.items result }) wire.new }
     ensures plan { W.plan wire.new ≡ W.plan wire.old }
@@ -77,7 +77,7 @@ fn put_run<W: Wire, O: Write, A: Allocator>(
     requires room { length (script_batch_listed batch.now).accesses ≤ vec_capacity answers.old }
     ensures writer { block.new.writer.ghost_name ≡ block.old.writer.ghost_name }
     ensures goes { (stops : List StopType)
-        × RunsBatchFrom W.port W.plan W.lawful options.opened (batch_limit (script_batch_listed batch.now))
+        × RunsBatchFrom W.Wire options.opened (batch_limit (script_batch_listed batch.now))
         options.tries options.resumes (script_batch_listed batch.now) wire.old
         (record { stops = stops; told = host_report_to answers.new.items result }) wire.new
         × ((start : Option (List ℕ)) → BlockBufferSends O.contents start block.old []
@@ -104,7 +104,7 @@ fn report_call<W: Wire, O: Write, A: Allocator + Copy>(
     requires batch { IsScriptBatch (script_batch_listed batch.now) }
     requires plain { batch.now.until ≡ None }
     requires due { (W.port wire.old).link.due ≡ Nothing }
-    ensures reports { IfSome result (λ reported. ReportsBatchRunFrom W.port W.plan W.lawful options.opened
+    ensures reports { IfSome result (λ reported. ReportsBatchRunFrom W.Wire options.opened
         options.tries options.resumes (script_batch_listed batch.now)
         wire.old wire.new (O.contents report.old) (O.contents report.new) (host_report_of reported.report)
         reported.written) }
@@ -138,7 +138,7 @@ pub fn run_on_reporting<W: Wire, O: Write, A: Allocator + Copy>(
     requires batch { IsScriptBatch (script_batch_listed batch.now) }
     requires plain { batch.now.until ≡ None }
     requires due { (W.port wire.old).link.due ≡ Nothing }
-    ensures reports { IfSome result (λ reported. ReportsBatchRun W.port W.plan W.lawful tries resumes
+    ensures reports { IfSome result (λ reported. ReportsBatchRun W.Wire tries resumes
         (script_batch_listed batch.now)
         wire.old wire.new (O.contents report.old) (O.contents report.new) (host_report_of reported.report)
         reported.written) }
@@ -166,11 +166,11 @@ fn report_until<W: Wire, O: Write, A: Allocator + Copy>(
     requires batch { IsScriptBatch (script_batch_listed batch.now) }
     requires until { batch.now.until ≡ Some until }
     requires due { (W.port wire.old).link.due ≡ Nothing }
-    ensures reported { IfSome result (λ reported. IsBatchReported W.port W.plan W.lawful options.opened
+    ensures reported { IfSome result (λ reported. IsBatchReported W.Wire options.opened
         options.tries options.resumes (script_batch_listed batch.now)
         wire.old wire.new (O.contents report.old) (O.contents report.new) (host_report_of reported.report)
         reported.written) }
-    ensures cut { IfNone result (IsCutShort W.port W.plan W.lawful options.opened options.tries options.resumes
+    ensures cut { IfNone result (IsCutShort W.Wire options.opened options.tries options.resumes
         (script_batch_listed batch.now) wire.old wire.new) }
     ensures unwritten { IfNone result (O.contents report.new ≡ O.contents report.old) }
     ensures plan { W.plan wire.new ≡ W.plan wire.old }
@@ -195,11 +195,11 @@ pub(crate) fn report_batch<W: Wire, O: Write, A: Allocator + Copy>(
 ) -> Option<Reported<A>>
     requires batch { IsScriptBatch (script_batch_listed batch.now) }
     requires due { (W.port wire.old).link.due ≡ Nothing }
-    ensures reported { IfSome result (λ reported. IsBatchReported W.port W.plan W.lawful options.opened
+    ensures reported { IfSome result (λ reported. IsBatchReported W.Wire options.opened
         options.tries options.resumes (script_batch_listed batch.now)
         wire.old wire.new (O.contents report.old) (O.contents report.new) (host_report_of reported.report)
         reported.written) }
-    ensures cut { IfNone result (IsCutShort W.port W.plan W.lawful options.opened options.tries options.resumes
+    ensures cut { IfNone result (IsCutShort W.Wire options.opened options.tries options.resumes
         (script_batch_listed batch.now) wire.old wire.new) }
     ensures unwritten { IfNone result (O.contents report.new ≡ O.contents report.old) }
     ensures plan { W.plan wire.new ≡ W.plan wire.old }

@@ -1,15 +1,17 @@
 //! Runs the calls of a script over any wire, and writes their reports, their trace and the accesses that it shows.
-ghost use Rattle.std.specs.Prelude.{ℕ, ◌≡◌, All as Each, List, [], ◌∷◌, ◌++◌, None, Option, map, true};
+ghost use Rattle.std.specs.Prelude.{◌≡◌, All as Each, List, [], ◌∷◌, ◌++◌, None, Option, map, true};
+ghost use Rattle.swd_port.specs.declared.call.Call.{Call};
 ghost use Rattle.swd_port.specs.declared.wire.Due.TheVariants.{Nothing};
 ghost use Rattle.swd_port.specs.Laws.Calls.{port_with_asked};
 ghost use Rattle.swd_host.specs.Reports.{host_report_of};
 ghost use Rattle.swd_trace.specs.Listed.{AreLegalItems};
-ghost use Rattle.swd_recorder.specs.Recorders.{recorder_lawful, recorder_plan, recorder_port};
+ghost use Rattle.swd_recorder.specs.Recorders.{recorder_plan, recorder_port};
 ghost use Rattle.swd_script.specs.Readers.{script_batch_listed};
 ghost use Rattle.swd_script.specs.Laws.{IsScriptBatch};
 ghost use Rattle.swd_script.specs.Scripts.{ScriptListed};
 ghost use Rattle.swd_run.specs.Unfoldings.{AreRunsOfBatch, BatchRuns, Unfolds, until_never_came};
-ghost use Rattle.swd_run.specs.Engine.{BatchAnswersAt, BatchAnswers, IsScriptFinished, RunFilesOutcome, run_port_seen};
+ghost use Rattle.swd_run.specs.Engine.{BatchAnswersAt, BatchAnswers, IsScriptFinished, RunFilesOutcome};
+ghost use Rattle.swd_run.specs.Wires.{run_recorder_wire, run_wire_seen};
 ghost use Rattle.swd_run.specs.Records.{run_files_from, run_files_of, run_file_held, wants_run_files, no_run_files};
 ghost use Rattle.swd_run.specs.TraceFiles.{IfRunTraceHasAll, run_trace_contents};
 
@@ -93,7 +95,7 @@ fn run_reported<W: Wire, O: Write, A: Allocator + Copy>(
 ) -> Result<Finished, EngineFault>
     requires batches { Each IsScriptBatch (map script_batch_listed batches.now) }
     requires due { (W.port wire.old).link.due ≡ Nothing }
-    ensures answer { BatchAnswers W.port W.plan W.lawful tries resumes (map script_batch_listed batches.now) wire.old
+    ensures answer { BatchAnswers W.Wire tries resumes (map script_batch_listed batches.now) wire.old
         wire.new
         result (O.contents report.old) (O.contents report.new) no_run_files no_run_files }
     ensures plan { W.plan wire.new ≡ W.plan wire.old }
@@ -174,7 +176,7 @@ fn run_traced<B: Origin, W: Wire, O: Write, T: Write, A: Allocator + Copy>(
     requires asked { (recorder_port traced.recorder).tally.asked ≡ 0 }
     requires start { B.start ≡ recorder_port traced.recorder }
     requires wanted { wants_run_files (run_files_from B.before (run_file_held T.contents accesses.old) made) ≡ true }
-    ensures answer { BatchAnswers recorder_port recorder_plan recorder_lawful tries resumes
+    ensures answer { BatchAnswers (run_recorder_wire B.noted) tries resumes
         (map script_batch_listed batches.now) traced.recorder
         result.1 result.0 (O.contents report.old) (O.contents report.new)
         (run_files_from B.before (run_file_held T.contents accesses.old) made)
@@ -207,9 +209,9 @@ fn run_recorded<B: Origin, W: Wire, O: Write, T: Write + Drop, A: Allocator + Co
     requires start { B.start ≡ port_with_asked 0 (W.port wire) }
     requires before { B.before ≡ run_file_held T.contents records.old.trace }
     requires wanted { wants_run_files (run_files_of T.contents records.old) ≡ true }
-    ensures answer { (counted : ℕ)
-        × BatchAnswers (run_port_seen true W.port) (λ seen. W.plan seen.1) (λ seen. W.lawful seen.1) tries resumes
-        (map script_batch_listed batches.now) (0, wire) (counted, result.1) result.0 (O.contents report.old) (O.contents report.new)
+    ensures answer { (calls : List Call) × BatchAnswers (run_wire_seen true W.Wire B.noted) tries resumes
+        (map script_batch_listed batches.now) ([], wire) (calls, result.1) result.0 (O.contents report.old)
+        (O.contents report.new)
         (run_files_of T.contents records.old) (run_files_of T.contents records.new) }
     ensures plan { W.plan result.1 ≡ W.plan wire }
 {
@@ -242,6 +244,9 @@ fn run_recorded<B: Origin, W: Wire, O: Write, T: Write + Drop, A: Allocator + Co
 /// The first call opens the target. Each later one, also each further read of an `until`, goes over the target that the
 /// call before left open. So between two calls nothing else may drive the wire, and the target may not be reset.
 ///
+/// Whatever comes back, and whatever the result is, the calls made of the wire are those that the reports tell: exactly
+/// the requests that each counts, and a data phase only for an access that it answers or leaves begun.
+///
 /// `tries` is the number of events that the opening, and each access, may meet. After a lost acknowledgement a call
 /// continues by `swd_host::resume`, which opens the target again, at most `resumes` times. The report has a line for each
 /// time. A call allocates its answers before it starts, and nothing after that. Only the read of an `until` also allocates
@@ -264,9 +269,9 @@ fn run_recorded<B: Origin, W: Wire, O: Write, T: Write + Drop, A: Allocator + Co
 /// Returns `Write` if the report's writer failed or took no bytes. Exactly the first `written` bytes of the reports
 /// were written then, including all reports of the calls before. No call was made after that.
 ///
-/// In both cases the trace has items that its bits decode to, or exactly the first bytes of their lines if its writer
-/// failed, and nothing of the accesses was written. At `Write` it has at most one transaction for each request, if the
-/// target conforms to the model and was at rest. That these items are all so far is only tested.
+/// In both cases the trace has the items of the first calls so far, or exactly the first bytes of their lines if its
+/// writer failed. Nothing of the accesses was written. That these are all calls so far, unless an allocation for an item
+/// failed, is only tested.
 ///
 /// Returns `Write` too if the trace's writer failed: the reports are complete, exactly the first `written` bytes of
 /// the trace were written, and nothing of the accesses. Returns `WriteAccesses` if the accesses' writer failed: the
@@ -284,7 +289,7 @@ pub fn run_batches<W: Wire, O: Write, T: Write + Drop, A: Allocator + Copy>(
 ) -> (Result<Finished, EngineFault>, W)
     requires batches { Each IsScriptBatch (map script_batch_listed batches.now) }
     requires due { (W.port wire).link.due ≡ Nothing }
-    ensures answer { BatchAnswersAt W.port W.plan W.lawful tries resumes (map script_batch_listed batches.now) wire
+    ensures answer { BatchAnswersAt W.Wire tries resumes (map script_batch_listed batches.now) wire
         result.1 result.0
         (O.contents report.old) (O.contents report.new) (run_files_of T.contents records.old)
         (run_files_of T.contents records.new) }

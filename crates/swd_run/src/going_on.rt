@@ -5,6 +5,7 @@ ghost use Rattle.swd_script.specs.Readers.{script_batch_listed};
 ghost use Rattle.swd_script.specs.Laws.{IsScriptBatch};
 ghost use Rattle.swd_host.specs.Plain.{AreHostAccesses};
 ghost use Rattle.swd_host.specs.Reports.{host_report_to};
+ghost use Rattle.swd_host.specs.Sent.{HostCalls, HostReportsCalls};
 ghost use Rattle.swd_host.specs.Tasks.{bursts_limit};
 ghost use Rattle.swd_run.specs.declared.going_on.Stop.{Stop as StopType};
 ghost use Rattle.swd_run.specs.Sessions.{RunsBatch, RunsBatchFrom, IsBatchRefused, script_run_of, batch_limit};
@@ -67,6 +68,8 @@ fn begin<W: Wire, K: AnswerSink, A: Allocator>(
         × ScriptCallFits options.opened (batch_limit (script_batch_listed batch.now))
         (script_batch_listed batch.now).accesses options.tries (host_report_to (K.taken sink.new) result)
         (W.port wire.old) (W.port wire.new) }
+    ensures told { HostCalls W.notes (HostReportsCalls (script_batch_listed batch.now).accesses
+        (host_report_to (K.taken sink.new) result)) wire.old wire.new }
     ensures keeps { K.keeps sink.old sink.new }
     ensures most { K.most sink.old ≤ K.most sink.new }
     ensures plan { W.plan wire.new ≡ W.plan wire.old }
@@ -96,10 +99,10 @@ pub(crate) fn make_call_to<W: Wire, K: RunSink, A: Allocator>(
     requires none { K.taken sink.old ≡ [] }
     requires room { length (script_batch_listed batch.now).accesses ≤ K.most sink.old }
     ensures goes { IfOk result (λ ending. (stops : List StopType) × K.follows sink.old stops sink.new
-        × RunsBatchFrom W.port W.plan W.lawful options.opened (batch_limit (script_batch_listed batch.now))
+        × RunsBatchFrom W.Wire options.opened (batch_limit (script_batch_listed batch.now))
         options.tries options.resumes (script_batch_listed batch.now) wire.old
         (record { stops = stops; told = host_report_to (K.taken sink.new) ending }) wire.new) }
-    ensures refused { OnErr result (IsBatchRefused W.port W.plan W.lawful options.opened
+    ensures refused { OnErr result (IsBatchRefused W.Wire options.opened
         (batch_limit (script_batch_listed batch.now)) options.tries options.resumes (script_batch_listed batch.now)
         wire.old wire.new) }
     ensures plan { W.plan wire.new ≡ W.plan wire.old }
@@ -139,10 +142,10 @@ pub fn run_on_to<W: Wire, K: RunSink, A: Allocator>(
     requires none { K.taken sink.old ≡ [] }
     requires room { length (script_batch_listed batch.now).accesses ≤ K.most sink.old }
     ensures goes { IfOk result (λ ending. (stops : List StopType) × K.follows sink.old stops sink.new
-        × RunsBatch W.port W.plan W.lawful (batch_limit (script_batch_listed batch.now)) tries resumes
+        × RunsBatch W.Wire (batch_limit (script_batch_listed batch.now)) tries resumes
         (script_batch_listed batch.now) wire.old
         (record { stops = stops; told = host_report_to (K.taken sink.new) ending }) wire.new) }
-    ensures refused { OnErr result (IsBatchRefused W.port W.plan W.lawful false
+    ensures refused { OnErr result (IsBatchRefused W.Wire false
         (batch_limit (script_batch_listed batch.now)) tries resumes
         (script_batch_listed batch.now) wire.old wire.new) }
     ensures plan { W.plan wire.new ≡ W.plan wire.old }
@@ -164,10 +167,10 @@ pub(crate) fn make_call<W: Wire, A: Allocator + Copy>(
 ) -> Option<Resumed<A>>
     requires batch { IsScriptBatch (script_batch_listed batch.now) }
     requires due { (W.port wire.old).link.due ≡ Nothing }
-    ensures goes { IfSome result (λ resumed. RunsBatchFrom W.port W.plan W.lawful options.opened
+    ensures goes { IfSome result (λ resumed. RunsBatchFrom W.Wire options.opened
         (batch_limit (script_batch_listed batch.now)) options.tries options.resumes
         (script_batch_listed batch.now) wire.old (script_run_of resumed) wire.new) }
-    ensures refused { IfNone result (IsBatchRefused W.port W.plan W.lawful options.opened
+    ensures refused { IfNone result (IsBatchRefused W.Wire options.opened
         (batch_limit (script_batch_listed batch.now)) options.tries options.resumes
         (script_batch_listed batch.now) wire.old wire.new) }
     ensures plan { W.plan wire.new ≡ W.plan wire.old }
@@ -200,10 +203,10 @@ pub fn run_on<W: Wire, A: Allocator + Copy>(
 ) -> Option<Resumed<A>>
     requires batch { IsScriptBatch (script_batch_listed batch.now) }
     requires due { (W.port wire.old).link.due ≡ Nothing }
-    ensures goes { IfSome result (λ resumed. RunsBatch W.port W.plan W.lawful
+    ensures goes { IfSome result (λ resumed. RunsBatch W.Wire
         (batch_limit (script_batch_listed batch.now)) tries resumes
         (script_batch_listed batch.now) wire.old (script_run_of resumed) wire.new) }
-    ensures refused { IfNone result (IsBatchRefused W.port W.plan W.lawful false
+    ensures refused { IfNone result (IsBatchRefused W.Wire false
         (batch_limit (script_batch_listed batch.now)) tries resumes
         (script_batch_listed batch.now) wire.old wire.new) }
     ensures plan { W.plan wire.new ≡ W.plan wire.old }

@@ -30,6 +30,7 @@ mod same_reports;
 mod serving;
 mod sessions;
 mod simulated;
+mod stopped;
 mod streamed;
 mod streamed_trace;
 mod tracing;

@@ -32,7 +32,7 @@ first_failed-requires g c =
     let made = c.in_ok-made.ensures.call in
     let ended = ap (λ (x : HostReport). x.ended) made.last in
     ap length c.as_slice-2.ensures.value ∙ sym (ap (λ (x : HostReport). length x.answers) made.last)
-    ∙ answered_all g.W.Wire.port g.W.Wire.plan g.W.Wire.lawful _ (script_batch_listed c.args.batch.now).accesses
+    ∙ answered_all g.W.Wire _ (script_batch_listed c.args.batch.now).accesses
     c.args.limits.tries
     c.args.wire.now made.run.stops made.run.told c.make_call.new.wire made.call.goes.went (ended ∙ c.in-All.is)
     ∙ sym (ap length c.as_slice.ensures.value)
@@ -74,7 +74,7 @@ returns-in-None-clause-call g c =
       made.call,
       ended,
       image_accesses_all_done (script_batch_listed c.args.batch.now).accesses made.run.told.answers
-          (answered_all g.W.Wire.port g.W.Wire.plan g.W.Wire.lawful _ (script_batch_listed c.args.batch.now).accesses
+          (answered_all g.W.Wire _ (script_batch_listed c.args.batch.now).accesses
           c.args.limits.tries c.args.wire.now made.run.stops made.run.told c.make_call.new.wire made.call.goes.went ended)
           (failed (script_batch_listed c.args.batch.now).accesses c.as_slice.result.now made.run.told.answers
           c.as_slice-2.result.now c.first_failed.result None c.first_failed.ensures c.as_slice.ensures.value

@@ -47,6 +47,6 @@ returns-in-Err-clause-report g c =
     subst (λ a. ReportsTo g.W.Wire c.args.limits batch.accesses (Some Report) c.args.wire.now t a (Some now))
     (sym (ap (run_file_held g.O.Write.contents) c.in-Some.is))
     (to_failed g.W.Wire c.args.limits c.args.wire.now t batch told c.in-Err.field-0 start now
-    (subst (λ w. ReportsBatchRun g.W.Wire.port g.W.Wire.plan g.W.Wire.lawful c.args.limits.tries
+    (subst (λ w. ReportsBatchRun g.W.Wire c.args.limits.tries
         c.args.limits.resumes batch c.args.wire.now t start now told w) c.in-Err.is
     c.in-Some-run_on_reporting.ensures.reports) c.requires.plain c.requires.batch)
