@@ -129,10 +129,10 @@ loop-done-preserved g c =
           (image_writes word image.first (done + many)) None (g.S.CallReports.held c.args.report.now)
           (g.S.CallReports.held c.loop-done.report) (g.S.CallReports.held c.run_call.new.report)
           c.loop-done.invariant.reported c.in_ok-run_call.ensures.report (image_writes_split word
-              image.first done many
+          image.first done many
           ∙ ap (λ b. image_writes word image.first done ++ b.accesses) (sym c.in_ok-batch.ensures.batch)
           ∙ ap (λ l. image_writes word image.first done ++ l) (sym (append-nil batch.accesses))) (λ e.
-              refl);
+          refl);
       few = omega (arith, least);
       due = c.in_ok-run_call.ensures.due;
       plan = c.in_ok-run_call.ensures.plan ∙ c.loop-done.invariant.plan;
