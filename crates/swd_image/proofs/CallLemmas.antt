@@ -23,8 +23,8 @@ use Rattle.swd_run.specs.declared.going_on.Stop.{Stop}
 use Rattle.swd_run.proofs.WentLemmas.{law_before, rests, tell_of}
 use Rattle.swd_image.specs.declared.limits.Limits.{Limits}
 use Rattle.swd_port.specs.declared.wire.Wire.{Ghosts}
-use Rattle.swd_image.specs.Sessions.{AreImageDone, Call, Calls, Fails, FailsAs, FailsNext, MadeAll, ReadsAs, image_first_failed}
-use Rattle.swd_image.specs.Sessions.{is_image_done, none, more, image_words_read}
+use Rattle.swd_image.specs.Sessions.{AreImageDone, Call, Calls, Fails, FailsAs, FailsNext, MadeAll, ReadsAs}
+use Rattle.swd_image.specs.Sessions.{image_first_failed, is_image_done, none, more, image_words_read}
 use Rattle.swd_image.specs.declared.fault.ImageFault.{ImageFault}
 use Rattle.swd_image.specs.declared.fault.ImageFault.TheVariants.{Range, Memory, Stopped, Report, BusFault as FaultAt}
 use Rattle.swd_image.proofs.ChainLemmas.{AllIn, AllTell, Held, Kept, chain_keeps, all_later}

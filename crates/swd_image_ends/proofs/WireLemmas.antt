@@ -17,7 +17,8 @@ use Rattle.swd_image.specs.Dumps.{DumpFails, Dumps, VerifiesImage}
 use Rattle.swd_image.specs.Lists.{image_dump_list, image_edge_list}
 use Rattle.swd_image.specs.Loads.{FailsLate, LoadFails, Loads}
 use Rattle.swd_image.specs.Reports.{Reported, ReportsTo, none as no_call, more as call_more}
-use Rattle.swd_image.specs.Sessions.{Call, Calls, Fails, FailsAs, FailsNext, MadeAll, ReadsAs, image_first_failed, none, more}
+use Rattle.swd_image.specs.Sessions.{Call, Calls, Fails, FailsAs, FailsNext, MadeAll, ReadsAs}
+use Rattle.swd_image.specs.Sessions.{image_first_failed, none, more}
 
 -- a wire, by what it is known by
 abbrev pub image_wire_under : {W V : Type 0} → (W → V) → Ghosts V → Ghosts W
