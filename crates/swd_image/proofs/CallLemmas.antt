@@ -23,8 +23,8 @@ use Rattle.swd_run.specs.declared.going_on.Stop.{Stop}
 use Rattle.swd_run.proofs.WentLemmas.{law_before, rests, tell_of}
 use Rattle.swd_image.specs.declared.limits.Limits.{Limits}
 use Rattle.swd_port.specs.declared.wire.Wire.{Ghosts}
-use Rattle.swd_image.specs.Sessions.{AreImageDone, Call, Calls, Fails, FailsAs, FailsNext, MadeAll, ReadsAs, image_first_failed}
-use Rattle.swd_image.specs.Sessions.{is_image_done, none, more, image_words_read}
+use Rattle.swd_image.specs.Sessions.{AreImageDone, Call, Calls, Fails, FailsAs, FailsNext, MadeAll, ReadsAs}
+use Rattle.swd_image.specs.Sessions.{image_first_failed, is_image_done, none, more, image_words_read}
 use Rattle.swd_image.specs.declared.fault.ImageFault.{ImageFault}
 use Rattle.swd_image.specs.declared.fault.ImageFault.TheVariants.{Range, Memory, Stopped, Report, BusFault as FaultAt}
 use Rattle.swd_image.proofs.ChainLemmas.{AllIn, AllTell, Held, Kept, chain_keeps, all_later}
@@ -295,7 +295,7 @@ module _ {W : Type 0} (wire : Ghosts W) (limits : Limits) where
       (more {list = xs} {answers = vs} {t = r} {u = v} {batch = batch} {run = run} before call all done) law =
       calls_law s r xs vs before
       (law_before wire (batch_limit batch) batch.accesses limits.tries r run.stops
-          run.told v call.goes.went law)
+      run.told v call.goes.went law)
 
   -- a call that failed in a list, after those before it
   pub fails_in : (s t u : W) (xs ys zs list : List Access) (vs : List Answer) (fault : ImageFault)
@@ -325,9 +325,9 @@ module _ {W : Type 0} (wire : Ghosts W) (limits : Limits) where
       let n : ℕ = batch_limit batch in
       let went = call.goes.went in
       let back : wire.lawful r = law_before wire n batch.accesses limits.tries r
-          run.stops run.told v went law in
+      run.stops run.told v went law in
       rests wire n batch.accesses limits.tries r (calls_rest s r xs vs before back rest)
-          run.stops run.told v went
+      run.stops run.told v went
       law all
 
   module _ (want : ℕ → ℕ) (P : ℕ → Type 0) (s : W) (rest : IsAtRest (wire.port s)) (plain : IsPlain (wire.port
@@ -338,7 +338,7 @@ module _ {W : Type 0} (wire : Ghosts W) (limits : Limits) where
       pub leaves : (t : W) (list : List Access) (answers : List Answer)
           → Calls wire limits s list answers t
           → AllIn want P (plain_words_of (wire.port s).target.memory) list → wire.lawful t → Leaves want P s list
-              answers t
+          answers t
       leaves t list answers none i law =
           record { at_rest = rest; plain = plain; held = λ q. inl refl; tells = tt }
       leaves t list answers
@@ -347,13 +347,13 @@ module _ {W : Type 0} (wire : Ghosts W) (limits : Limits) where
           let n : ℕ = batch_limit batch in
           let went = call.goes.went in
           let back : wire.lawful r = law_before wire n batch.accesses limits.tries r
-              run.stops run.told v went law in
+          run.stops run.told v went law in
           let h = leaves r xs vs before (all_front want P words xs batch.accesses i) back in
           let turns =
           (tell_of wire n batch.accesses limits.tries r h.at_rest run.stops run.told v
-              went law).turns in
+          went law).turns in
           let kept = chain_keeps want P words n batch.accesses (wire.port r).target.memory turns.calls run.told
-              turns.memory
+          turns.memory
           h.plain
           (all_back want P words xs batch.accesses i) h.held turns.chain in
           let there : Kept want P words batch.accesses (plain_words_of (wire.port r).target.memory)
@@ -373,7 +373,7 @@ module _ {W : Type 0} (wire : Ghosts W) (limits : Limits) where
                 run.told.answers
                 (calls_done s r xs vs before)
                 (all_later want P words (plain_words_of (wire.port r).target.memory) (plain_words_of (wire.port
-                    v).target.memory)
+                v).target.memory)
                 xs vs there.later
                 h.tells) there.tells;
           }

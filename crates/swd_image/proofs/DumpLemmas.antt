@@ -69,8 +69,10 @@ memory_bytes m first many place addr (suc count) aligned is few =
     ∙ ap (λ i. get_or (to_le_bytes w32 (image_word_in m.words (image_word_of addr))) i 0
     ∷ image_bytes_of (image_words_at m.words first many) (place + 1) count) same
     ∙ ap (λ l. image_byte_in (image_word_in m.words (image_word_of addr)) addr ∷ l)
-    (memory_bytes m first many (place + 1) (addr + 1) count aligned (omega (arith, is)) (λ some. omega (arith,
-        enough)))
+    (memory_bytes m first many (place + 1) (addr + 1) count aligned (omega (arith, is)) (λ some. omega (
+      arith,
+      enough,
+    )))
 
 module _ {W : Type 0} (wire : Ghosts W) (limits : Limits) (addr count : ℕ)
     (s t : W) where

@@ -179,7 +179,7 @@ module _ {W : Type 0} (wire : Ghosts W) (limits : Limits) where
         (edge_reads (image_needs_head addr len) (image_needs_tail addr len) (image_word_of addr)
         (image_last_word addr len)) edges back rest plain in
         let e = edged (λ a. image_word_in old (plain_address a)) (image_needs_head addr len) (image_needs_tail addr
-            len)
+        len)
         (image_word_of addr) (image_last_word addr len) head tail r.words_are in
         let l = leaves wire limits word (InImageWords addr len) reached r.at_rest r.plain t list
         made.answers
@@ -188,7 +188,7 @@ module _ {W : Type 0} (wire : Ghosts W) (limits : Limits) where
         let written : (k : ℕ) → k < image_word_count addr len
         → get now (image_word_of addr + 4 * k) ≡ Some (word (image_word_of addr + 4 * k))
         = λ k low. written_at word (InImageWords addr len) middle now (image_word_of addr) (image_word_count addr
-            len) k
+        len) k
         made.answers (calls_done wire limits reached t list made.answers made.calls) l.tells low in
         let held : (q : ℕ) → (get now q ≡ get old q) ⊎ InImageWords addr len q =
         λ q. elim (l.held q) [ inl same ↦ inl (same ∙ r.same q) | inr both ↦ inr both.0 ] in (

@@ -29,7 +29,7 @@ module _ {W : Type 0} (wire : Ghosts W) (limits : Limits) where
         t).target.memory
     pub same : wire.lawful t → IsAtRest (wire.port s) → IsPlain (wire.port s).target.memory
         → (q : ℕ) → get (plain_words_of (wire.port t).target.memory) q ≡ get (plain_words_of (wire.port
-            s).target.memory) q
+        s).target.memory) q
     pub rests : wire.lawful t → IsAtRest (wire.port s) → IsAtRest (wire.port t)
 
   -- the error of a dump: for a range that extends past the addresses no call was made

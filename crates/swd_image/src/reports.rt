@@ -114,8 +114,35 @@ impl CallReports for NoReports {
     }
 }
 
-/// The writer gets for each call the lines that `swd run` writes, each at the latest 1,024 lines after it is known,
-/// and
+// Makes one call, and writes its report meanwhile.
+fn report_call<W: Wire, O: Write, A: Allocator + Copy>(
+    alloc: A,
+    wire: &mut W,
+    batch: &Batch<A>,
+    limits: Limits,
+    writer: &mut O,
+) -> Result<Report<A>, ImageFault>
+    requires batch { IsScriptBatch (script_batch_listed batch.now) }
+    requires plain { batch.now.until ≡ None }
+    requires due { (W.port wire.old).link.due ≡ Nothing }
+    ensures call { IfOk result (λ made. MakesOne W.Wire limits (script_batch_listed batch.now) wire.old wire.new
+        (host_report_of made) (Some (O.contents writer.old)) (Some (O.contents writer.new))) }
+    ensures fault { IfErr result (FailsAs W.Wire limits (script_batch_listed batch.now).accesses wire.old wire.new) }
+    ensures report { IfErr result (λ fault. ReportsTo W.Wire limits (script_batch_listed batch.now).accesses
+        (Some fault) wire.old wire.new (Some (O.contents writer.old)) (Some (O.contents writer.new))) }
+    ensures plan { W.plan wire.new ≡ W.plan wire.old }
+{
+    let (tries, resumes) = (limits.tries, limits.resumes);
+    let Some(reported) = run_on_reporting(alloc, wire, batch, tries, resumes, writer) else {
+        return Err(ImageFault::Memory);
+    };
+    match reported.written {
+        Ok(_) => Ok(reported.report),
+        Err(_) => Err(ImageFault::Report),
+    }
+}
+
+/// The writer gets for each call the lines that `swd run` writes, each at the latest 1,024 lines after it is known, and
 /// all before the next call. Without a writer no report is written.
 impl<O: Write> CallReports for Option<O> {
     ghost held = { λ report. run_file_held O.contents report };
@@ -127,22 +154,9 @@ impl<O: Write> CallReports for Option<O> {
         batch: &Batch<A>,
         limits: Limits,
     ) -> Result<Report<A>, ImageFault> {
-        let Some(writer) = self else {
-            return NoReports.make_call(alloc, wire, batch, limits);
-        };
-        let Some(reported) = run_on_reporting(
-            alloc,
-            wire,
-            batch,
-            limits.tries,
-            limits.resumes,
-            writer,
-        ) else {
-            return Err(ImageFault::Memory);
-        };
-        match reported.written {
-            Ok(_) => Ok(reported.report),
-            Err(_) => Err(ImageFault::Report),
+        match self {
+            Some(writer) => report_call(alloc, wire, batch, limits, writer),
+            None => NoReports.make_call(alloc, wire, batch, limits),
         }
     }
 }

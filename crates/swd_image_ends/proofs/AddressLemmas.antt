@@ -102,7 +102,7 @@ module _ {W : Type 0} (wire : Ghosts W) (limits : Limits) (always : (w : W) → 
       let went = call.goes.went in
       let turns =
       (tell_of wire n batch.accesses limits.tries r h.at_rest run.stops run.told v went
-          (always v)).turns in
+      (always v)).turns in
       let same = same_chain n batch.accesses (wire.port r).target.memory turns.calls run.told turns.memory h.plain
       turns.chain in
       record {
@@ -154,7 +154,7 @@ module _ {W : Type 0} (wire : Ghosts W) (limits : Limits) (always : (w : W) → 
   same_words (piece ∷ rest) difference s u at_rest plain (inr later) q =
       let h = later.1.dumps in
       same_words rest difference later.0 u (h.rests (always later.0) at_rest) (h.plain (always later.0) at_rest
-          plain) later.2 q
+      plain) later.2 q
       ∙ h.same (always later.0) at_rest plain q
 
   -- and a verification

@@ -32,7 +32,7 @@ bytes_same m n same at (suc count) =
 -- and so the same comparisons
 compares_same : (m n : PlainMemory) → ((q : ℕ) → get n.words q ≡ get m.words q) → (pieces : List ImageFileBytes)
     (difference : Option ByteDifference) → ComparesEachPiece n pieces difference → ComparesEachPiece m pieces
-        difference
+    difference
 compares_same m n same [] difference h = h
 compares_same m n same (piece ∷ rest) difference (inl first) = inl (
   first.0,
@@ -107,7 +107,7 @@ module _ {W : Type 0} (wire : Ghosts W) (limits : Limits) where
   pub each_compared : (pieces : List ImageFileBytes) (difference : Option ByteDifference) (s u : W)
       → VerifiesEach wire limits pieces difference s u → wire.lawful u → IsAtRest (wire.port s)
       → IsPlain (wire.port s).target.memory → ComparesEachPiece (plain_of (wire.port s).target.memory) pieces
-          difference
+      difference
   each_compared [] difference s u h law at_rest plain = h.0
   each_compared (piece ∷ rest) difference s u (inl first) law at_rest plain =
       inl (first.0, first.1, first.2.memory law at_rest plain)

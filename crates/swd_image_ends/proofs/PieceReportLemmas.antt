@@ -54,7 +54,7 @@ module _ {W : Type 0} (wire : Ghosts W) (limits : Limits) where
   -- at a piece that fails
   pub load_reported_failed : (left all next : List ImageFileBytes) (piece : ImageFileBytes) (s now t : W)
       (fault : ImageFault) (a b c : Option (Option (List ℕ))) → left ≡ piece ∷ next → LoadsReportedOn left all s now
-          a b
+      a b
       → LoadReports wire limits piece.addr piece.bytes (Some fault) now t b c
       → LoadsReported wire limits all (Some fault) s t a c
   load_reported_failed left all next piece s now t fault a b c is on here =

@@ -89,6 +89,13 @@ impl<S: CallReports, A: Allocator + Copy> LineJob for DumpJob<S, A> {
         &mut self,
         wire: &mut TransportWire<T, P, Tied>,
     ) -> Result<Vec<u8, A>, ImageFault> {
-        dump(self.alloc, wire, self.addr, self.count, self.limits, &mut self.report)
+        dump(
+            self.alloc,
+            wire,
+            self.addr,
+            self.count,
+            self.limits,
+            &mut self.report,
+        )
     }
 }

@@ -96,14 +96,7 @@ fn load_at<W: Wire, A: Allocator + Copy>(
     resumes: u32,
 ) -> Option<Result<(), ImageFault>> {
     match wire.due() {
-        Due::Nothing => Some(load(
-            alloc,
-            wire,
-            addr,
-            bytes,
-            limits(resumes),
-            &mut NoReports,
-        )),
+        Due::Nothing => Some(load(alloc, wire, addr, bytes, limits(resumes), &mut NoReports)),
         _ => None,
     }
 }
@@ -117,14 +110,7 @@ fn dump_at<W: Wire, A: Allocator + Copy>(
     resumes: u32,
 ) -> Option<Result<Vec<u8, A>, ImageFault>> {
     match wire.due() {
-        Due::Nothing => Some(dump(
-            alloc,
-            wire,
-            addr,
-            count,
-            limits(resumes),
-            &mut NoReports,
-        )),
+        Due::Nothing => Some(dump(alloc, wire, addr, count, limits(resumes), &mut NoReports)),
         _ => None,
     }
 }
@@ -138,14 +124,7 @@ fn verify_at<W: Wire, A: Allocator + Copy>(
     resumes: u32,
 ) -> Option<Result<Option<ByteDifference>, ImageFault>> {
     match wire.due() {
-        Due::Nothing => Some(verify(
-            alloc,
-            wire,
-            addr,
-            bytes,
-            limits(resumes),
-            &mut NoReports,
-        )),
+        Due::Nothing => Some(verify(alloc, wire, addr, bytes, limits(resumes), &mut NoReports)),
         _ => None,
     }
 }

@@ -43,11 +43,7 @@ impl Transport for Always {
 #[test]
 fn an_image_stops_at_the_first_request(rt: HostRuntime) -> Result<(), Fail> {
     let bytes = b"12345".as_slice();
-    for (answer, end) in [
-        (2, End::Confused),
-        (4, End::Confused),
-        (1, End::WrongId(0)),
-    ] {
+    for (answer, end) in [(2, End::Confused), (4, End::Confused), (1, End::WrongId(0))] {
         let stopped = Some(ImageFault::Stopped(end));
         for job in ["load", "dump", "verify"] {
             let mut wire: TransportWire<Always, Untold> = TransportWire::new(Always {

@@ -223,14 +223,7 @@ fn a_dump_and_a_verification(rt: HostRuntime) -> Result<(), Fail> {
     let mut bench = target.expect(&rt, "a target");
     if let Due::Nothing = bench.due() {
         let mut report = Some(Vec::new(rt.alloc()));
-        let bytes = dump(
-            rt.alloc(),
-            &mut bench,
-            BASE + 3,
-            6,
-            limits(0),
-            &mut report,
-        )?;
+        let bytes = dump(rt.alloc(), &mut bench, BASE + 3, 6, limits(0), &mut report)?;
         let found = b"\x44\x55\x66\x77\x88\x99".as_slice();
         expect_eq_at(&rt, &"dump", &bytes.as_slice(), &found);
         expect_eq_at(&rt, &"dump", &text_of(&report), &THREE_READS);

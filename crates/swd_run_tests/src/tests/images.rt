@@ -155,7 +155,12 @@ fn an_image_ends_at_what_it_meets(rt: HostRuntime) -> Result<(), Fail> {
         };
         let server = server_of(rt.alloc(), &task, cut, usize::MAX)?;
         let end = End { server: &server };
-        let (answer, line) = load_over(rt.alloc(), end, &piece_of(rt.alloc(), addr, IMAGE)?, resumes);
+        let (answer, line) = load_over(
+            rt.alloc(),
+            end,
+            &piece_of(rt.alloc(), addr, IMAGE)?,
+            resumes,
+        );
         expect_eq_at(&rt, &name, &answer, &wanted);
         expect_eq_at(&rt, &name, &line.fault, &fault);
         let server = server.into_inner();

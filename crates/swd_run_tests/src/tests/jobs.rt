@@ -17,7 +17,11 @@ fn limits(resumes: u32) -> Limits {
 }
 
 /// An image of one piece.
-pub(super) fn piece_of(alloc: Global, addr: u32, bytes: &[u8]) -> Result<Image<Global>, AllocError> {
+pub(super) fn piece_of(
+    alloc: Global,
+    addr: u32,
+    bytes: &[u8],
+) -> Result<Image<Global>, AllocError> {
     let mut image = Image {
         ranges: Vec::new(alloc),
         bytes: Vec::new(alloc),
@@ -78,10 +82,15 @@ pub(super) fn dump_over<'a>(
 
 // WAIT at the first request, or OK and 33 zeros.
 const WAITS: &[u8] = b"010";
+
 const ZEROS: &[u8] = b"100000000000000000000000000000000000";
 
 // The fault of a job over these levels, and what the report has.
-fn ended_by(alloc: Global, job: &str, levels: &[u8]) -> Result<(Option<ImageFault>, Vec<u8>), Fail> {
+fn ended_by(
+    alloc: Global,
+    job: &str,
+    levels: &[u8],
+) -> Result<(Option<ImageFault>, Vec<u8>), Fail> {
     let image = piece_of(alloc, BASE + 1, b"12345")?;
     let image = &image;
     let limits = limits(1);
@@ -89,18 +98,34 @@ fn ended_by(alloc: Global, job: &str, levels: &[u8]) -> Result<(Option<ImageFaul
     let mut sent = Vec::new(alloc);
     let (fault, report) = match job {
         "load" => {
-            let mut job = LoadJob { alloc, image, limits, report };
+            let mut job = LoadJob {
+                alloc,
+                image,
+                limits,
+                report,
+            };
             let (answer, _) = over_line::<Untold, _, _, _>(&mut job, levels, &mut sent);
             (answer.err(), job.report)
         }
         "verify" => {
-            let mut job = VerifyJob { alloc, image, limits, report };
+            let mut job = VerifyJob {
+                alloc,
+                image,
+                limits,
+                report,
+            };
             let (answer, _) = over_line::<Untold, _, _, _>(&mut job, levels, &mut sent);
             (answer.err(), job.report)
         }
         _ => {
             let (addr, count) = (BASE + 1, 5);
-            let mut job = DumpJob { alloc, addr, count, limits, report };
+            let mut job = DumpJob {
+                alloc,
+                addr,
+                count,
+                limits,
+                report,
+            };
             let (answer, _) = over_line::<Untold, _, _, _>(&mut job, levels, &mut sent);
             (answer.err(), job.report)
         }
@@ -116,7 +141,11 @@ fn ended_by(alloc: Global, job: &str, levels: &[u8]) -> Result<(Option<ImageFaul
 fn a_job_stops_where_the_target_breaks_the_protocol(rt: HostRuntime) -> Result<(), Fail> {
     for job in ["load", "verify", "dump"] {
         for (levels, end, line) in [
-            (WAITS, RunEnd::Confused, b"end confused 0 begun 0\n".as_slice()),
+            (
+                WAITS,
+                RunEnd::Confused,
+                b"end confused 0 begun 0\n".as_slice(),
+            ),
             (ZEROS, RunEnd::WrongId(0), b"end id 00000000\n".as_slice()),
         ] {
             let (fault, report) = ended_by(rt.alloc(), job, levels)?;

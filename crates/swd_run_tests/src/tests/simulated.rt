@@ -67,14 +67,7 @@ fn a_memory_is_read_and_compared(rt: HostRuntime) -> Result<(), Fail> {
     let Some(mut bench) = simulated_target(alloc, 0x2000_0000, memory, 16, Vec::new(alloc)) else {
         return Err(Fail::from("no memory"));
     };
-    let bytes = dump(
-        alloc,
-        &mut bench,
-        0x2000_0003,
-        4,
-        LIMITS,
-        &mut NoReports,
-    )?;
+    let bytes = dump(alloc, &mut bench, 0x2000_0003, 4, LIMITS, &mut NoReports)?;
     expect_eq(&rt, &bytes.as_slice(), &b"defg".as_slice());
     let Some(mut bench) = simulated_target(alloc, 0, b"".as_slice(), 16, Vec::new(alloc)) else {
         return Err(Fail::from("no memory"));

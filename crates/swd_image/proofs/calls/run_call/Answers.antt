@@ -75,7 +75,8 @@ returns-in-None-clause-call g c =
       ended,
       image_accesses_all_done (script_batch_listed c.args.batch.now).accesses made.run.told.answers
           (answered_all g.W.Wire _ (script_batch_listed c.args.batch.now).accesses
-          c.args.limits.tries c.args.wire.now made.run.stops made.run.told c.make_call.new.wire made.call.goes.went ended)
+          c.args.limits.tries c.args.wire.now made.run.stops made.run.told c.make_call.new.wire
+          made.call.goes.went ended)
           (failed (script_batch_listed c.args.batch.now).accesses c.as_slice.result.now made.run.told.answers
           c.as_slice-2.result.now c.first_failed.result None c.first_failed.ensures c.as_slice.ensures.value
           (c.as_slice-2.ensures.value ∙ sym answers) c.in-None.is),

@@ -83,7 +83,7 @@ pub returns-in_err-edges-clause-fault : goal.returns-in_err-edges-clause-fault
 returns-in_err-edges-clause-fault g c =
     let p = err_from_is_err_and c.from_residual.result c.from_residual.ensures.1 in
     rw (p.1, p.2) (fails_early g.W.Wire c.args.limits c.args.addr c.args.bytes.now c.args.wire.now
-        c.read_edges.new.wire _ (omega arith)
+    c.read_edges.new.wire _ (omega arith)
     c.in_err-edges.ensures.fault)
 
 pub returns-clause-fault : goal.returns-clause-fault
@@ -96,7 +96,7 @@ returns-clause-fault g c =
     let Fails = FailsAs g.W.Wire c.args.limits in
     IfErr-weaker c.write_words.result _ _ (λ fault f.
     fails_late g.W.Wire c.args.limits c.args.addr bytes c.args.wire.now t fault (omega arith) edges.head edges.tail
-        reached
+    reached
     c.in_ok-edges.ensures.read
     (subst (λ n. Fails (image_writes word (image_word_of c.args.addr) n) reached t fault) c.word_count.ensures
     (subst (λ a. Fails (image_writes word a c.word_count.result) reached t fault) c.word_of.ensures f)))

@@ -86,7 +86,7 @@ returns-in_err-batch-clause-report g c =
     let at = c.args.first + 4 * done in
     let p = err_from_is_err_and c.from_residual.result c.from_residual.ensures.1 in
     rw (p.1, p.2, c.in_err-batch.ensures.fault) (to_memory g.W.Wire c.args.limits c.args.wire.now c.loop-done.wire
-        (plain_reads c.args.first done)
+    (plain_reads c.args.first done)
     (plain_reads at many ++ plain_reads (at + 4 * many) (c.args.count - (done + many)))
     (plain_reads c.args.first c.args.count)
     (g.S.CallReports.held c.args.report.now) (g.S.CallReports.held c.loop-done.report)
@@ -120,7 +120,7 @@ returns-in_err-push_words-clause-report g c =
     let after = g.S.CallReports.held c.run_call.new.report in
     let p = err_from_is_err_and c.from_residual-in_err-push_words.result c.from_residual-in_err-push_words.ensures.1 in
     rw (p.1, p.2, c.in_err-push_words.ensures.fault) (to_after g.W.Wire c.args.limits c.args.wire.now
-        c.loop-done.wire c.run_call.new.wire (plain_reads c.args.first done) batch.accesses
+    c.loop-done.wire c.run_call.new.wire (plain_reads c.args.first done) batch.accesses
     rest
     (plain_reads c.args.first c.args.count) (Some Memory) (g.S.CallReports.held c.args.report.now) before
     after c.loop-done.invariant.reported
@@ -153,7 +153,7 @@ loop-done-preserved g c =
     record {
       read = reads_more g.W.Wire c.args.limits s c.loop-done.wire
           c.run_call.new.wire (plain_reads c.args.first done) c.loop-done.words.items c.push_words.new.words.items
-              batch
+          batch
           run (plain_reads c.args.first (done + many)) c.loop-done.invariant.read call all done_all
           (c.in_ok-push_words.ensures.pushed
           ∙ ap (λ l. c.loop-done.words.items ++ image_words_read l) (c.as_slice.ensures.value ∙ sym is))
@@ -161,7 +161,7 @@ loop-done-preserved g c =
           ∙ ap (λ b. plain_reads c.args.first done ++ b.accesses) (sym c.in_ok-batch.ensures.batch));
       reported = to_after g.W.Wire c.args.limits s c.loop-done.wire
           c.run_call.new.wire (plain_reads c.args.first done) batch.accesses [] (plain_reads c.args.first (done +
-              many))
+          many))
           None (g.S.CallReports.held c.args.report.now)
           (g.S.CallReports.held c.loop-done.report)
           (g.S.CallReports.held c.run_call.new.report) c.loop-done.invariant.reported

@@ -9,10 +9,10 @@ abbrev pub invariant-loop-done : goal.invariant-loop-done
 invariant-loop-done g l = record {
   made : MadeAll g.W.Wire l.limits
       (image_writes (image_loaded_word l.image.addr l.image.bytes.now l.image.edges.head l.image.edges.tail)
-          l.image.first l.done) l.fn.wire l.wire;
+      l.image.first l.done) l.fn.wire l.wire;
   reported : ReportsTo g.W.Wire l.limits
       (image_writes (image_loaded_word l.image.addr l.image.bytes.now l.image.edges.head l.image.edges.tail)
-          l.image.first l.done) None l.fn.wire l.wire
+      l.image.first l.done) None l.fn.wire l.wire
       (g.S.CallReports.held l.fn.report) (g.S.CallReports.held l.report);
   few : l.done ≤ l.image.count;
   due : (g.W.Wire.port l.wire).link.due ≡ Nothing;

@@ -50,8 +50,8 @@ returns-in-Ok g c =
       named = run_file_is_some bytes c.report_writer-report.result ∙ c.report_writer-report.ensures ∙ c.requires.named;
       came = subst (λ limits. DumpCame (image_bench_wire g.A) limits image.addr c.args.count
           (dump_command_as_list (λ v. v.items) dumped.result) (λ bytes. bytes) c.args.bench dumped.new.wire before
-              after)
-              c.limits_of.ensures
+          after)
+          c.limits_of.ensures
           (dump_command_came_list (λ v. v.items) (image_bench_wire g.A) c.limits_of.result image.addr c.args.count
           dumped.result c.args.bench dumped.new.wire before after (record {
             dumps = dumped.ensures.dumps;
@@ -88,8 +88,8 @@ returns g c =
       named = run_file_is_some bytes c.report_writer-report.result ∙ c.report_writer-report.ensures ∙ c.requires.named;
       came = subst (λ limits. DumpCame (image_bench_wire g.A) limits image.addr c.args.count
           (dump_command_as_list (λ v. v.items) dumped.result) (λ bytes. bytes) c.args.bench dumped.new.wire before
-              after)
-              c.limits_of.ensures
+          after)
+          c.limits_of.ensures
           (dump_command_came_list (λ v. v.items) (image_bench_wire g.A) c.limits_of.result image.addr c.args.count
           dumped.result c.args.bench dumped.new.wire before after (record {
             dumps = dumped.ensures.dumps;

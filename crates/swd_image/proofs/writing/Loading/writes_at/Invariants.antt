@@ -5,4 +5,4 @@ use Rattle.swd_image.proofs.writing.Loading.writes_at.Given as goal
 abbrev pub invariant-loop-index : goal.invariant-loop-index
 invariant-loop-index g l =
     l.accesses.items ≡ image_writes (image_loaded_word l.self.addr l.self.bytes.now l.self.edges.head
-        l.self.edges.tail) l.at l.index
+    l.self.edges.tail) l.at l.index

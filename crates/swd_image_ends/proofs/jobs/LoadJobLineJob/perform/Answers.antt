@@ -17,9 +17,9 @@ returns g c =
     let before = g.S.CallReports.held job.report in
     let after = g.S.CallReports.held c.load_pieces.new.report in
     subst (λ calls. LoadCame (image_story_wire g.P.Story.at) job.limits (pieces_to_load job.image.now)
-        c.load_pieces.result calls (wire_calls new)
+    c.load_pieces.result calls (wire_calls new)
     before after) c.requires (load_came_by (λ w. wire_calls w) (image_story_wire g.P.Story.at) job.limits
-        (pieces_to_load job.image.now)
+    (pieces_to_load job.image.now)
     c.load_pieces.result old new before after (record {
       loads = c.load_pieces.ensures.loads;
       fault = c.load_pieces.ensures.fault;

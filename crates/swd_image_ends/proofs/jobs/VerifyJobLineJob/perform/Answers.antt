@@ -17,9 +17,9 @@ returns g c =
     let before = g.S.CallReports.held job.report in
     let after = g.S.CallReports.held c.verify_pieces.new.report in
     subst (λ calls. VerifyCame (image_story_wire g.P.Story.at) job.limits (pieces_to_load job.image.now)
-        c.verify_pieces.result calls (wire_calls new)
+    c.verify_pieces.result calls (wire_calls new)
     before after) c.requires (verify_came_by (λ w. wire_calls w) (image_story_wire g.P.Story.at) job.limits
-        (pieces_to_load job.image.now)
+    (pieces_to_load job.image.now)
     c.verify_pieces.result old new before after (record {
       verifies = c.verify_pieces.ensures.verifies;
       fault = c.verify_pieces.ensures.fault;
