@@ -200,7 +200,7 @@ module _ {W : Type 0} (wire : Ghosts W) (limits : Limits) where
           l.plain,
         )
 
-    -- why a load failed, among its reads, or among its writes
+    -- why a load failed among its reads
     pub fails_early : (fault : ImageFault) → addr + length bytes ≤ 2 ^ 32
         → FailsAs wire limits (image_edge_list addr (length bytes)) s t fault
         → LoadFails wire limits addr bytes s t fault
@@ -210,6 +210,7 @@ module _ {W : Type 0} (wire : Ghosts W) (limits : Limits) where
     fails_early (FaultAt at) fits f = (fits, inl f)
     fails_early Report fits f = (fits, inl f)
 
+    -- why it failed among its writes
     pub fails_late : (fault : ImageFault) → addr + length bytes ≤ 2 ^ 32 → (head tail : ℕ) (reached : W)
         → ReadsAs wire limits (image_edge_list addr (length bytes))
         (image_edge_words addr (length bytes) head tail) s reached

@@ -1,7 +1,7 @@
 -- What a load, a verification and a dump state of the calls that were made of a wire: over any wire, at a target of
 -- which
 -- nothing is proved, and at a simulated one.
-use Rattle.std.specs.Prelude.{ℕ, ◌≡◌, List, [], length, Option, Result, OnOk, IfOk, IfErr}
+use Rattle.std.specs.Prelude.{ℕ, ◌≡◌, List, [], Option, Result, OnOk, IfOk, IfErr}
 use Rattle.swd_port.specs.declared.call.Call.{Call}
 use Rattle.swd_port.specs.declared.wire.Wire.{Ghosts}
 use Rattle.swd_port.specs.Bus.{bus_of}

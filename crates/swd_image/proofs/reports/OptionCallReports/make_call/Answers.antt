@@ -1,4 +1,4 @@
-use Rattle.std.proofs.Common.{None, Option, Some, ap, subst, sym}
+use Rattle.std.proofs.Common.{Option, Some, ap, subst, sym}
 use Rattle.std.specs.Prelude.{IfErr, IfOk, List, ℕ}
 use Rattle.swd_host.specs.Reports.{host_report_of}
 use Rattle.swd_script.specs.Readers.{script_batch_listed}

@@ -1,4 +1,4 @@
-use Rattle.std.proofs.Common.{[], ap, subst}
+use Rattle.std.proofs.Common.{ap, subst}
 use Rattle.swd_port.specs.Outside.{wire_calls}
 use Rattle.swd_port.specs.Stories.{port_due_by}
 use Rattle.swd_image_ends.specs.Came.{VerifyCame, image_story_wire}
