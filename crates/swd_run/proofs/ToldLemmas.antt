@@ -42,7 +42,7 @@ module _ {W : Type 0} (wire : Ghosts W) (opened : Bool) (most : ScriptListed →
       host_calls_append wire.notes (ScriptRunsReportCalls before earlier)
       (ScriptReportsCalls batch.accesses run.stops run.told)
       (ScriptRunsReportCalls (before ++ batch ∷ []) (earlier ++ run ∷ [])) s u v
-      (λ first next is more. one_run {batch = batch} {run = run} is more) (runs_told before earlier u prior)
+      (λ first next is more. one_run batch run is more) (runs_told before earlier u prior)
       (went_told wire (most batch) batch.accesses tries u run.stops run.told v goes.went)
 
 -- a run that ran out of memory: further runs of its batch, if it was made at all
@@ -76,7 +76,7 @@ module _ {W : Type 0} (wire : Ghosts W) (opened : Bool) (tries resumes : ℕ) (b
             subst (λ (l : List ScriptListed). ScriptRunsReportCalls l (earlier ++ (runs ++ run ∷ [])) (next ++ first))
             batches_are
             (subst (λ (l : List ScriptRun). ScriptRunsReportCalls ((batches ++ batch_again batch runs) ++ batch ∷ []) l
-            (next ++ first)) runs_are (one_run {batch = batch} {run = run} is more))) before
+            (next ++ first)) runs_are (one_run batch run is more))) before
             (went_told wire (batch_limit batch) batch.accesses tries u stops told t went),
       )
 

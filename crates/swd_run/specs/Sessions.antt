@@ -66,8 +66,8 @@ pub data RunsBatches {W : Type 0} (wire : Ghosts W) (opened : Bool)
 -- These calls, the last one first, are those that the reports of successive runs tell.
 pub data ScriptRunsReportCalls : List ScriptListed → List ScriptRun → List Call → Type 0 where
   no_run : ScriptRunsReportCalls [] [] []
-  one_run : {batches : List ScriptListed} {runs : List ScriptRun} {before calls : List Call} {batch : ScriptListed}
-      {run : ScriptRun} → ScriptRunsReportCalls batches runs before
+  one_run : {batches : List ScriptListed} {runs : List ScriptRun} {before calls : List Call} (batch : ScriptListed)
+      (run : ScriptRun) → ScriptRunsReportCalls batches runs before
       → ScriptReportsCalls batch.accesses run.stops run.told calls
       → ScriptRunsReportCalls (batches ++ batch ∷ []) (runs ++ run ∷ []) (calls ++ before)
 

@@ -1,5 +1,5 @@
 //! Runs the calls of a script over any wire, and writes their reports, their trace and the accesses that it shows.
-ghost use Rattle.std.specs.Prelude.{◌≡◌, All as Each, List, [], ◌∷◌, ◌++◌, None, Option, map, true};
+ghost use Rattle.std.specs.Prelude.{ℕ, ◌≡◌, All as Each, List, [], ◌∷◌, ◌++◌, None, Option, map, true};
 ghost use Rattle.swd_port.specs.declared.call.Call.{Call};
 ghost use Rattle.swd_port.specs.declared.wire.Due.TheVariants.{Nothing};
 ghost use Rattle.swd_port.specs.Laws.Calls.{port_with_asked};
