@@ -13,11 +13,11 @@ returns-in_default-clause-fault g c =
 pub returns-in_default-clause-report : goal.returns-in_default-clause-report
 returns-in_default-clause-report g c = (refl, λ e. cc)
 
-pub returns-in-Ok-clause-call : goal.returns-in-Ok-clause-call
-returns-in-Ok-clause-call g c =
-    let (stops, follows, goes) = c.in-Ok.ensures.goes in
+pub returns-clause-call : goal.returns-clause-call
+returns-clause-call g c =
+    let (stops, follows, goes) = c.in-Ok-run_on_to.ensures.goes in
     record {
-      run = record { stops = stops; told = host_report_to c.run_on_to.new.sink.answers.items c.in-Ok.ending };
+      run = record { stops = stops; told = host_report_to c.run_on_to.new.sink.answers.items c.in-Ok-run_on_to.ending };
       last = sym c.with.ensures;
       call = record { fits = c.requires.batch; goes = goes };
       writes = refl;
