@@ -1,11 +1,11 @@
 -- The calls that were made of a wire are those that the reports of runs tell.
 use Rattle.std.proofs.Common.{◌≡◌, ◌∙◌, List, [], ◌∷◌, ◌++◌, ℕ, Bool, false, drop, length, sym, ap, subst, append_assoc}
 use Rattle.swd_port.specs.declared.access.Access.{Access}
+use Rattle.swd_port.specs.declared.call.Call.{Call}
 use Rattle.swd_port.specs.declared.wire.Wire.{Ghosts}
 use Rattle.swd_host.specs.Again.{ResumeReportsCalls}
 use Rattle.swd_host.specs.Reports.{HostReport}
-use Rattle.swd_host.specs.Sent.{HostCalls, HostReportsCalls}
-use Rattle.swd_host.proofs.Making.{host_calls_append, host_calls_weaken}
+use Rattle.swd_host.specs.Sent.{HostCalls}
 use Rattle.swd_script.specs.Scripts.{ScriptListed}
 use Rattle.swd_run.specs.Engine.{RanBatchesShort}
 use Rattle.swd_run.specs.declared.going_on.Stop.{Stop}
@@ -17,17 +17,28 @@ use Rattle.swd_run.specs.Sessions.{none, one_run, then, unresumed, unsent}
 use Rattle.swd_run.specs.Unfoldings.{batch_again, calls_of, first_batch_again, runs_of}
 use Rattle.swd_run.proofs.UnfoldingLemmas.{batch_again_append, runs_append}
 
+-- calls, and calls after them
+told_after : {W : Type 0} (notes : List Call → W → Type 0) (P Q R : List Call → Type 0) (u v w : W)
+    → ((early late : List Call) → P early → Q late → R (late ++ early)) → HostCalls notes P u v → HostCalls notes Q v w
+    → HostCalls notes R u w
+told_after notes P Q R u v w joins h i calls noted =
+    let first = h calls noted in
+    let second = i (first.0 ++ calls) first.1 in (
+      second.0 ++ first.0,
+      subst (λ l. notes l w) (sym (append_assoc second.0 first.0 calls)) second.1,
+      joins first.0 second.0 first.2 second.2,
+    )
+
 module _ {W : Type 0} (wire : Ghosts W) {opened : Bool} (limit : ℕ) (list : List Access) (tries : ℕ) (s : W) where
   -- those of a run and of the calls that resumed it are those that their reports tell
   pub went_told : (stops : List Stop) (told : HostReport) (t : W)
       → ScriptCallsFrom wire opened limit list tries s stops told t
       → HostCalls wire.notes (ScriptReportsCalls list stops told) s t
   went_told stops told t (ran {told = a} {t = u} same closes over says) =
-      host_calls_weaken wire.notes (HostReportsCalls list a) (ScriptReportsCalls list [] a) s u
-      (λ calls is. told_once is) says
+      λ calls noted. (let made = says calls noted in (made.0, made.1, told_once made.2))
   went_told stops told t
       (resumed {stops = before} {earlier = e} {told = a} {t = u} {u = v} went lost same goes over says) =
-      host_calls_append wire.notes (ScriptReportsCalls list before e) (ResumeReportsCalls list e a)
+      told_after wire.notes (ScriptReportsCalls list before e) (ResumeReportsCalls list e a)
       (ScriptReportsCalls list (before ++ script_stop_of e ∷ []) a) s u v
       (λ first next is more. told_again is more) (went_told before e u went) says
 
@@ -39,7 +50,7 @@ module _ {W : Type 0} (wire : Ghosts W) (opened : Bool) (most : ScriptListed →
   runs_told batches runs t none = λ calls noted. ([], noted, no_run)
   runs_told batches runs t
       (then {batches = before} {runs = earlier} {t = u} {u = v} {batch = batch} {run = run} prior all goes) =
-      host_calls_append wire.notes (ScriptRunsReportCalls before earlier)
+      told_after wire.notes (ScriptRunsReportCalls before earlier)
       (ScriptReportsCalls batch.accesses run.stops run.told)
       (ScriptRunsReportCalls (before ++ batch ∷ []) (earlier ++ run ∷ [])) s u v
       (λ first next is more. one_run batch run is more) (runs_told before earlier u prior)
@@ -69,7 +80,7 @@ module _ {W : Type 0} (wire : Ghosts W) (opened : Bool) (tries resumes : ℕ) (b
       let runs_are : (earlier ++ runs) ++ run ∷ [] ≡ earlier ++ (runs ++ run ∷ []) =
       append_assoc earlier runs (run ∷ []) in (
         runs ++ run ∷ [],
-        host_calls_append wire.notes (ScriptRunsReportCalls (batches ++ batch_again batch runs) (earlier ++ runs))
+        told_after wire.notes (ScriptRunsReportCalls (batches ++ batch_again batch runs) (earlier ++ runs))
             (ScriptReportsCalls batch.accesses stops told)
             (ScriptRunsReportCalls (batches ++ batch_again batch (runs ++ run ∷ [])) (earlier ++ (runs ++ run ∷ [])))
             s u t (λ first next is more.
