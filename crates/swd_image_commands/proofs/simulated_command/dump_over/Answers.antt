@@ -23,7 +23,7 @@ pub write_image_file-requires : goal.write_image_file-requires
 write_image_file-requires g c =
     let dumped = c.dump-answer in
     subst (λ l. c.args.image.now.addr + length l ≤ 2 ^ 32) (sym c.as_slice-in-Ok.ensures.value)
-    (dump_command_fits (λ v. v.items) (image_bench_wire g.A) c.limits_of.result c.args.image.now.addr c.args.count None
+    (dump_command_fits (λ v. v.items) (image_bench_wire _) c.limits_of.result c.args.image.now.addr c.args.count None
     dumped.result c.in-Ok.bytes c.args.bench dumped.new.wire c.in-Ok.ensures dumped.ensures.dumps)
 
 pub returns-in-Ok : goal.returns-in-Ok
@@ -48,11 +48,11 @@ returns-in-Ok g c =
       blank = before;
       filled = after;
       named = run_file_is_some bytes c.report_writer-report.result ∙ c.report_writer-report.ensures ∙ c.requires.named;
-      came = subst (λ limits. DumpCame (image_bench_wire g.A) limits image.addr c.args.count
+      came = subst (λ limits. DumpCame (image_bench_wire _) limits image.addr c.args.count
           (dump_command_as_list (λ v. v.items) dumped.result) (λ bytes. bytes) c.args.bench dumped.new.wire before
           after)
           c.limits_of.ensures
-          (dump_command_came_list (λ v. v.items) (image_bench_wire g.A) c.limits_of.result image.addr c.args.count
+          (dump_command_came_list (λ v. v.items) (image_bench_wire _) c.limits_of.result image.addr c.args.count
           dumped.result c.args.bench dumped.new.wire before after (record {
             dumps = dumped.ensures.dumps;
             fault = dumped.ensures.fault;
@@ -86,11 +86,11 @@ returns g c =
       blank = before;
       filled = after;
       named = run_file_is_some bytes c.report_writer-report.result ∙ c.report_writer-report.ensures ∙ c.requires.named;
-      came = subst (λ limits. DumpCame (image_bench_wire g.A) limits image.addr c.args.count
+      came = subst (λ limits. DumpCame (image_bench_wire _) limits image.addr c.args.count
           (dump_command_as_list (λ v. v.items) dumped.result) (λ bytes. bytes) c.args.bench dumped.new.wire before
           after)
           c.limits_of.ensures
-          (dump_command_came_list (λ v. v.items) (image_bench_wire g.A) c.limits_of.result image.addr c.args.count
+          (dump_command_came_list (λ v. v.items) (image_bench_wire _) c.limits_of.result image.addr c.args.count
           dumped.result c.args.bench dumped.new.wire before after (record {
             dumps = dumped.ensures.dumps;
             fault = dumped.ensures.fault;

@@ -24,14 +24,14 @@ returns-in-Ok g c =
       record {
         answer = loaded.result;
         after = loaded.new.wire;
-        memory = on_ok_weaker loaded.result (loaded_there (image_bench_wire g.A) c.limits_of-limits.result (λ w. tt)
+        memory = on_ok_weaker loaded.result (loaded_there (image_bench_wire _) c.limits_of-limits.result (λ w. tt)
             (pieces_to_load c.args.whole.now) c.args.bench loaded.new.wire c.requires.rests refl)
             loaded.ensures.loads;
         blank = before;
         filled = after;
         named = run_file_is_some bytes c.report_writer-report.result ∙ c.report_writer-report.ensures ∙
             c.requires.named;
-        came = subst (λ limits. LoadCame (image_bench_wire g.A) limits (pieces_to_load c.args.whole.now) loaded.result
+        came = subst (λ limits. LoadCame (image_bench_wire _) limits (pieces_to_load c.args.whole.now) loaded.result
             c.args.bench loaded.new.wire before after) c.limits_of-limits.ensures (record {
               loads = loaded.ensures.loads;
               fault = loaded.ensures.fault;
@@ -57,14 +57,14 @@ returns g c =
       record {
         answer = loaded.result;
         after = loaded.new.wire;
-        memory = on_ok_weaker loaded.result (loaded_there (image_bench_wire g.A) c.limits_of-limits.result (λ w. tt)
+        memory = on_ok_weaker loaded.result (loaded_there (image_bench_wire _) c.limits_of-limits.result (λ w. tt)
             (pieces_to_load c.args.whole.now) c.args.bench loaded.new.wire c.requires.rests refl)
             loaded.ensures.loads;
         blank = before;
         filled = after;
         named = run_file_is_some bytes c.report_writer-report.result ∙ c.report_writer-report.ensures ∙
             c.requires.named;
-        came = subst (λ limits. LoadCame (image_bench_wire g.A) limits (pieces_to_load c.args.whole.now) loaded.result
+        came = subst (λ limits. LoadCame (image_bench_wire _) limits (pieces_to_load c.args.whole.now) loaded.result
             c.args.bench loaded.new.wire before after) c.limits_of-limits.ensures (record {
               loads = loaded.ensures.loads;
               fault = loaded.ensures.fault;

@@ -22,13 +22,13 @@ returns g c =
     record {
       answer = verified.result;
       after = verified.new.wire;
-      memory = IfOk-weaker verified.result _ _ (λ difference. verified_there (image_bench_wire g.A)
+      memory = IfOk-weaker verified.result _ _ (λ difference. verified_there (image_bench_wire _)
           c.limits_of-limits.result (λ w. tt) pieces difference c.args.bench verified.new.wire c.requires.rests refl)
           verified.ensures.verifies;
       blank = before;
       filled = after;
       named = run_file_is_some bytes c.report_writer-report.result ∙ c.report_writer-report.ensures ∙ c.requires.named;
-      came = subst (λ limits. VerifyCame (image_bench_wire g.A) limits pieces verified.result c.args.bench
+      came = subst (λ limits. VerifyCame (image_bench_wire _) limits pieces verified.result c.args.bench
           verified.new.wire before after) c.limits_of-limits.ensures (record {
             verifies = verified.ensures.verifies;
             fault = verified.ensures.fault;
