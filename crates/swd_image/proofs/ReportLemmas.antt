@@ -1,5 +1,5 @@
 -- The reports of calls, one after the other.
-use Rattle.std.proofs.Common.{◌≡◌, ℕ, refl, sym, ap, subst, ◌∙◌, List, [], ◌++◌, append_assoc, Option, Some, None, Err}
+use Rattle.std.proofs.Common.{◌≡◌, ℕ, refl, sym, ap, subst, ◌∙◌, List, [], ◌++◌, append_assoc, false, Option, Some, None, Err}
 use Rattle.std.specs.Prelude.{◌≢◌}
 use Rattle.std.specs.Io.KnownBytes.{Appends}
 use Rattle.std.proofs.KnownBytes.{Appends-nil, Appends-trans}
@@ -11,7 +11,7 @@ use Rattle.swd_host.specs.declared.outcome.End.TheVariants.{All}
 use Rattle.swd_host.specs.Reports.{HostReport}
 use Rattle.swd_script.specs.Laws.{IsScriptBatch}
 use Rattle.swd_script.specs.Scripts.{ScriptListed}
-use Rattle.swd_run.specs.Reports.{ReportsBatchRun, script_run_report}
+use Rattle.swd_run.specs.Reports.{ReportsBatchRunFrom, script_run_report}
 use Rattle.swd_run.specs.Sessions.{ScriptRun}
 use Rattle.swd_image.specs.declared.limits.Limits.{Limits}
 use Rattle.swd_port.specs.declared.wire.Wire.{Ghosts}
@@ -198,7 +198,8 @@ module _ {W : Type 0} (wire : Ghosts W) (limits : Limits) where
 
   -- one call of which the writer got the first bytes alone
   pub to_failed : (s t : W) (batch : ScriptListed) (told : HostReport) (sent : ℕ) (start now : Option (List ℕ))
-      → ReportsBatchRun wire.port wire.plan wire.lawful limits.tries limits.resumes batch s t
+      → ReportsBatchRunFrom wire.port wire.plan wire.lawful wire.notes false limits.tries
+      limits.resumes batch s t
       start now
       told (Err sent) → batch.until ≡ None
       → IsScriptBatch batch
@@ -206,6 +207,6 @@ module _ {W : Type 0} (wire : Ghosts W) (limits : Limits) where
   to_failed s t batch told sent start now h plain fits = (
     now,
     refl,
-    reports_one s t batch h.run (Some Report) start now (record { fits = fits; goes = h.goes }) plain
+    reports_one s t batch h.run (Some Report) start now (record { fits = fits; goes = h.goes; told = h.calls }) plain
         (λ e. absurd (no_fault Report (sym e))) (λ end e. cc) (λ e. absurd (e refl)) (λ e. (sent, h.writes)),
   )

@@ -7,9 +7,11 @@ use Rattle.swd_port.specs.declared.access.Answer.{Answer}
 use Rattle.swd_port.specs.declared.access.Answer.TheVariants.{Value, Written, BusFault}
 use Rattle.swd_port.specs.PlainMemory.{plain_address}
 use Rattle.swd_host.specs.declared.outcome.End.TheVariants.{All}
+use Rattle.swd_host.specs.Sent.{HostCalls}
 use Rattle.swd_script.specs.Scripts.{ScriptListed}
 use Rattle.swd_script.specs.Laws.{IsScriptBatch}
 use Rattle.swd_image.specs.declared.limits.Limits.{Limits}
+use Rattle.swd_run.specs.Sent.{ScriptReportsCalls}
 use Rattle.swd_run.specs.Sessions.{ScriptRun, RunsBatch, batch_limit}
 use Rattle.swd_port.specs.declared.wire.Wire.{Ghosts}
 use Rattle.swd_image.specs.declared.fault.ImageFault.{ImageFault}
@@ -50,11 +52,12 @@ image_words_read answers = map image_word_read answers
 
 -- THE CALLS
 module _ {W : Type 0} (wire : Ghosts W) (limits : Limits) where
-  -- one call over a wire, from one state of the wire to another, with its report: a batch of at most 65,536 accesses,
-  -- which may have been resumed
+  -- One call over a wire, from one state of the wire to another, with its report: a batch of at most 65,536 accesses,
+  -- which may have been resumed. Whatever came back, the calls made of the wire are what the report tells.
   pub record Call (batch : ScriptListed) (s : W) (run : ScriptRun) (t : W) : Type 0 where
     pub fits : IsScriptBatch batch
     pub goes : RunsBatch wire.port wire.plan wire.lawful (batch_limit batch) limits.tries limits.resumes batch s run t
+    pub told : HostCalls wire.notes (ScriptReportsCalls batch.accesses run.stops run.told) s t
 
   -- consecutive calls, each of which ended `All` with each access done: their accesses, and their answers
   pub data Calls (s : W) : List Access → List Answer → W → Type 0 where

@@ -36,6 +36,7 @@ module _ {W V : Type 0} (by : W → V) (wire : Ghosts V) (limits : Limits) where
   call_by batch s run t call = record {
     fits = call.fits;
     goes = goes_by by wire.port wire.plan wire.lawful limits.tries limits.resumes batch s run t call.goes;
+    told = call.told;
   }
 
   calls_by : (s : W) (list : List Access) (answers : List Answer) (t : W)

@@ -4,6 +4,7 @@ pub mod Engine
 pub mod Leads
 pub mod Starts
 pub mod GoingOn
+pub mod Sent
 pub mod Sessions
 pub mod Transfers
 pub mod Unfoldings

@@ -13,10 +13,13 @@ use Rattle.swd_port.specs.declared.access.Answer.TheVariants.{Value, Written, Bu
 use Rattle.swd_host.specs.declared.outcome.End.{End}
 use Rattle.swd_host.specs.declared.outcome.End.TheVariants.{All, Lost, TriesOut, WrongId, Confused}
 use Rattle.swd_host.specs.Reports.{HostReport}
+use Rattle.swd_host.specs.Sent.{HostCalls}
 use Rattle.swd_script.specs.declared.batch.Until.{Until}
 use Rattle.swd_script.specs.Scripts.{ScriptListed}
 use Rattle.swd_run.specs.declared.going_on.Stop.{Stop}
+use Rattle.swd_run.specs.Sent.{ScriptReportsCalls}
 use Rattle.swd_run.specs.Sessions.{ScriptRun, RunsBatchFrom, batch_limit}
+use Rattle.swd_port.specs.declared.call.Call.{Call}
 use Rattle.swd_port.specs.declared.mark.Mark.{Mark}
 use Rattle.swd_port.specs.Port.{Port}
 use Rattle.swd_run.specs.Unfoldings.{BatchRuns, Performs, until_never_came, batch_reads_of}
@@ -122,21 +125,17 @@ ReportWritesOn (Ok told) start now all = HasReportWritten start now all told
 ReportWritesOn (Err told) start now all = OutputStopped told start now all
 
 -- One run of a batch that is no `until`, from the wire s to the wire t, whose last call has this report. `opened` says
--- whether the target is open at s. A writer had the contents `old`, and has `new` now: all of the run's report was
--- written, or exactly its first bytes and not all.
+-- whether the target is open at s. The calls made of the wire are those that the reports tell. A writer had the
+-- contents
+-- `old`, and has `new` now: all of the run's report was written, or exactly its first bytes and not all.
 pub record ReportsBatchRunFrom {W : Type 0} (port : W → Port) (plan : W → List Mark) (lawful : W → Type 0)
-    (opened : Bool) (tries resumes : ℕ) (batch : ScriptListed) (s t : W) (old new : Option (List ℕ))
-    (told : HostReport) (written : Result ℕ ℕ) : Type 0 where
+    (notes : List Call → W → Type 0) (opened : Bool) (tries resumes : ℕ) (batch : ScriptListed) (s t : W)
+    (old new : Option (List ℕ)) (told : HostReport) (written : Result ℕ ℕ) : Type 0 where
   pub run : ScriptRun
   pub last : run.told ≡ told
   pub goes : RunsBatchFrom port plan lawful opened (batch_limit batch) tries resumes batch s run t
+  pub calls : HostCalls notes (ScriptReportsCalls batch.accesses run.stops run.told) s t
   pub writes : ReportWritesOn written old new (script_run_report batch 1 run)
-
--- the same for a run that opens the target
-abbrev pub ReportsBatchRun : {W : Type 0} → (W → Port) → (W → List Mark) → (W → Type 0) → (tries resumes : ℕ)
-    → ScriptListed → W → W → (old new : Option (List ℕ)) → HostReport → Result ℕ ℕ → Type 0
-ReportsBatchRun port plan lawful tries resumes batch s t old new told written =
-    ReportsBatchRunFrom port plan lawful false tries resumes batch s t old new told written
 
 -- The runs of a batch, from the wire s to the wire t, of which the last one has this report. A writer had the contents
 -- `old`, and has `new` now: all of the batch's report was written, or exactly its first bytes and not all.

@@ -4,11 +4,13 @@ ghost use Rattle.std.specs.Vec.{vec_capacity};
 ghost use Rattle.swd_port.specs.declared.wire.Due.TheVariants.{Nothing};
 ghost use Rattle.swd_io.specs.Blocks.{BlockBufferSends};
 ghost use Rattle.swd_host.specs.Reports.{host_report_of, host_report_to};
+ghost use Rattle.swd_host.specs.Sent.{HostCalls};
 ghost use Rattle.swd_script.specs.Readers.{script_batch_listed};
 ghost use Rattle.swd_script.specs.Laws.{IsScriptBatch};
 ghost use Rattle.swd_run.specs.declared.going_on.Stop.{Stop as StopType};
 ghost use Rattle.swd_run.specs.Reporting.{Goes};
-ghost use Rattle.swd_run.specs.Reports.{IsBatchReported, ReportsBatchRun, ReportsBatchRunFrom, report_lines_from};
+ghost use Rattle.swd_run.specs.Reports.{IsBatchReported, ReportsBatchRunFrom, report_lines_from};
+ghost use Rattle.swd_run.specs.Sent.{ScriptReportsCalls};
 ghost use Rattle.swd_run.specs.Sessions.{RunsBatchFrom, batch_limit};
 ghost use Rattle.swd_run.specs.Unfoldings.{IsCutShort};
 
@@ -54,7 +56,9 @@ fn run_reporting<W: Wire, O: Write, A: Allocator>(
     ensures goes { (stops : List StopType) × Goes O.contents (λ answers. answers.items) report.old stops report.new
         × RunsBatchFrom W.port W.plan W.lawful options.opened (batch_limit (script_batch_listed batch.now))
         options.tries options.resumes (script_batch_listed batch.now) wire.old
-        (record { stops = stops; told = host_report_to report.new.answers.now.items result }) wire.new }
+        (record { stops = stops; told = host_report_to report.new.answers.now.items result }) wire.new
+        × HostCalls W.notes (ScriptReportsCalls (script_batch_listed batch.now).accesses stops
+        (host_report_to report.new.answers.now.items result)) wire.old wire.new }
     ensures plan { W.plan wire.new ≡ W.plan wire.old }
 {
     match make_call_to(wire, batch, options, report) {
@@ -80,6 +84,8 @@ fn put_run<W: Wire, O: Write, A: Allocator>(
         × RunsBatchFrom W.port W.plan W.lawful options.opened (batch_limit (script_batch_listed batch.now))
         options.tries options.resumes (script_batch_listed batch.now) wire.old
         (record { stops = stops; told = host_report_to answers.new.items result }) wire.new
+        × HostCalls W.notes (ScriptReportsCalls (script_batch_listed batch.now).accesses stops
+        (host_report_to answers.new.items result)) wire.old wire.new
         × ((start : Option (List ℕ)) → BlockBufferSends O.contents start block.old []
         → BlockBufferSends O.contents start block.new
         (report_lines_from None 0 stops (script_batch_listed batch.now).accesses answers.new.items)) }
@@ -104,7 +110,7 @@ fn report_call<W: Wire, O: Write, A: Allocator + Copy>(
     requires batch { IsScriptBatch (script_batch_listed batch.now) }
     requires plain { batch.now.until ≡ None }
     requires due { (W.port wire.old).link.due ≡ Nothing }
-    ensures reports { IfSome result (λ reported. ReportsBatchRunFrom W.port W.plan W.lawful options.opened
+    ensures reports { IfSome result (λ reported. ReportsBatchRunFrom W.port W.plan W.lawful W.notes options.opened
         options.tries options.resumes (script_batch_listed batch.now)
         wire.old wire.new (O.contents report.old) (O.contents report.new) (host_report_of reported.report)
         reported.written) }
@@ -138,7 +144,8 @@ pub fn run_on_reporting<W: Wire, O: Write, A: Allocator + Copy>(
     requires batch { IsScriptBatch (script_batch_listed batch.now) }
     requires plain { batch.now.until ≡ None }
     requires due { (W.port wire.old).link.due ≡ Nothing }
-    ensures reports { IfSome result (λ reported. ReportsBatchRun W.port W.plan W.lawful tries resumes
+    ensures reports { IfSome result (λ reported. ReportsBatchRunFrom W.port W.plan W.lawful W.notes false
+        tries resumes
         (script_batch_listed batch.now)
         wire.old wire.new (O.contents report.old) (O.contents report.new) (host_report_of reported.report)
         reported.written) }

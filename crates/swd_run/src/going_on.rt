@@ -5,9 +5,11 @@ ghost use Rattle.swd_script.specs.Readers.{script_batch_listed};
 ghost use Rattle.swd_script.specs.Laws.{IsScriptBatch};
 ghost use Rattle.swd_host.specs.Plain.{AreHostAccesses};
 ghost use Rattle.swd_host.specs.Reports.{host_report_to};
+ghost use Rattle.swd_host.specs.Sent.{HostCalls, HostReportsCalls};
 ghost use Rattle.swd_host.specs.Tasks.{bursts_limit};
 ghost use Rattle.swd_run.specs.declared.going_on.Stop.{Stop as StopType};
 ghost use Rattle.swd_run.specs.Sessions.{RunsBatch, RunsBatchFrom, IsBatchRefused, script_run_of, batch_limit};
+ghost use Rattle.swd_run.specs.Sent.{ScriptReportsCalls};
 ghost use Rattle.swd_run.specs.Starts.{ScriptCallCloses, ScriptCallFits};
 
 use crate::options::CallOptions;
@@ -70,6 +72,8 @@ fn begin<W: Wire, K: AnswerSink, A: Allocator>(
     ensures keeps { K.keeps sink.old sink.new }
     ensures most { K.most sink.old ≤ K.most sink.new }
     ensures plan { W.plan wire.new ≡ W.plan wire.old }
+    ensures told { HostCalls W.notes (HostReportsCalls (script_batch_listed batch.now).accesses
+        (host_report_to (K.taken sink.new) result)) wire.old wire.new }
 {
     let accesses = batch.accesses.as_slice();
     if options.opened {
@@ -98,7 +102,9 @@ pub(crate) fn make_call_to<W: Wire, K: RunSink, A: Allocator>(
     ensures goes { IfOk result (λ ending. (stops : List StopType) × K.follows sink.old stops sink.new
         × RunsBatchFrom W.port W.plan W.lawful options.opened (batch_limit (script_batch_listed batch.now))
         options.tries options.resumes (script_batch_listed batch.now) wire.old
-        (record { stops = stops; told = host_report_to (K.taken sink.new) ending }) wire.new) }
+        (record { stops = stops; told = host_report_to (K.taken sink.new) ending }) wire.new
+        × HostCalls W.notes (ScriptReportsCalls (script_batch_listed batch.now).accesses stops
+        (host_report_to (K.taken sink.new) ending)) wire.old wire.new) }
     ensures refused { OnErr result (IsBatchRefused W.port W.plan W.lawful options.opened
         (batch_limit (script_batch_listed batch.now)) options.tries options.resumes (script_batch_listed batch.now)
         wire.old wire.new) }
@@ -141,7 +147,9 @@ pub fn run_on_to<W: Wire, K: RunSink, A: Allocator>(
     ensures goes { IfOk result (λ ending. (stops : List StopType) × K.follows sink.old stops sink.new
         × RunsBatch W.port W.plan W.lawful (batch_limit (script_batch_listed batch.now)) tries resumes
         (script_batch_listed batch.now) wire.old
-        (record { stops = stops; told = host_report_to (K.taken sink.new) ending }) wire.new) }
+        (record { stops = stops; told = host_report_to (K.taken sink.new) ending }) wire.new
+        × HostCalls W.notes (ScriptReportsCalls (script_batch_listed batch.now).accesses stops
+        (host_report_to (K.taken sink.new) ending)) wire.old wire.new) }
     ensures refused { OnErr result (IsBatchRefused W.port W.plan W.lawful false
         (batch_limit (script_batch_listed batch.now)) tries resumes
         (script_batch_listed batch.now) wire.old wire.new) }

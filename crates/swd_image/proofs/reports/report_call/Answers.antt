@@ -1,7 +1,7 @@
-use Rattle.std.proofs.Common.{[], Some, refl, subst, sym}
+use Rattle.std.proofs.Common.{[], Some, false, refl, subst, sym}
 use Rattle.swd_host.specs.Reports.{host_report_of}
 use Rattle.swd_script.specs.Readers.{script_batch_listed}
-use Rattle.swd_run.specs.Reports.{ReportsBatchRun}
+use Rattle.swd_run.specs.Reports.{ReportsBatchRunFrom}
 use Rattle.swd_image.specs.declared.fault.ImageFault.TheVariants.{Memory}
 use Rattle.swd_image.specs.Reports.{ReportsTo}
 use Rattle.swd_image.specs.Sessions.{FailsNext, none}
@@ -29,8 +29,9 @@ returns-in_default-clause-report g c =
 pub returns-in-Err-clause-fault : goal.returns-in-Err-clause-fault
 returns-in-Err-clause-fault g c =
     let h = c.in-Some.ensures.reports in
-    call_fails g.W.Wire c.args.limits c.args.wire.now c.run_on_reporting.new.wire (script_batch_listed c.args.batch.now)
-    h.run _ (record { fits = c.requires.batch; goes = h.goes }) tt
+    call_fails g.W.Wire c.args.limits c.args.wire.now c.run_on_reporting.new.wire (script_batch_listed
+        c.args.batch.now)
+    h.run _ (record { fits = c.requires.batch; goes = h.goes; told = h.calls }) tt
 
 pub returns-in-Err-clause-report : goal.returns-in-Err-clause-report
 returns-in-Err-clause-report g c =
@@ -40,6 +41,7 @@ returns-in-Err-clause-report g c =
     let now = g.O.Write.contents c.run_on_reporting.new.report in
     let told = host_report_of c.in-Some.reported.report in
     to_failed g.W.Wire c.args.limits c.args.wire.now t batch told c.in-Err.field-0 start now
-    (subst (λ w. ReportsBatchRun g.W.Wire.port g.W.Wire.plan g.W.Wire.lawful c.args.limits.tries
+    (subst (λ w. ReportsBatchRunFrom g.W.Wire.port g.W.Wire.plan g.W.Wire.lawful g.W.Wire.notes false
+        c.args.limits.tries
     c.args.limits.resumes batch c.args.wire.now t start now told w) c.in-Err.is c.in-Some.ensures.reports)
     c.requires.plain c.requires.batch

@@ -3,7 +3,9 @@ use Rattle.swd_port.specs.declared.access.Access.{Access}
 use Rattle.swd_io.specs.Blocks.{BlockBufferSends}
 use Rattle.swd_script.specs.Readers.{script_batch_listed}
 use Rattle.swd_host.specs.Reports.{host_report_to}
+use Rattle.swd_host.specs.Sent.{HostCalls}
 use Rattle.swd_run.specs.declared.going_on.Stop.{Stop}
+use Rattle.swd_run.specs.Sent.{ScriptReportsCalls}
 use Rattle.swd_run.specs.Sessions.{RunsBatchFrom, batch_limit}
 use Rattle.swd_run.specs.Reports.{report_lines_from}
 use Rattle.swd_run.proofs.ReportLemmas.{report_lines_empty}
@@ -13,7 +15,7 @@ pub returns-clause-goes : goal.returns-clause-goes
 returns-clause-goes g c =
     let batch = script_batch_listed c.args.batch.now in
     let report = c.run_reporting.new.report in
-    let (stops, follows, goes) = c.run_reporting.ensures.goes in
+    let (stops, follows, goes, calls) = c.run_reporting.ensures.goes in
     let none = ap length c.requires.none in
     let accesses : report.accesses.now ≡ batch.accesses = follows.accesses ∙ c.as_slice.ensures.value in
     let sends : (start : Option (List ℕ)) → BlockBufferSends g.O.Write.contents start c.args.block.now []
@@ -31,8 +33,11 @@ returns-clause-goes g c =
       stops = x;
       told = host_report_to report.answers.now.items
           c.run_reporting.result;
-    }) c.run_reporting.new.wire × ((start : Option (List ℕ))
+    }) c.run_reporting.new.wire
+    × HostCalls g.W.Wire.notes (ScriptReportsCalls batch.accesses x
+    (host_report_to report.answers.now.items c.run_reporting.result)) c.args.wire.now c.run_reporting.new.wire
+    × ((start : Option (List ℕ))
     → BlockBufferSends g.O.Write.contents start c.args.block.now []
     → BlockBufferSends g.O.Write.contents start report.block.now
-    (report_lines_from None 0 x batch.accesses report.answers.now.items)) = (stops, goes, sends) in
+    (report_lines_from None 0 x batch.accesses report.answers.now.items)) = (stops, goes, calls, sends) in
     search rules

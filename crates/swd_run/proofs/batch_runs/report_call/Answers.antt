@@ -14,7 +14,7 @@ returns-clause-reports g c =
     let start = g.O.Write.contents c.args.report.now in
     let now = g.O.Write.contents c.finish-written.new.block.writer.now in
     let answers = c.put_run-ending.new.answers.items in
-    let (stops, goes, sends) = c.put_run-ending.ensures.goes in
+    let (stops, goes, calls, sends) = c.put_run-ending.ensures.goes in
     let told = host_report_to answers c.put_run-ending.result in
     let run : ScriptRun = record { stops = stops; told = told } in
     let text : report_text None false batch.accesses stops told ≡ script_run_report batch 1 run =
@@ -22,12 +22,13 @@ returns-clause-reports g c =
     (sym c.requires.plain) in
     let lines = report_lines_from None 0 stops batch.accesses answers in
     let number : c.len-2.result ≡ length answers = search rules in
-    let done : ReportsBatchRunFrom g.W.Wire.port g.W.Wire.plan g.W.Wire.lawful c.args.options.opened
+    let done : ReportsBatchRunFrom g.W.Wire.port g.W.Wire.plan g.W.Wire.lawful g.W.Wire.notes c.args.options.opened
     c.args.options.tries c.args.options.resumes batch c.args.wire.now
     c.put_run-ending.new.wire start now (host_report_of c.with.result) c.finish-written.result = record {
       run = run;
       last = sym c.with.ensures;
       goes = goes;
+      calls = calls;
       writes = subst (ReportWritesOn c.finish-written.result start now) text
           (subst (λ n. ReportWritesOn c.finish-written.result start now
           (lines ++ (report_last_line told.ended n told.begun ++ 10 ∷ []))) number

@@ -4,12 +4,15 @@ use Rattle.std.specs.Prelude.{OnErr}
 use Rattle.std.proofs.lemmas.List.{length-append}
 use Rattle.swd_port.specs.declared.access.Access.{Access}
 use Rattle.swd_port.specs.declared.access.Answer.{Answer}
-use Rattle.swd_host.specs.Again.{ResumeCloses, ResumesOver}
+use Rattle.swd_host.specs.Again.{ResumeCloses, ResumeReportsCalls, ResumesOver}
 use Rattle.swd_host.specs.Plain.{AreHostAccesses}
 use Rattle.swd_host.specs.Reports.{host_report_to}
+use Rattle.swd_host.specs.Sent.{HostCalls, HostReportsCalls}
+use Rattle.swd_host.proofs.Making.{host_calls_append, host_calls_weaken}
 use Rattle.swd_script.specs.Readers.{script_batch_listed}
 use Rattle.swd_run.specs.declared.going_on.Stop.{Stop}
 use Rattle.swd_run.specs.GoingOn.{ran, resumed, script_stop_of}
+use Rattle.swd_run.specs.Sent.{ScriptReportsCalls, told_again, told_once}
 use Rattle.swd_run.specs.Sessions.{unresumed}
 use Rattle.swd_run.proofs.going_on.make_call_to.Goals as goal
 
@@ -21,6 +24,8 @@ on_err (Err e) p = p
 pub loop-done-init : goal.loop-done-init
 loop-done-init g c =
     let ensures = c.begin-ending.ensures in
+    let batch = script_batch_listed c.args.batch.now in
+    let taken = g.K.AnswerSink.taken c.begin-ending.new.sink in
     let number = ensures.closes.number in
     let room = c.requires.room in
     let most = ensures.most in
@@ -33,12 +38,16 @@ loop-done-init g c =
         refl,
         g.met.K.RunSink.answers_follow c.args.sink.now c.begin-ending.new.sink ensures.keeps,
         ran ensures.plan ensures.closes ensures.fits,
+        host_calls_weaken g.W.Wire.notes
+            (HostReportsCalls batch.accesses (host_report_to taken c.begin-ending.result))
+            (ScriptReportsCalls batch.accesses [] (host_report_to taken c.begin-ending.result)) c.args.wire.now
+            c.begin-ending.new.wire (λ calls h. told_once h) ensures.told,
       );
     }
 
 pub returns-in_err-stop-clause-refused : goal.returns-in_err-stop-clause-refused
 returns-in_err-stop-clause-refused g c =
-    let (stops, count, follows, went) = c.loop-done.invariant.went in
+    let (stops, count, follows, went, told_so) = c.loop-done.invariant.went in
     let low = c.loop-done-test.true in
     on_err c.from_residual.result (unresumed went c.in-Lost.is (omega (arith, count, low)))
 
@@ -51,7 +60,7 @@ pub loop-done-preserved : goal.loop-done-preserved
 loop-done-preserved g c =
     let batch = script_batch_listed c.args.batch.now in
     let tries = c.args.options.tries in
-    let (stops, count, follows, went) = c.loop-done.invariant.went in
+    let (stops, count, follows, went, told_so) = c.loop-done.invariant.went in
     let before = g.K.AnswerSink.taken c.loop-done.sink in
     let earlier = host_report_to before c.loop-done.ending in
     let told = host_report_to (g.K.AnswerSink.taken c.resume_to-ending.new.sink) c.resume_to-ending.result in

@@ -1,7 +1,9 @@
 use Rattle.std.proofs.Common.{◌≡◌, ◌≤◌, List, length}
 use Rattle.swd_host.specs.Reports.{host_report_to}
+use Rattle.swd_host.specs.Sent.{HostCalls}
 use Rattle.swd_script.specs.Readers.{script_batch_listed}
 use Rattle.swd_run.specs.declared.going_on.Stop.{Stop}
+use Rattle.swd_run.specs.Sent.{ScriptReportsCalls}
 use Rattle.swd_run.specs.Sessions.{batch_limit}
 use Rattle.swd_run.specs.GoingOn.{ScriptCallsFrom}
 use Rattle.swd_run.proofs.going_on.make_call_to.Given as goal
@@ -15,5 +17,7 @@ invariant-loop-done g l =
       plan : g.W.Wire.plan l.wire ≡ g.W.Wire.plan l.fn.wire;
       went : (stops : List Stop) × (length stops ≡ l.done) × g.K.RunSink.follows l.fn.sink stops l.sink
           × ScriptCallsFrom g.W.Wire.port g.W.Wire.plan g.W.Wire.lawful l.options.opened (batch_limit batch)
-          batch.accesses l.options.tries l.fn.wire stops (host_report_to (g.K.AnswerSink.taken l.sink) l.ending) l.wire;
+          batch.accesses l.options.tries l.fn.wire stops (host_report_to (g.K.AnswerSink.taken l.sink) l.ending) l.wire
+          × HostCalls g.W.Wire.notes (ScriptReportsCalls batch.accesses stops
+          (host_report_to (g.K.AnswerSink.taken l.sink) l.ending)) l.fn.wire l.wire;
     }

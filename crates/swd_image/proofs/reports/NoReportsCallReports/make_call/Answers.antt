@@ -15,10 +15,10 @@ returns-in_default-clause-report g c = (refl, λ e. cc)
 
 pub returns-clause-call : goal.returns-clause-call
 returns-clause-call g c =
-    let (stops, follows, goes) = c.in-Ok-run_on_to.ensures.goes in
+    let (stops, follows, goes, told) = c.in-Ok-run_on_to.ensures.goes in
     record {
       run = record { stops = stops; told = host_report_to c.run_on_to.new.sink.answers.items c.in-Ok-run_on_to.ending };
       last = sym c.with.ensures;
-      call = record { fits = c.requires.batch; goes = goes };
+      call = record { fits = c.requires.batch; goes = goes; told = told };
       writes = refl;
     }
