@@ -1,8 +1,10 @@
 //! The list of worlds.
-ghost use Rattle.std.specs.Prelude.{◌≡◌, ◌≤◌, [], false, length};
-ghost use Rattle.swd_port.specs.Port.{Target};
+ghost use Rattle.std.specs.Prelude.{ℕ, ◌≡◌, ◌≢◌, ◌≤◌, [], false, length};
+ghost use Rattle.swd_port.specs.Port.{Port, Target};
+ghost use Rattle.swd_port.specs.Leading.{PortLeads};
 ghost use Rattle.swd_checker.specs.Described.{WorldDescribes};
-ghost use Rattle.swd_checker.specs.Holding.{WorldsHold, WorldsKeep, IsKeptJoined};
+ghost use Rattle.swd_checker.specs.Holding.{WorldsHold, WorldsKeep, IsKeptJoined, WorldsHoldPort, AnyKeptHolds};
+ghost use Rattle.swd_checker.specs.Checked.{CheckedTransacts};
 
 use crate::world::World;
 use arrayvec::ArrayVec;
@@ -89,7 +91,10 @@ impl Worlds {
 
     /// Takes a line reset in each of the worlds.
     #[inline(never)]
-    pub(crate) fn reset(&mut self) {
+    pub(crate) fn reset(&mut self)
+        ensures resets { (ones : ℕ) (s t : Port) → ones ≢ 0 → PortLeads s ones t → self.old.crowded ≡ false
+            → WorldsHoldPort self.old s → WorldsHoldPort self.new t }
+    {
         let mut before: ArrayVec<Kept, MOST_WORLDS> = ArrayVec::new();
         let _ = before.try_extend_from_slice(self.kept.as_slice());
         self.empty();
@@ -100,7 +105,10 @@ impl Worlds {
 
     /// Takes a transaction in each of these worlds: adds the worlds after it. Where `clean` is true, nothing is damaged
     /// or lost.
-    pub(crate) fn step_each(&mut self, before: &[Kept], tx: &Tx, clean: bool) {
+    pub(crate) fn step_each(&mut self, before: &[Kept], tx: &Tx, clean: bool)
+        ensures steps { (s t : Port) → CheckedTransacts clean tx.now.result tx.now.request s t
+            → AnyKeptHolds before.now s → WorldsHoldPort self.new t }
+    {
         for kept in before {
             self.step(kept.world, kept.faults, tx, clean);
         }
