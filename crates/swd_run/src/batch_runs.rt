@@ -184,8 +184,8 @@ fn report_until<W: Wire, O: Write, A: Allocator + Copy>(
 }
 
 /// Performs a batch over a wire: one run, or the reads of an `until`, each a run of its own. Writes the batch's report:
-/// the lines of a run while it goes on, and those of an `until` after its last read. A run goes on to its end where the writer fails. Returns `None` if an allocation fails. Nothing of this
-/// report was written then.
+/// the lines of a run while it goes on, and those of an `until` after its last read. A run goes on to its end where the
+/// writer fails. Returns `None` if an allocation fails. Nothing of this report was written then.
 pub(crate) fn report_batch<W: Wire, O: Write, A: Allocator + Copy>(
     alloc: A,
     wire: &mut W,
