@@ -9,3 +9,6 @@ pub mod Adding
 pub mod Checked
 pub mod StepLaws
 pub mod Laws
+pub mod Openings
+pub mod Standing
+pub mod Whole
