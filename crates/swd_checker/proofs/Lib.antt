@@ -8,3 +8,5 @@ pub mod ReadLemmas
 pub mod StatusLemmas
 pub mod WriteLemmas
 pub mod AddedLemmas
+pub mod EqualLemmas
+pub mod FieldsLemmas

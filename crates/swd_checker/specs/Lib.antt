@@ -7,3 +7,5 @@ pub mod Steps
 pub mod Asking
 pub mod StepLaws
 pub mod Laws
+pub mod Fields
+pub mod FieldsRead

@@ -3,12 +3,15 @@
 ghost use Rattle.std.specs.Prelude.{◌≤◌};
 ghost use Rattle.arrayvec.specs.ArrayVec.{array_vec_len};
 
+mod fields;
+
 use crate::near::{Near, Words};
 use crate::opening::Opening;
 use crate::rule::{Rule, broken_rule};
 use crate::world::World;
 use crate::worlds::{Kept, MOST_WORLDS, Worlds};
 use arrayvec::ArrayVec;
+pub use fields::CheckerFields;
 use swd_bits::{Reg4, Tx, TxEnd};
 use swd_trace::Item;
 
