@@ -5,13 +5,17 @@
 mod calls;
 mod dumping;
 mod fault;
+mod limits;
 mod loading;
 mod range;
 mod reading;
+mod reports;
 mod verifying;
 mod writing;
 
-pub use dumping::{dump, dump_reporting};
+pub use dumping::dump;
 pub use fault::ImageFault;
-pub use loading::{load, load_reporting};
-pub use verifying::{ByteDifference, verify, verify_reporting};
+pub use limits::Limits;
+pub use loading::load;
+pub use reports::{CallReports, NoReports};
+pub use verifying::{ByteDifference, verify};

@@ -16,6 +16,7 @@ mod expect;
 mod faults;
 mod flash;
 mod images;
+mod jobs;
 mod logged;
 mod long_texts;
 mod memory_server;
@@ -39,11 +40,6 @@ mod untils;
 struct Ran {
     answer: Result<Finished, RunFault>,
     text: Vec<u8>,
-}
-
-/// No writer of a report.
-fn no_report() -> Option<Vec<u8>> {
-    None
 }
 
 // A run that ended so, in which no word differed and no access met a bus error.
