@@ -1,8 +1,11 @@
 -- The bytes of a dump, as a list.
-use Rattle.std.proofs.Common.{◌≡◌, ◌+◌, ◌≤◌, ◌%◌, ◌∙◌, ℕ, List, Option, None, Some, Result, Ok, Err, ap, length, subst}
-use Rattle.std.proofs.Common.{sym}
-use Rattle.std.specs.Prelude.{◌^◌, IfOk}
+use Rattle.std.proofs.Common.{◌≡◌, ◌+◌, ◌≤◌, ◌%◌, ◌∙◌, ℕ, List, [], Option, None, Some, Result, Ok, Err, ap, inr}
+use Rattle.std.proofs.Common.{length, subst, sym}
+use Rattle.std.specs.Prelude.{◌^◌, IfOk, is_some}
+use Rattle.swd_port.specs.declared.call.Call.{Call}
 use Rattle.swd_port.specs.declared.wire.Wire.{Ghosts}
+use Rattle.swd_port.specs.Port.{Port}
+use Rattle.swd_remote.specs.declared.kept.RemoteStreams.{RemoteStreams}
 use Rattle.swd_remote.specs.declared.remote.Fault.{Fault}
 use Rattle.swd_image.specs.declared.limits.Limits.{Limits}
 use Rattle.swd_image.specs.declared.fault.ImageFault.{ImageFault}
@@ -10,8 +13,11 @@ use Rattle.swd_image.specs.Dumps.{Dumps}
 use Rattle.swd_image.proofs.DumpLemmas.{dump_bytes_length}
 use Rattle.swd_image_files.specs.declared.format.Format.{Format}
 use Rattle.swd_image_files.specs.Texts.{image_file_of_piece}
-use Rattle.swd_image_ends.specs.Came.{DumpCame}
-use Rattle.swd_image_commands.specs.Images.{IsCommandDumped, IsCommandWritten, command_result_reached}
+use Rattle.swd_image_ends.specs.Came.{DumpCame, image_story_wire}
+use Rattle.swd_words.specs.declared.command.ImageLine.{ImageLine}
+use Rattle.swd_console.specs.Connections.{CommandWentOver}
+use Rattle.swd_image_commands.specs.Images.{IsCommandDumped, IsCommandWritten, PerformsDump, command_limits}
+use Rattle.swd_image_commands.specs.Images.{command_result_reached}
 
 -- a result with its bytes as a list
 abbrev pub dump_command_as_list : {V : Type 0} → (V → List ℕ) → Result V ImageFault → Result (List ℕ) ImageFault
@@ -58,3 +64,28 @@ pub dump_command_stopped : {V : Type 0} (list : V → List ℕ) (format : Format
 dump_command_stopped list format addr (Some gone) (Ok v) error is = cc
 dump_command_stopped list format addr None (Ok v) error is = absurd cc
 dump_command_stopped list format addr _ (Err fault) error is = cc
+
+-- a dump over a line, and what became of its file
+pub dump_command_performed : {V R W : Type 0} (list : V → List ℕ) (story : ℕ → Port) (image : ImageLine)
+    (limits : Limits) (count : ℕ) (answer : Result V ImageFault) (before after : Option (Option (List ℕ)))
+    (calls : List Call) → limits ≡ command_limits image → is_some before ≡ is_some image.report
+    → DumpCame (image_story_wire story) limits image.addr count answer list [] calls before after
+    → (remaining : R → Option (List ℕ)) (contents : W → Option (List ℕ)) (sent left : Option (List ℕ))
+    (line : RemoteStreams R W) → CommandWentOver remaining contents sent left line calls → (status : ℕ)
+    → IsCommandDumped image.format image.addr
+    (command_result_reached line.fault (dump_command_as_list list answer)) status
+    → PerformsDump story image status remaining contents sent left line count
+dump_command_performed list story image limits count answer before after calls same named came remaining contents sent
+    left line over status dumped = inr (
+      dump_command_as_list list answer,
+      before,
+      after,
+      named,
+      calls,
+      subst (λ own. DumpCame (image_story_wire story) own image.addr count (dump_command_as_list list answer)
+          (λ bytes. bytes) [] calls before after) same
+          (dump_command_came_list list (image_story_wire story) limits image.addr count answer [] calls before after
+          came),
+      over,
+      dumped,
+    )

@@ -35,8 +35,7 @@ abbrev pub IsSimulatedCommandStatus : ℕ → Result (Unit {0}) ℕ → ℕ → 
 IsSimulatedCommandStatus status (Ok done) own = own ≡ status
 IsSimulatedCommandStatus status (Err error) own = own ≡ error
 
--- The pieces were loaded at a target s, or not all of them. Its memory after that was written to its file, whatever
--- the
+-- The pieces were loaded at a target s, or not all of them. Its memory after that was written to its file, whatever the
 -- answer is. If a file is named for the reports of the calls, it had the contents `blank` and has `filled` now.
 pub record LoadCommandSimulated {A : Type 0} (image : ImageLine) (pieces : List ImageFileBytes)
     (s : Bench PlainMemory A)
