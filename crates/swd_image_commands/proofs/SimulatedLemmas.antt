@@ -15,14 +15,14 @@ use Rattle.swd_image_ends.specs.Memories.{DumpsSimulatedMemory}
 use Rattle.swd_image_ends.proofs.AddressLemmas.{loaded_there}
 use Rattle.swd_words.specs.declared.command.ImageLine.{ImageLine}
 use Rattle.swd_console.specs.MemoryFiles.{CommandWritesBack}
-use Rattle.swd_image_commands.specs.Images.{IsCommandDumped, command_limits, command_result_reached}
+use Rattle.swd_image_commands.specs.Images.{IsCommandDumped, command_limits, command_listed, command_result_reached}
 use Rattle.swd_image_commands.specs.Images.{command_status_loaded, command_status_of_image}
 use Rattle.swd_image_commands.specs.Simulated.{DumpCommandSimulated, IsSimulatedCommandStatus, LoadCommandSimulated}
-use Rattle.swd_image_commands.proofs.ImageLemmas.{dump_command_as_list, dump_command_came_list}
+use Rattle.swd_image_commands.proofs.ImageLemmas.{dump_command_came_list, dump_command_written}
 
 -- what is known of the bytes of a result, is known of them as a list
 simulated_ok_list : {V : Type 0} (list : V → List ℕ) (answer : Result V ImageFault) (P : List ℕ → Type 0)
-    → IfOk answer (λ value. P (list value)) → IfOk (dump_command_as_list list answer) P
+    → IfOk answer (λ value. P (list value)) → IfOk (command_listed list answer) P
 simulated_ok_list list (Ok value) P h = h
 simulated_ok_list list (Err fault) P h = tt
 
@@ -53,12 +53,13 @@ load_command_simulated {A} image limits pieces s t answer blank filled same rest
 pub dump_command_simulated : {A V : Type 0} (list : V → List ℕ) (image : ImageLine) (limits : Limits) (count : ℕ)
     (s t : Bench PlainMemory A) (answer : Result V ImageFault) (blank filled : Option (Option (List ℕ)))
     → limits ≡ command_limits image → IsAtRest (bench_port bus_of s) → is_some blank ≡ is_some image.report
-    → DumpCame (image_bench_wire A) limits image.addr count answer list s t blank filled → (status : ℕ)
-    → IsCommandDumped image.format image.addr (command_result_reached None (dump_command_as_list list answer)) status
+    → DumpCame (image_bench_wire A) limits image.addr count answer list s t blank filled
+    → (dumped : Result V ℕ) (status : ℕ) → dumped ≡ command_result_reached None answer
+    → IsCommandDumped image.format image.addr (command_listed list dumped) status
     → DumpCommandSimulated image count s status
-dump_command_simulated {A} {V} list image limits count s t answer blank filled same rest named came status dumped =
-    record {
-      answer = dump_command_as_list list answer;
+dump_command_simulated {A} {V} list image limits count s t answer blank filled same rest named came dumped status is
+    written = record {
+      answer = command_listed list answer;
       after = t;
       memory = simulated_ok_list list answer
           (λ bytes. DumpsSimulatedMemory image.addr count bytes (plain_of (bench_port bus_of s).target.memory)
@@ -71,8 +72,8 @@ dump_command_simulated {A} {V} list image limits count s t answer blank filled s
       blank = blank;
       filled = filled;
       named = named;
-      came = subst (λ own. DumpCame (image_bench_wire A) own image.addr count (dump_command_as_list list answer)
+      came = subst (λ own. DumpCame (image_bench_wire A) own image.addr count (command_listed list answer)
           (λ bytes. bytes) s t blank filled) same
           (dump_command_came_list list (image_bench_wire A) limits image.addr count answer s t blank filled came);
-      dumped = dumped;
+      dumped = dump_command_written list image.format image.addr None answer dumped status is written;
     }

@@ -66,6 +66,11 @@ abbrev pub IsCommandWritten : ℕ → List ℕ → Type 0
 IsCommandWritten status bytes =
     (status ≡ 2) ⊎ ((old : Option (List ℕ)) × (new : Option (List ℕ)) × CommandWritesBytes status old new bytes)
 
+-- a result with its bytes as a list
+abbrev pub command_listed : {V E : Type 0} → (V → List ℕ) → Result V E → Result (List ℕ) E
+command_listed list (Ok value) = Ok (list value)
+command_listed list (Err error) = Err error
+
 -- what was read is written to a file in its format; at an error no file is changed
 abbrev pub IsCommandDumped : Format → ℕ → Result (List ℕ) ℕ → ℕ → Type 0
 IsCommandDumped format addr (Ok bytes) status = IsCommandWritten status (image_file_of_piece format addr bytes)

@@ -2,7 +2,7 @@
 ghost use Rattle.swd_image_commands.specs.Images.{PerformsDump, PerformsLoad, PerformsVerify};
 ghost use Rattle.swd_image_commands.specs.Targeted.{PerformsImage};
 
-use crate::image_file::{keep_or_give_up, read_image_file, write_image_file};
+use crate::image_file::{keep_or_give_up, read_image_file, write_dumped};
 use crate::image_report::{limits_of, open_report, report_writer};
 use crate::result::{loaded_status, reached, verified_status};
 use crate::simulated_command::perform_simulated;
@@ -188,17 +188,10 @@ fn perform_dump<
     let (answer, line) = over_line::<P, _, _, _>(&mut job, input, output);
     let streams = call_streams(image, &job.report, &line);
     drop(job);
-    match reached(console.errors, answer, line.fault, streams.as_slice()) {
-        Ok(bytes) => {
-            let status = write_image_file(image, bytes.as_slice(), &mut file, console);
-            keep_or_give_up(image, status, &mut file, console);
-            (status, line)
-        }
-        Err(status) => {
-            keep_or_give_up(image, status, &mut file, console);
-            (status, line)
-        }
-    }
+    let dumped = reached(console.errors, answer, line.fault, streams.as_slice());
+    let status = write_dumped(image, dumped, &mut file, console);
+    keep_or_give_up(image, status, &mut file, console);
+    (status, line)
 }
 
 // Returns the streams of the calls: that of the report, and those of the connection.

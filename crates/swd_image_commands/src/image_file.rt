@@ -2,7 +2,8 @@
 ghost use Rattle.std.specs.Prelude.{◌≡◌, ◌+◌, ◌≤◌, ◌^◌, IfErr, IfOk, length};
 ghost use Rattle.swd_image_ends.specs.Pieces.{pieces_to_load};
 ghost use Rattle.swd_image_files.specs.Texts.{image_file_of_piece};
-ghost use Rattle.swd_image_commands.specs.Images.{AreCommandPieces, IsCommandWritten, CommandWritesBytes};
+ghost use Rattle.swd_image_commands.specs.Images.{AreCommandPieces, CommandWritesBytes, IsCommandDumped};
+ghost use Rattle.swd_image_commands.specs.Images.{IsCommandWritten, command_listed};
 
 use std::alloc::Allocator;
 use std::io::{Read, Write};
@@ -65,9 +66,26 @@ fn read_opened_image<R: Read + Drop, A: Allocator + Copy, F, C, E: Write>(
     }
 }
 
-/// Replaces the file of a dump by the bytes in its format, and prints a line with the result. Returns the status: 0 or
-/// 2.
-pub(crate) fn write_image_file<A, F: Files, C, E: Write>(
+/// Replaces the file of a dump by the bytes that were read, in its format, and prints a line with the result. Returns
+/// the status. Where no bytes were read, this is that of the error, and the file isn't used.
+pub(crate) fn write_dumped<V: Allocator, A, F: Files, C, E: Write>(
+    image: &ImageLine,
+    dumped: Result<Vec<u8, V>, u8>,
+    file: &mut F::Made,
+    console: &mut Console<'_, A, F, C, E>,
+) -> u8
+    requires { IfOk dumped (λ bytes. image.now.addr + length bytes.items ≤ 2 ^ 32) }
+    ensures { IsCommandDumped image.now.format image.now.addr (command_listed (λ bytes. bytes.items) dumped) result }
+{
+    match dumped {
+        Ok(bytes) => write_image_file(image, bytes.as_slice(), file, console),
+        Err(status) => status,
+    }
+}
+
+// Replaces the file of a dump by the bytes in its format, and prints a line with the result. Returns the status: 0 or
+// 2.
+fn write_image_file<A, F: Files, C, E: Write>(
     image: &ImageLine,
     bytes: &[u8],
     file: &mut F::Made,

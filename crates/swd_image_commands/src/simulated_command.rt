@@ -10,7 +10,7 @@ ghost use Rattle.swd_image_commands.specs.Simulated.{SimulatesImage, SimulatesCo
 ghost use Rattle.swd_image_commands.specs.Simulated.{SimulatesDump, SimulatesLoad, SimulatesVerify};
 ghost use Rattle.swd_image_commands.specs.Simulated.{VerifyCommandSimulated};
 
-use crate::image_file::{keep_or_give_up, read_image_file, write_image_file};
+use crate::image_file::{keep_or_give_up, read_image_file, write_dumped};
 use crate::image_report::{ReportTo, limits_of, open_report, report_writer};
 use crate::result::{loaded_status, reached, verified_status};
 use std::alloc::Allocator;
@@ -285,8 +285,6 @@ fn dump_over<A: Allocator + Copy, F: Files, C, E: Write>(
     );
     let streams = [Stream::record(&image.report, &report)];
     drop(report);
-    match reached(console.errors, answer, None, streams.as_slice()) {
-        Ok(bytes) => write_image_file(image, bytes.as_slice(), file, console),
-        Err(status) => status,
-    }
+    let dumped = reached(console.errors, answer, None, streams.as_slice());
+    write_dumped(image, dumped, file, console)
 }
