@@ -5,7 +5,6 @@ use Rattle.swd_io.specs.declared.pieces.Unread.{Unread}
 use Rattle.swd_io.specs.declared.pieces.Unread.TheVariants.{Reader, Consumer}
 use Rattle.swd_port.specs.declared.call.Call.{Call}
 use Rattle.swd_port.specs.Port.{Port}
-use Rattle.swd_port.specs.Stories.{port_at, FitsStory}
 use Rattle.swd_script.specs.Scripts.{ScriptListed, ScriptMeaning, script_of}
 use Rattle.swd_script.specs.Readers.{IsScriptFault}
 use Rattle.swd_script.specs.declared.fault.ScriptFault.{ScriptFault}
@@ -13,17 +12,18 @@ use Rattle.swd_run.specs.declared.engine.Finished.{Finished}
 use Rattle.swd_run.specs.declared.fault.EngineFault.{EngineFault}
 use Rattle.swd_run.specs.Engine.{BatchAnswersAt}
 use Rattle.swd_run.specs.Records.{AreRunFilesLeft, RunFiles, IsRunFileLeft}
+use Rattle.swd_run.specs.Wires.{run_story_wire}
 use Rattle.swd_ends.specs.declared.remote.RemoteFault.{RemoteFault}
 use Rattle.swd_ends.specs.declared.remote.RemoteFault.TheVariants.{Script, Read, Engine}
 
--- The batches of a script were run over a wire to the outside. `calls` are its calls with what came back, the last one
--- first. The wire is lawful if they are consistent with the story. `Over` holds of the connection and these calls.
+-- The batches of a script were run over a wire to the outside. `calls` are all its calls with what came back, the last
+-- one first: those that the reports describe. The wire is lawful if they are consistent with the story. `Over` holds of
+-- the connection and these calls.
 pub record RanRemoteEndScript (story : ℕ → Port) (tries resumes : ℕ) (Over : List Call → Type 0)
     (batches : List ScriptListed) (answer : Result Finished EngineFault) (old new : Option (List ℕ))
     (before after : RunFiles) : Type 0 where
   pub calls : List Call
-  pub answers : BatchAnswersAt (port_at story) (λ calls. []) (FitsStory story) tries resumes batches [] calls answer old
-      new before after
+  pub answers : BatchAnswersAt (run_story_wire story) tries resumes batches [] calls answer old new before after
   pub over : Over calls
 
 -- the reader's script was run so

@@ -12,7 +12,7 @@ use std::marker::Brand;
 use swd_io::Unread;
 use swd_port::{Story, Tied, TransportWire};
 use swd_remote::{InitialStreams, RemoteStreams, RemoteTransport};
-use swd_run::{EngineFault, Finished, Records, run_batches};
+use swd_run::{EngineFault, Finished, Limits, Records, run_batches};
 use swd_script::{Script, ScriptFault, read_script};
 use thiserror::Error;
 
@@ -42,6 +42,15 @@ impl RemoteFault {
     }
 }
 
+/// The two directions of a connection to a remote_bitbang server, before its use.
+#[derive(Debug, Drop)]
+pub struct Line<R, W> {
+    /// Where its levels are read.
+    pub reader: R,
+    /// Where the characters are written.
+    pub writer: W,
+}
+
 /// Reads a script, and runs it by [`run_remote_script`]. Returns the connection too, with the error that ended it, if
 /// any.
 ///
@@ -60,16 +69,14 @@ pub fn run_remote<
 >(
     alloc: A,
     script: &mut S,
-    reader: R,
-    writer: W,
-    tries: u32,
-    resumes: u32,
+    line: Line<R, W>,
+    limits: Limits,
     report: &mut O,
     records: &mut Records<T>,
 ) -> (Result<Finished, RemoteFault>, RemoteStreams<R, W>)
-    ensures { RunsRemote P.at tries resumes
-        (λ calls. ∥ GoesOver R.remaining W.contents (W.contents writer) (R.remaining reader) result.1 calls ∥₁)
-        (IsUnusedRemote R.remaining W.contents (W.contents writer) (R.remaining reader) result.1)
+    ensures { RunsRemote P.at limits.tries limits.resumes
+        (λ calls. ∥ GoesOver R.remaining W.contents (W.contents line.writer) (R.remaining line.reader) result.1 calls ∥₁)
+        (IsUnusedRemote R.remaining W.contents (W.contents line.writer) (R.remaining line.reader) result.1)
         result.0 (S.remaining script.old) (O.contents report.old) (O.contents report.new)
         (run_files_of T.contents records.old) (run_files_of T.contents records.new) }
 {
@@ -77,11 +84,11 @@ pub fn run_remote<
         Ok(script) => script,
         Err(unread) => return (
             Err(RemoteFault::unread(unread)),
-            RemoteStreams::unused(reader, writer),
+            RemoteStreams::unused(line.reader, line.writer),
         ),
     };
     let (answer, line) = run_remote_script::<P, R, W, O, T, A>(
-        alloc, &script, reader, writer, tries, resumes, report, records,
+        alloc, &script, line, limits, report, records,
     );
     match answer {
         Ok(finished) => (Ok(finished), line),
@@ -96,9 +103,9 @@ pub fn run_remote<
 /// Whatever comes back, the run ends unless the connection blocks, and each report has at most as many requests as its
 /// tries allow. For every story that starts at rest and with which the replies are consistent, the reports are as
 /// `run_batches` promises. If the target conforms to the model, one of these stories is its own. Up to the first I/O
-/// error, exactly `O`, the characters of some calls of a wire and `Q` are sent, and exactly the levels that these calls
-/// ask for are read. Nothing is sent after that error. Without such a story it isn't stated that the reports count all
-/// these calls.
+/// error, exactly `O`, the characters of the calls of a wire and `Q` are sent, and exactly the levels that these calls
+/// ask for are read. Nothing is sent after that error. The reports describe all these calls, with or without such a
+/// story.
 ///
 /// # Errors
 ///
@@ -113,22 +120,18 @@ pub fn run_remote_script<
 >(
     alloc: A,
     script: &Script<A>,
-    reader: R,
-    writer: W,
-    tries: u32,
-    resumes: u32,
+    line: Line<R, W>,
+    limits: Limits,
     report: &mut O,
     records: &mut Records<T>,
 ) -> (Result<Finished, EngineFault>, RemoteStreams<R, W>)
     requires { IsScriptRunnable (read_script_meaning script.now) }
-    ensures { RanRemoteEndScript P.at tries resumes
-        (λ calls. ∥ GoesOver R.remaining W.contents (W.contents writer) (R.remaining reader) result.1 calls ∥₁)
+    ensures { RanRemoteEndScript P.at limits.tries limits.resumes
+        (λ calls. ∥ GoesOver R.remaining W.contents (W.contents line.writer) (R.remaining line.reader) result.1 calls ∥₁)
         (read_script_meaning script.now).batches result.0 (O.contents report.old) (O.contents report.new)
         (run_files_of T.contents records.old) (run_files_of T.contents records.new) }
 {
-    run_begun::<P, Brand, R, W, O, T, A>(
-        alloc, script, reader, writer, tries, resumes, report, records,
-    )
+    run_begun::<P, Brand, R, W, O, T, A>(alloc, script, line, limits, report, records)
 }
 
 // Runs a script's calls over a connection from its beginning on, and then sends `Q`.
@@ -143,25 +146,23 @@ fn run_begun<
 >(
     alloc: A,
     script: &Script<A>,
-    reader: R,
-    writer: W,
-    tries: u32,
-    resumes: u32,
+    line: Line<R, W>,
+    limits: Limits,
     report: &mut O,
     records: &mut Records<T>,
 ) -> (Result<Finished, EngineFault>, RemoteStreams<R, W>)
     requires script { IsScriptRunnable (read_script_meaning script.now) }
-    requires sent { B.sent ≡ W.contents writer }
-    requires left { B.left ≡ R.remaining reader }
-    ensures { RanRemoteEndScript P.at tries resumes
+    requires sent { B.sent ≡ W.contents line.writer }
+    requires left { B.left ≡ R.remaining line.reader }
+    ensures { RanRemoteEndScript P.at limits.tries limits.resumes
         (λ calls. ∥ GoesOver R.remaining W.contents B.sent B.left result.1 calls ∥₁)
         (read_script_meaning script.now).batches result.0 (O.contents report.old) (O.contents report.new)
         (run_files_of T.contents records.old) (run_files_of T.contents records.new) }
 {
     let wire: TransportWire<RemoteTransport<R, W, B>, P, Tied> = TransportWire::begun(
-        RemoteTransport::new(reader, writer),
+        RemoteTransport::new(line.reader, line.writer),
     );
     let batches = script.batches.as_slice();
-    let (answer, wire) = run_batches(alloc, wire, batches, tries, resumes, report, records);
+    let (answer, wire) = run_batches(alloc, wire, batches, limits, report, records);
     (answer, wire.into_transport().hang_up())
 }

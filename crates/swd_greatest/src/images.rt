@@ -2,10 +2,15 @@
 use crate::fault::Fault;
 use crate::targets::{BASE, TRIES, bench, is_ready};
 use std::alloc::{AllocError, Global};
-use swd_image::{dump, load, verify};
+use swd_image::{Limits, NoReports, dump, load, verify};
 
 /// The bytes of the image.
 const BYTES: u32 = (1 << 20) + 4;
+
+const LIMITS: Limits = Limits {
+    tries: TRIES,
+    resumes: 0,
+};
 
 /// Loads an image, verifies it, and reads its bytes. Returns whether they are those of the image.
 pub fn loaded_and_dumped(alloc: Global) -> Result<bool, Fault> {
@@ -14,9 +19,16 @@ pub fn loaded_and_dumped(alloc: Global) -> Result<bool, Fault> {
     if !is_ready(&bench) {
         return Ok(false);
     }
-    load(alloc, &mut bench, BASE, &image, TRIES, 0)?;
-    let differs = verify(alloc, &mut bench, BASE, &image, TRIES, 0)?;
-    let found = dump(alloc, &mut bench, BASE, BYTES as u64, TRIES, 0)?;
+    load(alloc, &mut bench, BASE, &image, LIMITS, &mut NoReports)?;
+    let differs = verify(alloc, &mut bench, BASE, &image, LIMITS, &mut NoReports)?;
+    let found = dump(
+        alloc,
+        &mut bench,
+        BASE,
+        BYTES as u64,
+        LIMITS,
+        &mut NoReports,
+    )?;
     Ok(differs.is_none() && found.as_slice() == image.as_slice())
 }
 

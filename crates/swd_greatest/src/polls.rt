@@ -4,7 +4,7 @@ use crate::targets::TRIES;
 use std::alloc::Global;
 use swd_devices::Registers;
 use swd_host::End;
-use swd_run::{Finished, QUIRKS, Records, run_batches};
+use swd_run::{Finished, Limits, QUIRKS, Records, run_batches};
 use swd_script::read_script;
 use swd_target::{Attached, Bench};
 
@@ -31,8 +31,10 @@ pub fn ends_at_its_last_read(alloc: Global) -> Result<bool, Fault> {
         alloc,
         bench,
         script.batches.as_slice(),
-        TRIES,
-        0,
+        Limits {
+            tries: TRIES,
+            resumes: 0,
+        },
         &mut report,
         &mut Records::<Vec<u8>>::none(),
     );

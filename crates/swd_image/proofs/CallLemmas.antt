@@ -21,8 +21,10 @@ use Rattle.swd_run.specs.GoingOn.{ScriptCalls, ran, resumed}
 use Rattle.swd_run.specs.Sessions.{ScriptRun, batch_limit}
 use Rattle.swd_run.specs.declared.going_on.Stop.{Stop}
 use Rattle.swd_run.proofs.WentLemmas.{law_before, rests, tell_of}
-use Rattle.swd_image.specs.Sessions.{AreImageDone, Call, Calls, Fails, FailsAs, MadeAll, ReadsAs, image_first_failed}
-use Rattle.swd_image.specs.Sessions.{is_image_done, none, more, image_words_read}
+use Rattle.swd_run.specs.declared.limits.Limits.{Limits}
+use Rattle.swd_port.specs.declared.wire.Wire.{Ghosts}
+use Rattle.swd_image.specs.Sessions.{AreImageDone, Call, Calls, Fails, FailsAs, FailsNext, MadeAll, ReadsAs}
+use Rattle.swd_image.specs.Sessions.{image_first_failed, is_image_done, none, more, image_words_read}
 use Rattle.swd_image.specs.declared.fault.ImageFault.{ImageFault}
 use Rattle.swd_image.specs.declared.fault.ImageFault.TheVariants.{Range, Memory, Stopped, Report, BusFault as FaultAt}
 use Rattle.swd_image.proofs.ChainLemmas.{AllIn, AllTell, Held, Kept, chain_keeps, all_later}
@@ -109,14 +111,14 @@ module _ (want : ℕ → ℕ) (P : ℕ → Type 0) (words : FinMap nat_cmp ℕ) 
 
 -- ---- one call
 
-module _ {W : Type 0} (port : W → Port) (plan : W → List Mark) (lawful : W → Type 0) (limit : ℕ) (list : List Access)
+module _ {W : Type 0} (wire : Ghosts W) (limit : ℕ) (list : List Access)
     (tries : ℕ) (s : W) where
   -- a run that ended all answered each access
   pub answered_all : (stops : List Stop) (told : HostReport) (t : W)
-      → ScriptCalls port plan lawful limit list tries s stops told t
+      → ScriptCalls wire limit list tries s stops told t
       → told.ended ≡ All → length told.answers ≡ length list
-  answered_all stops told t (ran same closes over) all = closes.whole all
-  answered_all stops told t (resumed {earlier = e} {told = a} went lost same goes over) all =
+  answered_all stops told t (ran same closes over says) all = closes.whole all
+  answered_all stops told t (resumed {earlier = e} {told = a} went lost same goes over says) all =
       let h = goes.closes.whole all in
       let kept = ap length goes.kept ∙ length-append e.answers (resume_added e a) in
       let rest = length-drop (length e.answers) list in
@@ -125,29 +127,29 @@ module _ {W : Type 0} (port : W → Port) (plan : W → List Mark) (lawful : W �
 
 -- ---- calls one after the other
 
-module _ {W : Type 0} (port : W → Port) (plan : W → List Mark) (lawful : W → Type 0) (tries resumes : ℕ) where
-  pub one_call : (s t : W) (batch : ScriptListed) (run : ScriptRun) → Call port plan lawful tries resumes batch s run t
+module _ {W : Type 0} (wire : Ghosts W) (limits : Limits) where
+  pub one_call : (s t : W) (batch : ScriptListed) (run : ScriptRun) → Call wire limits batch s run t
       → run.told.ended ≡ All → AreImageDone batch.accesses run.told.answers
-      → Calls port plan lawful tries resumes s batch.accesses run.told.answers t
+      → Calls wire limits s batch.accesses run.told.answers t
   one_call s t batch run call all done = more none call all done
 
   pub calls_append : (s t u : W) (xs ys : List Access) (vs ws : List Answer)
-      → Calls port plan lawful tries resumes s xs vs t → Calls port plan lawful tries resumes t ys ws u
-      → Calls port plan lawful tries resumes s (xs ++ ys) (vs ++ ws) u
+      → Calls wire limits s xs vs t → Calls wire limits t ys ws u
+      → Calls wire limits s (xs ++ ys) (vs ++ ws) u
   calls_append s t u xs ys vs ws h none =
-      subst (λ l. Calls port plan lawful tries resumes s l (vs ++ []) t) (sym (append-nil xs))
-      (subst (λ l. Calls port plan lawful tries resumes s xs l t) (sym (append-nil vs)) h)
+      subst (λ l. Calls wire limits s l (vs ++ []) t) (sym (append-nil xs))
+      (subst (λ l. Calls wire limits s xs l t) (sym (append-nil vs)) h)
   calls_append s t u xs ys vs ws h
       (more {list = list} {answers = answers} {t = r} {u = v} {batch = batch} {run = run} before call all done) =
-      subst (λ l. Calls port plan lawful tries resumes s l (vs ++ (answers ++ run.told.answers)) v)
+      subst (λ l. Calls wire limits s l (vs ++ (answers ++ run.told.answers)) v)
       (append_assoc xs list batch.accesses)
-      (subst (λ l. Calls port plan lawful tries resumes s ((xs ++ list) ++ batch.accesses) l v)
+      (subst (λ l. Calls wire limits s ((xs ++ list) ++ batch.accesses) l v)
       (append_assoc vs answers run.told.answers)
       (more (calls_append s t r xs list vs answers h before) call all done))
 
   after : (s t u : W) (xs ys : List Access) (vs : List Answer) (P : ScriptListed → ScriptRun → Type 0)
-      → Calls port plan lawful tries resumes s xs vs t → Fails port plan lawful tries resumes ys t u P
-      → Fails port plan lawful tries resumes (xs ++ ys) s u P
+      → Calls wire limits s xs vs t → Fails wire limits ys t u P
+      → Fails wire limits (xs ++ ys) s u P
   after s t u xs ys vs P h f = record {
     before = xs ++ f.before;
     answers = vs ++ f.answers;
@@ -162,7 +164,7 @@ module _ {W : Type 0} (port : W → Port) (plan : W → List Mark) (lawful : W �
   }
 
   sooner : (s u : W) (xs ys : List Access) (P : ScriptListed → ScriptRun → Type 0)
-      → Fails port plan lawful tries resumes xs s u P → Fails port plan lawful tries resumes (xs ++ ys) s u P
+      → Fails wire limits xs s u P → Fails wire limits (xs ++ ys) s u P
   sooner s u xs ys P f = record {
     before = f.before;
     answers = f.answers;
@@ -179,8 +181,8 @@ module _ {W : Type 0} (port : W → Port) (plan : W → List Mark) (lawful : W �
 
   -- a call that failed
   pub call_fails : (s u : W) (batch : ScriptListed) (run : ScriptRun) (P : ScriptListed → ScriptRun → Type 0)
-      → Call port plan lawful tries resumes batch s run u → P batch run
-      → Fails port plan lawful tries resumes batch.accesses s u P
+      → Call wire limits batch s run u → P batch run
+      → Fails wire limits batch.accesses s u P
   call_fails s u batch run P call ended = record {
     before = [];
     answers = [];
@@ -194,22 +196,48 @@ module _ {W : Type 0} (port : W → Port) (plan : W → List Mark) (lawful : W �
     ended = ended;
   }
 
+  -- calls of which a next one wasn't made, after others
+  next_after : (s t u : W) (xs ys : List Access) (vs : List Answer) → Calls wire limits s xs vs t
+      → FailsNext wire limits ys t u → FailsNext wire limits (xs ++ ys) s u
+  next_after s t u xs ys vs h f = record {
+    before = xs ++ f.before;
+    answers = vs ++ f.answers;
+    calls = calls_append s t u xs f.before vs f.answers h f.calls;
+    rest = f.rest;
+    split = ap (λ l. xs ++ l) f.split ∙ sym (append_assoc xs f.before f.rest);
+  }
+
+  -- and where more was to come
+  next_sooner : (s u : W) (xs ys : List Access) → FailsNext wire limits xs s u → FailsNext wire limits (xs ++ ys) s u
+  next_sooner s u xs ys f = record {
+    before = f.before;
+    answers = f.answers;
+    calls = f.calls;
+    rest = f.rest ++ ys;
+    split = ap (λ l. l ++ ys) f.split ∙ append_assoc f.before f.rest ys;
+  }
+
+  -- calls for the first part of a list, and then no more
+  pub stops_next : (s t : W) (xs ys list : List Access) (vs : List Answer) → Calls wire limits s xs vs t
+      → list ≡ xs ++ ys → FailsNext wire limits list s t
+  stops_next s t xs ys list vs h is = record { before = xs; answers = vs; calls = h; rest = ys; split = is }
+
   -- calls that failed, after others
   pub fails_after : (s t u : W) (xs ys : List Access) (vs : List Answer) (fault : ImageFault)
-      → Calls port plan lawful tries resumes s xs vs t → FailsAs port plan lawful tries resumes ys t u fault
-      → FailsAs port plan lawful tries resumes (xs ++ ys) s u fault
+      → Calls wire limits s xs vs t → FailsAs wire limits ys t u fault
+      → FailsAs wire limits (xs ++ ys) s u fault
   fails_after s t u xs ys vs Range h f = absurd f
-  fails_after s t u xs ys vs Memory h f = tt
+  fails_after s t u xs ys vs Memory h f = next_after s t u xs ys vs h f
   fails_after s t u xs ys vs (Stopped end) h f = after s t u xs ys vs _ h f
   fails_after s t u xs ys vs (FaultAt at) h f = after s t u xs ys vs _ h f
   fails_after s t u xs ys vs Report h f = after s t u xs ys vs _ h f
 
   -- and where more was to come
   pub fails_before : (s u : W) (xs ys : List Access) (fault : ImageFault)
-      → FailsAs port plan lawful tries resumes xs s u fault
-      → FailsAs port plan lawful tries resumes (xs ++ ys) s u fault
+      → FailsAs wire limits xs s u fault
+      → FailsAs wire limits (xs ++ ys) s u fault
   fails_before s u xs ys Range f = absurd f
-  fails_before s u xs ys Memory f = tt
+  fails_before s u xs ys Memory f = next_sooner s u xs ys f
   fails_before s u xs ys (Stopped end) f = sooner s u xs ys _ f
   fails_before s u xs ys (FaultAt at) f = sooner s u xs ys _ f
   fails_before s u xs ys Report f = sooner s u xs ys _ f
@@ -217,13 +245,13 @@ module _ {W : Type 0} (port : W → Port) (plan : W → List Mark) (lawful : W �
   -- a call more, of a list and its words
   pub reads_more : (s t u : W) (list : List Access) (words now : List ℕ) (batch : ScriptListed) (run : ScriptRun)
       (next : List Access)
-      → ReadsAs port plan lawful tries resumes list words s t → Call port plan lawful tries resumes batch t run u
+      → ReadsAs wire limits list words s t → Call wire limits batch t run u
       → run.told.ended ≡ All → AreImageDone batch.accesses run.told.answers
       → now ≡ words ++ image_words_read run.told.answers
-      → next ≡ list ++ batch.accesses → ReadsAs port plan lawful tries resumes next now s u
+      → next ≡ list ++ batch.accesses → ReadsAs wire limits next now s u
   reads_more s t u list words now batch run next h call all done pushed longer = record {
     answers = h.answers ++ run.told.answers;
-    calls = subst (λ l. Calls port plan lawful tries resumes s l (h.answers ++ run.told.answers) u) (sym longer)
+    calls = subst (λ l. Calls wire limits s l (h.answers ++ run.told.answers) u) (sym longer)
         (more h.calls call all done);
     told = pushed ∙ ap (λ l. l ++ image_words_read run.told.answers) h.told ∙ sym
         (image_words_append h.answers run.told.answers);
@@ -231,19 +259,19 @@ module _ {W : Type 0} (port : W → Port) (plan : W → List Mark) (lawful : W �
 
   -- one call more in which each access was done, after consecutive calls in which each was
   pub made_more : (s t u : W) (list : List Access) (batch : ScriptListed) (run : ScriptRun) (next : List Access)
-      → MadeAll port plan lawful tries resumes list s t → Call port plan lawful tries resumes batch t run u
+      → MadeAll wire limits list s t → Call wire limits batch t run u
       → run.told.ended ≡ All → AreImageDone batch.accesses run.told.answers → next ≡ list ++ batch.accesses
-      → MadeAll port plan lawful tries resumes next s u
+      → MadeAll wire limits next s u
   made_more s t u list batch run next h call all done longer = record {
     answers = h.answers ++ run.told.answers;
-    calls = subst (λ l. Calls port plan lawful tries resumes s l (h.answers ++ run.told.answers) u) (sym longer)
+    calls = subst (λ l. Calls wire limits s l (h.answers ++ run.told.answers) u) (sym longer)
         (more h.calls call all done);
   }
 
   -- calls that read some words, and then calls that read others, read the ones and then the others
   pub reads_append : (s t u : W) (xs ys : List Access) (vs ws : List ℕ)
-      → ReadsAs port plan lawful tries resumes xs vs s t → ReadsAs port plan lawful tries resumes ys ws t u
-      → ReadsAs port plan lawful tries resumes (xs ++ ys) (vs ++ ws) s u
+      → ReadsAs wire limits xs vs s t → ReadsAs wire limits ys ws t u
+      → ReadsAs wire limits (xs ++ ys) (vs ++ ws) s u
   reads_append s t u xs ys vs ws h g = record {
     answers = h.answers ++ g.answers;
     calls = calls_append s t u xs ys h.answers g.answers h.calls g.calls;
@@ -253,7 +281,7 @@ module _ {W : Type 0} (port : W → Port) (plan : W → List Mark) (lawful : W �
 
   -- each access was done
   pub calls_done : (s t : W) (list : List Access) (answers : List Answer)
-      → Calls port plan lawful tries resumes s list answers t → AreImageDone list answers
+      → Calls wire limits s list answers t → AreImageDone list answers
   calls_done s t list answers none = tt
   calls_done s t list answers
       (more {list = xs} {answers = vs} {t = r} {batch = batch} {run = run} before call all done) =
@@ -261,80 +289,91 @@ module _ {W : Type 0} (port : W → Port) (plan : W → List Mark) (lawful : W �
 
   -- so it was lawful from the start
   pub calls_law : (s t : W) (list : List Access) (answers : List Answer)
-      → Calls port plan lawful tries resumes s list answers t → lawful t → lawful s
+      → Calls wire limits s list answers t → wire.lawful t → wire.lawful s
   calls_law s t list answers none law = law
   calls_law s t list answers
       (more {list = xs} {answers = vs} {t = r} {u = v} {batch = batch} {run = run} before call all done) law =
       calls_law s r xs vs before
-      (law_before port plan lawful (batch_limit batch) batch.accesses tries r run.stops run.told v call.goes.went law)
+      (law_before wire (batch_limit batch) batch.accesses limits.tries r run.stops
+      run.told v call.goes.went law)
 
   -- a call that failed in a list, after those before it
   pub fails_in : (s t u : W) (xs ys zs list : List Access) (vs : List Answer) (fault : ImageFault)
-      → Calls port plan lawful tries resumes s xs vs t → FailsAs port plan lawful tries resumes ys t u fault
-      → list ≡ xs ++ (ys ++ zs) → FailsAs port plan lawful tries resumes list s u fault
+      → Calls wire limits s xs vs t → FailsAs wire limits ys t u fault
+      → list ≡ xs ++ (ys ++ zs) → FailsAs wire limits list s u fault
   fails_in s t u xs ys zs list vs fault h f is =
-      subst (λ l. FailsAs port plan lawful tries resumes l s u fault) (sym is)
+      subst (λ l. FailsAs wire limits l s u fault) (sym is)
       (fails_after s t u xs (ys ++ zs) vs fault h (fails_before t u ys zs fault f))
 
   -- ---- what they leave, from a target at rest
 
   pub record Leaves (want : ℕ → ℕ) (P : ℕ → Type 0) (s : W) (list : List Access) (answers : List Answer) (t : W)
       : Type 0 where
-    pub at_rest : IsAtRest (port t)
-    pub plain : IsPlain (port t).target.memory
-    pub held : Held want P (plain_words_of (port s).target.memory) (plain_words_of (port t).target.memory)
-    pub tells : AllTell want P (plain_words_of (port s).target.memory) (plain_words_of (port t).target.memory) list
+    pub at_rest : IsAtRest (wire.port t)
+    pub plain : IsPlain (wire.port t).target.memory
+    pub held : Held want P (plain_words_of (wire.port s).target.memory) (plain_words_of (wire.port t).target.memory)
+    pub tells : AllTell want P (plain_words_of (wire.port s).target.memory) (plain_words_of (wire.port
+        t).target.memory) list
         answers
 
   -- over a lawful wire, from a target at rest, consecutive calls leave it at rest
   pub calls_rest : (s t : W) (list : List Access) (answers : List Answer)
-      → Calls port plan lawful tries resumes s list answers t → lawful t → IsAtRest (port s) → IsAtRest (port t)
+      → Calls wire limits s list answers t → wire.lawful t → IsAtRest (wire.port s) → IsAtRest (wire.port t)
   calls_rest s t list answers none law rest = rest
   calls_rest s t list answers
       (more {list = xs} {answers = vs} {t = r} {u = v} {batch = batch} {run = run} before call all done) law rest =
       let n : ℕ = batch_limit batch in
       let went = call.goes.went in
-      let back : lawful r = law_before port plan lawful n batch.accesses tries r run.stops run.told v went law in
-      rests port plan lawful n batch.accesses tries r (calls_rest s r xs vs before back rest) run.stops run.told v went
+      let back : wire.lawful r = law_before wire n batch.accesses limits.tries r
+      run.stops run.told v went law in
+      rests wire n batch.accesses limits.tries r (calls_rest s r xs vs before back rest)
+      run.stops run.told v went
       law all
 
-  module _ (want : ℕ → ℕ) (P : ℕ → Type 0) (s : W) (rest : IsAtRest (port s)) (plain : IsPlain (port s).target.memory)
+  module _ (want : ℕ → ℕ) (P : ℕ → Type 0) (s : W) (rest : IsAtRest (wire.port s)) (plain : IsPlain (wire.port
+      s).target.memory)
     where
       -- over a lawful wire, from a target at rest, consecutive calls leave it at rest; each word is the one before or
       -- the one to write there; a read word is the one before, unless its address is written; a written word is there
       pub leaves : (t : W) (list : List Access) (answers : List Answer)
-          → Calls port plan lawful tries resumes s list answers t
-          → AllIn want P (plain_words_of (port s).target.memory) list → lawful t → Leaves want P s list answers t
+          → Calls wire limits s list answers t
+          → AllIn want P (plain_words_of (wire.port s).target.memory) list → wire.lawful t → Leaves want P s list
+          answers t
       leaves t list answers none i law =
           record { at_rest = rest; plain = plain; held = λ q. inl refl; tells = tt }
       leaves t list answers
           (more {list = xs} {answers = vs} {t = r} {u = v} {batch = batch} {run = run} before call all done) i law =
-          let words = (plain_words_of (port s).target.memory) in
+          let words = (plain_words_of (wire.port s).target.memory) in
           let n : ℕ = batch_limit batch in
           let went = call.goes.went in
-          let back : lawful r = law_before port plan lawful n batch.accesses tries r run.stops run.told v went law in
+          let back : wire.lawful r = law_before wire n batch.accesses limits.tries r
+          run.stops run.told v went law in
           let h = leaves r xs vs before (all_front want P words xs batch.accesses i) back in
           let turns =
-          (tell_of port plan lawful n batch.accesses tries r h.at_rest run.stops run.told v went law).turns in
-          let kept = chain_keeps want P words n batch.accesses (port r).target.memory turns.calls run.told turns.memory
+          (tell_of wire n batch.accesses limits.tries r h.at_rest run.stops run.told v
+          went law).turns in
+          let kept = chain_keeps want P words n batch.accesses (wire.port r).target.memory turns.calls run.told
+          turns.memory
           h.plain
           (all_back want P words xs batch.accesses i) h.held turns.chain in
-          let there : Kept want P words batch.accesses (plain_words_of (port r).target.memory)
-          (plain_words_of (port v).target.memory)
+          let there : Kept want P words batch.accesses (plain_words_of (wire.port r).target.memory)
+          (plain_words_of (wire.port v).target.memory)
           run.told.answers =
-          subst (λ m. Kept want P words batch.accesses (plain_words_of (port r).target.memory) (plain_words_of m)
+          subst (λ m. Kept want P words batch.accesses (plain_words_of (wire.port r).target.memory) (plain_words_of m)
           run.told.answers)
           (turns.left all) kept in
           record {
             plain = subst IsPlain (turns.left all)
-                (resume_chain_plain n batch.accesses (port r).target.memory turns.calls
+                (resume_chain_plain n batch.accesses (wire.port r).target.memory turns.calls
                 run.told turns.memory h.plain turns.chain);
-            at_rest = rests port plan lawful n batch.accesses tries r h.at_rest run.stops run.told v went law all;
+            at_rest = rests wire n batch.accesses limits.tries r h.at_rest run.stops
+                run.told v went law all;
             held = there.held;
-            tells = tells_both want P words (plain_words_of (port v).target.memory) xs batch.accesses vs
+            tells = tells_both want P words (plain_words_of (wire.port v).target.memory) xs batch.accesses vs
                 run.told.answers
                 (calls_done s r xs vs before)
-                (all_later want P words (plain_words_of (port r).target.memory) (plain_words_of (port v).target.memory)
+                (all_later want P words (plain_words_of (wire.port r).target.memory) (plain_words_of (wire.port
+                v).target.memory)
                 xs vs there.later
                 h.tells) there.tells;
           }

@@ -4,11 +4,11 @@ use Rattle.std.proofs.Common.{List, [], ◌∷◌, ◌++◌, length, get_or, inl
 use Rattle.std.specs.Int.{w32, to_le_bytes}
 use Rattle.std.specs.Ordering.{nat_cmp}
 use Rattle.std.specs.FinMap.{FinMap}
-use Rattle.swd_port.specs.declared.mark.Mark.{Mark}
 use Rattle.swd_port.specs.PlainMemory.{PlainMemory}
-use Rattle.swd_port.specs.Port.{Port}
 use Rattle.swd_port.specs.Bus.{plain_of}
 use Rattle.swd_port.specs.PlainBus.{IsPlain, plain_words_of}
+use Rattle.swd_run.specs.declared.limits.Limits.{Limits}
+use Rattle.swd_port.specs.declared.wire.Wire.{Ghosts}
 use Rattle.swd_image.proofs.CallLemmas.{calls_rest}
 use Rattle.swd_host.specs.Reports.{IsAtRest}
 use Rattle.swd_image.specs.Bytes.{image_byte_in, image_bytes_at, image_bytes_of, image_word_in, image_word_of}
@@ -69,20 +69,23 @@ memory_bytes m first many place addr (suc count) aligned is few =
     ∙ ap (λ i. get_or (to_le_bytes w32 (image_word_in m.words (image_word_of addr))) i 0
     ∷ image_bytes_of (image_words_at m.words first many) (place + 1) count) same
     ∙ ap (λ l. image_byte_in (image_word_in m.words (image_word_of addr)) addr ∷ l)
-    (memory_bytes m first many (place + 1) (addr + 1) count aligned (omega (arith, is)) (λ some. omega (arith, enough)))
+    (memory_bytes m first many (place + 1) (addr + 1) count aligned (omega (arith, is)) (λ some. omega (
+      arith,
+      enough,
+    )))
 
-module _ {W : Type 0} (port : W → Port) (plan : W → List Mark) (lawful : W → Type 0) (tries resumes addr count : ℕ)
+module _ {W : Type 0} (wire : Ghosts W) (limits : Limits) (addr count : ℕ)
     (s t : W) where
   -- what was read is a dump
   pub dumped : (bytes words : List ℕ) → addr + count ≤ 2 ^ 32
-      → ReadsAs port plan lawful tries resumes (image_dump_list addr count) words s t
+      → ReadsAs wire limits (image_dump_list addr count) words s t
       → bytes ≡ image_bytes_of words (addr % 4) count
-      → Dumps port plan lawful tries resumes addr count bytes s t
+      → Dumps wire limits addr count bytes s t
   dumped bytes words fits reads are =
       let first : ℕ = image_word_of addr in
       let many : ℕ = image_word_count addr count in
-      let read = λ (law : lawful t) (rest : IsAtRest (port s)) (plain : IsPlain (port s).target.memory).
-      has_read port plan lawful tries resumes s t (image_dump_list addr count) words (image_reads_are_reads first many)
+      let read = λ (law : wire.lawful t) (rest : IsAtRest (wire.port s)) (plain : IsPlain (wire.port s).target.memory).
+      has_read wire limits s t (image_dump_list addr count) words (image_reads_are_reads first many)
       reads law rest plain in
       record {
         fits = fits;
@@ -92,12 +95,12 @@ module _ {W : Type 0} (port : W → Port) (plan : W → List Mark) (lawful : W �
         memory = λ law rest plain. are
             ∙ ap (λ l. image_bytes_of l (addr % 4) count)
             ((read law rest plain).words_are
-            ∙ image_reads_from_memory (plain_words_of (port s).target.memory) first many)
-            ∙ memory_bytes (plain_of (port s).target.memory) first many (addr % 4) addr count (omega arith)
+            ∙ image_reads_from_memory (plain_words_of (wire.port s).target.memory) first many)
+            ∙ memory_bytes (plain_of (wire.port s).target.memory) first many (addr % 4) addr count (omega arith)
             (omega arith)
             (dump_words_enough addr count);
         same = λ law rest plain. (read law rest plain).same;
         plain = λ law rest plain. (read law rest plain).plain;
-        rests = λ law rest. calls_rest port plan lawful tries resumes s t (image_dump_list addr count) reads.answers
+        rests = λ law rest. calls_rest wire limits s t (image_dump_list addr count) reads.answers
             reads.calls law rest;
       }

@@ -7,13 +7,13 @@ use Rattle.swd_port.specs.declared.access.Access.{Access}
 use Rattle.swd_port.specs.declared.access.Access.TheVariants.{Read, Write}
 use Rattle.swd_port.specs.declared.access.Answer.{Answer}
 use Rattle.swd_port.specs.declared.access.Answer.TheVariants.{Value, Written, BusFault}
-use Rattle.swd_port.specs.declared.mark.Mark.{Mark}
 use Rattle.swd_port.specs.PlainMemory.{plain_address, plain_reads}
-use Rattle.swd_port.specs.Port.{Port}
 use Rattle.swd_port.specs.Bus.{plain_of}
 use Rattle.swd_port.specs.PlainBus.{IsPlain, plain_words_of}
 use Rattle.swd_host.specs.Chains.{AreBlockReads}
 use Rattle.swd_host.specs.Reports.{IsAtRest}
+use Rattle.swd_run.specs.declared.limits.Limits.{Limits}
+use Rattle.swd_port.specs.declared.wire.Wire.{Ghosts}
 use Rattle.swd_image.specs.declared.fault.ImageFault.{ImageFault}
 use Rattle.swd_image.specs.declared.fault.ImageFault.TheVariants.{Range, Memory, Stopped, Report, BusFault as FaultAt}
 use Rattle.swd_image.specs.Bytes.{image_word_in, image_word_of, image_words_at}
@@ -117,36 +117,38 @@ written_at word P words now at (suc count) (suc k) (Written ∷ answers) d h low
 
 -- ---- over a wire
 
-module _ {W : Type 0} (port : W → Port) (plan : W → List Mark) (lawful : W → Type 0) (tries resumes : ℕ) where
+module _ {W : Type 0} (wire : Ghosts W) (limits : Limits) where
   -- what some reads leave and gave, from a target at rest
   pub record HasRead (list : List Access) (words : List ℕ) (s t : W) : Type 0 where
-    pub at_rest : IsAtRest (port t)
-    pub plain : IsPlain (port t).target.memory
-    pub same : (q : ℕ) → get (plain_words_of (port t).target.memory) q ≡ get (plain_words_of (port s).target.memory) q
-    pub words_are : words ≡ map (λ a. image_word_in (plain_words_of (port s).target.memory) (plain_address a)) list
+    pub at_rest : IsAtRest (wire.port t)
+    pub plain : IsPlain (wire.port t).target.memory
+    pub same : (q : ℕ) → get (plain_words_of (wire.port t).target.memory) q ≡ get (plain_words_of (wire.port
+        s).target.memory) q
+    pub words_are : words ≡ map (λ a. image_word_in (plain_words_of (wire.port s).target.memory) (plain_address a))
+        list
 
   -- over a lawful wire, from a target at rest, calls that only read return the memory's words, change none and leave
   -- the target at rest
   pub has_read : (s t : W) (list : List Access) (words : List ℕ) → AreBlockReads list
-      → ReadsAs port plan lawful tries resumes list words s t → lawful t → IsAtRest (port s)
-      → IsPlain (port s).target.memory → HasRead list words s t
+      → ReadsAs wire limits list words s t → wire.lawful t → IsAtRest (wire.port s)
+      → IsPlain (wire.port s).target.memory → HasRead list words s t
   has_read s t list words r h law rest plain =
-      let before = (plain_words_of (port s).target.memory) in
-      let l = leaves port plan lawful tries resumes no_word Never s rest plain t list h.answers h.calls
+      let before = (plain_words_of (wire.port s).target.memory) in
+      let l = leaves wire limits no_word Never s rest plain t list h.answers h.calls
       (all_reads before list r) law in
       record {
         at_rest = l.at_rest;
         plain = l.plain;
         same = λ q. elim (l.held q) [ inl e ↦ e | inr both ↦ absurd both.0 ];
-        words_are = h.told ∙ told_words before (plain_words_of (port t).target.memory) list h.answers r
-            (calls_done port plan lawful tries resumes s t list h.answers h.calls) l.tells;
+        words_are = h.told ∙ told_words before (plain_words_of (wire.port t).target.memory) list h.answers r
+            (calls_done wire limits s t list h.answers h.calls) l.tells;
       }
 
   -- how many words were read
   pub reads_many : (s t : W) (list : List Access) (words : List ℕ)
-      → ReadsAs port plan lawful tries resumes list words s t → length words ≡ length list
+      → ReadsAs wire limits list words s t → length words ≡ length list
   reads_many s t list words h =
-      ap length h.told ∙ many list h.answers (calls_done port plan lawful tries resumes s t list h.answers h.calls)
+      ap length h.told ∙ many list h.answers (calls_done wire limits s t list h.answers h.calls)
     where
       many : (xs : List Access) (vs : List Answer) → AreImageDone xs vs → length (image_words_read vs) ≡ length xs
       many [] [] d = refl
@@ -158,34 +160,36 @@ module _ {W : Type 0} (port : W → Port) (plan : W → List Mark) (lawful : W �
     -- over a lawful wire, from a target at rest, the calls of a load leave the image in the memory, all else
     -- unchanged, and the target at rest
     pub loaded : ((k : ℕ) → get_or bytes k 0 < 256) → (head tail : ℕ) (reached : W)
-        → ReadsAs port plan lawful tries resumes (image_edge_list addr (length bytes))
+        → ReadsAs wire limits (image_edge_list addr (length bytes))
         (image_edge_words addr (length bytes) head tail) s reached
-        → MadeAll port plan lawful tries resumes (image_load_list addr bytes head tail) reached t
-        → lawful t → IsAtRest (port s) → IsPlain (port s).target.memory
-        → IsImageLoaded addr bytes (plain_of (port s).target.memory) (plain_of (port t).target.memory)
-        × IsAtRest (port t) × IsPlain (port t).target.memory
+        → MadeAll wire limits (image_load_list addr bytes head tail) reached t
+        → wire.lawful t → IsAtRest (wire.port s) → IsPlain (wire.port s).target.memory
+        → IsImageLoaded addr bytes (plain_of (wire.port s).target.memory) (plain_of (wire.port t).target.memory)
+        × IsAtRest (wire.port t) × IsPlain (wire.port t).target.memory
     loaded small head tail reached edges made law rest plain =
         let len : ℕ = length bytes in
         let word : ℕ → ℕ = image_loaded_word addr bytes head tail in
         let list : List Access = image_load_list addr bytes head tail in
-        let old : FinMap nat_cmp ℕ = (plain_words_of (port s).target.memory) in
-        let middle : FinMap nat_cmp ℕ = (plain_words_of (port reached).target.memory) in
-        let now : FinMap nat_cmp ℕ = (plain_words_of (port t).target.memory) in
-        let back : lawful reached = calls_law port plan lawful tries resumes reached t list made.answers made.calls law
+        let old : FinMap nat_cmp ℕ = (plain_words_of (wire.port s).target.memory) in
+        let middle : FinMap nat_cmp ℕ = (plain_words_of (wire.port reached).target.memory) in
+        let now : FinMap nat_cmp ℕ = (plain_words_of (wire.port t).target.memory) in
+        let back : wire.lawful reached = calls_law wire limits reached t list made.answers made.calls law
         in
         let r = has_read s reached (image_edge_list addr len) (image_edge_words addr len head tail)
         (edge_reads (image_needs_head addr len) (image_needs_tail addr len) (image_word_of addr)
         (image_last_word addr len)) edges back rest plain in
-        let e = edged (λ a. image_word_in old (plain_address a)) (image_needs_head addr len) (image_needs_tail addr len)
+        let e = edged (λ a. image_word_in old (plain_address a)) (image_needs_head addr len) (image_needs_tail addr
+        len)
         (image_word_of addr) (image_last_word addr len) head tail r.words_are in
-        let l = leaves port plan lawful tries resumes word (InImageWords addr len) reached r.at_rest r.plain t list
+        let l = leaves wire limits word (InImageWords addr len) reached r.at_rest r.plain t list
         made.answers
         made.calls (all_writes word (InImageWords addr len) middle (image_word_of addr) (image_word_count addr len)
         (λ k low. record { low = omega arith; high = omega arith; aligned = omega arith })) law in
         let written : (k : ℕ) → k < image_word_count addr len
         → get now (image_word_of addr + 4 * k) ≡ Some (word (image_word_of addr + 4 * k))
-        = λ k low. written_at word (InImageWords addr len) middle now (image_word_of addr) (image_word_count addr len) k
-        made.answers (calls_done port plan lawful tries resumes reached t list made.answers made.calls) l.tells low in
+        = λ k low. written_at word (InImageWords addr len) middle now (image_word_of addr) (image_word_count addr
+        len) k
+        made.answers (calls_done wire limits reached t list made.answers made.calls) l.tells low in
         let held : (q : ℕ) → (get now q ≡ get old q) ⊎ InImageWords addr len q =
         λ q. elim (l.held q) [ inl same ↦ inl (same ∙ r.same q) | inr both ↦ inr both.0 ] in (
           record {
@@ -196,23 +200,25 @@ module _ {W : Type 0} (port : W → Port) (plan : W → List Mark) (lawful : W �
           l.plain,
         )
 
-    -- why a load failed, among its reads, or among its writes
+    -- why a load failed among its reads
     pub fails_early : (fault : ImageFault) → addr + length bytes ≤ 2 ^ 32
-        → FailsAs port plan lawful tries resumes (image_edge_list addr (length bytes)) s t fault
-        → LoadFails port plan lawful tries resumes addr bytes s t fault
+        → FailsAs wire limits (image_edge_list addr (length bytes)) s t fault
+        → LoadFails wire limits addr bytes s t fault
     fails_early Range fits f = absurd f
-    fails_early Memory fits f = fits
+    fails_early Memory fits f = (fits, inl f)
     fails_early (Stopped end) fits f = (fits, inl f)
     fails_early (FaultAt at) fits f = (fits, inl f)
     fails_early Report fits f = (fits, inl f)
 
+    -- why it failed among its writes
     pub fails_late : (fault : ImageFault) → addr + length bytes ≤ 2 ^ 32 → (head tail : ℕ) (reached : W)
-        → ReadsAs port plan lawful tries resumes (image_edge_list addr (length bytes))
+        → ReadsAs wire limits (image_edge_list addr (length bytes))
         (image_edge_words addr (length bytes) head tail) s reached
-        → FailsAs port plan lawful tries resumes (image_load_list addr bytes head tail) reached t fault
-        → LoadFails port plan lawful tries resumes addr bytes s t fault
+        → FailsAs wire limits (image_load_list addr bytes head tail) reached t fault
+        → LoadFails wire limits addr bytes s t fault
     fails_late Range fits head tail reached edges f = absurd f
-    fails_late Memory fits head tail reached edges f = fits
+    fails_late Memory fits head tail reached edges f =
+        (fits, inr (record { head = head; tail = tail; reached = reached; edges = edges; writes = f }))
     fails_late (Stopped end) fits head tail reached edges f =
         (fits, inr (record { head = head; tail = tail; reached = reached; edges = edges; writes = f }))
     fails_late (FaultAt at) fits head tail reached edges f =

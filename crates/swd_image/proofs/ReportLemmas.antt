@@ -6,8 +6,6 @@ use Rattle.std.proofs.KnownBytes.{Appends-nil, Appends-trans}
 use Rattle.std.proofs.lemmas.List.{append-nil}
 use Rattle.swd_io.specs.Blocks.{OutputStopped}
 use Rattle.swd_port.specs.declared.access.Access.{Access}
-use Rattle.swd_port.specs.declared.mark.Mark.{Mark}
-use Rattle.swd_port.specs.Port.{Port}
 use Rattle.swd_host.specs.declared.outcome.End.{End}
 use Rattle.swd_host.specs.declared.outcome.End.TheVariants.{All}
 use Rattle.swd_host.specs.Reports.{HostReport}
@@ -15,6 +13,8 @@ use Rattle.swd_script.specs.Laws.{IsScriptBatch}
 use Rattle.swd_script.specs.Scripts.{ScriptListed}
 use Rattle.swd_run.specs.Reports.{ReportsBatchRun, script_run_report}
 use Rattle.swd_run.specs.Sessions.{ScriptRun}
+use Rattle.swd_run.specs.declared.limits.Limits.{Limits}
+use Rattle.swd_port.specs.declared.wire.Wire.{Ghosts}
 use Rattle.swd_image.specs.declared.fault.ImageFault.{ImageFault}
 use Rattle.swd_image.specs.declared.fault.ImageFault.TheVariants.{Memory, Report, Stopped as StoppedAt}
 use Rattle.swd_image.specs.Reports.{MakesOne, Reported, Reports, ReportsTo, none, more}
@@ -27,32 +27,32 @@ no_fault fault e = cc
 pub image_memory_not_report : Some Memory ≢ Some Report
 image_memory_not_report e = cc
 
-module _ {W : Type 0} (port : W → Port) (plan : W → List Mark) (lawful : W → Type 0) (tries resumes : ℕ) where
+module _ {W : Type 0} (wire : Ghosts W) (limits : Limits) where
   reported_append : (s t u : W) (ended : End) (xs ys : List Access) (vs ws : List ℕ)
-      → Reported port plan lawful tries resumes s All xs vs t → Reported port plan lawful tries resumes t ended ys ws u
-      → Reported port plan lawful tries resumes s ended (xs ++ ys) (vs ++ ws) u
+      → Reported wire limits s All xs vs t → Reported wire limits t ended ys ws u
+      → Reported wire limits s ended (xs ++ ys) (vs ++ ws) u
   reported_append s t u ended xs ys vs ws h none =
-      subst (λ l. Reported port plan lawful tries resumes s All l (vs ++ []) t) (sym (append-nil xs))
-      (subst (λ l. Reported port plan lawful tries resumes s All xs l t) (sym (append-nil vs)) h)
+      subst (λ l. Reported wire limits s All l (vs ++ []) t) (sym (append-nil xs))
+      (subst (λ l. Reported wire limits s All xs l t) (sym (append-nil vs)) h)
   reported_append s t u ended xs ys vs ws h
       (more {list = list} {text = text} {t = r} {u = v} {batch = batch} {run = run} before call plain) =
-      subst (λ l. Reported port plan lawful tries resumes s run.told.ended l
+      subst (λ l. Reported wire limits s run.told.ended l
       (vs ++ (text ++ script_run_report batch 1 run)) v) (append_assoc xs list batch.accesses)
-      (subst (λ l. Reported port plan lawful tries resumes s run.told.ended ((xs ++ list) ++ batch.accesses) l v)
+      (subst (λ l. Reported wire limits s run.told.ended ((xs ++ list) ++ batch.accesses) l v)
       (append_assoc vs text (script_run_report batch 1 run))
       (more (reported_append s t r All xs list vs text h before) call plain))
 
   -- ---- of a writer
 
   reports_after : (s t u : W) (xs ys zs list : List Access) (fault : Option ImageFault) (a b c : Option (List ℕ))
-      → Reports port plan lawful tries resumes xs None s t a b → Reports port plan lawful tries resumes ys fault t u b c
+      → Reports wire limits xs None s t a b → Reports wire limits ys fault t u b c
       → list ≡ xs ++ (ys ++ zs) → (fault ≡ None → zs ≡ [])
-      → Reports port plan lawful tries resumes list fault s u a c
+      → Reports wire limits list fault s u a c
   reports_after s t u xs ys zs list fault a b c h g is last =
       let all = h.whole refl in
       let made : xs ≡ h.made = h.split ∙ ap (λ l. h.made ++ l) all.0 ∙ append-nil h.made in
       let first = h.writes (no_fault Report) in
-      let calls = subst (λ e. Reported port plan lawful tries resumes s e h.made h.text t) all.1 h.calls in
+      let calls = subst (λ e. Reported wire limits s e h.made h.text t) all.1 h.calls in
       record {
         ended = g.ended;
         made = h.made ++ g.made;
@@ -84,7 +84,7 @@ module _ {W : Type 0} (port : W → Port) (plan : W → List Mark) (lawful : W �
   -- without a call nothing was written
   reports_none : (s : W) (list : List Access) (fault : Option ImageFault) (a : Option (List ℕ))
       → (fault ≡ None → list ≡ []) → ((end : End) → fault ≢ Some (StoppedAt end)) → fault ≢ Some Report
-      → Reports port plan lawful tries resumes list fault s s a a
+      → Reports wire limits list fault s s a a
   reports_none s list fault a empty running other = record {
     ended = All;
     made = [];
@@ -100,11 +100,11 @@ module _ {W : Type 0} (port : W → Port) (plan : W → List Mark) (lawful : W �
 
   -- one call
   reports_one : (s t : W) (batch : ScriptListed) (run : ScriptRun) (fault : Option ImageFault) (a b : Option (List ℕ))
-      → Call port plan lawful tries resumes batch s run t → batch.until ≡ None
+      → Call wire limits batch s run t → batch.until ≡ None
       → (fault ≡ None → run.told.ended ≡ All) → ((end : End) → fault ≡ Some (StoppedAt end) → run.told.ended ≡ end)
       → (fault ≢ Some Report → Appends a b (script_run_report batch 1 run))
       → (fault ≡ Some Report → (told : ℕ) × OutputStopped told a b (script_run_report batch 1 run))
-      → Reports port plan lawful tries resumes batch.accesses fault s t a b
+      → Reports wire limits batch.accesses fault s t a b
   reports_one s t batch run fault a b call plain all stopped writes fails = record {
     ended = run.told.ended;
     made = batch.accesses;
@@ -135,57 +135,58 @@ module _ {W : Type 0} (port : W → Port) (plan : W → List Mark) (lawful : W �
 
   -- calls for a list, after those for another one; `zs` was in no call
   pub to_after : (s t u : W) (xs ys zs list : List Access) (fault : Option ImageFault)
-      (a b c : Option (Option (List ℕ))) → ReportsTo port plan lawful tries resumes xs None s t a b
-      → ReportsTo port plan lawful tries resumes ys fault t u b c
+      (a b c : Option (Option (List ℕ))) → ReportsTo wire limits xs None s t a b
+      → ReportsTo wire limits ys fault t u b c
       → list ≡ xs ++ (ys ++ zs) → (fault ≡ None → zs ≡ [])
-      → ReportsTo port plan lawful tries resumes list fault s u a c
+      → ReportsTo wire limits list fault s u a c
   to_after s t u xs ys zs list fault None b c h g is last =
-      subst (λ x. ReportsTo port plan lawful tries resumes ys fault t u x c) h.0 g
+      subst (λ x. ReportsTo wire limits ys fault t u x c) h.0 g
   to_after s t u xs ys zs list fault (Some start) b c h g is last =
-      let later = subst (λ x. ReportsTo port plan lawful tries resumes ys fault t u x c) h.1 g in
+      let later = subst (λ x. ReportsTo wire limits ys fault t u x c) h.1 g in
       (later.0, later.1, reports_after s t u xs ys zs list fault start h.0 later.0 h.2 later.2 is last)
 
   -- no call
   pub to_none : (s : W) (list : List Access) (fault : Option ImageFault) (a : Option (Option (List ℕ)))
       → (fault ≡ None → list ≡ []) → ((end : End) → fault ≢ Some (StoppedAt end)) → fault ≢ Some Report
-      → ReportsTo port plan lawful tries resumes list fault s s a a
+      → ReportsTo wire limits list fault s s a a
   to_none s list fault None empty running other = (refl, other)
   to_none s list fault (Some start) empty running other =
       (start, refl, reports_none s list fault start empty running other)
 
   -- no access, and no call
   pub to_nothing : (s : W) (list : List Access) (a : Option (Option (List ℕ))) → list ≡ []
-      → ReportsTo port plan lawful tries resumes list None s s a a
-  to_nothing s list a empty = to_none s list None a (λ e. empty) (λ end e. no_fault (StoppedAt end) e) (no_fault Report)
+      → ReportsTo wire limits list None s s a a
+  to_nothing s list a empty = to_none s list None a (λ e. empty) (λ end e. no_fault (StoppedAt end) e) (no_fault
+      Report)
 
   -- memory ran out before a call
   pub to_unmade : (s : W) (list : List Access) (a : Option (Option (List ℕ)))
-      → ReportsTo port plan lawful tries resumes list (Some Memory) s s a a
+      → ReportsTo wire limits list (Some Memory) s s a a
   to_unmade s list a =
       to_none s list (Some Memory) a (λ e. absurd (no_fault Memory (sym e))) (λ end e. cc) image_memory_not_report
 
   -- memory ran out after calls for the first part of a list
   pub to_memory : (s t : W) (xs ys list : List Access) (a b : Option (Option (List ℕ)))
-      → ReportsTo port plan lawful tries resumes xs None s t a b → list ≡ xs ++ ys
-      → ReportsTo port plan lawful tries resumes list (Some Memory) s t a b
+      → ReportsTo wire limits xs None s t a b → list ≡ xs ++ ys
+      → ReportsTo wire limits list (Some Memory) s t a b
   to_memory s t xs ys list a b h is =
       to_after s t t xs ys [] list (Some Memory) a b b h (to_unmade t ys b)
       (is ∙ ap (λ l. xs ++ l) (sym (append-nil ys))) (λ e. refl)
 
   -- calls for the first part of a list, that ended at a fault
   pub to_front : (s t : W) (xs ys list : List Access) (fault : ImageFault) (a b : Option (Option (List ℕ)))
-      → ReportsTo port plan lawful tries resumes xs (Some fault) s t a b → list ≡ xs ++ ys
-      → ReportsTo port plan lawful tries resumes list (Some fault) s t a b
+      → ReportsTo wire limits xs (Some fault) s t a b → list ≡ xs ++ ys
+      → ReportsTo wire limits list (Some fault) s t a b
   to_front s t xs ys list fault a b h is =
       to_after s s t [] xs ys list (Some fault) a a b (to_nothing s [] a refl) h is
       (λ e. absurd (no_fault fault (sym e)))
 
   -- one call with this report, of which the writer got all
   pub to_one : (s t : W) (batch : ScriptListed) (told : HostReport) (fault : Option ImageFault)
-      (a b : Option (Option (List ℕ))) → MakesOne port plan lawful tries resumes batch s t told a b → batch.until ≡ None
+      (a b : Option (Option (List ℕ))) → MakesOne wire limits batch s t told a b → batch.until ≡ None
       → (fault ≡ None → told.ended ≡ All) → ((end : End) → fault ≡ Some (StoppedAt end) → told.ended ≡ end)
       → fault ≢ Some Report
-      → ReportsTo port plan lawful tries resumes batch.accesses fault s t a b
+      → ReportsTo wire limits batch.accesses fault s t a b
   to_one s t batch told fault None b h plain all stopped other = (h.writes, other)
   to_one s t batch told fault (Some start) b h plain all stopped other =
       let ended = ap (λ (x : HostReport). x.ended) h.last in (
@@ -197,9 +198,11 @@ module _ {W : Type 0} (port : W → Port) (plan : W → List Mark) (lawful : W �
 
   -- one call of which the writer got the first bytes alone
   pub to_failed : (s t : W) (batch : ScriptListed) (told : HostReport) (sent : ℕ) (start now : Option (List ℕ))
-      → ReportsBatchRun port plan lawful tries resumes batch s t start now told (Err sent) → batch.until ≡ None
+      → ReportsBatchRun wire limits.tries limits.resumes batch s t
+      start now
+      told (Err sent) → batch.until ≡ None
       → IsScriptBatch batch
-      → ReportsTo port plan lawful tries resumes batch.accesses (Some Report) s t (Some start) (Some now)
+      → ReportsTo wire limits batch.accesses (Some Report) s t (Some start) (Some now)
   to_failed s t batch told sent start now h plain fits = (
     now,
     refl,

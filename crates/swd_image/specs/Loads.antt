@@ -1,17 +1,17 @@
 -- The result of a load over a wire.
 use Rattle.std.specs.Prelude.{ℕ, ◌≡◌, ◌+◌, ◌<◌, ◌≤◌, ◌^◌, ◌⊎◌, List, length}
-use Rattle.swd_port.specs.declared.mark.Mark.{Mark}
-use Rattle.swd_port.specs.Port.{Port}
 use Rattle.swd_port.specs.Bus.{plain_of}
 use Rattle.swd_port.specs.PlainBus.{IsPlain}
 use Rattle.swd_host.specs.Reports.{IsAtRest}
+use Rattle.swd_run.specs.declared.limits.Limits.{Limits}
 use Rattle.swd_image.specs.declared.fault.ImageFault.{ImageFault}
-use Rattle.swd_image.specs.declared.fault.ImageFault.TheVariants.{Range, Memory, Stopped, Report, BusFault as FaultAt}
+use Rattle.swd_image.specs.declared.fault.ImageFault.TheVariants.{Range}
 use Rattle.swd_image.specs.Images.{IsImageLoaded}
 use Rattle.swd_image.specs.Lists.{image_edge_list, image_edge_words, image_load_list}
+use Rattle.swd_port.specs.declared.wire.Wire.{Ghosts}
 use Rattle.swd_image.specs.Sessions.{FailsAs, MadeAll, ReadsAs}
 
-module _ {W : Type 0} (port : W → Port) (plan : W → List Mark) (lawful : W → Type 0) (tries resumes addr : ℕ)
+module _ {W : Type 0} (wire : Ghosts W) (limits : Limits) (addr : ℕ)
     (bytes : List ℕ) (s t : W) where
   -- The image was loaded. Whatever was seen, these are the calls: they read the partial words, and then wrote each
   -- word, a partial one as it was read, with the image's bytes in it. If the wire was lawful, the target at rest and
@@ -21,33 +21,26 @@ module _ {W : Type 0} (port : W → Port) (plan : W → List Mark) (lawful : W �
     pub head : ℕ
     pub tail : ℕ
     pub reached : W
-    pub edges : ReadsAs port plan lawful tries resumes (image_edge_list addr (length bytes))
+    pub edges : ReadsAs wire limits (image_edge_list addr (length bytes))
         (image_edge_words addr (length bytes) head tail) s reached
-    pub writes : MadeAll port plan lawful tries resumes (image_load_list addr bytes head tail) reached t
-    pub memory : lawful t → IsAtRest (port s)
-        → IsPlain (port s).target.memory
-        → IsImageLoaded addr bytes (plain_of (port s).target.memory) (plain_of (port t).target.memory)
-        × IsAtRest (port t) × IsPlain (port t).target.memory
+    pub writes : MadeAll wire limits (image_load_list addr bytes head tail) reached t
+    pub memory : wire.lawful t → IsAtRest (wire.port s)
+        → IsPlain (wire.port s).target.memory
+        → IsImageLoaded addr bytes (plain_of (wire.port s).target.memory) (plain_of (wire.port t).target.memory)
+        × IsAtRest (wire.port t) × IsPlain (wire.port t).target.memory
 
   -- the load failed in its writes
   pub record FailsLate (fault : ImageFault) : Type 0 where
     pub head : ℕ
     pub tail : ℕ
     pub reached : W
-    pub edges : ReadsAs port plan lawful tries resumes (image_edge_list addr (length bytes))
+    pub edges : ReadsAs wire limits (image_edge_list addr (length bytes))
         (image_edge_words addr (length bytes) head tail) s reached
-    pub writes : FailsAs port plan lawful tries resumes (image_load_list addr bytes head tail) reached t fault
+    pub writes : FailsAs wire limits (image_load_list addr bytes head tail) reached t fault
 
   -- The error of a load: for an image that extends past the addresses no call was made. Otherwise a call of the reads
-  -- failed, or one of the writes.
+  -- failed or wasn't made, or one of the writes.
   abbrev pub LoadFails : ImageFault → Type 0
   LoadFails Range = (2 ^ 32 < addr + length bytes) × (t ≡ s)
-  LoadFails Memory = addr + length bytes ≤ 2 ^ 32
-  LoadFails (Stopped end) = (addr + length bytes ≤ 2 ^ 32)
-      × (FailsAs port plan lawful tries resumes (image_edge_list addr (length bytes)) s t (Stopped end)
-      ⊎ FailsLate (Stopped end))
-  LoadFails (FaultAt at) = (addr + length bytes ≤ 2 ^ 32)
-      × (FailsAs port plan lawful tries resumes (image_edge_list addr (length bytes)) s t (FaultAt at)
-      ⊎ FailsLate (FaultAt at))
-  LoadFails Report = (addr + length bytes ≤ 2 ^ 32)
-      × (FailsAs port plan lawful tries resumes (image_edge_list addr (length bytes)) s t Report ⊎ FailsLate Report)
+  LoadFails fault = (addr + length bytes ≤ 2 ^ 32)
+      × (FailsAs wire limits (image_edge_list addr (length bytes)) s t fault ⊎ FailsLate fault)

@@ -3,18 +3,18 @@ use Rattle.std.specs.Prelude.{ℕ, ◌≡◌, ◌≢◌, List, [], ◌++◌, len
 use Rattle.std.specs.Io.KnownBytes.{Appends}
 use Rattle.swd_io.specs.Blocks.{OutputStopped}
 use Rattle.swd_port.specs.declared.access.Access.{Access}
-use Rattle.swd_port.specs.declared.mark.Mark.{Mark}
-use Rattle.swd_port.specs.Port.{Port}
 use Rattle.swd_host.specs.declared.outcome.End.{End}
 use Rattle.swd_host.specs.declared.outcome.End.TheVariants.{All}
 use Rattle.swd_host.specs.Reports.{HostReport}
 use Rattle.swd_script.specs.Scripts.{ScriptListed}
+use Rattle.swd_run.specs.declared.limits.Limits.{Limits}
 use Rattle.swd_run.specs.Records.{ForRunFile}
 use Rattle.swd_run.specs.Reports.{script_run_report}
 use Rattle.swd_run.specs.Sessions.{ScriptRun}
 use Rattle.swd_image.specs.declared.fault.ImageFault.{ImageFault}
 use Rattle.swd_image.specs.declared.fault.ImageFault.TheVariants.{Report, Stopped as StoppedAt}
 use Rattle.swd_image.specs.Lists.{image_dump_list, image_edge_list, image_load_list}
+use Rattle.swd_port.specs.declared.wire.Wire.{Ghosts}
 use Rattle.swd_image.specs.Sessions.{Call}
 
 -- the error of a result, if it is one
@@ -22,13 +22,13 @@ abbrev pub image_fault_of : {V : Type 0} → Result V ImageFault → Option Imag
 image_fault_of (Ok value) = None
 image_fault_of (Err fault) = Some fault
 
-module _ {W : Type 0} (port : W → Port) (plan : W → List Mark) (lawful : W → Type 0) (tries resumes : ℕ) where
+module _ {W : Type 0} (wire : Ghosts W) (limits : Limits) where
   -- Consecutive calls from the wire s to another, each after one that ended `All`: how the last one ended (`All`
   -- without a call), the accesses of all of them, and their reports, one after the other.
   pub data Reported (s : W) : End → List Access → List ℕ → W → Type 0 where
     none : Reported s All [] [] s
     more : {list : List Access} {text : List ℕ} {t u : W} {batch : ScriptListed} {run : ScriptRun}
-        → Reported s All list text t → Call port plan lawful tries resumes batch t run u → batch.until ≡ None
+        → Reported s All list text t → Call wire limits batch t run u → batch.until ≡ None
         → Reported s run.told.ended (list ++ batch.accesses) (text ++ script_run_report batch 1 run) u
 
   -- One call, between two states of the wire, whose last part has this report. A writer got the call's report, if there
@@ -37,7 +37,7 @@ module _ {W : Type 0} (port : W → Port) (plan : W → List Mark) (lawful : W �
       Type 0 where
     pub run : ScriptRun
     pub last : run.told ≡ told
-    pub call : Call port plan lawful tries resumes batch s run t
+    pub call : Call wire limits batch s run t
     pub writes : ForRunFile (λ old new. Appends old new (script_run_report batch 1 run)) before after
 
   -- A writer failed at the report of the last one of the calls from the wire s to the wire t, whose reports are this
@@ -49,7 +49,7 @@ module _ {W : Type 0} (port : W → Port) (plan : W → List Mark) (lawful : W �
     pub calls : Reported s All list before reached
     pub batch : ScriptListed
     pub run : ScriptRun
-    pub last : Call port plan lawful tries resumes batch reached run t
+    pub last : Call wire limits batch reached run t
     pub is : text ≡ before ++ script_run_report batch 1 run
     pub middle : Option (List ℕ)
     pub gone : Appends start middle before

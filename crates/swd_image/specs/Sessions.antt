@@ -5,13 +5,13 @@ use Rattle.swd_port.specs.declared.access.Access.{Access}
 use Rattle.swd_port.specs.declared.access.Access.TheVariants.{Read, Write}
 use Rattle.swd_port.specs.declared.access.Answer.{Answer}
 use Rattle.swd_port.specs.declared.access.Answer.TheVariants.{Value, Written, BusFault}
-use Rattle.swd_port.specs.declared.mark.Mark.{Mark}
 use Rattle.swd_port.specs.PlainMemory.{plain_address}
-use Rattle.swd_port.specs.Port.{Port}
 use Rattle.swd_host.specs.declared.outcome.End.TheVariants.{All}
 use Rattle.swd_script.specs.Scripts.{ScriptListed}
 use Rattle.swd_script.specs.Laws.{IsScriptBatch}
+use Rattle.swd_run.specs.declared.limits.Limits.{Limits}
 use Rattle.swd_run.specs.Sessions.{ScriptRun, RunsBatch, batch_limit}
+use Rattle.swd_port.specs.declared.wire.Wire.{Ghosts}
 use Rattle.swd_image.specs.declared.fault.ImageFault.{ImageFault}
 use Rattle.swd_image.specs.declared.fault.ImageFault.TheVariants.{Range, Memory, Stopped, Report, BusFault as FaultAt}
 
@@ -49,12 +49,12 @@ abbrev pub image_words_read : List Answer → List ℕ
 image_words_read answers = map image_word_read answers
 
 -- THE CALLS
-module _ {W : Type 0} (port : W → Port) (plan : W → List Mark) (lawful : W → Type 0) (tries resumes : ℕ) where
-  -- one call over a wire, from one state of the wire to another, with its report: a batch of at most 65,536
-  -- accesses, which may have been resumed
+module _ {W : Type 0} (wire : Ghosts W) (limits : Limits) where
+  -- one call over a wire, from one state of the wire to another, with its report: a batch of at most 65,536 accesses,
+  -- which may have been resumed
   pub record Call (batch : ScriptListed) (s : W) (run : ScriptRun) (t : W) : Type 0 where
     pub fits : IsScriptBatch batch
-    pub goes : RunsBatch port plan lawful (batch_limit batch) tries resumes batch s run t
+    pub goes : RunsBatch wire (batch_limit batch) limits.tries limits.resumes batch s run t
 
   -- consecutive calls, each of which ended `All` with each access done: their accesses, and their answers
   pub data Calls (s : W) : List Access → List Answer → W → Type 0 where
@@ -89,10 +89,19 @@ module _ {W : Type 0} (port : W → Port) (plan : W → List Mark) (lawful : W �
     pub split : list ≡ before ++ (batch.accesses ++ rest)
     pub ended : P batch run
 
+  -- Calls before the next one was made: they ended `All` with each access done, and their accesses are the first ones
+  -- of the list. So with some replies a call over the whole list makes these calls first.
+  pub record FailsNext (list : List Access) (s u : W) : Type 0 where
+    pub before : List Access
+    pub answers : List Answer
+    pub calls : Calls s before answers u
+    pub rest : List Access
+    pub split : list ≡ before ++ rest
+
   -- the error of a load or a dump with these accesses, from one state of the wire to another
   abbrev pub FailsAs : List Access → W → W → ImageFault → Type 0
   FailsAs list s u Range = ⊥
-  FailsAs list s u Memory = Unit {0}
+  FailsAs list s u Memory = FailsNext list s u
   FailsAs list s u (Stopped end) = Fails list s u (λ batch run. (run.told.ended ≡ end) × (end ≢ All))
   FailsAs list s u (FaultAt at) =
       Fails list s u (λ batch run. (run.told.ended ≡ All)

@@ -8,10 +8,13 @@ mod fault;
 mod loading;
 mod range;
 mod reading;
+mod reports;
 mod verifying;
 mod writing;
 
-pub use dumping::{dump, dump_reporting};
+pub use dumping::dump;
 pub use fault::ImageFault;
-pub use loading::{load, load_reporting};
-pub use verifying::{ByteDifference, verify, verify_reporting};
+pub use loading::load;
+pub use reports::{CallReports, NoReports};
+pub use swd_run::Limits;
+pub use verifying::{ByteDifference, verify};

@@ -4,15 +4,15 @@ ghost use Rattle.swd_port.specs.PlainMemory.{plain_reads};
 ghost use Rattle.swd_port.specs.declared.wire.Due.TheVariants.{Nothing};
 ghost use Rattle.swd_script.specs.Readers.{script_batch_listed};
 ghost use Rattle.swd_image.specs.declared.fault.ImageFault.TheVariants.{Memory};
-ghost use Rattle.swd_run.specs.Records.{run_file_held};
 ghost use Rattle.swd_image.specs.Reports.{ReportsTo, image_fault_of};
 ghost use Rattle.swd_image.specs.Sessions.{FailsAs, ReadsAs, image_word_read, image_words_read};
 
 use crate::calls::run_call;
 use crate::fault::ImageFault;
+use crate::reports::CallReports;
 use std::alloc::Allocator;
-use std::io::Write;
 use swd_port::{Answer, MOST_ACCESSES, Wire, push_reads};
+use swd_run::Limits;
 use swd_script::Batch;
 
 // Returns the call that reads `count` words from `at` on as a block.
@@ -63,29 +63,24 @@ fn push_words<A: Allocator>(words: &mut Vec<u32, A>, answers: &[Answer]) -> Resu
     Ok(())
 }
 
-/// Reads `count` words from `first` on, in blocks of at most 65,536 words, a call for each. Writes the reports of the
-/// calls meanwhile, if there is a writer for them.
-pub(crate) fn read_words<W: Wire, O: Write, A: Allocator + Copy>(
+/// Reads `count` words from `first` on, in blocks of at most 65,536 words, a call for each.
+pub(crate) fn read_words<W: Wire, S: CallReports, A: Allocator + Copy>(
     alloc: A,
     wire: &mut W,
     first: u32,
     count: u32,
-    tries: u32,
-    resumes: u32,
-    report: &mut Option<O>,
+    limits: Limits,
+    report: &mut S,
 ) -> Result<Vec<u32, A>, ImageFault>
     requires aligned { first % 4 ≡ 0 }
     requires range { first + 4 * count ≤ 2 ^ 32 }
     requires due { (W.port wire.old).link.due ≡ Nothing }
-    ensures read { IfOk result (λ words. ReadsAs W.port W.plan W.lawful tries resumes (plain_reads first count)
-        words.items
+    ensures read { IfOk result (λ words. ReadsAs W.Wire limits (plain_reads first count) words.items
         wire.old wire.new) }
     ensures due { IfOk result (λ words. (W.port wire.new).link.due ≡ Nothing) }
-    ensures fault { IfErr result (FailsAs W.port W.plan W.lawful tries resumes (plain_reads first count) wire.old
-        wire.new) }
-    ensures report { ReportsTo W.port W.plan W.lawful tries resumes (plain_reads first count) (image_fault_of result)
-        wire.old
-        wire.new (run_file_held O.contents report.old) (run_file_held O.contents report.new) }
+    ensures fault { IfErr result (FailsAs W.Wire limits (plain_reads first count) wire.old wire.new) }
+    ensures report { ReportsTo W.Wire limits (plain_reads first count) (image_fault_of result) wire.old wire.new
+        (S.held report.old) (S.held report.new) }
     ensures plan { W.plan wire.new ≡ W.plan wire.old }
 {
     let mut words = Vec::new(alloc);
@@ -93,7 +88,7 @@ pub(crate) fn read_words<W: Wire, O: Write, A: Allocator + Copy>(
     while done < count {
         let many = (count - done).min(MOST_ACCESSES);
         let batch = block_at(alloc, first + 4 * done, many)?;
-        let answers = run_call(alloc, wire, &batch, tries, resumes, report)?;
+        let answers = run_call(alloc, wire, &batch, limits, report)?;
         push_words(&mut words, answers.as_slice())?;
         done += many;
     }

@@ -1,16 +1,15 @@
 //! Verifies an image: compares a target's memory with it.
-ghost use Rattle.std.specs.Prelude.{◌≡◌, ◌≢◌, ◌+◌, ◌≤◌, ◌^◌, IfErr, IfOk, Some, length};
+ghost use Rattle.std.specs.Prelude.{◌≡◌, ◌+◌, ◌≤◌, ◌^◌, IfErr, IfOk, length};
 ghost use Rattle.swd_port.specs.declared.wire.Due.TheVariants.{Nothing};
-ghost use Rattle.swd_run.specs.Records.{run_file_held};
-ghost use Rattle.swd_image.specs.declared.fault.ImageFault.TheVariants.{Report};
 ghost use Rattle.swd_image.specs.Dumps.{ComparesImage, DumpFails, VerifiesImage};
 ghost use Rattle.swd_image.specs.Reports.{DumpReports, image_fault_of};
 
-use crate::dumping::dump_reporting;
+use crate::dumping::dump;
 use crate::fault::ImageFault;
+use crate::reports::CallReports;
 use std::alloc::Allocator;
-use std::io::Write;
 use swd_port::Wire;
+use swd_run::Limits;
 
 /// A byte of the memory that differs from the image.
 #[derive(Clone, Copy, Debug, PartialEq, Eq)]
@@ -50,60 +49,23 @@ fn first_difference(addr: u32, bytes: &[u8], found: &[u8]) -> Option<ByteDiffere
 /// # Errors
 ///
 /// Returns the errors of [`dump`](crate::dump). Nothing was compared then.
-pub fn verify<W: Wire, A: Allocator + Copy>(
+pub fn verify<W: Wire, S: CallReports, A: Allocator + Copy>(
     alloc: A,
     wire: &mut W,
     addr: u32,
     bytes: &[u8],
-    tries: u32,
-    resumes: u32,
+    limits: Limits,
+    report: &mut S,
 ) -> Result<Option<ByteDifference>, ImageFault>
     requires { (W.port wire.old).link.due ≡ Nothing }
-    ensures verifies { IfOk result (λ difference. VerifiesImage W.port W.plan W.lawful tries resumes addr bytes.now
-        difference wire.old wire.new) }
+    ensures verifies { IfOk result (λ difference. VerifiesImage W.Wire limits addr
+        bytes.now difference wire.old wire.new) }
     ensures due { IfOk result (λ difference. (W.port wire.new).link.due ≡ Nothing) }
-    ensures fault { IfErr result (DumpFails W.port W.plan W.lawful tries resumes addr (length bytes.now) wire.old
-        wire.new) }
-    ensures unreported { image_fault_of result ≢ Some Report }
+    ensures fault { IfErr result (DumpFails W.Wire limits addr (length bytes.now) wire.old wire.new) }
+    ensures report { DumpReports W.Wire limits addr (length bytes.now)
+        (image_fault_of result) wire.old wire.new (S.held report.old) (S.held report.new) }
     ensures plan { W.plan wire.new ≡ W.plan wire.old }
 {
-    let mut none: Option<Vec<u8>> = None;
-    verify_reporting(alloc, wire, addr, bytes, tries, resumes, &mut none)
-}
-
-/// Reads and compares the range of an image as [`verify`] does. Writes the reports of the reads to the writer `report`,
-/// as [`dump_reporting`](crate::dump_reporting) does, if there is one.
-///
-/// # Errors
-///
-/// Returns the errors of [`dump_reporting`](crate::dump_reporting). Nothing was compared then.
-pub fn verify_reporting<W: Wire, O: Write, A: Allocator + Copy>(
-    alloc: A,
-    wire: &mut W,
-    addr: u32,
-    bytes: &[u8],
-    tries: u32,
-    resumes: u32,
-    report: &mut Option<O>,
-) -> Result<Option<ByteDifference>, ImageFault>
-    requires { (W.port wire.old).link.due ≡ Nothing }
-    ensures verifies { IfOk result (λ difference. VerifiesImage W.port W.plan W.lawful tries resumes addr bytes.now
-        difference wire.old wire.new) }
-    ensures due { IfOk result (λ difference. (W.port wire.new).link.due ≡ Nothing) }
-    ensures fault { IfErr result (DumpFails W.port W.plan W.lawful tries resumes addr (length bytes.now) wire.old
-        wire.new) }
-    ensures report { DumpReports W.port W.plan W.lawful tries resumes addr (length bytes.now) (image_fault_of result)
-        wire.old wire.new (run_file_held O.contents report.old) (run_file_held O.contents report.new) }
-    ensures plan { W.plan wire.new ≡ W.plan wire.old }
-{
-    let found = dump_reporting(
-        alloc,
-        wire,
-        addr,
-        bytes.len() as u64,
-        tries,
-        resumes,
-        report,
-    )?;
+    let found = dump(alloc, wire, addr, bytes.len() as u64, limits, report)?;
     Ok(first_difference(addr, bytes, found.as_slice()))
 }

@@ -2,26 +2,28 @@
 use Rattle.std.specs.Prelude.{◌≡◌, ◌<◌, ◌⊎◌, ℕ, List, [], length, take, Option, Some, None, Result, Ok, Err, is_some}
 use Rattle.std.specs.Prelude.{if◌then◌else◌}
 use Rattle.std.specs.Io.KnownBytes.{Appends}
+use Rattle.swd_port.specs.declared.call.Call.{Call}
 use Rattle.swd_port.specs.Port.{Port}
-use Rattle.swd_port.specs.Stories.{FitsStory, port_at}
 use Rattle.swd_remote.specs.declared.kept.RemoteStreams.{RemoteStreams}
 use Rattle.swd_remote.specs.declared.remote.Fault.{Fault}
 use Rattle.swd_remote.specs.WholeRuns.{IsUnusedRemote}
+use Rattle.swd_run.specs.declared.limits.Limits.{Limits}
 use Rattle.swd_image.specs.declared.fault.ImageFault.{ImageFault}
 use Rattle.swd_image.specs.declared.fault.ImageFault.TheVariants.{Range, Memory, Stopped, Report, BusFault as FaultAt}
 use Rattle.swd_image.specs.declared.verifying.ByteDifference.{ByteDifference}
-use Rattle.swd_image.specs.Reports.{DumpReports, image_fault_of}
 use Rattle.swd_image_files.specs.declared.format.Format.{Format}
 use Rattle.swd_image_files.specs.Files.{IsImageOrElf}
 use Rattle.swd_image_files.specs.Images.{ImageFileBytes, ImageFileContents, image_file_pieces}
 use Rattle.swd_image_files.specs.Texts.{image_file_of_piece}
-use Rattle.swd_image_ends.specs.PieceReports.{LoadsReported, VerifiesReported}
-use Rattle.swd_image_ends.specs.RemoteImages.{DumpsRemote}
-use Rattle.swd_image_ends.specs.RemotePieces.{LoadsPiecesRemote, VerifiesPiecesRemote}
+use Rattle.swd_image_ends.specs.Came.{DumpCame, LoadCame, VerifyCame, image_story_wire}
 use Rattle.swd_words.specs.declared.command.ImageAction.{ImageAction}
 use Rattle.swd_words.specs.declared.command.ImageAction.TheVariants.{Load, Verify, Dump}
 use Rattle.swd_words.specs.declared.command.ImageLine.{ImageLine}
 use Rattle.swd_console.specs.Connections.{CommandWentOver}
+
+-- what each call may meet
+abbrev pub command_limits : ImageLine → Limits
+command_limits image = record { tries = image.tries; resumes = image.resumes }
 
 -- 1 if a call ended early or met a bus error, 2 if the image doesn't fit the addresses, memory ran out, or the report
 -- couldn't be written
@@ -90,10 +92,9 @@ module _ {R W : Type 0} (story : ℕ → Port) (image : ImageLine) (status : ℕ
       ⊎ ((pieces : List ImageFileBytes) × (answer : Result (Unit {0}) ImageFault) × AreCommandPieces image pieces
       × (before : Option (Option (List ℕ))) × (after : Option (Option (List ℕ)))
       × (is_some before ≡ is_some image.report)
-      × LoadsPiecesRemote story image.tries image.resumes
-      (λ calls. CommandWentOver remaining contents sent left line calls
-      × LoadsReported (port_at story) (λ calls. []) (FitsStory story) image.tries image.resumes pieces
-      (image_fault_of answer) [] calls before after) pieces answer
+      × (calls : List Call)
+      × LoadCame (image_story_wire story) (command_limits image) pieces answer [] calls before after
+      × CommandWentOver remaining contents sent left line calls
       × (status ≡ command_status_of_image command_status_loaded line.fault answer))
 
   -- the memory is compared with the pieces of a file
@@ -104,10 +105,9 @@ module _ {R W : Type 0} (story : ℕ → Port) (image : ImageLine) (status : ℕ
       × AreCommandPieces image pieces
       × (before : Option (Option (List ℕ))) × (after : Option (Option (List ℕ)))
       × (is_some before ≡ is_some image.report)
-      × VerifiesPiecesRemote story image.tries image.resumes
-      (λ calls. CommandWentOver remaining contents sent left line calls
-      × VerifiesReported (port_at story) (λ calls. []) (FitsStory story) image.tries image.resumes pieces answer []
-      calls before after) pieces answer
+      × (calls : List Call)
+      × VerifyCame (image_story_wire story) (command_limits image) pieces answer [] calls before after
+      × CommandWentOver remaining contents sent left line calls
       × (status ≡ command_status_of_image command_status_verified line.fault answer))
 
   -- `count` bytes of the memory are written to a file
@@ -117,11 +117,11 @@ module _ {R W : Type 0} (story : ℕ → Port) (image : ImageLine) (status : ℕ
       ⊎ ((answer : Result (List ℕ) ImageFault)
       × (before : Option (Option (List ℕ))) × (after : Option (Option (List ℕ)))
       × (is_some before ≡ is_some image.report)
-      × DumpsRemote story image.tries image.resumes image.addr
-      (λ calls. CommandWentOver remaining contents sent left line calls
-      × DumpReports (port_at story) (λ calls. []) (FitsStory story) image.tries image.resumes image.addr count
-      (image_fault_of answer) [] calls before after) count answer
-      (λ bytes. bytes) × IsCommandDumped image.format image.addr (command_result_reached line.fault answer) status)
+      × (calls : List Call)
+      × DumpCame (image_story_wire story) (command_limits image) image.addr count answer (λ bytes. bytes) [] calls
+      before after
+      × CommandWentOver remaining contents sent left line calls
+      × IsCommandDumped image.format image.addr (command_result_reached line.fault answer) status)
 
   -- what the arguments ask for
   abbrev pub PerformsAction : ImageAction → Type 0

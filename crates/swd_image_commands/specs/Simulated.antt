@@ -1,5 +1,5 @@
 -- What a load, a verification or a dump at a simulated target does, whose memory is in a file.
-use Rattle.std.specs.Prelude.{ℕ, ◌≡◌, ◌⊎◌, List, [], length, Option, None, Result, Ok, Err, OnOk, IfOk, IfErr}
+use Rattle.std.specs.Prelude.{ℕ, ◌≡◌, ◌⊎◌, List, [], length, Option, None, Result, Ok, Err, OnOk, IfOk}
 use Rattle.std.specs.Prelude.{is_some}
 use Rattle.swd_io.specs.Pieces.{IsReaderText}
 use Rattle.swd_port.specs.declared.mark.Mark.{Mark}
@@ -11,19 +11,16 @@ use Rattle.swd_target.specs.MemoryWords.{target_words_from}
 use Rattle.swd_host.specs.Reports.{IsAtRest}
 use Rattle.swd_image.specs.declared.fault.ImageFault.{ImageFault}
 use Rattle.swd_image.specs.declared.verifying.ByteDifference.{ByteDifference}
-use Rattle.swd_image.specs.Dumps.{DumpFails}
-use Rattle.swd_image.specs.Reports.{DumpReports, image_fault_of}
 use Rattle.swd_image_files.specs.Images.{ImageFileBytes}
-use Rattle.swd_image_ends.specs.Memories.{AnyImageWire, DumpsSimulatedMemory, AreImageEndWholeWords}
+use Rattle.swd_image_ends.specs.Came.{DumpCame, LoadCame, VerifyCame, image_bench_wire}
+use Rattle.swd_image_ends.specs.Memories.{DumpsSimulatedMemory, AreImageEndWholeWords}
 use Rattle.swd_image_ends.specs.Memories.{LoadsSimulatedMemory, VerifiesSimulatedMemory, image_end_words_in}
-use Rattle.swd_image_ends.specs.PieceReports.{LoadsReported, VerifiesReported}
-use Rattle.swd_image_ends.specs.Pieces.{LoadFailsAt, LoadsAll, VerifiesAll, VerifyFailsAt}
 use Rattle.swd_words.specs.declared.command.ImageAction.{ImageAction}
 use Rattle.swd_words.specs.declared.command.ImageAction.TheVariants.{Load, Verify, Dump}
 use Rattle.swd_words.specs.declared.command.ImageLine.{ImageLine}
 use Rattle.swd_words.specs.declared.command.MemoryLine.{MemoryLine}
 use Rattle.swd_console.specs.MemoryFiles.{CommandWritesBack}
-use Rattle.swd_image_commands.specs.Images.{AreCommandPieces, IsCommandDumped, command_result_reached}
+use Rattle.swd_image_commands.specs.Images.{AreCommandPieces, IsCommandDumped, command_limits, command_result_reached}
 use Rattle.swd_image_commands.specs.Images.{command_status_of_image, command_status_loaded, command_status_verified}
 
 -- a target at rest with this plan, whose memory has the words of these bytes from an address on, and no other word
@@ -47,16 +44,10 @@ pub record LoadCommandSimulated {A : Type 0} (image : ImageLine) (pieces : List 
   pub after : Bench PlainMemory A
   pub memory : OnOk answer (LoadsSimulatedMemory pieces (plain_of (bench_port bus_of s).target.memory)
       (plain_of (bench_port bus_of after).target.memory))
-  pub calls : OnOk answer (LoadsAll (bench_port bus_of) bench_plan AnyImageWire image.tries image.resumes pieces s
-      after)
-  pub fault : IfErr answer (LoadFailsAt (bench_port bus_of) bench_plan AnyImageWire image.tries image.resumes pieces s
-      after)
   pub blank : Option (Option (List ℕ))
   pub filled : Option (Option (List ℕ))
   pub named : is_some blank ≡ is_some image.report
-  pub report : LoadsReported (bench_port bus_of) bench_plan AnyImageWire image.tries image.resumes pieces
-      (image_fault_of answer)
-      s after blank filled
+  pub came : LoadCame (image_bench_wire A) (command_limits image) pieces answer s after blank filled
   pub wrote : Result (Unit {0}) ℕ
   pub written : CommandWritesBack (plain_of (bench_port bus_of after).target.memory) base count wrote old new
   pub is : IsSimulatedCommandStatus (command_status_of_image command_status_loaded None answer) wrote status
@@ -70,17 +61,10 @@ pub record VerifyCommandSimulated {A : Type 0} (image : ImageLine) (pieces : Lis
   pub memory : IfOk answer (λ difference. VerifiesSimulatedMemory pieces difference
       (plain_of (bench_port bus_of s).target.memory)
       (plain_of (bench_port bus_of after).target.memory))
-  pub calls : IfOk answer (λ difference. VerifiesAll (bench_port bus_of) bench_plan AnyImageWire image.tries
-      image.resumes pieces
-      difference s after)
-  pub fault : IfErr answer (VerifyFailsAt (bench_port bus_of) bench_plan AnyImageWire image.tries image.resumes pieces s
-      after)
   pub blank : Option (Option (List ℕ))
   pub filled : Option (Option (List ℕ))
   pub named : is_some blank ≡ is_some image.report
-  pub report : VerifiesReported (bench_port bus_of) bench_plan AnyImageWire image.tries image.resumes pieces answer s
-      after blank
-      filled
+  pub came : VerifyCame (image_bench_wire A) (command_limits image) pieces answer s after blank filled
   pub is : status ≡ command_status_of_image command_status_verified None answer
 
 -- `count` bytes of the memory of a target s were read and written to a file, or a call failed
@@ -91,14 +75,11 @@ pub record DumpCommandSimulated {A : Type 0} (image : ImageLine) (count : ℕ) (
   pub memory : IfOk answer (λ bytes. DumpsSimulatedMemory image.addr count bytes
       (plain_of (bench_port bus_of s).target.memory)
       (plain_of (bench_port bus_of after).target.memory))
-  pub fault : IfErr answer (DumpFails (bench_port bus_of) bench_plan AnyImageWire image.tries image.resumes image.addr
-      count s
-      after)
   pub blank : Option (Option (List ℕ))
   pub filled : Option (Option (List ℕ))
   pub named : is_some blank ≡ is_some image.report
-  pub report : DumpReports (bench_port bus_of) bench_plan AnyImageWire image.tries image.resumes image.addr count
-      (image_fault_of answer) s after blank filled
+  pub came : DumpCame (image_bench_wire A) (command_limits image) image.addr count answer (λ bytes. bytes) s after
+      blank filled
   pub dumped : IsCommandDumped image.format image.addr (command_result_reached None answer) status
 
 module _ (A : Type 0) (image : ImageLine) where

@@ -3,13 +3,13 @@ ghost use Rattle.swd_image_commands.specs.Images.{PerformsDump, PerformsLoad, Pe
 ghost use Rattle.swd_image_commands.specs.Targeted.{PerformsImage};
 
 use crate::image_file::{keep_or_give_up, read_image_file, write_image_file};
-use crate::image_report::{open_report, report_writer};
+use crate::image_report::{limits_of, open_report, report_writer};
 use crate::result::{loaded_status, reached, verified_status};
 use crate::simulated_command::perform_simulated;
 use std::alloc::Allocator;
 use std::io::{Read, Write};
 use swd_console::{Console, Files, INPUT, InUse, KeepsError, Stream, StreamsInUse, WriteRole};
-use swd_image_ends::{dump_remote, load_pieces_remote, verify_pieces_remote};
+use swd_image_ends::{DumpJob, LoadJob, VerifyJob, over_line};
 use swd_port::Story;
 use swd_remote::RemoteStreams;
 use swd_words::{ImageAction, ImageLine};
@@ -78,18 +78,15 @@ fn perform_load<
         Ok(opened) => opened,
         Err(status) => return (status, RemoteStreams::unused(input, output)),
     };
-    let mut report = report_writer(opened, &mut *console.errors);
-    let (answer, line) = load_pieces_remote::<P, _, _, _, _>(
-        console.alloc,
-        input,
-        output,
-        &whole,
-        image.tries,
-        image.resumes,
-        &mut report,
-    );
-    let streams = call_streams(image, &report, &line);
-    drop(report);
+    let mut job = LoadJob {
+        alloc: console.alloc,
+        image: &whole,
+        limits: limits_of(image),
+        report: report_writer(opened, &mut *console.errors),
+    };
+    let (answer, line) = over_line::<P, _, _, _>(&mut job, input, output);
+    let streams = call_streams(image, &job.report, &line);
+    drop(job);
     let streams = streams.as_slice();
     let status = loaded_status(
         console.errors,
@@ -129,18 +126,15 @@ fn perform_verify<
         Ok(opened) => opened,
         Err(status) => return (status, RemoteStreams::unused(input, output)),
     };
-    let mut report = report_writer(opened, &mut *console.errors);
-    let (answer, line) = verify_pieces_remote::<P, _, _, _, _>(
-        console.alloc,
-        input,
-        output,
-        &whole,
-        image.tries,
-        image.resumes,
-        &mut report,
-    );
-    let streams = call_streams(image, &report, &line);
-    drop(report);
+    let mut job = VerifyJob {
+        alloc: console.alloc,
+        image: &whole,
+        limits: limits_of(image),
+        report: report_writer(opened, &mut *console.errors),
+    };
+    let (answer, line) = over_line::<P, _, _, _>(&mut job, input, output);
+    let streams = call_streams(image, &job.report, &line);
+    drop(job);
     let streams = streams.as_slice();
     let status = verified_status(
         console.errors,
@@ -184,19 +178,16 @@ fn perform_dump<
             return (status, RemoteStreams::unused(input, output));
         }
     };
-    let mut report = report_writer(opened, &mut *console.errors);
-    let (answer, line) = dump_remote::<P, _, _, _, _>(
-        console.alloc,
-        input,
-        output,
-        image.addr,
-        count as u64,
-        image.tries,
-        image.resumes,
-        &mut report,
-    );
-    let streams = call_streams(image, &report, &line);
-    drop(report);
+    let mut job = DumpJob {
+        alloc: console.alloc,
+        addr: image.addr,
+        count: count as u64,
+        limits: limits_of(image),
+        report: report_writer(opened, &mut *console.errors),
+    };
+    let (answer, line) = over_line::<P, _, _, _>(&mut job, input, output);
+    let streams = call_streams(image, &job.report, &line);
+    drop(job);
     match reached(console.errors, answer, line.fault, streams.as_slice()) {
         Ok(bytes) => {
             let status = write_image_file(image, bytes.as_slice(), &mut file, console);

@@ -1,8 +1,10 @@
-//! Opens the report of the calls of an image.
+//! The report of the calls of an image, and what they may meet.
 ghost use Rattle.std.specs.Prelude.{◌≡◌, IfErr, IfOk, is_some};
+ghost use Rattle.swd_image_commands.specs.Images.{command_limits};
 
 use std::io::Write;
 use swd_console::{Console, Destination, Files, InUse, Watched, WriteRole, cut_off};
+use swd_image::Limits;
 use swd_words::ImageLine;
 
 /// Where the report goes, if one is asked for.
@@ -10,6 +12,16 @@ pub(crate) type ReportTo<M> = Option<Destination<M, ()>>;
 
 /// The writer of the report, if one is asked for.
 pub(crate) type ReportWriter<'a, M, E> = Option<Watched<Destination<M, &'a mut E>>>;
+
+/// Returns what each call of an image may meet, as the arguments say.
+pub(crate) fn limits_of(image: &ImageLine) -> Limits
+    ensures { result ≡ command_limits image.now }
+{
+    Limits {
+        tries: image.tries,
+        resumes: image.resumes,
+    }
+}
 
 /// Opens the file of the report, if one is named, and truncates it: it is the last file that a command opens. `-` is
 /// standard error, which isn't truncated. At an error it prints a line and returns the status 2.

@@ -11,7 +11,7 @@ ghost use Rattle.swd_image_commands.specs.Simulated.{SimulatesDump, SimulatesLoa
 ghost use Rattle.swd_image_commands.specs.Simulated.{VerifyCommandSimulated};
 
 use crate::image_file::{keep_or_give_up, read_image_file, write_image_file};
-use crate::image_report::{ReportTo, open_report, report_writer};
+use crate::image_report::{ReportTo, limits_of, open_report, report_writer};
 use crate::result::{loaded_status, reached, verified_status};
 use std::alloc::Allocator;
 use std::io::Write;
@@ -19,7 +19,8 @@ use swd_console::{
     Console, Files, HeldMemory, InUse, MemoryFile, Stream, StreamsInUse, WriteRole, cannot_use,
     read_target_files, write_back,
 };
-use swd_image_ends::{dump_simulated, load_simulated, simulated_target, verify_simulated};
+use swd_image::dump;
+use swd_image_ends::{load_pieces, simulated_target, verify_pieces};
 use swd_image_files::Image;
 use swd_target::{Bench, Memory};
 use swd_words::{ImageAction, ImageLine, MemoryLine};
@@ -147,16 +148,9 @@ fn load_over<A: Allocator + Copy, F: Files, C, E: Write>(
     ensures { (new : Option (List ℕ)) × LoadCommandSimulated image.now (pieces_to_load whole.now) bench
         back.entry.memory.now.base back.entry.count result (F.Made.Write.contents back.entry.file) new }
 {
-    let (tries, resumes) = (image.tries, image.resumes);
+    let limits = limits_of(image);
     let mut report = report_writer(opened, &mut *console.errors);
-    let answer = load_simulated(
-        console.alloc,
-        &mut bench,
-        whole,
-        tries,
-        resumes,
-        &mut report,
-    );
+    let answer = load_pieces(console.alloc, &mut bench, whole, limits, &mut report);
     let streams = [Stream::record(&image.report, &report)];
     drop(report);
     match write_back(bench.memory(), &mut back, console) {
@@ -214,16 +208,9 @@ fn verify_over<M: Write + Drop, A: Allocator + Copy, F, C, E: Write>(
     requires named { is_some opened ≡ is_some image.now.report }
     ensures { VerifyCommandSimulated image.now (pieces_to_load whole.now) bench result }
 {
-    let (tries, resumes) = (image.tries, image.resumes);
+    let limits = limits_of(image);
     let mut report = report_writer(opened, &mut *console.errors);
-    let answer = verify_simulated(
-        console.alloc,
-        &mut bench,
-        whole,
-        tries,
-        resumes,
-        &mut report,
-    );
+    let answer = verify_pieces(console.alloc, &mut bench, whole, limits, &mut report);
     let streams = [Stream::record(&image.report, &report)];
     drop(report);
     verified_status(
@@ -286,15 +273,14 @@ fn dump_over<A: Allocator + Copy, F: Files, C, E: Write>(
     requires named { is_some opened ≡ is_some image.now.report }
     ensures { DumpCommandSimulated image.now count bench result }
 {
-    let (addr, tries, resumes) = (image.addr, image.tries, image.resumes);
+    let (addr, limits) = (image.addr, limits_of(image));
     let mut report = report_writer(opened, &mut *console.errors);
-    let answer = dump_simulated(
+    let answer = dump(
         console.alloc,
         &mut bench,
         addr,
         count as u64,
-        tries,
-        resumes,
+        limits,
         &mut report,
     );
     let streams = [Stream::record(&image.report, &report)];

@@ -1,16 +1,15 @@
 -- No call makes a word of the memory appear or go, at a wire that is always lawful.
 use Rattle.std.proofs.Common.{◌≡◌, ◌+◌, ℕ, true, false, refl, sym, ap, subst, ◌∙◌, List, [], ◌∷◌, length, take, drop}
-use Rattle.std.proofs.Common.{Option, inl, inr, Bool, Result, Ok, Err}
-use Rattle.std.specs.Prelude.{◌&&◌, OnOk, is_some}
+use Rattle.std.proofs.Common.{Option, inl, inr, Bool}
+use Rattle.std.specs.Prelude.{◌&&◌, is_some}
 use Rattle.std.proofs.lemmas.Bool.{cases_eq}
 use Rattle.std.specs.FinMap.{get}
 use Rattle.swd_port.specs.declared.access.Access.{Access}
 use Rattle.swd_port.specs.declared.access.Access.TheVariants.{Read, Write}
 use Rattle.swd_port.specs.declared.access.Answer.{Answer}
-use Rattle.swd_port.specs.declared.mark.Mark.{Mark}
+use Rattle.swd_port.specs.declared.wire.Wire.{Ghosts}
 use Rattle.swd_port.specs.PlainMemory.{PlainMemory, plain_address, plain_done, plain_after, succeeds_at}
 use Rattle.swd_port.specs.Bus.{Bus, bus_after, plain_of}
-use Rattle.swd_port.specs.Port.{Port}
 use Rattle.swd_port.proofs.MapLemmas.{port_map_get_other, port_map_get_same}
 use Rattle.swd_host.specs.Chains.{ResumeChain, first, again}
 use Rattle.swd_port.specs.PlainBus.{IsPlain, plain_words_of}
@@ -18,6 +17,7 @@ use Rattle.swd_host.specs.Plain.{memory_after}
 use Rattle.swd_host.proofs.ReadChains.{resume_chain_plain}
 use Rattle.swd_port.proofs.PlainBusLaws.{is_plain_next, plain_of_next}
 use Rattle.swd_host.specs.Reports.{IsAtRest, HostReport}
+use Rattle.swd_run.specs.declared.limits.Limits.{Limits}
 use Rattle.swd_run.specs.Sessions.{batch_limit}
 use Rattle.swd_run.proofs.WentLemmas.{rests, tell_of}
 use Rattle.swd_image.specs.declared.verifying.ByteDifference.{ByteDifference}
@@ -25,7 +25,7 @@ use Rattle.swd_image.specs.Lists.{image_edge_list, image_load_list}
 use Rattle.swd_image.specs.Loads.{Loads}
 use Rattle.swd_image.specs.Sessions.{Calls, none, more}
 use Rattle.swd_image_files.specs.Images.{ImageFileBytes}
-use Rattle.swd_image_ends.specs.Memories.{AnyImageWire, ImageEndSameAddresses, ImageEndSameWords, LoadsSimulatedMemory}
+use Rattle.swd_image_ends.specs.Memories.{ImageEndSameAddresses, ImageEndSameWords, LoadsSimulatedMemory}
 use Rattle.swd_image_ends.specs.Memories.{VerifiesSimulatedMemory}
 use Rattle.swd_image_ends.specs.Pieces.{LoadsAll, LoadsEach, VerifiesAll, VerifiesEach}
 
@@ -85,15 +85,15 @@ same_chain limit list m calls told now plain
 
 -- ---- calls that all succeeded
 
-module _ {W : Type 0} (port : W → Port) (plan : W → List Mark) (tries resumes : ℕ) where
+module _ {W : Type 0} (wire : Ghosts W) (limits : Limits) (always : (w : W) → wire.lawful w) where
   record Keeps (s t : W) : Type 0 where
-    at_rest : IsAtRest (port t)
-    plain : IsPlain (port t).target.memory
-    addresses : ImageEndSameAddresses (plain_of (port s).target.memory) (plain_of (port t).target.memory)
+    at_rest : IsAtRest (wire.port t)
+    plain : IsPlain (wire.port t).target.memory
+    addresses : ImageEndSameAddresses (plain_of (wire.port s).target.memory) (plain_of (wire.port t).target.memory)
 
-  same_calls : (s t : W) (list : List Access) (answers : List Answer) → IsAtRest (port s) →
-      IsPlain (port s).target.memory
-      → Calls port plan AnyImageWire tries resumes s list answers t → Keeps s t
+  same_calls : (s t : W) (list : List Access) (answers : List Answer) → IsAtRest (wire.port s) →
+      IsPlain (wire.port s).target.memory
+      → Calls wire limits s list answers t → Keeps s t
   same_calls s t list answers rest plain none = record { at_rest = rest; plain = plain; addresses = λ q. refl }
   same_calls s t list answers rest plain
       (more {list = xs} {answers = vs} {t = r} {u = v} {batch = batch} {run = run} before call all plain_done) =
@@ -101,18 +101,21 @@ module _ {W : Type 0} (port : W → Port) (plan : W → List Mark) (tries resume
       let n : ℕ = batch_limit batch in
       let went = call.goes.went in
       let turns =
-      (tell_of port plan AnyImageWire n batch.accesses tries r h.at_rest run.stops run.told v went tt).turns in
-      let same = same_chain n batch.accesses (port r).target.memory turns.calls run.told turns.memory h.plain
+      (tell_of wire n batch.accesses limits.tries r h.at_rest run.stops run.told v went
+      (always v)).turns in
+      let same = same_chain n batch.accesses (wire.port r).target.memory turns.calls run.told turns.memory h.plain
       turns.chain in
       record {
-        at_rest = rests port plan AnyImageWire n batch.accesses tries r h.at_rest run.stops run.told v went tt all;
-        plain = subst IsPlain (turns.left all) (resume_chain_plain n batch.accesses (port r).target.memory turns.calls
+        at_rest = rests wire n batch.accesses limits.tries r h.at_rest run.stops run.told
+            v went (always v) all;
+        plain = subst IsPlain (turns.left all) (resume_chain_plain n batch.accesses (wire.port r).target.memory
+            turns.calls
             run.told turns.memory h.plain turns.chain);
         addresses = λ q. ap (λ x. is_some (get (plain_words_of x) q)) (sym (turns.left all)) ∙ same q ∙ h.addresses q;
       }
 
-  same_load : (addr : ℕ) (bytes : List ℕ) (s t : W) → IsAtRest (port s) → IsPlain (port s).target.memory
-      → Loads port plan AnyImageWire tries resumes addr bytes s t → Keeps s t
+  same_load : (addr : ℕ) (bytes : List ℕ) (s t : W) → IsAtRest (wire.port s) → IsPlain (wire.port s).target.memory
+      → Loads wire limits addr bytes s t → Keeps s t
   same_load addr bytes s t rest plain h =
       let edges = same_calls s h.reached (image_edge_list addr (length bytes)) h.edges.answers rest plain
       h.edges.calls in
@@ -124,46 +127,44 @@ module _ {W : Type 0} (port : W → Port) (plan : W → List Mark) (tries resume
         addresses = λ q. writes.addresses q ∙ edges.addresses q;
       }
 
-  same_each : (pieces : List ImageFileBytes) (s u : W) → IsAtRest (port s) → IsPlain (port s).target.memory
-      → LoadsEach port plan AnyImageWire tries resumes pieces s u
-      → ImageEndSameAddresses (plain_of (port s).target.memory) (plain_of (port u).target.memory)
-  same_each [] s u rest plain h q = ap (λ w. is_some (get (plain_words_of (port w).target.memory) q)) h
+  same_each : (pieces : List ImageFileBytes) (s u : W) → IsAtRest (wire.port s) → IsPlain (wire.port s).target.memory
+      → LoadsEach wire limits pieces s u
+      → ImageEndSameAddresses (plain_of (wire.port s).target.memory) (plain_of (wire.port u).target.memory)
+  same_each [] s u rest plain h q = ap (λ w. is_some (get (plain_words_of (wire.port w).target.memory) q)) h
   same_each (piece ∷ rest) s u at_rest plain h q =
       let one = same_load piece.addr piece.bytes s h.0 at_rest plain h.1 in
       same_each rest h.0 u one.at_rest one.plain h.2 q ∙ one.addresses q
 
   -- what a load of pieces over such a wire leaves of the memory
-  pub loaded_there : (pieces : List ImageFileBytes) (s u : W) → IsAtRest (port s) → IsPlain (port s).target.memory
-      → LoadsAll port plan AnyImageWire tries resumes pieces s u
-      → LoadsSimulatedMemory pieces (plain_of (port s).target.memory) (plain_of (port u).target.memory)
+  pub loaded_there : (pieces : List ImageFileBytes) (s u : W) → IsAtRest (wire.port s) → IsPlain (wire.port
+      s).target.memory
+      → LoadsAll wire limits pieces s u
+      → LoadsSimulatedMemory pieces (plain_of (wire.port s).target.memory) (plain_of (wire.port u).target.memory)
   loaded_there pieces s u rest plain h = record {
-    loaded = (h.memory tt rest plain).0;
+    loaded = (h.memory (always u) rest plain).0;
     addresses = same_each pieces s u rest plain h.each;
   }
 
-  same_words : (pieces : List ImageFileBytes) (difference : Option ByteDifference) (s u : W) → IsAtRest (port s)
-      → IsPlain (port s).target.memory
-      → VerifiesEach port plan AnyImageWire tries resumes pieces difference s u
-      → ImageEndSameWords (plain_of (port s).target.memory) (plain_of (port u).target.memory)
-  same_words [] difference s u rest plain h q = ap (λ w. get (plain_words_of (port w).target.memory) q) h.1
-  same_words (piece ∷ rest) difference s u at_rest plain (inl here) q = here.2.dumps.same tt at_rest plain q
+  same_words : (pieces : List ImageFileBytes) (difference : Option ByteDifference) (s u : W) → IsAtRest (wire.port s)
+      → IsPlain (wire.port s).target.memory
+      → VerifiesEach wire limits pieces difference s u
+      → ImageEndSameWords (plain_of (wire.port s).target.memory) (plain_of (wire.port u).target.memory)
+  same_words [] difference s u rest plain h q = ap (λ w. get (plain_words_of (wire.port w).target.memory) q) h.1
+  same_words (piece ∷ rest) difference s u at_rest plain (inl here) q = here.2.dumps.same (always u) at_rest plain q
   same_words (piece ∷ rest) difference s u at_rest plain (inr later) q =
       let h = later.1.dumps in
-      same_words rest difference later.0 u (h.rests tt at_rest) (h.plain tt at_rest plain) later.2 q
-      ∙ h.same tt at_rest plain q
+      same_words rest difference later.0 u (h.rests (always later.0) at_rest) (h.plain (always later.0) at_rest
+      plain) later.2 q
+      ∙ h.same (always later.0) at_rest plain q
 
   -- and a verification
-  pub verified_there : (pieces : List ImageFileBytes) (difference : Option ByteDifference) (s u : W) → IsAtRest (port s)
-      → IsPlain (port s).target.memory
-      → VerifiesAll port plan AnyImageWire tries resumes pieces difference s u
-      → VerifiesSimulatedMemory pieces difference (plain_of (port s).target.memory)
-      (plain_of (port u).target.memory)
+  pub verified_there : (pieces : List ImageFileBytes) (difference : Option ByteDifference) (s u : W) → IsAtRest
+      (wire.port s)
+      → IsPlain (wire.port s).target.memory
+      → VerifiesAll wire limits pieces difference s u
+      → VerifiesSimulatedMemory pieces difference (plain_of (wire.port s).target.memory)
+      (plain_of (wire.port u).target.memory)
   verified_there pieces difference s u rest plain h = record {
-    compared = h.memory tt rest plain;
+    compared = h.memory (always u) rest plain;
     words = same_words pieces difference s u rest plain h.each;
   }
-
--- what follows from a result that is known of it
-pub image_end_on_ok : {V E : Type 0} (result : Result V E) (P Q : Type 0) → (P → Q) → OnOk result P → OnOk result Q
-image_end_on_ok (Ok value) P Q so h = so h
-image_end_on_ok (Err error) P Q so h = tt

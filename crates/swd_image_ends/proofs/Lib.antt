@@ -1,8 +1,7 @@
 pub mod WireLemmas
-pub mod RemoteLemmas
 pub mod PieceLemmas
-pub mod RemotePieceLemmas
+pub mod PieceReportLemmas
+pub mod CameLemmas
 pub mod ApartLemmas
 pub mod MemoryLemmas
 pub mod AddressLemmas
-pub mod PieceReportLemmas

@@ -1,8 +1,7 @@
-pub mod RemoteImages
 pub mod Files
 pub mod Gathered
 pub mod Pieces
-pub mod RemotePieces
-pub mod Laws
 pub mod Memories
 pub mod PieceReports
+pub mod Came
+pub mod Laws

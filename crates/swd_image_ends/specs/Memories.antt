@@ -26,10 +26,6 @@ pub record AreImageEndWholeWords (base : ℕ) (bytes : List ℕ) : Type 0 where
 abbrev pub ImageEndHasRoom : ℕ → ℕ → PlainMemory → Type 0
 ImageEndHasRoom words spare memory = 0 < words → words + spare < 2 ^ 32 → length memory.log + spare ≤ memory.room
 
--- every state of a simulated target is lawful
-abbrev pub AnyImageWire : {W : Type 0} → W → Type 0
-AnyImageWire wire = Unit {0}
-
 -- no word appears or goes
 abbrev pub ImageEndSameAddresses : PlainMemory → PlainMemory → Type 0
 ImageEndSameAddresses before after = (q : ℕ) → is_some (get after.words q) ≡ is_some (get before.words q)

@@ -1,8 +1,8 @@
 -- What a writer got of the calls of a load or a verification of pieces.
 use Rattle.std.specs.Prelude.{ℕ, ◌≡◌, List, [], ◌∷◌, ◌++◌, length, Option, None, Result, Ok}
 use Rattle.swd_port.specs.declared.access.Access.{Access}
-use Rattle.swd_port.specs.declared.mark.Mark.{Mark}
-use Rattle.swd_port.specs.Port.{Port}
+use Rattle.swd_port.specs.declared.wire.Wire.{Ghosts}
+use Rattle.swd_run.specs.declared.limits.Limits.{Limits}
 use Rattle.swd_image.specs.declared.fault.ImageFault.{ImageFault}
 use Rattle.swd_image.specs.declared.verifying.ByteDifference.{ByteDifference}
 use Rattle.swd_image.specs.Lists.{image_dump_list, image_edge_list, image_load_list}
@@ -23,13 +23,13 @@ abbrev pub pieces_verify_list : List ImageFileBytes → List Access
 pieces_verify_list [] = []
 pieces_verify_list (piece ∷ rest) = image_dump_list piece.addr (length piece.bytes) ++ pieces_verify_list rest
 
-module _ {W : Type 0} (port : W → Port) (plan : W → List Mark) (lawful : W → Type 0) (tries resumes : ℕ) where
+module _ {W : Type 0} (wire : Ghosts W) (limits : Limits) where
   -- what a writer got of a load of pieces
   pub record LoadsReported (pieces : List ImageFileBytes) (fault : Option ImageFault) (s t : W)
       (before after : Option (Option (List ℕ))) : Type 0 where
     pub list : List Access
     pub is : IsPiecesLoadList pieces list
-    pub reports : ReportsTo port plan lawful tries resumes list fault s t before after
+    pub reports : ReportsTo wire limits list fault s t before after
 
   -- What a writer got of a verification of pieces: the calls are for the first pieces, and for all of them if none
   -- differs.
@@ -39,5 +39,5 @@ module _ {W : Type 0} (port : W → Port) (plan : W → List Mark) (lawful : W �
     pub later : List ImageFileBytes
     pub split : pieces ≡ front ++ later
     pub all : result ≡ Ok None → later ≡ []
-    pub reports : ReportsTo port plan lawful tries resumes (pieces_verify_list front) (image_fault_of result) s t before
+    pub reports : ReportsTo wire limits (pieces_verify_list front) (image_fault_of result) s t before
         after

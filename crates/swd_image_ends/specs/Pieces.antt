@@ -2,12 +2,12 @@
 use Rattle.std.specs.Prelude.{ℕ, ◌≡◌, ◌+◌, ◌-◌, ◌≤◌, ◌⊎◌, ◌&&◌, nat_le, nat_lt, List, [], ◌∷◌, length, All, slice_index}
 use Rattle.std.specs.Prelude.{Option, None, Some, if◌then◌else◌}
 use Rattle.std.specs.FinMap.{get}
-use Rattle.swd_port.specs.declared.mark.Mark.{Mark}
+use Rattle.swd_port.specs.declared.wire.Wire.{Ghosts}
 use Rattle.swd_port.specs.PlainMemory.{PlainMemory}
-use Rattle.swd_port.specs.Port.{Port}
 use Rattle.swd_port.specs.Bus.{plain_of}
 use Rattle.swd_port.specs.PlainBus.{IsPlain}
 use Rattle.swd_host.specs.Reports.{IsAtRest}
+use Rattle.swd_run.specs.declared.limits.Limits.{Limits}
 use Rattle.swd_image.specs.declared.fault.ImageFault.{ImageFault}
 use Rattle.swd_image.specs.declared.verifying.ByteDifference.{ByteDifference}
 use Rattle.swd_image.specs.Bytes.{image_byte_at, image_bytes_at}
@@ -50,47 +50,47 @@ ComparesEachPiece memory (piece ∷ rest) difference =
     ⊎ (ComparesImage piece.addr piece.bytes (image_bytes_at memory piece.addr (length piece.bytes)) None
     × ComparesEachPiece memory rest difference)
 
-module _ {W : Type 0} (port : W → Port) (plan : W → List Mark) (lawful : W → Type 0) (tries resumes : ℕ) where
+module _ {W : Type 0} (wire : Ghosts W) (limits : Limits) where
   -- each piece was loaded, from one state of the wire to the next
   abbrev pub LoadsEach : List ImageFileBytes → W → W → Type 0
   LoadsEach [] s u = u ≡ s
   LoadsEach (piece ∷ rest) s u =
-      (t : W) × Loads port plan lawful tries resumes piece.addr piece.bytes s t × LoadsEach rest t u
+      (t : W) × Loads wire limits piece.addr piece.bytes s t × LoadsEach rest t u
 
   -- The pieces were loaded. If the wire was lawful, the target at rest and the bus a plain memory, this contains them,
   -- and nothing else of it changed. The target is then at rest again.
   pub record LoadsAll (pieces : List ImageFileBytes) (s u : W) : Type 0 where
     pub each : LoadsEach pieces s u
-    pub memory : lawful u → IsAtRest (port s) → IsPlain (port s).target.memory
-        → ArePiecesLoaded pieces (plain_of (port s).target.memory) (plain_of (port u).target.memory)
-        × IsAtRest (port u) × IsPlain (port u).target.memory
+    pub memory : wire.lawful u → IsAtRest (wire.port s) → IsPlain (wire.port s).target.memory
+        → ArePiecesLoaded pieces (plain_of (wire.port s).target.memory) (plain_of (wire.port u).target.memory)
+        × IsAtRest (wire.port u) × IsPlain (wire.port u).target.memory
 
   -- the error of such a load: that of the first piece that failed, after those before it were loaded
   abbrev pub LoadFailsAt : List ImageFileBytes → W → W → ImageFault → Type 0
   LoadFailsAt [] s u fault = ⊥
   LoadFailsAt (piece ∷ rest) s u fault =
-      LoadFails port plan lawful tries resumes piece.addr piece.bytes s u fault
-      ⊎ ((t : W) × Loads port plan lawful tries resumes piece.addr piece.bytes s t × LoadFailsAt rest t u fault)
+      LoadFails wire limits piece.addr piece.bytes s u fault
+      ⊎ ((t : W) × Loads wire limits piece.addr piece.bytes s t × LoadFailsAt rest t u fault)
 
   -- each piece was read and compared, from one state of the wire to the next, up to the first one that differs
   abbrev pub VerifiesEach : List ImageFileBytes → Option ByteDifference → W → W → Type 0
   VerifiesEach [] difference s u = (difference ≡ None) × (u ≡ s)
   VerifiesEach (piece ∷ rest) difference s u =
       ((found : ByteDifference) × (difference ≡ Some found)
-      × VerifiesImage port plan lawful tries resumes piece.addr piece.bytes (Some found) s u)
-      ⊎ ((t : W) × VerifiesImage port plan lawful tries resumes piece.addr piece.bytes None s t
+      × VerifiesImage wire limits piece.addr piece.bytes (Some found) s u)
+      ⊎ ((t : W) × VerifiesImage wire limits piece.addr piece.bytes None s t
       × VerifiesEach rest difference t u)
 
   -- The pieces were read and compared. If the wire was lawful and the target at rest, the result holds for the memory.
   pub record VerifiesAll (pieces : List ImageFileBytes) (difference : Option ByteDifference) (s u : W) : Type 0 where
     pub each : VerifiesEach pieces difference s u
-    pub memory : lawful u → IsAtRest (port s) → IsPlain (port s).target.memory
-        → ComparesEachPiece (plain_of (port s).target.memory) pieces difference
+    pub memory : wire.lawful u → IsAtRest (wire.port s) → IsPlain (wire.port s).target.memory
+        → ComparesEachPiece (plain_of (wire.port s).target.memory) pieces difference
 
   -- the error of such a verification: that of the first piece that failed, after those before it had no difference
   abbrev pub VerifyFailsAt : List ImageFileBytes → W → W → ImageFault → Type 0
   VerifyFailsAt [] s u fault = ⊥
   VerifyFailsAt (piece ∷ rest) s u fault =
-      DumpFails port plan lawful tries resumes piece.addr (length piece.bytes) s u fault
-      ⊎ ((t : W) × VerifiesImage port plan lawful tries resumes piece.addr piece.bytes None s t
+      DumpFails wire limits piece.addr (length piece.bytes) s u fault
+      ⊎ ((t : W) × VerifiesImage wire limits piece.addr piece.bytes None s t
       × VerifyFailsAt rest t u fault)

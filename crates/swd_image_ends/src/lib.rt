@@ -3,16 +3,13 @@
 #![tactic(auto)]
 
 mod file;
+mod jobs;
 pub mod laws;
 mod memory;
 mod pieces;
-mod remote;
-mod remote_pieces;
-mod simulated;
 
 pub use file::{FileFault, read_file};
+pub use jobs::{DumpJob, LoadJob, VerifyJob};
 pub use memory::{memory_bytes, memory_with, simulated_target};
 pub use pieces::{load_pieces, verify_pieces};
-pub use remote::{dump_remote, load_remote, verify_remote};
-pub use remote_pieces::{load_pieces_remote, verify_pieces_remote};
-pub use simulated::{dump_simulated, load_simulated, verify_simulated};
+pub use swd_remote::over_line;

@@ -2,6 +2,7 @@
 ghost use Rattle.std.specs.Prelude.{IsTrue};
 ghost use Rattle.swd_target.specs.Marks.{IsLegalPlan};
 
+mod broken;
 mod dumps;
 mod expect;
 mod loads;
@@ -11,7 +12,7 @@ mod reports;
 
 use std::alloc::{Allocator, Global};
 use std::test::Fail;
-use swd_image::{ByteDifference, ImageFault, dump, load, verify};
+use swd_image::{ByteDifference, ImageFault, Limits, NoReports, dump, load, verify};
 use swd_port::{Access, Due, Mark, Wire};
 use swd_target::{Bench, Memory, Quirks};
 
@@ -78,6 +79,14 @@ fn target_of(
     Ok(Some(Bench::new(memory, QUIRKS, plan)))
 }
 
+/// The tries of these tests, and so many resumes.
+fn limits(resumes: u32) -> Limits {
+    Limits {
+        tries: TRIES,
+        resumes,
+    }
+}
+
 /// A load, where nothing is due.
 fn load_at<W: Wire, A: Allocator + Copy>(
     alloc: A,
@@ -87,7 +96,7 @@ fn load_at<W: Wire, A: Allocator + Copy>(
     resumes: u32,
 ) -> Option<Result<(), ImageFault>> {
     match wire.due() {
-        Due::Nothing => Some(load(alloc, wire, addr, bytes, TRIES, resumes)),
+        Due::Nothing => Some(load(alloc, wire, addr, bytes, limits(resumes), &mut NoReports)),
         _ => None,
     }
 }
@@ -101,7 +110,7 @@ fn dump_at<W: Wire, A: Allocator + Copy>(
     resumes: u32,
 ) -> Option<Result<Vec<u8, A>, ImageFault>> {
     match wire.due() {
-        Due::Nothing => Some(dump(alloc, wire, addr, count, TRIES, resumes)),
+        Due::Nothing => Some(dump(alloc, wire, addr, count, limits(resumes), &mut NoReports)),
         _ => None,
     }
 }
@@ -115,7 +124,7 @@ fn verify_at<W: Wire, A: Allocator + Copy>(
     resumes: u32,
 ) -> Option<Result<Option<ByteDifference>, ImageFault>> {
     match wire.due() {
-        Due::Nothing => Some(verify(alloc, wire, addr, bytes, TRIES, resumes)),
+        Due::Nothing => Some(verify(alloc, wire, addr, bytes, limits(resumes), &mut NoReports)),
         _ => None,
     }
 }

@@ -7,7 +7,7 @@ ghost use Rattle.swd_host.specs.Reports.{IsAtRest};
 ghost use Rattle.swd_image.specs.Images.{IsImageLoaded};
 
 use std::alloc::Global;
-use swd_image::{ImageFault, load};
+use swd_image::{ImageFault, Limits, NoReports, load};
 use swd_port::Wire;
 
 /// Writes bytes from an address on. Each access may meet eight events, and a call is resumed once after a lost
@@ -24,5 +24,9 @@ pub fn flash<W: Wire>(
         → IsImageLoaded addr bytes.now (plain_of (W.port wire.old).target.memory)
         (plain_of (W.port wire.new).target.memory)) }
 {
-    load(alloc, wire, addr, bytes, 8, 1)
+    let limits = Limits {
+        tries: 8,
+        resumes: 1,
+    };
+    load(alloc, wire, addr, bytes, limits, &mut NoReports)
 }

@@ -1,4 +1,4 @@
-//! Bytes that are loaded over a line of remote_bitbang characters.
+//! An image that is loaded over a line of remote_bitbang characters.
 ghost use Rattle.std.specs.FinMap.{empty};
 ghost use Rattle.std.specs.Prelude.{[]};
 ghost use Rattle.swd_port.specs.Bus.{bus_of};
@@ -6,8 +6,9 @@ ghost use Rattle.swd_port.specs.Port.{port_made};
 
 use std::alloc::Global;
 use std::io::{Read, Write};
-use swd_image::ImageFault;
-use swd_image_ends::load_remote;
+use swd_image::{ImageFault, Limits, NoReports};
+use swd_image_ends::{LoadJob, over_line};
+use swd_image_files::Image;
 use swd_port::Story;
 use swd_remote::RemoteStreams;
 
@@ -18,15 +19,22 @@ impl Story for Untold {
     ghost at = { λ _. port_made 0 (bus_of (record { words = empty; log = []; room = 0 })) };
 }
 
-/// Writes bytes from an address on, at the target behind a server of remote_bitbang: a reader of levels and a writer of
+/// Loads the pieces of an image, at the target behind a server of remote_bitbang: a reader of levels and a writer of
 /// characters. Returns the connection too, with the error that ended it, if any.
 pub fn flash<R: Read, W: Write>(
     alloc: Global,
     levels: R,
     characters: W,
-    addr: u32,
-    bytes: &[u8],
+    image: &Image<Global>,
 ) -> (Result<(), ImageFault>, RemoteStreams<R, W>) {
-    let mut none: Option<Vec<u8>> = None;
-    load_remote::<Untold, _, _, _, _>(alloc, levels, characters, addr, bytes, 8, 0, &mut none)
+    let mut job = LoadJob {
+        alloc,
+        image,
+        limits: Limits {
+            tries: 8,
+            resumes: 0,
+        },
+        report: NoReports,
+    };
+    over_line::<Untold, _, _, _>(&mut job, levels, characters)
 }

@@ -20,6 +20,7 @@ mod text;
 
 use swd_clocked::Clocked;
 use swd_draw::DrawnForm;
+use swd_image_files::{Format, read_image};
 use swd_io::send;
 use swd_port::{Access, Cue};
 use swd_resync::Part;
@@ -142,13 +143,8 @@ fn show_images(rt: &HostRuntime) -> anyhow::Result<()> {
     println!(rt; "swd_image: {word:08x}")?;
     let mut characters = Vec::new(rt.alloc());
     let levels: &[u8] = b"";
-    let (loaded, line) = image_ends::flash(
-        rt.alloc(),
-        levels,
-        &mut characters,
-        0x2000_0000,
-        b"abcd",
-    );
+    let image = read_image(rt.alloc(), Format::Binary, b"abcd", 0x2000_0000)?;
+    let (loaded, line) = image_ends::flash(rt.alloc(), levels, &mut characters, &image);
     println!(rt; "swd_image_ends: {loaded:?} {:?}", line.fault)?;
     Ok(())
 }

@@ -1,6 +1,6 @@
 //! A script over a simulated target.
 use std::alloc::Global;
-use swd_run::{Finished, Records, RunFault, run_text};
+use swd_run::{Finished, Limits, Records, RunFault, run_text};
 
 /// Runs a script over a simulated target of which no request is disturbed, and appends its report.
 pub fn report(
@@ -10,5 +10,9 @@ pub fn report(
 ) -> Result<Finished, RunFault> {
     let mut plan: &[u8] = b"";
     let mut records = Records::<Vec<u8>>::none();
-    run_text(alloc, &mut script, &mut plan, 8, 0, report, &mut records)
+    let limits = Limits {
+        tries: 8,
+        resumes: 0,
+    };
+    run_text(alloc, &mut script, &mut plan, limits, report, &mut records)
 }

@@ -96,7 +96,7 @@ impl<W: Wire, A: Allocator> Recorder<W, A> {
 
 impl<W: Wire, A: Allocator> Wire for Recorder<W, A> {
     ghost use Rattle.swd_recorder.specs.Recorders.{recorder_calls, recorder_kept, recorder_port, recorder_plan};
-    ghost use Rattle.swd_recorder.specs.Recorders.{recorder_lawful, recorder_notes};
+    ghost use Rattle.swd_recorder.specs.Recorders.{recorder_lawful, recorder_notes, recorder_wire_under};
 
     ghost port = { recorder_port };
 
@@ -120,6 +120,8 @@ impl<W: Wire, A: Allocator> Wire for Recorder<W, A> {
         ensures notes { (calls : List Call) → recorder_notes calls self.old
             → recorder_notes (record { cue = cue; seen = result } ∷ calls) self.new }
         ensures calls { recorder_calls self.new ≡ record { cue = cue; seen = result } ∷ recorder_calls self.old }
+        ensures noted { (calls : List Call) → W.Wire.notes calls (recorder_wire_under self.old)
+            → W.Wire.notes (record { cue = cue; seen = result } ∷ calls) (recorder_wire_under self.new) }
         ensures adds { RecorderAdds (recorded_items_of (recorded_in_hand_by (recorder_calls self.old)) cue result)
             (recorder_kept self.old) (recorder_kept self.new) }
         ensures stays { (recorder_kept self.old).is_cut ≡ true → recorder_kept self.new ≡ recorder_kept self.old }

@@ -5,6 +5,7 @@
 mod kept;
 pub mod laws;
 mod levels;
+mod line_job;
 mod outgoing;
 mod probe;
 mod probe_transport;
@@ -12,6 +13,7 @@ mod remote;
 mod whole_run;
 
 pub use kept::{InitialStreams, RemoteStreams, RemoteTransport};
+pub use line_job::{LineJob, over_line};
 pub use probe::Probe;
 pub use probe_transport::ProbeTransport;
 pub use remote::{Fault, Remote};

@@ -11,3 +11,4 @@ pub mod WorkedReports
 pub mod RecordedLemmas
 pub mod TransferLemmas
 pub mod TraceLemmas
+pub mod ToldLemmas

@@ -7,8 +7,7 @@ use Rattle.std.proofs.lemmas.List.{length-append, length-take}
 use Rattle.std.specs.Prelude.{◌||◌}
 use Rattle.std.specs.Io.KnownBytes.{Appends}
 use Rattle.swd_io.specs.Blocks.{OutputStopped}
-use Rattle.swd_port.specs.declared.mark.Mark.{Mark}
-use Rattle.swd_port.specs.Port.{Port}
+use Rattle.swd_port.specs.declared.wire.Wire.{Ghosts}
 use Rattle.swd_host.specs.declared.outcome.End.TheVariants.{All}
 use Rattle.swd_host.specs.Reports.{HostReport}
 use Rattle.swd_script.specs.Laws.{IsScriptBatch}
@@ -80,7 +79,7 @@ stopped_after total before more old mid new a b text sum gone stop whole =
       count = counts total before more (length a) stop.sent sum gone.count stop.count;
     }
 
-module _ {W : Type 0} (port : W → Port) (plan : W → List Mark) (lawful : W → Type 0) (tries resumes : ℕ)
+module _ {W : Type 0} (wire : Ghosts W) (tries resumes : ℕ)
     (batches : List ScriptListed) (s : W) (old : Option (List ℕ)) where
   -- The runs of the first i batches, to this state of the wire, with what they come to. The report's writer has their
   -- report, and so many bytes are counted. `opened` says whether the target is open for the next run.
@@ -88,7 +87,7 @@ module _ {W : Type 0} (port : W → Port) (plan : W → List Mark) (lawful : W �
       Type 0 where
     pub made : List BatchRuns
     pub unfolds : Unfolds (take i batches) made
-    pub are : RunsBatches port plan lawful false batch_limit tries resumes s (calls_of (take i batches) made) (runs_of made) t
+    pub are : RunsBatches wire false batch_limit tries resumes s (calls_of (take i batches) made) (runs_of made) t
     pub is : IsScriptFinished (take i batches) made None finished
     pub gone : HasReportWritten old now (session_text (take i batches) made) written
     pub is_open : opened ≡ script_is_open false (runs_of made)
@@ -127,17 +126,17 @@ module _ {W : Type 0} (port : W → Port) (plan : W → List Mark) (lawful : W �
         → session_text (take i batches) so_far.made ≡ session_text batches so_far.made
     front_text low = front session_text (report_pairs_front batch_report) low
 
-    abbrev ran : i ≤ length batches → RanBatches port plan lawful tries resumes batches s t
+    abbrev ran : i ≤ length batches → RanBatches wire tries resumes batches s t
     ran low = record {
       made = so_far.made;
       unfolds = subst (λ n. Unfolds (take n batches) so_far.made) (sym (counted low)) so_far.unfolds;
-      are = subst (λ calls. RunsBatches port plan lawful false batch_limit tries resumes s calls (runs_of so_far.made) t)
+      are = subst (λ calls. RunsBatches wire false batch_limit tries resumes s calls (runs_of so_far.made) t)
           (front calls_of unfolded_calls_front low) so_far.are;
     }
 
     -- no run is left, or the last one did not end all, or its word never came
     pub all_told : i ≤ length batches → (finished.ended ≡ All → finished.never_came ≡ false → i ≡ length batches)
-        → BatchAnswers port plan lawful tries resumes batches s t (Ok finished) old now no_run_files no_run_files
+        → BatchAnswers wire tries resumes batches s t (Ok finished) old now no_run_files no_run_files
     all_told low whole = (
       ran low,
       λ all came. counted low
@@ -157,8 +156,8 @@ module _ {W : Type 0} (port : W → Port) (plan : W → List Mark) (lawful : W �
     -- memory was refused for the next one
     pub refused_next : finished.ended ≡ All → finished.never_came ≡ false → i ≤ length batches → (batch : ScriptListed)
         (later : List ScriptListed) → drop i batches ≡ batch ∷ later → (u : W)
-        → IsCutShort port plan lawful opened tries resumes batch t u
-        → BatchAnswers port plan lawful tries resumes batches s u (Err Memory) old now no_run_files no_run_files
+        → IsCutShort wire opened tries resumes batch t u
+        → BatchAnswers wire tries resumes batches s u (Err Memory) old now no_run_files no_run_files
     refused_next all came low batch later next u refused = (
       record {
         between = t;
@@ -168,7 +167,7 @@ module _ {W : Type 0} (port : W → Port) (plan : W → List Mark) (lawful : W �
         batch = batch;
         later = later;
         next = ap (λ n. drop n batches) (counted low) ∙ next;
-        refused = subst (λ o. IsCutShort port plan lawful o tries resumes batch t u) so_far.is_open refused;
+        refused = subst (λ o. IsCutShort wire o tries resumes batch t u) so_far.is_open refused;
       },
       subst (Appends old now) (front_text low) so_far.gone.gone,
       untouched,
@@ -177,13 +176,13 @@ module _ {W : Type 0} (port : W → Port) (plan : W → List Mark) (lawful : W �
     -- the runs of the next batch
     module _ (all : finished.ended ≡ All) (came : finished.never_came ≡ false) (batch : ScriptListed)
         (split : take (i + 1) batches ≡ take i batches ++ batch ∷ []) (runs : BatchRuns) (u : W)
-        (performs : Performs port plan lawful opened tries resumes batch t runs u) (told : HostReport)
+        (performs : Performs wire opened tries resumes batch t runs u) (told : HostReport)
         (last_is : runs.last.told ≡ told) (new : Option (List ℕ)) where
       unfolds_next : Unfolds (take (i + 1) batches) (so_far.made ++ runs ∷ [])
       unfolds_next = subst (λ z. Unfolds z (so_far.made ++ runs ∷ [])) (sym split)
           (batch_more so_far.unfolds (sym so_far.is.never_came ∙ came) performs.are)
 
-      runs_next : RunsBatches port plan lawful false batch_limit tries resumes s (calls_of (take (i + 1) batches)
+      runs_next : RunsBatches wire false batch_limit tries resumes s (calls_of (take (i + 1) batches)
           (so_far.made ++ runs ∷ [])) (runs_of (so_far.made ++ runs ∷ [])) u
       runs_next =
           let before = calls_of (take i batches) so_far.made in
@@ -192,12 +191,12 @@ module _ {W : Type 0} (port : W → Port) (plan : W → List Mark) (lawful : W �
           let calls : before ++ next ≡ calls_of (take (i + 1) batches) (so_far.made ++ runs ∷ []) =
           sym (unfolded_calls_last (take i batches) so_far.made batch runs as_batches)
           ∙ ap (λ z. calls_of z (so_far.made ++ runs ∷ [])) (sym split) in
-          subst (λ z. RunsBatches port plan lawful false batch_limit tries resumes s z (runs_of (so_far.made ++ runs ∷ [])) u)
-          calls (subst (λ z. RunsBatches port plan lawful false batch_limit tries resumes s (before ++ next) z u)
+          subst (λ z. RunsBatches wire false batch_limit tries resumes s z (runs_of (so_far.made ++ runs ∷ [])) u)
+          calls (subst (λ z. RunsBatches wire false batch_limit tries resumes s (before ++ next) z u)
           (sym (unfolded_runs_last so_far.made runs))
-          (runs_append port plan lawful false batch_limit tries resumes s t before (runs_of so_far.made) u next ended
+          (runs_append wire false batch_limit tries resumes s t before (runs_of so_far.made) u next ended
           so_far.are (sym so_far.is.ended ∙ all)
-          (subst (λ o. RunsBatches port plan lawful o batch_limit tries resumes t next ended u) so_far.is_open
+          (subst (λ o. RunsBatches wire o batch_limit tries resumes t next ended u) so_far.is_open
           (then performs.earlier (earlier_reads_ended_all batch.until runs.earlier performs.are.earlier)
           performs.last))))
 
@@ -239,7 +238,7 @@ module _ {W : Type 0} (port : W → Port) (plan : W → List Mark) (lawful : W �
       -- `Write`, with the number of all bytes written
       pub stopped_in : (written_next total : ℕ) → i < length batches
           → OutputStopped written_next now new (batch_report batch runs) → Sums total written written_next
-          → BatchAnswers port plan lawful tries resumes batches s u (Err (Write total)) old new no_run_files
+          → BatchAnswers wire tries resumes batches s u (Err (Write total)) old new no_run_files
           no_run_files
       stopped_in written_next total low stop sum =
           let front = session_text (take i batches) so_far.made in
@@ -256,7 +255,7 @@ module _ {W : Type 0} (port : W → Port) (plan : W → List Mark) (lawful : W �
             record {
               made = made;
               unfolds = subst (λ n. Unfolds (take n batches) made) many unfolds_next;
-              are = subst (λ z. RunsBatches port plan lawful false batch_limit tries resumes s z (runs_of made) u) calls
+              are = subst (λ z. RunsBatches wire false batch_limit tries resumes s z (runs_of made) u) calls
                   runs_next;
             },
             inl (

@@ -3,11 +3,12 @@ use Rattle.std.proofs.Common.{◌≡◌, ℕ, zero, suc, ◌+◌, ◌<◌, ◌�
 use Rattle.std.proofs.Common.{get_or, Bool, true, false, refl, sym, ap, subst, arith, add-one, append_assoc}
 use Rattle.std.specs.Prelude.{◌↔◌, All as Each}
 use Rattle.std.proofs.Math.Seq.{drop-cons, take-suc}
+use Rattle.swd_port.specs.declared.wire.Wire.{Ghosts}
 use Rattle.swd_port.specs.declared.mark.Mark.{Mark}
 use Rattle.swd_port.specs.declared.wire.Due.{Due}
 use Rattle.swd_port.specs.declared.wire.Due.TheVariants.{Nothing, Lost as DueLost}
 use Rattle.swd_port.specs.Choices.{port_disturbed_among, port_lost_among}
-use Rattle.swd_port.specs.Port.{Port, port_made as made_port}
+use Rattle.swd_port.specs.Port.{port_made as made_port}
 use Rattle.swd_recorder.specs.Steps.{recorded_due_count}
 use Rattle.swd_host.specs.declared.outcome.End.TheVariants.{All, Lost}
 use Rattle.swd_host.specs.Reports.{IsAtRest, host_due_at_end}
@@ -75,34 +76,34 @@ batch_map_drop_next f xs i d low =
 
 -- ---- runs over a wire
 
-module _ {W : Type 0} (port : W → Port) (plan : W → List Mark) (lawful : W → Type 0) (tries resumes : ℕ) (s : W) where
+module _ {W : Type 0} (wire : Ghosts W) (tries resumes : ℕ) (s : W) where
   -- nothing is due after a run that ended `All`
   pub due_then : {opened : Bool} (batch : ScriptListed) (run : ScriptRun) (t u : W) → run.told.ended ≡ All
-      → RunsBatchFrom port plan lawful opened (batch_limit batch) tries resumes batch t run u
-      → (port u).link.due ≡ Nothing
+      → RunsBatchFrom wire opened (batch_limit batch) tries resumes batch t run u
+      → (wire.port u).link.due ≡ Nothing
   due_then batch run t u all goes =
-      due_after port plan lawful (batch_limit batch) batch.accesses tries t run.stops run.told u goes.went
+      due_after wire (batch_limit batch) batch.accesses tries t run.stops run.told u goes.went
       ∙ ap host_due_at_end all
 
   -- from a target at rest
-  module _ (rest : IsAtRest (port s)) where
+  module _ (rest : IsAtRest (wire.port s)) where
     pub record Ends (runs : List ScriptRun) (t : W) : Type 0 where
-      pub law : lawful s
-      pub open_for : script_ended runs ≡ All → ScriptStarts (script_is_open false runs) (port t)
-      pub counted : (port t).tally.asked ≡ (port s).tally.asked + script_requests runs
-      pub ending : (recorded_due_count (port t).link.due ≡ 0)
-          × (((port t).link.due ≡ DueLost) ↔ (script_ended runs ≡ Lost))
+      pub law : wire.lawful s
+      pub open_for : script_ended runs ≡ All → ScriptStarts (script_is_open false runs) (wire.port t)
+      pub counted : (wire.port t).tally.asked ≡ (wire.port s).tally.asked + script_requests runs
+      pub ending : (recorded_due_count (wire.port t).link.due ≡ 0)
+          × (((wire.port t).link.due ≡ DueLost) ↔ (script_ended runs ≡ Lost))
 
     -- after runs of a script that leave a lawful wire, all of this holds
     pub ends : (batches : List ScriptListed) (runs : List ScriptRun) (t : W)
-        → RunsBatches port plan lawful false batch_limit tries resumes s batches runs t → lawful t → Ends runs t
+        → RunsBatches wire false batch_limit tries resumes s batches runs t → wire.lawful t → Ends runs t
     ends batches runs t none law = record {
       law = law;
       open_for = λ all. rest;
       counted = omega arith;
       ending = (
         ap recorded_due_count rest.due,
-        (λ lost. absurd (apart (port s).link.due rest.due lost), λ lost. absurd cc),
+        (λ lost. absurd (apart (wire.port s).link.due rest.due lost), λ lost. absurd cc),
       );
     }
       where
@@ -111,53 +112,53 @@ module _ {W : Type 0} (port : W → Port) (plan : W → List Mark) (lawful : W �
     ends batches runs t (then {batches = before} {runs = earlier} {t = u} {u = v} {batch = batch} {run = run}
         runs_before all goes) law =
         let n : ℕ = batch_limit batch in
-        let back : lawful u = law_before port plan lawful n batch.accesses tries u run.stops run.told v goes.went law in
+        let back : wire.lawful u = law_before wire n batch.accesses tries u run.stops run.told v goes.went law in
         let h : Ends earlier u = ends before earlier u runs_before back in
-        let r : ScriptStarts (script_is_open false earlier) (port u) = h.open_for all in
+        let r : ScriptStarts (script_is_open false earlier) (wire.port u) = h.open_for all in
         let last : script_ended (earlier ++ run ∷ []) ≡ run.told.ended = script_ended_last earlier run in
-        let many = asked port plan lawful n batch.accesses tries u r run.stops run.told v goes.went law in
-        let ending_is = ending port plan lawful n batch.accesses tries u r run.stops run.told v goes.went law in
+        let many = asked wire n batch.accesses tries u r run.stops run.told v goes.went law in
+        let ending_is = ending wire n batch.accesses tries u r run.stops run.told v goes.went law in
         let before_counted = h.counted in
         let sum = requests_last earlier run in
         record {
           law = h.law;
-          open_for = λ e. subst (λ opened. ScriptStarts opened (port v)) (sym (script_open_last false earlier run))
-              (opens port plan lawful n batch.accesses tries u r run.stops run.told v goes.went law (sym last ∙ e));
+          open_for = λ e. subst (λ opened. ScriptStarts opened (wire.port v)) (sym (script_open_last false earlier run))
+              (opens wire n batch.accesses tries u r run.stops run.told v goes.went law (sym last ∙ e));
           counted = omega (arith, many, before_counted, sum);
-          ending = subst (λ x. (recorded_due_count (port v).link.due ≡ 0)
-              × (((port v).link.due ≡ DueLost) ↔ (x ≡ Lost))) (sym last) ending_is;
+          ending = subst (λ x. (recorded_due_count (wire.port v).link.due ≡ 0)
+              × (((wire.port v).link.due ≡ DueLost) ↔ (x ≡ Lost))) (sym last) ending_is;
         }
 
     -- over a lawful wire, from a target at rest and a count of 0, the requests counted are those of the runs; no
     -- transaction is incomplete, and a line reset is due exactly if the runs ended `Lost`
-    pub recorded : (batches : List ScriptListed) (runs : List ScriptRun) (t : W) → (port s).tally.asked ≡ 0
-        → RunsBatches port plan lawful false batch_limit tries resumes s batches runs t → lawful t
-        → IsRunTraceRecorded (script_requests runs) (script_ended runs) (port t)
+    pub recorded : (batches : List ScriptListed) (runs : List ScriptRun) (t : W) → (wire.port s).tally.asked ≡ 0
+        → RunsBatches wire false batch_limit tries resumes s batches runs t → wire.lawful t
+        → IsRunTraceRecorded (script_requests runs) (script_ended runs) (wire.port t)
     recorded batches runs t no_request all law =
         let h : Ends runs t = ends batches runs t all law in
         let many = h.counted in
         record { asked = omega (arith, many, no_request); rests = h.ending.0; lost = h.ending.1 }
 
     -- whose marks are among those of a plan
-    module _ (marks : List Mark) (planned : plan s ≡ marks)
-        (marked : (w : W) → plan w ≡ marks
-        → ((port w).tally.disturbed ≤ port_disturbed_among marks) × ((port w).tally.lost ≤ port_lost_among marks)) where
+    module _ (marks : List Mark) (planned : wire.plan s ≡ marks)
+        (marked : (w : W) → wire.plan w ≡ marks
+        → ((wire.port w).tally.disturbed ≤ port_disturbed_among marks) × ((wire.port w).tally.lost ≤ port_lost_among marks)) where
       pub sessions : (batches : List ScriptListed) (runs : List ScriptRun) (t : W)
-          → RunsBatches port plan lawful false batch_limit tries resumes s batches runs t → lawful t
-          → (plan t ≡ marks) × ScriptSession tries resumes marks (port s).target.memory batches runs
-          (port t).target.memory
+          → RunsBatches wire false batch_limit tries resumes s batches runs t → wire.lawful t
+          → (wire.plan t ≡ marks) × ScriptSession tries resumes marks (wire.port s).target.memory batches runs
+          (wire.port t).target.memory
       sessions batches runs t none law = (planned, no_run)
       sessions batches runs t (then {batches = before} {runs = earlier} {t = u} {u = v} {batch = batch} {run = run}
           runs_before all goes) law =
           let n : ℕ = batch_limit batch in
-          let back : lawful u = law_before port plan lawful n batch.accesses tries u run.stops run.told v goes.went
+          let back : wire.lawful u = law_before wire n batch.accesses tries u run.stops run.told v goes.went
           law in
           let (same, session) = sessions before earlier u runs_before back in
           let opened : Bool = script_is_open false earlier in
-          let r : ScriptStarts opened (port u) = (ends before earlier u runs_before back).open_for all in (
-            plan_kept port plan lawful n batch.accesses tries u run.stops run.told v goes.went ∙ same,
+          let r : ScriptStarts opened (wire.port u) = (ends before earlier u runs_before back).open_for all in (
+            plan_kept wire n batch.accesses tries u run.stops run.told v goes.went ∙ same,
             then_run session all
-                (runs_on port plan lawful opened tries resumes batch marks run u v r law goes same marked),
+                (runs_on wire opened tries resumes batch marks run u v r law goes same marked),
           )
 
 -- ---- batches and runs as they are kept
@@ -170,24 +171,24 @@ each_batch_at P f xs i x each is low =
 
 -- ---- a script over a target that was just made
 
-module _ {W : Type 0} (port : W → Port) (plan : W → List Mark) (lawful : W → Type 0) (tries resumes : ℕ)
+module _ {W : Type 0} (wire : Ghosts W) (tries resumes : ℕ)
     (script : ScriptMeaning) (marks : List Mark) (made : List BatchRuns) (s t : W)
-    (is_made : port s ≡ made_port 731911287 (script_bus script)) (planned : plan s ≡ marks)
-    (marked : (w : W) → plan w ≡ marks
-    → ((port w).tally.disturbed ≤ port_disturbed_among marks) × ((port w).tally.lost ≤ port_lost_among marks))
-    (law : lawful t) (unfolds : Unfolds (take (length made) script.batches) made)
-    (all : RunsBatches port plan lawful false batch_limit tries resumes s (calls_of script.batches made) (runs_of made) t)
+    (is_made : wire.port s ≡ made_port 731911287 (script_bus script)) (planned : wire.plan s ≡ marks)
+    (marked : (w : W) → wire.plan w ≡ marks
+    → ((wire.port w).tally.disturbed ≤ port_disturbed_among marks) × ((wire.port w).tally.lost ≤ port_lost_among marks))
+    (law : wire.lawful t) (unfolds : Unfolds (take (length made) script.batches) made)
+    (all : RunsBatches wire false batch_limit tries resumes s (calls_of script.batches made) (runs_of made) t)
   where
     -- over a lawful wire the runs of a script's first batches are those from its initial memory, and leave the target's
     -- memory
-    pub script_runs : RunsScript tries resumes script marks made (port t).target.memory
+    pub script_runs : RunsScript tries resumes script marks made (wire.port t).target.memory
     script_runs =
-        let rest : IsAtRest (port s) = script_target_at_rest (script_bus script) (port s) is_made in
+        let rest : IsAtRest (wire.port s) = script_target_at_rest (script_bus script) (wire.port s) is_made in
         let calls : List ScriptListed = calls_of script.batches made in
-        let (same, session) = sessions port plan lawful tries resumes s rest marks planned marked calls (runs_of made) t
+        let (same, session) = sessions wire tries resumes s rest marks planned marked calls (runs_of made) t
         all law in
         record {
           unfolds = unfolds;
-          session = subst (λ m. ScriptSession tries resumes marks m calls (runs_of made) (port t).target.memory)
+          session = subst (λ m. ScriptSession tries resumes marks m calls (runs_of made) (wire.port t).target.memory)
               (ap (λ x. x.target.memory) is_made) session;
         }

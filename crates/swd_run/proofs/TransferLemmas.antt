@@ -8,7 +8,7 @@ use Rattle.swd_port.specs.declared.access.Access.TheVariants.{Read, Write}
 use Rattle.swd_port.specs.declared.access.Answer.{Answer}
 use Rattle.swd_port.specs.declared.access.Answer.TheVariants.{BusFault}
 use Rattle.swd_port.specs.declared.access.Transfer.{Transfer}
-use Rattle.swd_port.specs.declared.mark.Mark.{Mark}
+use Rattle.swd_port.specs.declared.wire.Wire.{Ghosts}
 use Rattle.swd_port.specs.Bus.{Bus, bus_done_answer, bus_after, bus_answer, bus_succeeds, bus_transfer_of}
 use Rattle.swd_port.specs.Port.{Port}
 use Rattle.swd_observer.specs.declared.told.ObservedAccess.{ObservedAccess as Shown}
@@ -175,36 +175,36 @@ answers_last (first ∷ runs) run =
     ap (λ l. first.told.answers ++ l) (answers_last runs run)
     ∙ sym (append_assoc first.told.answers (report_answers_in runs) run.told.answers)
 
-module _ {W : Type 0} (port : W → Port) (plan : W → List Mark) (lawful : W → Type 0) (tries resumes : ℕ) (s : W)
-    (rest : IsAtRest (port s)) where
+module _ {W : Type 0} (wire : Ghosts W) (tries resumes : ℕ) (s : W)
+    (rest : IsAtRest (wire.port s)) where
   -- calls that each ended `All`, none resumed, logged the transfers of their answers
   calls_logged : (batches : List ScriptListed) (runs : List ScriptRun) (t : W)
-      → RunsBatches port plan lawful false batch_limit tries resumes s batches runs t → lawful t → AreWholeRuns runs
-      → HasLogged (port s) (report_accesses_in batches) (report_answers_in runs) (port t)
-  calls_logged batches runs t no_run law whole = nothing_logged (port s)
+      → RunsBatches wire false batch_limit tries resumes s batches runs t → wire.lawful t → AreWholeRuns runs
+      → HasLogged (wire.port s) (report_accesses_in batches) (report_answers_in runs) (wire.port t)
+  calls_logged batches runs t no_run law whole = nothing_logged (wire.port s)
   calls_logged batches runs t (one_run {batches = before} {runs = earlier} {t = u} {u = v} {batch = batch} {run = run}
       prior all goes) law whole =
       let n : ℕ = batch_limit batch in
       let (early, unstopped, ended) = whole_last earlier run whole in
-      let back : lawful u = law_before port plan lawful n batch.accesses tries u run.stops run.told v goes.went law in
-      let starts : ScriptStarts (script_is_open false earlier) (port u) =
-      (ends port plan lawful tries resumes s rest before earlier u prior back).open_for all in
-      let over = (alone port plan lawful n batch.accesses tries u starts run.stops run.told v goes.went law unstopped).1
+      let back : wire.lawful u = law_before wire n batch.accesses tries u run.stops run.told v goes.went law in
+      let starts : ScriptStarts (script_is_open false earlier) (wire.port u) =
+      (ends wire tries resumes s rest before earlier u prior back).open_for all in
+      let over = (alone wire n batch.accesses tries u starts run.stops run.told v goes.went law unstopped).1
       in
-      subst (λ list. HasLogged (port s) list (report_answers_in (earlier ++ run ∷ [])) (port v))
+      subst (λ list. HasLogged (wire.port s) list (report_answers_in (earlier ++ run ∷ [])) (wire.port v))
       (sym (accesses_last before batch))
-      (subst (λ answers. HasLogged (port s) (report_accesses_in before ++ batch.accesses) answers (port v))
+      (subst (λ answers. HasLogged (wire.port s) (report_accesses_in before ++ batch.accesses) answers (wire.port v))
       (sym (answers_last earlier run))
-      (logged_more (port s) (report_accesses_in before) (report_answers_in earlier) (port u) (port v)
+      (logged_more (wire.port s) (report_accesses_in before) (report_answers_in earlier) (wire.port u) (wire.port v)
       (calls_logged before earlier u prior back early) (script_opening_requests (script_is_open false earlier)) n tries
       batch.accesses run.told (over starts) ended))
 
   -- what explains the log explains the transfers that their reports state
   pub reported : (batches : List ScriptListed) (runs : List ScriptRun) (t : W) (told : List Shown)
-      → RunsBatches port plan lawful false batch_limit tries resumes s batches runs t → lawful t → AreWholeRuns runs
-      → Accounted (port s).target.memory.log told (port t) → ObservedLog told (report_transfers_in batches runs)
+      → RunsBatches wire false batch_limit tries resumes s batches runs t → wire.lawful t → AreWholeRuns runs
+      → Accounted (wire.port s).target.memory.log told (wire.port t) → ObservedLog told (report_transfers_in batches runs)
   reported batches runs t told all law whole accounted =
-      explained_by (port s) (report_accesses_in batches) (report_answers_in runs) (port t) told
+      explained_by (wire.port s) (report_accesses_in batches) (report_answers_in runs) (wire.port t) told
       (calls_logged batches runs t all law whole) accounted
 
 -- ---- where nothing is doubtful

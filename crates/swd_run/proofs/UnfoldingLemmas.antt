@@ -6,8 +6,7 @@ use Rattle.std.specs.List.{list_all}
 use Rattle.std.proofs.lemmas.List.{append-nil, length-append, map-append}
 use Rattle.swd_port.specs.declared.access.Answer.{Answer}
 use Rattle.swd_port.specs.declared.access.Answer.TheVariants.{Value, Written, BusFault}
-use Rattle.swd_port.specs.declared.mark.Mark.{Mark}
-use Rattle.swd_port.specs.Port.{Port}
+use Rattle.swd_port.specs.declared.wire.Wire.{Ghosts}
 use Rattle.swd_host.specs.declared.outcome.End.{End}
 use Rattle.swd_host.specs.declared.outcome.End.TheVariants.{All, Lost, TriesOut, WrongId, Confused}
 use Rattle.swd_host.specs.Resuming.{host_end_is_all}
@@ -98,26 +97,26 @@ script_open_append opened [] (run ∷ second) = refl
 script_open_append opened (run ∷ first) [] = refl
 script_open_append opened (run ∷ first) (next ∷ second) = refl
 
-module _ {W : Type 0} (port : W → Port) (plan : W → List Mark) (lawful : W → Type 0) (opened : Bool)
+module _ {W : Type 0} (wire : Ghosts W) (opened : Bool)
     (most : ScriptListed → ℕ) (tries resumes : ℕ) where
   -- runs after runs that all ended `All`
   pub runs_append : (s t : W) (xs : List ScriptListed) (first : List ScriptRun) (u : W) (ys : List ScriptListed)
       (second : List ScriptRun)
-      → RunsBatches port plan lawful opened most tries resumes s xs first t → script_ended first ≡ All
-      → RunsBatches port plan lawful (script_is_open opened first) most tries resumes t ys second u
-      → RunsBatches port plan lawful opened most tries resumes s (xs ++ ys) (first ++ second) u
+      → RunsBatches wire opened most tries resumes s xs first t → script_ended first ≡ All
+      → RunsBatches wire (script_is_open opened first) most tries resumes t ys second u
+      → RunsBatches wire opened most tries resumes s (xs ++ ys) (first ++ second) u
   runs_append s t xs first u ys second before all none =
-      subst (λ z. RunsBatches port plan lawful opened most tries resumes s z (first ++ []) u) (sym (append-nil xs))
-      (subst (λ z. RunsBatches port plan lawful opened most tries resumes s xs z u) (sym (append-nil first)) before)
+      subst (λ z. RunsBatches wire opened most tries resumes s z (first ++ []) u) (sym (append-nil xs))
+      (subst (λ z. RunsBatches wire opened most tries resumes s xs z u) (sym (append-nil first)) before)
   runs_append s t xs first u ys second before all
       (then {batches = front} {runs = earlier} {t = v} {u = w} {batch = batch} {run = run} prior ended goes) =
       let whole = runs_append s t xs first v front earlier before all prior in
-      subst (λ z. RunsBatches port plan lawful opened most tries resumes s z (first ++ (earlier ++ run ∷ [])) w)
+      subst (λ z. RunsBatches wire opened most tries resumes s z (first ++ (earlier ++ run ∷ [])) w)
       (append_assoc xs front (batch ∷ []))
-      (subst (λ z. RunsBatches port plan lawful opened most tries resumes s ((xs ++ front) ++ batch ∷ []) z w)
+      (subst (λ z. RunsBatches wire opened most tries resumes s ((xs ++ front) ++ batch ∷ []) z w)
       (append_assoc first earlier (run ∷ []))
       (then whole (ended_append first earlier all ended)
-      (subst (λ o. RunsBatchFrom port plan lawful o (most batch) tries resumes batch v run w)
+      (subst (λ o. RunsBatchFrom wire o (most batch) tries resumes batch v run w)
       (script_open_append opened first earlier) goes)))
 
 -- a batch once more
@@ -340,13 +339,13 @@ unfolded_bus_fault_last made until runs are =
 pub until_is_not_none : {until : Until} → Some until ≡ None → ⊥
 until_is_not_none e = cc
 
-module _ {W : Type 0} (port : W → Port) (plan : W → List Mark) (lawful : W → Type 0) (opened : Bool)
+module _ {W : Type 0} (wire : Ghosts W) (opened : Bool)
     (tries resumes : ℕ) (batch : ScriptListed) (s : W) where
   -- the only run of a batch without `until`
   pub performed_once : (last : ScriptRun) (t : W) → batch.until ≡ None
-      → RunsBatchFrom port plan lawful opened (batch_limit batch) tries resumes batch s last t
+      → RunsBatchFrom wire opened (batch_limit batch) tries resumes batch s last t
       → (runs : BatchRuns) × (runs.last ≡ last) × (batch_reads_of runs ≡ 1)
-      × Performs port plan lawful opened tries resumes batch s runs t
+      × Performs wire opened tries resumes batch s runs t
   performed_once last t plain goes = (
     record { earlier = []; last = last },
     refl,
@@ -364,9 +363,9 @@ module _ {W : Type 0} (port : W → Port) (plan : W → List Mark) (lawful : W �
 
   -- memory was refused for the first run
   pub cut_first : IsScriptBatch batch → (t : W)
-      → IsBatchRefused port plan lawful opened (batch_limit batch) tries resumes batch s t
+      → IsBatchRefused wire opened (batch_limit batch) tries resumes batch s t
       → (batch.until ≡ None → t ≡ s)
-      → IsCutShort port plan lawful opened tries resumes batch s t
+      → IsCutShort wire opened tries resumes batch s t
   cut_first is t refused unsent = record {
     runs = [];
     are = first batch.until is.waits;
@@ -387,13 +386,13 @@ module _ {W : Type 0} (port : W → Port) (plan : W → List Mark) (lawful : W �
       pub many : length earlier + 1 ≡ n
       pub asked : list_all (λ run. asks_again until run) earlier ≡ true
       pub between : W
-      pub runs : RunsBatches port plan lawful opened batch_limit tries resumes s (batch_again batch earlier) earlier between
-      pub goes : RunsBatchFrom port plan lawful (script_is_open opened earlier) (batch_limit batch) tries resumes batch
+      pub runs : RunsBatches wire opened batch_limit tries resumes s (batch_again batch earlier) earlier between
+      pub goes : RunsBatchFrom wire (script_is_open opened earlier) (batch_limit batch) tries resumes batch
           between last t
 
     -- a first read of an `until`, before which there is none
     pub asking_first : (last : ScriptRun) (t : W)
-        → RunsBatchFrom port plan lawful opened (batch_limit batch) tries resumes batch s last t → Asking 1 last t
+        → RunsBatchFrom wire opened (batch_limit batch) tries resumes batch s last t → Asking 1 last t
     asking_first last t goes = record {
       earlier = [];
       many = refl;
@@ -405,16 +404,16 @@ module _ {W : Type 0} (port : W → Port) (plan : W → List Mark) (lawful : W �
 
     module _ (n : ℕ) (last : ScriptRun) (t : W) (asking : Asking n last t) where
       -- the runs so far, and the last one among them
-      runs_more : RunsBatches port plan lawful opened batch_limit tries resumes s
+      runs_more : RunsBatches wire opened batch_limit tries resumes s
           (batch_again batch (asking.earlier ++ last ∷ [])) (asking.earlier ++ last ∷ []) t
       runs_more =
-          subst (λ z. RunsBatches port plan lawful opened batch_limit tries resumes s z (asking.earlier ++ last ∷ []) t)
+          subst (λ z. RunsBatches wire opened batch_limit tries resumes s z (asking.earlier ++ last ∷ []) t)
           (sym (batch_again_append batch asking.earlier last))
           (then asking.runs (until_rereads_ended_all until asking.earlier asking.asked) asking.goes)
 
       -- one read more of an `until`, after one that asked for another
       pub asking_more : asks_again until last ≡ true → (next : ScriptRun) (u : W)
-          → RunsBatchFrom port plan lawful true (batch_limit batch) tries resumes batch t next u
+          → RunsBatchFrom wire true (batch_limit batch) tries resumes batch t next u
           → Asking (n + 1) next u
       asking_more again_asked next u goes =
           let many = asking.many in
@@ -425,7 +424,7 @@ module _ {W : Type 0} (port : W → Port) (plan : W → List Mark) (lawful : W �
             asked = until_rereads_append until asking.earlier last asking.asked again_asked;
             between = t;
             runs = runs_more;
-            goes = subst (λ o. RunsBatchFrom port plan lawful o (batch_limit batch) tries resumes batch t next u)
+            goes = subst (λ o. RunsBatchFrom wire o (batch_limit batch) tries resumes batch t next u)
                 (sym (script_open_last opened asking.earlier last)) goes;
           }
 
@@ -434,7 +433,7 @@ module _ {W : Type 0} (port : W → Port) (plan : W → List Mark) (lawful : W �
         -- last allowed
         pub performed : n ≤ until.most → (asks_again until last ≡ true → n ≡ until.most)
             → (runs : BatchRuns) × (runs.last ≡ last) × (batch_reads_of runs ≡ n)
-            × Performs port plan lawful opened tries resumes batch s runs t
+            × Performs wire opened tries resumes batch s runs t
         performed low ends =
             let many = asking.many in
             let runs : BatchRuns = record { earlier = asking.earlier; last = last } in
@@ -456,8 +455,8 @@ module _ {W : Type 0} (port : W → Port) (plan : W → List Mark) (lawful : W �
 
         -- memory was refused for the next one
         pub cut_later : asks_again until last ≡ true → n < until.most → (u : W)
-            → IsBatchRefused port plan lawful true (batch_limit batch) tries resumes batch t u
-            → IsCutShort port plan lawful opened tries resumes batch s u
+            → IsBatchRefused wire true (batch_limit batch) tries resumes batch t u
+            → IsCutShort wire opened tries resumes batch s u
         cut_later again_asked low u refused =
             let many = asking.many in
             let longer = length-append asking.earlier (last ∷ []) in
@@ -470,7 +469,7 @@ module _ {W : Type 0} (port : W → Port) (plan : W → List Mark) (lawful : W �
               are = subst (λ x. AreEarlierReads x more) (sym waits) are;
               between = t;
               earlier = runs_more;
-              refused = subst (λ o. IsBatchRefused port plan lawful o (batch_limit batch) tries resumes batch t u)
+              refused = subst (λ o. IsBatchRefused wire o (batch_limit batch) tries resumes batch t u)
                   (sym (script_open_last opened asking.earlier last)) refused;
               unsent = λ plain. absurd (until_is_not_none (sym waits ∙ plain));
             }

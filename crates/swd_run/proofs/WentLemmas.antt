@@ -5,6 +5,7 @@ use Rattle.std.proofs.lemmas.List.{length-append, length-drop, length-take-le, t
 use Rattle.std.specs.Prelude.{◌↔◌, ◌≢◌, max, if◌then◌else◌}
 use Rattle.swd_port.specs.declared.access.Access.{Access}
 use Rattle.swd_port.specs.declared.access.Answer.{Answer}
+use Rattle.swd_port.specs.declared.wire.Wire.{Ghosts}
 use Rattle.swd_port.specs.declared.mark.Mark.{Mark}
 use Rattle.swd_port.specs.declared.wire.Due.TheVariants.{Lost as DueLost}
 use Rattle.swd_port.specs.Bus.{Bus, bus_after}
@@ -172,27 +173,27 @@ most_more base q r k x h l = omega (arith, h, l)
 -- ---- all calls
 
 -- whatever came back
-module _ {W : Type 0} (port : W → Port) (plan : W → List Mark) (lawful : W → Type 0) {opened : Bool} (limit : ℕ)
+module _ {W : Type 0} (wire : Ghosts W) {opened : Bool} (limit : ℕ)
     (list : List Access) (tries : ℕ) (s : W)
   where
     -- what is due after a run is what its end says
     pub due_after : (stops : List Stop) (told : HostReport) (t : W)
-        → ScriptCallsFrom port plan lawful opened limit list tries s stops told t → (port t).link.due ≡ host_due_at_end told.ended
-    due_after stops told t (ran same closes over) = closes.due
-    due_after stops told t (resumed went lost same goes over) = goes.closes.due
+        → ScriptCallsFrom wire opened limit list tries s stops told t → (wire.port t).link.due ≡ host_due_at_end told.ended
+    due_after stops told t (ran same closes over says) = closes.due
+    due_after stops told t (resumed went lost same goes over says) = goes.closes.due
 
     -- so it was lawful from the start
     pub law_before : (stops : List Stop) (told : HostReport) (t : W)
-        → ScriptCallsFrom port plan lawful opened limit list tries s stops told t → lawful t → lawful s
-    law_before stops told t (ran same closes over) law = (over law).0
-    law_before stops told t (resumed {stops = before} {earlier = e} {t = u} went lost same goes over) law =
+        → ScriptCallsFrom wire opened limit list tries s stops told t → wire.lawful t → wire.lawful s
+    law_before stops told t (ran same closes over says) law = (over law).0
+    law_before stops told t (resumed {stops = before} {earlier = e} {t = u} went lost same goes over says) law =
         law_before before e u went (over law).0
 
     -- a run and its resumed calls don't change the plan
     pub plan_kept : (stops : List Stop) (told : HostReport) (t : W)
-        → ScriptCallsFrom port plan lawful opened limit list tries s stops told t → plan t ≡ plan s
-    plan_kept stops told t (ran same closes over) = same
-    plan_kept stops told t (resumed went lost same goes over) = same
+        → ScriptCallsFrom wire opened limit list tries s stops told t → wire.plan t ≡ wire.plan s
+    plan_kept stops told t (ran same closes over says) = same
+    plan_kept stops told t (resumed went lost same goes over says) = same
 
 -- ---- the calls, as `ResumeChain` counts them
 
@@ -362,22 +363,22 @@ reads_in_turn opened limit list m stops told after h some reads =
       words = λ plain all. ap plain_words_of (sym (h.left all)) ∙ r.words plain;
     }
 
-module _ {W : Type 0} (port : W → Port) (plan : W → List Mark) (lawful : W → Type 0) {opened : Bool} (limit : ℕ)
-    (list : List Access) (tries : ℕ) (s : W) (starts : ScriptStarts opened (port s)) where
-  known : (stops : List Stop) (told : HostReport) (t : W) → ScriptCallsFrom port plan lawful opened limit list tries s stops told t
-      → lawful t → HostKnowsTarget (port t).target
-  known stops told t (ran {told = a} {t = u} same closes over) law =
-      resume_target_known a.ended tries (port s) (port u) ((over law).1 starts).ends
-  known stops told t (resumed {stops = before} {earlier = e} {told = a} {t = u} {u = v} went lost same goes over) law =
-      resume_target_known a.ended tries (port u) (port v) ((over law).1 (known before e u went (over law).0)).ends
+module _ {W : Type 0} (wire : Ghosts W) {opened : Bool} (limit : ℕ)
+    (list : List Access) (tries : ℕ) (s : W) (starts : ScriptStarts opened (wire.port s)) where
+  known : (stops : List Stop) (told : HostReport) (t : W) → ScriptCallsFrom wire opened limit list tries s stops told t
+      → wire.lawful t → HostKnowsTarget (wire.port t).target
+  known stops told t (ran {told = a} {t = u} same closes over says) law =
+      resume_target_known a.ended tries (wire.port s) (wire.port u) ((over law).1 starts).ends
+  known stops told t (resumed {stops = before} {earlier = e} {told = a} {t = u} {u = v} went lost same goes over says) law =
+      resume_target_known a.ended tries (wire.port u) (wire.port v) ((over law).1 (known before e u went (over law).0)).ends
 
   -- over a lawful wire, from a target at rest, the count of requests grows by the requests of all calls
   pub asked : (stops : List Stop) (told : HostReport) (t : W)
-      → ScriptCallsFrom port plan lawful opened limit list tries s stops told t → lawful t
-      → (port t).tally.asked ≡ (port s).tally.asked + (script_requests_before stops + told.requests)
-  asked stops told t (ran {told = a} {t = u} same closes over) law = let h = ((over law).1 starts).counted in omega
+      → ScriptCallsFrom wire opened limit list tries s stops told t → wire.lawful t
+      → (wire.port t).tally.asked ≡ (wire.port s).tally.asked + (script_requests_before stops + told.requests)
+  asked stops told t (ran {told = a} {t = u} same closes over says) law = let h = ((over law).1 starts).counted in omega
       (arith, h)
-  asked stops told t (resumed {stops = before} {earlier = e} {told = a} {t = u} {u = v} went lost same goes over) law =
+  asked stops told t (resumed {stops = before} {earlier = e} {told = a} {t = u} {u = v} went lost same goes over says) law =
       let h = asked before e u went (over law).0 in
       let c = ((over law).1 (known before e u went (over law).0)).counted in
       let r = requests_more before (script_stop_of e) in
@@ -386,56 +387,56 @@ module _ {W : Type 0} (port : W → Port) (plan : W → List Mark) (lawful : W �
   -- over a lawful wire, from a target at rest, no transaction is incomplete after all calls, and a line reset is due
   -- exactly if the last one ended `Lost`
   pub ending : (stops : List Stop) (told : HostReport) (t : W)
-      → ScriptCallsFrom port plan lawful opened limit list tries s stops told t → lawful t
-      → (recorded_due_count (port t).link.due ≡ 0) × (((port t).link.due ≡ DueLost) ↔ (told.ended ≡ Lost))
-  ending stops told t (ran {told = a} {t = u} same closes over) law = script_run_end_due a.ended tries (port s) (port u)
+      → ScriptCallsFrom wire opened limit list tries s stops told t → wire.lawful t
+      → (recorded_due_count (wire.port t).link.due ≡ 0) × (((wire.port t).link.due ≡ DueLost) ↔ (told.ended ≡ Lost))
+  ending stops told t (ran {told = a} {t = u} same closes over says) law = script_run_end_due a.ended tries (wire.port s) (wire.port u)
       ((over law).1 starts).ends
-  ending stops told t (resumed {stops = before} {earlier = e} {told = a} {t = u} {u = v} went lost same goes over) law =
-      script_run_end_due a.ended tries (port u) (port v) ((over law).1 (known before e u went (over law).0)).ends
+  ending stops told t (resumed {stops = before} {earlier = e} {told = a} {t = u} {u = v} went lost same goes over says) law =
+      script_run_end_due a.ended tries (wire.port u) (wire.port v) ((over law).1 (known before e u went (over law).0)).ends
 
   lost_more : (stops : List Stop) (told : HostReport) (t : W)
-      → ScriptCallsFrom port plan lawful opened limit list tries s stops told t → lawful t → told.ended ≡ Lost
-      → (port s).tally.lost + length stops < (port t).tally.lost
-  lost_more stops told t (ran {told = a} {t = u} same closes over) law is =
-      let h = lost_at a.ended tries (port s) (port u) is ((over law).1 starts).ends in omega (arith, h)
-  lost_more stops told t (resumed {stops = before} {earlier = e} {told = a} {t = u} {u = v} went lost same goes over)
+      → ScriptCallsFrom wire opened limit list tries s stops told t → wire.lawful t → told.ended ≡ Lost
+      → (wire.port s).tally.lost + length stops < (wire.port t).tally.lost
+  lost_more stops told t (ran {told = a} {t = u} same closes over says) law is =
+      let h = lost_at a.ended tries (wire.port s) (wire.port u) is ((over law).1 starts).ends in omega (arith, h)
+  lost_more stops told t (resumed {stops = before} {earlier = e} {told = a} {t = u} {u = v} went lost same goes over says)
       law is =
       let h = lost_more before e u went (over law).0 lost in
-      let g = lost_at a.ended tries (port u) (port v) is ((over law).1 (known before e u went (over law).0)).ends in
+      let g = lost_at a.ended tries (wire.port u) (wire.port v) is ((over law).1 (known before e u went (over law).0)).ends in
       let l = one_more before (script_stop_of e) in
       omega (arith, h, g, l)
 
-  calls : (stops : List Stop) (told : HostReport) (t : W) → ScriptCallsFrom port plan lawful opened limit list tries s stops told t
-      → lawful t → AreScriptCalls (script_opening_requests opened) (script_most_requests opened tries) limit tries
+  calls : (stops : List Stop) (told : HostReport) (t : W) → ScriptCallsFrom wire opened limit list tries s stops told t
+      → wire.lawful t → AreScriptCalls (script_opening_requests opened) (script_most_requests opened tries) limit tries
       (length list) 0 0 stops told
-  calls stops told t (ran {told = a} {t = u} same closes over) law =
-      call_ran opened limit tries list (port s).target.memory a (port u).target.memory _ closes ((over law).1 starts).now
-  calls stops told t (resumed {stops = before} {earlier = e} {told = a} {t = u} {u = v} went lost same goes over) law =
+  calls stops told t (ran {told = a} {t = u} same closes over says) law =
+      call_ran opened limit tries list (wire.port s).target.memory a (wire.port u).target.memory _ closes ((over law).1 starts).now
+  calls stops told t (resumed {stops = before} {earlier = e} {told = a} {t = u} {u = v} went lost same goes over says) law =
       calls_more (script_opening_requests opened) (script_most_requests opened tries) limit tries (length list) 0 0 before
       e a lost (calls before e u went (over law).0)
-      (call_resumed tries list e a _ (port u) (port v) goes ((over law).1 (known before e u went (over law).0)))
+      (call_resumed tries list e a _ (wire.port u) (wire.port v) goes ((over law).1 (known before e u went (over law).0)))
 
   first_within : (stops : List Stop) (told : HostReport) (t : W)
-      → ScriptCallsFrom port plan lawful opened limit list tries s stops told t
+      → ScriptCallsFrom wire opened limit list tries s stops told t
       → script_answered_first stops told ≤ length told.answers
-  first_within stops told t (ran same closes over) = omega arith
+  first_within stops told t (ran same closes over says) = omega arith
   first_within stops told t
-      (resumed {stops = before} {earlier = e} {told = a} {t = u} {u = v} went lost same goes over) =
+      (resumed {stops = before} {earlier = e} {told = a} {t = u} {u = v} went lost same goes over says) =
       let h = first_within before e u went in
       let f = answered_same before e a in
       let l = ap length goes.kept ∙ length-append e.answers (resume_added e a) in
       omega (arith, h, f, l)
 
   first_answers : (stops : List Stop) (told : HostReport) (t : W)
-      → ScriptCallsFrom port plan lawful opened limit list tries s stops told t → lawful t
+      → ScriptCallsFrom wire opened limit list tries s stops told t → wire.lawful t
       → take (script_answered_first stops told) told.answers ≡ answers_of (take (script_answered_first stops told) list)
-      (port s).target.memory
-  first_answers stops told t (ran {told = a} {t = u} same closes over) law = whole ((over law).1 starts).now
+      (wire.port s).target.memory
+  first_answers stops told t (ran {told = a} {t = u} same closes over says) law = whole ((over law).1 starts).now
     where
       m : Bus
-      m = (port s).target.memory
+      m = (wire.port s).target.memory
 
-      whole : FitsFrom (script_opening_requests opened) limit list m a (port u).target.memory
+      whole : FitsFrom (script_opening_requests opened) limit list m a (wire.port u).target.memory
           → take (length a.answers) a.answers ≡ answers_of (take (length a.answers) list) m
       whole (k, fit) =
           let many : length a.answers ≡ k = ap length fit.answers ∙ script_calls_answer_count (take k list) m
@@ -443,24 +444,24 @@ module _ {W : Type 0} (port : W → Port) (plan : W → List Mark) (lawful : W �
           take_all (length a.answers) a.answers (omega arith) ∙ fit.answers
           ∙ ap (λ n. answers_of (take n list) m) (sym many)
   first_answers stops told t
-      (resumed {stops = before} {earlier = e} {told = a} {t = u} {u = v} went lost same goes over) law =
-      let m : Bus = (port s).target.memory in
+      (resumed {stops = before} {earlier = e} {told = a} {t = u} {u = v} went lost same goes over says) law =
+      let m : Bus = (wire.port s).target.memory in
       let f = answered_same before e a in
       ap (λ n. take n a.answers) f ∙ ap (λ l. take (script_answered_first before e) l) goes.kept
       ∙ take-append-le (script_answered_first before e) e.answers (resume_added e a) (first_within before e u went)
       ∙ first_answers before e u went (over law).0 ∙ ap (λ n. answers_of (take n list) m) (sym f)
 
   in_turn : (stops : List Stop) (told : HostReport) (t : W)
-      → ScriptCallsFrom port plan lawful opened limit list tries s stops told t → lawful t
-      → InTurn opened limit list (port s).target.memory stops told (port t)
-  in_turn stops told t (ran {told = a} {t = u} same closes over) law = record {
+      → ScriptCallsFrom wire opened limit list tries s stops told t → wire.lawful t
+      → InTurn opened limit list (wire.port s).target.memory stops told (wire.port t)
+  in_turn stops told t (ran {told = a} {t = u} same closes over says) law = record {
     calls = [];
     are = refl;
-    chained = λ now may. chain_first opened limit list (port s).target.memory a now
-        (subst (FitsFrom (script_opening_requests opened) limit list (port s).target.memory a) (sym may.2)
+    chained = λ now may. chain_first opened limit list (wire.port s).target.memory a now
+        (subst (FitsFrom (script_opening_requests opened) limit list (wire.port s).target.memory a) (sym may.2)
         (((over law).1 starts).later may.0));
   }
-  in_turn stops told t (resumed {stops = before} {earlier = e} {told = a} {t = u} {u = v} went lost same goes over) law
+  in_turn stops told t (resumed {stops = before} {earlier = e} {told = a} {t = u} {u = v} went lost same goes over says) law
       =
       let h = in_turn before e u went (over law).0 in
       let fits = (over law).1 (known before e u went (over law).0) in
@@ -468,97 +469,97 @@ module _ {W : Type 0} (port : W → Port) (plan : W → List Mark) (lawful : W �
         calls = h.calls ++ e ∷ [];
         are = ap (λ l. l ++ script_stop_of e ∷ []) h.are ∙ sym (stops_more h.calls e);
         chained = λ now may. (let from = fits.goes now may in
-            chain_more opened limit list (port s).target.memory h.calls e a from.before now
+            chain_more opened limit list (wire.port s).target.memory h.calls e a from.before now
             (h.chained from.before from.comes) fits.own goes.kept fits.begun from.fits);
       }
 
   -- a run that ended all leaves the target open
   pub opens : (stops : List Stop) (told : HostReport) (t : W)
-      → ScriptCallsFrom port plan lawful opened limit list tries s stops told t → lawful t
-      → told.ended ≡ All → HostIsOpen (port t)
-  opens stops told t (ran {told = a} {t = u} same closes over) law all =
-      open_at a.ended tries (port s) (port u) all ((over law).1 starts).ends
-  opens stops told t (resumed {stops = before} {earlier = e} {told = a} {t = u} {u = v} went lost same goes over) law
+      → ScriptCallsFrom wire opened limit list tries s stops told t → wire.lawful t
+      → told.ended ≡ All → HostIsOpen (wire.port t)
+  opens stops told t (ran {told = a} {t = u} same closes over says) law all =
+      open_at a.ended tries (wire.port s) (wire.port u) all ((over law).1 starts).ends
+  opens stops told t (resumed {stops = before} {earlier = e} {told = a} {t = u} {u = v} went lost same goes over says) law
       all =
-      open_at a.ended tries (port u) (port v) all ((over law).1 (known before e u went (over law).0)).ends
+      open_at a.ended tries (wire.port u) (wire.port v) all ((over law).1 (known before e u went (over law).0)).ends
 
   -- so it is at rest
   pub rests : (stops : List Stop) (told : HostReport) (t : W)
-      → ScriptCallsFrom port plan lawful opened limit list tries s stops told t → lawful t
-      → told.ended ≡ All → IsAtRest (port t)
+      → ScriptCallsFrom wire opened limit list tries s stops told t → wire.lawful t
+      → told.ended ≡ All → IsAtRest (wire.port t)
   rests stops told t went law all = (opens stops told t went law all).0
 
   told_in_turn : (stops : List Stop) (told : HostReport) (t : W)
-      → ScriptCallsFrom port plan lawful opened limit list tries s stops told t
-      → lawful t → ScriptCallsInTurn opened limit stops list (port s).target.memory told (port t).target.memory
+      → ScriptCallsFrom wire opened limit list tries s stops told t
+      → wire.lawful t → ScriptCallsInTurn opened limit stops list (wire.port s).target.memory told (wire.port t).target.memory
   told_in_turn stops told t went law =
-      in_turn_at opened limit list (port s).target.memory stops told (port t) told.ended refl
+      in_turn_at opened limit list (wire.port s).target.memory stops told (wire.port t) told.ended refl
       (rests stops told t went law) (in_turn stops told t went law)
 
   -- over a lawful wire, from a target at rest, the reports of the calls state what `ScriptCallsReport` says of the plain memory
   pub tell_of : (stops : List Stop) (told : HostReport) (t : W)
-      → ScriptCallsFrom port plan lawful opened limit list tries s stops told t → lawful t
-      → ScriptCallsReport opened limit tries list (port s).target.memory stops told (port t).target.memory
+      → ScriptCallsFrom wire opened limit list tries s stops told t → wire.lawful t
+      → ScriptCallsReport opened limit tries list (wire.port s).target.memory stops told (wire.port t).target.memory
   tell_of stops told t went law = record {
     calls = calls stops told t went law;
     first = first_answers stops told t went law;
     turns = told_in_turn stops told t went law;
-    again = again_in_turn opened limit list (port s).target.memory stops told (port t).target.memory
+    again = again_in_turn opened limit list (wire.port s).target.memory stops told (wire.port t).target.memory
         (told_in_turn stops told t went law);
-    reads = reads_in_turn opened limit list (port s).target.memory stops told (port t).target.memory
+    reads = reads_in_turn opened limit list (wire.port s).target.memory stops told (wire.port t).target.memory
         (told_in_turn stops told t went law);
   }
 
   -- it was never resumed
   pub alone : (stops : List Stop) (told : HostReport) (t : W)
-      → ScriptCallsFrom port plan lawful opened limit list tries s stops told t → lawful t → stops ≡ []
-      → ScriptCallCloses opened limit list tries told (port t).link.due
-      × ScriptCallFits opened limit list tries told (port s) (port t)
-  alone stops told t (ran same closes over) law none = (closes, (over law).1)
-  alone stops told t (resumed {stops = before} {earlier = e} went lost same goes over) law none =
+      → ScriptCallsFrom wire opened limit list tries s stops told t → wire.lawful t → stops ≡ []
+      → ScriptCallCloses opened limit list tries told (wire.port t).link.due
+      × ScriptCallFits opened limit list tries told (wire.port s) (wire.port t)
+  alone stops told t (ran same closes over says) law none = (closes, (over law).1)
+  alone stops told t (resumed {stops = before} {earlier = e} went lost same goes over says) law none =
       let l = one_more before (script_stop_of e) in let z = ap length none in absurd (omega (arith, l, z))
 
   -- under a plan of so many marks that disturb and lose
   module _ (marks : List Mark)
-      (bounded : (w : W) → plan w ≡ plan s → ((port w).tally.disturbed ≤ port_disturbed_among marks)
-      × ((port w).tally.lost ≤ port_lost_among marks)) where
+      (bounded : (w : W) → wire.plan w ≡ wire.plan s → ((wire.port w).tally.disturbed ≤ port_disturbed_among marks)
+      × ((wire.port w).tally.lost ≤ port_lost_among marks)) where
     pub excused_by : (stops : List Stop) (told : HostReport) (t : W)
-        → ScriptCallsFrom port plan lawful opened limit list tries s stops told t → lawful t
+        → ScriptCallsFrom wire opened limit list tries s stops told t → wire.lawful t
         → IsRunExcused told.ended tries marks
-    excused_by stops told t (ran {told = a} {t = u} same closes over) law =
-        script_run_end_excused a.ended tries marks (port s) (port u) (bounded u same).0 (bounded u same).1
+    excused_by stops told t (ran {told = a} {t = u} same closes over says) law =
+        script_run_end_excused a.ended tries marks (wire.port s) (wire.port u) (bounded u same).0 (bounded u same).1
         ((over law).1 starts).ends
-    excused_by stops told t (resumed {stops = before} {earlier = e} {told = a} {t = u} {u = v} went lost same goes over)
+    excused_by stops told t (resumed {stops = before} {earlier = e} {told = a} {t = u} {u = v} went lost same goes over says)
         law =
-        script_run_end_excused a.ended tries marks (port u) (port v) (bounded v same).0 (bounded v same).1
+        script_run_end_excused a.ended tries marks (wire.port u) (wire.port v) (bounded v same).0 (bounded v same).1
         ((over law).1 (known before e u went (over law).0)).ends
 
     pub stops_lost : (stops : List Stop) (told : HostReport) (t : W)
-        → ScriptCallsFrom port plan lawful opened limit list tries s stops told t → lawful t
+        → ScriptCallsFrom wire opened limit list tries s stops told t → wire.lawful t
         → length stops ≤ port_lost_among marks
-    stops_lost stops told t (ran same closes over) law = omega arith
-    stops_lost stops told t (resumed {stops = before} {earlier = e} {told = a} {t = u} {u = v} went lost same goes over)
+    stops_lost stops told t (ran same closes over says) law = omega arith
+    stops_lost stops told t (resumed {stops = before} {earlier = e} {told = a} {t = u} {u = v} went lost same goes over says)
         law =
         let h = lost_more before e u went (over law).0 lost in
-        let b = (bounded u (plan_kept port plan lawful limit list tries s before e u went)).1 in
+        let b = (bounded u (plan_kept wire limit list tries s before e u went)).1 in
         let l = one_more before (script_stop_of e) in
         omega (arith, h, b, l)
 
     pub last_lost : (stops : List Stop) (told : HostReport) (t : W)
-        → ScriptCallsFrom port plan lawful opened limit list tries s stops told t → lawful t
+        → ScriptCallsFrom wire opened limit list tries s stops told t → wire.lawful t
         → told.ended ≡ Lost → length stops < port_lost_among marks
     last_lost stops told t went law is =
         let h = lost_more stops told t went law is in
-        let b = (bounded t (plan_kept port plan lawful limit list tries s stops told t went)).1 in
+        let b = (bounded t (plan_kept wire limit list tries s stops told t went)).1 in
         omega (arith, h, b)
 
     pub sends_most : (stops : List Stop) (told : HostReport) (t : W)
-        → ScriptCallsFrom port plan lawful opened limit list tries s stops told t → lawful t
+        → ScriptCallsFrom wire opened limit list tries s stops told t → wire.lawful t
         → script_requests_before stops + told.requests ≤ script_opening_requests opened + 6 * length list
         + 5 * port_disturbed_among marks + length stops * (14 + 6 * length list + 5 * port_disturbed_among marks)
-    sends_most stops told t (ran {told = a} {t = u} same closes over) law =
+    sends_most stops told t (ran {told = a} {t = u} same closes over says) law =
         let h = ((over law).1 starts).most in let b = (bounded u same).0 in omega (arith, h, b)
-    sends_most stops told t (resumed {stops = before} {earlier = e} {told = a} {t = u} {u = v} went lost same goes over)
+    sends_most stops told t (resumed {stops = before} {earlier = e} {told = a} {t = u} {u = v} went lost same goes over says)
         law =
         let x : ℕ = 14 + 6 * length list + 5 * port_disturbed_among marks in
         let base : ℕ = script_opening_requests opened + 6 * length list + 5 * port_disturbed_among marks in
@@ -587,43 +588,43 @@ whole_by (WrongId word) tries resumes marks e last lost few = absurd e
 whole_by Confused tries resumes marks e last lost few = absurd e
 
 -- a run over a target at rest or open, under a plan of these marks
-module _ {W : Type 0} (port : W → Port) (plan : W → List Mark) (lawful : W → Type 0) (opened : Bool)
+module _ {W : Type 0} (wire : Ghosts W) (opened : Bool)
     (tries resumes : ℕ) (batch : ScriptListed) (marks : List Mark) (run : ScriptRun) (s t : W)
-    (starts : ScriptStarts opened (port s)) (law : lawful t)
-    (goes : RunsBatchFrom port plan lawful opened (batch_limit batch) tries resumes batch s run t) where
+    (starts : ScriptStarts opened (wire.port s)) (law : wire.lawful t)
+    (goes : RunsBatchFrom wire opened (batch_limit batch) tries resumes batch s run t) where
   -- over a lawful wire, from a target at rest and under a plan, a run that may be resumed states what `RunsOn` says
   -- of the plain memory
-  pub runs_on : plan s ≡ marks
-      → ((w : W) → plan w ≡ marks → ((port w).tally.disturbed ≤ port_disturbed_among marks)
-      × ((port w).tally.lost ≤ port_lost_among marks))
-      → RunsOn opened tries resumes batch (port s).target.memory marks run.stops run.told (port t).target.memory
+  pub runs_on : wire.plan s ≡ marks
+      → ((w : W) → wire.plan w ≡ marks → ((wire.port w).tally.disturbed ≤ port_disturbed_among marks)
+      × ((wire.port w).tally.lost ≤ port_lost_among marks))
+      → RunsOn opened tries resumes batch (wire.port s).target.memory marks run.stops run.told (wire.port t).target.memory
   runs_on planned marked =
       let stops : List Stop = run.stops in
       let told : HostReport = run.told in
       let n : ℕ = batch_limit batch in
       let list : List Access = batch.accesses in
-      let went : ScriptCallsFrom port plan lawful opened (batch_limit batch) batch.accesses tries s run.stops run.told t =
+      let went : ScriptCallsFrom wire opened (batch_limit batch) batch.accesses tries s run.stops run.told t =
       goes.went in
-      let bounded : (w : W) → plan w ≡ plan s → ((port w).tally.disturbed ≤ port_disturbed_among marks)
-      × ((port w).tally.lost ≤ port_lost_among marks) =
+      let bounded : (w : W) → wire.plan w ≡ wire.plan s → ((wire.port w).tally.disturbed ≤ port_disturbed_among marks)
+      × ((wire.port w).tally.lost ≤ port_lost_among marks) =
       λ w same. marked w (same ∙ planned) in
-      let planned_at : plan t ≡ marks = plan_kept port plan lawful n list tries s stops told t went ∙ planned in
+      let planned_at : wire.plan t ≡ marks = plan_kept wire n list tries s stops told t went ∙ planned in
       let at_end = marked t planned_at in
       let at_start = marked s planned in
-      let excused : IsRunExcused told.ended tries marks = excused_by port plan lawful n list tries s starts marks bounded
+      let excused : IsRunExcused told.ended tries marks = excused_by wire n list tries s starts marks bounded
       stops told t went law in
       let lost : told.ended ≡ Lost → resumes < port_lost_among marks =
-      λ is. (let h = last_lost port plan lawful n list tries s starts marks bounded stops told t went law is in let e =
+      λ is. (let h = last_lost wire n list tries s starts marks bounded stops told t went law is in let e =
       goes.lost is in omega (arith, h, e)) in
       record {
-        alone = λ none. (let (closes, over) = alone port plan lawful n list tries s starts stops told t went law none in
-            batch_run_under_plan opened tries batch marks told (port s) (port t) _ starts at_start.1 at_end.0 at_end.1 closes
+        alone = λ none. (let (closes, over) = alone wire n list tries s starts stops told t went law none in
+            batch_run_under_plan opened tries batch marks told (wire.port s) (wire.port t) _ starts at_start.1 at_end.0 at_end.1 closes
             over);
-        tells = tell_of port plan lawful n list tries s starts stops told t went law;
+        tells = tell_of wire n list tries s starts stops told t went law;
         few = goes.few;
-        lost = stops_lost port plan lawful n list tries s starts marks bounded stops told t went law;
+        lost = stops_lost wire n list tries s starts marks bounded stops told t went law;
         excused = excused;
         last = λ is. (goes.lost is, lost is);
         whole = whole_by told.ended tries resumes marks excused lost;
-        most = sends_most port plan lawful n list tries s starts marks bounded stops told t went law;
+        most = sends_most wire n list tries s starts marks bounded stops told t went law;
       }

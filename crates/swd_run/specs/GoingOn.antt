@@ -2,18 +2,19 @@
 use Rattle.std.specs.Prelude.{ℕ, ◌≡◌, ◌≢◌, ◌+◌, ◌-◌, ◌≤◌, Bool, true, false, List, [], ◌∷◌, ◌++◌, length, take, min}
 use Rattle.std.specs.Prelude.{max, if◌then◌else◌}
 use Rattle.swd_port.specs.declared.access.Access.{Access}
-use Rattle.swd_port.specs.declared.mark.Mark.{Mark}
+use Rattle.swd_port.specs.declared.call.Call.{Call}
+use Rattle.swd_port.specs.declared.wire.Wire.{Ghosts}
 use Rattle.swd_port.specs.Bus.{Bus}
-use Rattle.swd_port.specs.Port.{Port}
 use Rattle.swd_host.specs.declared.outcome.End.{End}
 use Rattle.swd_host.specs.declared.outcome.End.TheVariants.{All, Lost}
 use Rattle.swd_port.specs.PlainBus.{IsPlain, plain_words_of}
 use Rattle.swd_host.specs.Plain.{memory_after, answers_of}
 use Rattle.swd_host.specs.PlainRuns.{IsPlainWithRoom}
 use Rattle.swd_host.specs.Reports.{HostReport, host_most_requests}
-use Rattle.swd_host.specs.Again.{Again, ResumeCloses, ResumesOver}
+use Rattle.swd_host.specs.Again.{Again, ResumeCloses, ResumeReportsCalls, ResumesOver}
 use Rattle.swd_host.specs.Resuming.{host_end_is_all}
 use Rattle.swd_host.specs.Chains.{ResumeChain, AreBlockReads}
+use Rattle.swd_host.specs.Sent.{HostCalls, HostReportsCalls}
 use Rattle.swd_run.specs.declared.going_on.Stop.{Stop}
 use Rattle.swd_run.specs.Starts.{ScriptCallCloses, ScriptCallFits, script_most_requests, script_opening_requests}
 
@@ -34,34 +35,42 @@ script_requests_before (stop ∷ stops) = stop.requests + script_requests_before
 abbrev pub script_calls_in_all : List Stop → HostReport → HostReport
 script_calls_in_all stops told = record told { requests = script_requests_before stops + told.requests }
 
--- THE CALLS
--- A call over a wire from s to t, and the calls of `resume` after it, each after a lost acknowledgement. `opened` says
--- that the target was open at s; else the call opens it. The other arguments are the places where it was resumed, and the
--- report of the last call. Whatever came back, `ScriptCallCloses` or `ResumeCloses` holds of each call. Where the wire is
--- lawful, the theorem of the host holds too.
-pub data ScriptCallsFrom {W : Type 0} (port : W → Port) (plan : W → List Mark) (lawful : W → Type 0) (opened : Bool)
-    (limit : ℕ) (list : List Access)
-    (tries : ℕ) (s : W) : List Stop → HostReport → W → Type 0 where
-  ran : {told : HostReport} {t : W} → plan t ≡ plan s
-      → ScriptCallCloses opened limit list tries told (port t).link.due
-      → (lawful t → lawful s × ScriptCallFits opened limit list tries told (port s) (port t))
-      → ScriptCallsFrom port plan lawful opened limit list tries s [] told t
+-- THE CALLS A call over a wire from s to t, and the calls of `resume` after it, each after a lost acknowledgement.
+-- `opened` says that the target was open at s; else the call opens it. The other arguments are the places where it was
+-- resumed, and the report of the last call. Whatever came back, `ScriptCallCloses` or `ResumeCloses` holds of each
+-- call, and the calls made of the wire meanwhile are those that its report tells. Where the wire is lawful, the theorem
+-- of the host holds too.
+pub data ScriptCallsFrom {W : Type 0} (wire : Ghosts W) (opened : Bool) (limit : ℕ) (list : List Access) (tries : ℕ)
+    (s : W) : List Stop → HostReport → W → Type 0 where
+  ran : {told : HostReport} {t : W} → wire.plan t ≡ wire.plan s
+      → ScriptCallCloses opened limit list tries told (wire.port t).link.due
+      → (wire.lawful t → wire.lawful s × ScriptCallFits opened limit list tries told (wire.port s) (wire.port t))
+      → HostCalls wire.notes (HostReportsCalls list told) s t
+      → ScriptCallsFrom wire opened limit list tries s [] told t
   resumed : {stops : List Stop} {earlier told : HostReport} {t u : W}
-      → ScriptCallsFrom port plan lawful opened limit list tries s stops earlier t
-      → earlier.ended ≡ Lost → plan u ≡ plan s → ResumeCloses list tries earlier told (port u).link.due
-      → (lawful u → lawful t × ResumesOver list tries earlier told (port t) (port u))
-      → ScriptCallsFrom port plan lawful opened limit list tries s (stops ++ script_stop_of earlier ∷ []) told u
+      → ScriptCallsFrom wire opened limit list tries s stops earlier t
+      → earlier.ended ≡ Lost → wire.plan u ≡ wire.plan s → ResumeCloses list tries earlier told (wire.port u).link.due
+      → (wire.lawful u → wire.lawful t × ResumesOver list tries earlier told (wire.port t) (wire.port u))
+      → HostCalls wire.notes (ResumeReportsCalls list earlier told) t u
+      → ScriptCallsFrom wire opened limit list tries s (stops ++ script_stop_of earlier ∷ []) told u
 
 -- the same where the first of them opens the target
-abbrev pub ScriptCalls : {W : Type 0} → (W → Port) → (W → List Mark) → (W → Type 0) → ℕ → List Access → ℕ → W
-    → List Stop → HostReport → W → Type 0
-ScriptCalls port plan lawful limit list tries s stops told t =
-    ScriptCallsFrom port plan lawful false limit list tries s stops told t
+abbrev pub ScriptCalls : {W : Type 0} → Ghosts W → ℕ → List Access → ℕ → W → List Stop → HostReport → W → Type 0
+ScriptCalls wire limit list tries s stops told t = ScriptCallsFrom wire false limit list tries s stops told t
 
--- WHAT THEY REPORT
--- One call of a run over n accesses. The calls before it gave `from` answers, and left `left` accesses begun. After it
--- there are `answered` answers in all, and `begun` accesses begun. It sent `requests` requests: before its list at least
--- `opening`, and with so many accesses at most what `most` gives.
+-- These calls, the last one first, are those of a run over a list and of each `resume` after it, as their reports tell:
+-- the requests that each counts, and the data phases of the accesses that it answers or leaves begun. The other
+-- arguments are the places where it was resumed, and the report of the last call.
+pub data ScriptReportsCalls (list : List Access) : List Stop → HostReport → List Call → Type 0 where
+  told_once : {told : HostReport} {calls : List Call} → HostReportsCalls list told calls
+      → ScriptReportsCalls list [] told calls
+  told_again : {stops : List Stop} {earlier told : HostReport} {before calls : List Call}
+      → ScriptReportsCalls list stops earlier before → ResumeReportsCalls list earlier told calls
+      → ScriptReportsCalls list (stops ++ script_stop_of earlier ∷ []) told (calls ++ before)
+
+-- WHAT THEY REPORT One call of a run over n accesses. The calls before it gave `from` answers, and left `left` accesses
+-- begun. After it there are `answered` answers in all, and `begun` accesses begun. It sent `requests` requests: before
+-- its list at least `opening`, and with so many accesses at most what `most` gives.
 pub record IsScriptCall (opening : ℕ) (most : ℕ → ℕ) (limit n from left answered begun requests : ℕ) (ended : End) :
     Type 0 where
   pub grows : from ≤ answered
@@ -136,8 +145,8 @@ pub record ScriptCallsAgain (stops : List Stop) (list : List Access) (m : Bus) (
   pub left : told.ended ≡ All → memory ≡ after
   pub words : told.ended ≡ All → plain_words_of after ≡ plain_words_of (memory_after list m)
 
--- A list of reads, such as a block, over a plain memory. The answers are those of the list done once, if the log has room
--- for the reads that may have been repeated. A whole list changes no word.
+-- A list of reads, such as a block, over a plain memory. The answers are those of the list done once, if the log has
+-- room for the reads that may have been repeated. A whole list changes no word.
 pub record ScriptCallsOfReads (limit : ℕ) (stops : List Stop) (list : List Access) (m : Bus) (told : HostReport)
     (after : Bus) : Type 0 where
   pub answers : IsPlainWithRoom (limit + (length stops - 1)) list m

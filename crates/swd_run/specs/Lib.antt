@@ -3,6 +3,7 @@ pub mod Recorded
 pub mod Engine
 pub mod Leads
 pub mod Starts
+pub mod Wires
 pub mod GoingOn
 pub mod Sessions
 pub mod Transfers

@@ -1,12 +1,15 @@
 -- What the result for a script and a plan states: the theorem of the host, for files.
-use Rattle.std.specs.Prelude.{◌≡◌, ℕ, ◌+◌, ◌*◌, ◌<◌, ◌≤◌, List, [], ◌∷◌, ◌++◌, length, take, Option, Result, Ok, Err}
+use Rattle.std.specs.Prelude.{◌≡◌, ℕ, ◌+◌, ◌*◌, ◌<◌, ◌≤◌, List, [], ◌∷◌, ◌++◌, length, take, drop, Option, Result, Ok}
+use Rattle.std.specs.Prelude.{Err}
 use Rattle.std.specs.Prelude.{IfSome, ◌==◌, IsOk, None, Some, Bool, false, if◌then◌else◌, min}
 use Rattle.swd_io.specs.Pieces.{IsReaderText}
 use Rattle.swd_io.specs.declared.pieces.Unread.{Unread}
 use Rattle.swd_io.specs.declared.pieces.Unread.TheVariants.{Reader, Consumer}
 use Rattle.swd_trace.specs.declared.item.Item.{Item}
+use Rattle.swd_recorder.specs.Items.{recorded_items_by}
 use Rattle.swd_observer.specs.Explained.{ObservedLog}
 use Rattle.swd_observer.specs.Traces.{trace_observer_made, observed_in_trace}
+use Rattle.swd_port.specs.declared.call.Call.{Call}
 use Rattle.swd_port.specs.declared.mark.Mark.{Mark}
 use Rattle.swd_port.specs.Choices.{port_disturbed_among, port_lost_among}
 use Rattle.swd_port.specs.PlainMemory.{PlainMemory}
@@ -26,13 +29,14 @@ use Rattle.swd_run.specs.declared.fault.RunFault.{RunFault}
 use Rattle.swd_run.specs.declared.fault.RunFault.TheVariants.{Texts, Engine}
 use Rattle.swd_run.specs.declared.fault.TextsFault.{TextsFault}
 use Rattle.swd_run.specs.declared.fault.TextsFault.TheVariants.{Script, Plan, Read}
-use Rattle.swd_run.specs.Engine.{Answers, IsPartOfRunTrace, IsRunTraceOf}
+use Rattle.swd_run.specs.Engine.{Answers, AreItemsOfCalls, AreRunTraceItems, IsPartOfRunTrace, IsRunTraceOf}
 use Rattle.swd_run.specs.GoingOn.{ScriptCallsReport, script_calls_in_all}
 use Rattle.swd_run.specs.Records.{AreRunFilesLeft, RunFiles, IsRunFileLeft}
-use Rattle.swd_run.specs.Sessions.{ScriptRun, script_ended, batch_limit, script_is_open, script_requests}
+use Rattle.swd_run.specs.Sessions.{ScriptRun, ScriptRunsReportCalls, script_ended, batch_limit, script_is_open}
+use Rattle.swd_run.specs.Sessions.{script_requests}
 use Rattle.swd_run.specs.Starts.{script_most_requests, script_opening_requests}
 use Rattle.swd_run.specs.Transfers.{AreWholeRuns, report_transfers_in}
-use Rattle.swd_run.specs.Unfoldings.{BatchRuns, Unfolds, calls_of, ends_until, runs_of}
+use Rattle.swd_run.specs.Unfoldings.{BatchRuns, Unfolds, calls_of, ends_until, first_batch_again, runs_of}
 
 -- the memory of a script before its run, and the bus that it is
 abbrev pub script_memory : ScriptMeaning → PlainMemory
@@ -64,9 +68,9 @@ pub record RunsAs (opened : Bool) (tries : ℕ) (batch : ScriptListed) (before :
   pub spends : told.requests ≤ script_most_requests opened tries
       (min (length batch.accesses) (length told.answers + 1))
 
--- The result of a run that may be resumed `resumes` times. If it wasn't resumed, `RunsAs` holds of it. `ScriptCallsReport` holds
--- of its calls in any case. It was resumed at most as often as marks of the plan lose a request. It ends at a lost
--- acknowledgement only if more than `resumes` marks lose a request.
+-- The result of a run that may be resumed `resumes` times. If it wasn't resumed, `RunsAs` holds of it.
+-- `ScriptCallsReport` holds of its calls in any case. It was resumed at most as often as marks of the plan lose a
+-- request. It ends at a lost acknowledgement only if more than `resumes` marks lose a request.
 pub record RunsOn (opened : Bool) (tries resumes : ℕ) (batch : ScriptListed) (before : Bus) (marks : List Mark)
     (stops : List Stop) (told : HostReport) (after : Bus) : Type 0 where
   pub alone : stops ≡ [] → RunsAs opened tries batch before marks told after
@@ -132,16 +136,36 @@ pub record RanScriptShort (tries resumes : ℕ) (script : ScriptMeaning) (marks 
   pub all : script_ended (runs_of made) ≡ All
   pub came : ends_until script.batches made ≡ false
 
--- The complete trace of a script's calls and runs. The accesses that it shows explain the log of the target's memory. If
--- each call ended `All` and none was resumed, they explain the transfers that the reports state: those of the lists, but
--- for bus errors, with their addresses and words.
+-- The complete trace of a script's calls and runs: the items of the calls that their reports describe. The accesses
+-- that it shows explain the log of the target's memory. If each call ended `All` and none was resumed, they explain the
+-- transfers that the reports state: those of the lists, but for bus errors, with their addresses and words.
 pub record IsTraceIn (memory : Bus) (batches : List ScriptListed) (runs : List ScriptRun) (items : List Item) :
     Type 0
   where
     pub is : IsRunTraceOf (script_requests runs) (script_ended runs) items
+    pub calls : List Call
+    pub told : ScriptRunsReportCalls batches runs calls
+    pub of_calls : items ≡ recorded_items_by calls
     pub explained : ∥ ObservedLog (observed_in_trace items trace_observer_made) memory.log ∥₁
     pub reported : AreWholeRuns runs → ∥ ObservedLog (observed_in_trace items trace_observer_made)
         (report_transfers_in batches runs) ∥₁
+
+-- a truncated trace of a script's calls and runs: the items of the first of the calls that their reports describe
+pub record IsPartOfTraceIn (batches : List ScriptListed) (runs : List ScriptRun) (items : List Item) : Type 0 where
+  pub part : IsPartOfRunTrace (script_requests runs) items
+  pub calls : List Call
+  pub told : ScriptRunsReportCalls batches runs calls
+  pub of_calls : AreItemsOfCalls calls items
+
+-- The trace of a script whose first batches have these runs, where memory ran out, maybe after further runs of the next
+-- batch: the items of the calls that the reports of all these describe, or of the first of these calls.
+pub record IsTraceUpTo (batches : List ScriptListed) (made : List BatchRuns) (items : List Item) : Type 0 where
+  pub read : AreRunTraceItems items
+  pub more : List ScriptRun
+  pub calls : List Call
+  pub told : ScriptRunsReportCalls (calls_of batches made ++ first_batch_again (drop (length made) batches) more)
+      (runs_of made ++ more) calls
+  pub of_calls : AreItemsOfCalls calls items
 
 -- What the engine's result states about a script over a new target, and some memory that it is left with.
 abbrev pub ScriptRunAnswers : ℕ → ℕ → ScriptMeaning → List Mark → Result Finished EngineFault → Option (List ℕ)
@@ -151,8 +175,8 @@ ScriptRunAnswers tries resumes script marks answer old new before after =
     × Answers {Came = RanScript tries resumes script marks memory} {Short = RanScriptShort tries resumes script marks}
     script.batches (full_room script.room memory) (λ ran. ran.made) (λ short. short.made)
     (λ ran items. IsTraceIn memory (calls_of script.batches ran.made) (runs_of ran.made) items)
-    (λ ran items. IsPartOfRunTrace (script_requests (runs_of ran.made)) items) answer old new
-    before after
+    (λ ran items. IsPartOfTraceIn (calls_of script.batches ran.made) (runs_of ran.made) items)
+    (λ short items. IsTraceUpTo script.batches short.made items) answer old new before after
 
 -- the inputs were read, and the engine gave this result
 pub record RanScriptText (tries resumes : ℕ) (answer : Result Finished EngineFault)

@@ -1,15 +1,15 @@
 -- The successive runs of a script over one wire.
 use Rattle.std.specs.Prelude.{ℕ, ◌≡◌, ◌+◌, ◌<◌, ◌≤◌, Bool, true, false, List, [], ◌∷◌, ◌++◌, length, is_some}
 use Rattle.std.specs.Prelude.{if◌then◌else◌}
-use Rattle.swd_port.specs.declared.mark.Mark.{Mark}
-use Rattle.swd_port.specs.Port.{Port}
+use Rattle.swd_port.specs.declared.call.Call.{Call}
+use Rattle.swd_port.specs.declared.wire.Wire.{Ghosts}
 use Rattle.swd_host.specs.declared.outcome.End.{End}
 use Rattle.swd_host.specs.declared.outcome.End.TheVariants.{All, Lost}
 use Rattle.swd_host.specs.Reports.{HostReport, host_report_of}
 use Rattle.swd_script.specs.Scripts.{ScriptListed}
 use Rattle.swd_run.specs.declared.going_on.Resumed.{Resumed}
 use Rattle.swd_run.specs.declared.going_on.Stop.{Stop}
-use Rattle.swd_run.specs.GoingOn.{ScriptCallsFrom, script_calls_in_all}
+use Rattle.swd_run.specs.GoingOn.{ScriptReportsCalls, ScriptCallsFrom, script_calls_in_all}
 
 -- the places where a run was resumed, and the report of its last call
 pub record ScriptRun : Type 0 where
@@ -39,36 +39,44 @@ abbrev pub script_is_open : Bool → List ScriptRun → Bool
 script_is_open opened [] = opened
 script_is_open opened (run ∷ runs) = true
 
--- One run over a wire, resumed at most `resumes` times. At most `limit` accesses are begun and not answered. `opened` says
--- whether the target is open already.
-pub record RunsBatchFrom {W : Type 0} (port : W → Port) (plan : W → List Mark) (lawful : W → Type 0) (opened : Bool)
+-- One run over a wire, resumed at most `resumes` times. At most `limit` accesses are begun and not answered. `opened`
+-- says whether the target is open already.
+pub record RunsBatchFrom {W : Type 0} (wire : Ghosts W) (opened : Bool)
     (limit tries resumes : ℕ) (batch : ScriptListed) (s : W) (run : ScriptRun) (t : W) : Type 0 where
-  pub went : ScriptCallsFrom port plan lawful opened limit batch.accesses tries s run.stops run.told t
+  pub went : ScriptCallsFrom wire opened limit batch.accesses tries s run.stops run.told t
   pub few : length run.stops ≤ resumes
   pub lost : run.told.ended ≡ Lost → length run.stops ≡ resumes
 
 -- the same for a run that opens the target
-abbrev pub RunsBatch : {W : Type 0} → (W → Port) → (W → List Mark) → (W → Type 0) → (limit tries resumes : ℕ)
+abbrev pub RunsBatch : {W : Type 0} → Ghosts W → (limit tries resumes : ℕ)
     → ScriptListed → W → ScriptRun → W → Type 0
-RunsBatch port plan lawful limit tries resumes batch s run t =
-    RunsBatchFrom port plan lawful false limit tries resumes batch s run t
+RunsBatch wire limit tries resumes batch s run t =
+    RunsBatchFrom wire false limit tries resumes batch s run t
 
 -- Successive runs, from the wire s to the wire t. Each starts only if the one before ended `All`, over the target that
 -- this left open. `opened` says whether the target is open at s; else the first run opens it.
-pub data RunsBatches {W : Type 0} (port : W → Port) (plan : W → List Mark) (lawful : W → Type 0) (opened : Bool)
+pub data RunsBatches {W : Type 0} (wire : Ghosts W) (opened : Bool)
     (most : ScriptListed → ℕ) (tries resumes : ℕ) (s : W) : List ScriptListed → List ScriptRun → W → Type 0 where
-  none : RunsBatches port plan lawful opened most tries resumes s [] [] s
+  none : RunsBatches wire opened most tries resumes s [] [] s
   then : {batches : List ScriptListed} {runs : List ScriptRun} {t u : W} {batch : ScriptListed} {run : ScriptRun}
-      → RunsBatches port plan lawful opened most tries resumes s batches runs t → script_ended runs ≡ All
-      → RunsBatchFrom port plan lawful (script_is_open opened runs) (most batch) tries resumes batch t run u
-      → RunsBatches port plan lawful opened most tries resumes s (batches ++ batch ∷ []) (runs ++ run ∷ []) u
+      → RunsBatches wire opened most tries resumes s batches runs t → script_ended runs ≡ All
+      → RunsBatchFrom wire (script_is_open opened runs) (most batch) tries resumes batch t run u
+      → RunsBatches wire opened most tries resumes s (batches ++ batch ∷ []) (runs ++ run ∷ []) u
+
+-- These calls, the last one first, are those that the reports of successive runs tell.
+pub data ScriptRunsReportCalls : List ScriptListed → List ScriptRun → List Call → Type 0 where
+  no_run : ScriptRunsReportCalls [] [] []
+  one_run : {batches : List ScriptListed} {runs : List ScriptRun} {before calls : List Call} (batch : ScriptListed)
+      (run : ScriptRun) → ScriptRunsReportCalls batches runs before
+      → ScriptReportsCalls batch.accesses run.stops run.told calls
+      → ScriptRunsReportCalls (batches ++ batch ∷ []) (runs ++ run ∷ []) (calls ++ before)
 
 -- A run from the wire s to the wire t that ran out of memory: before its first bit, or when it was to be resumed after
 -- a lost acknowledgement.
-pub data IsBatchRefused {W : Type 0} (port : W → Port) (plan : W → List Mark) (lawful : W → Type 0) (opened : Bool)
+pub data IsBatchRefused {W : Type 0} (wire : Ghosts W) (opened : Bool)
     (limit tries resumes : ℕ) (batch : ScriptListed) (s t : W) : Type 0 where
-  unsent : t ≡ s → IsBatchRefused port plan lawful opened limit tries resumes batch s t
+  unsent : t ≡ s → IsBatchRefused wire opened limit tries resumes batch s t
   unresumed : {stops : List Stop} {told : HostReport}
-      → ScriptCallsFrom port plan lawful opened limit batch.accesses tries s stops told t
+      → ScriptCallsFrom wire opened limit batch.accesses tries s stops told t
       → told.ended ≡ Lost → length stops < resumes
-      → IsBatchRefused port plan lawful opened limit tries resumes batch s t
+      → IsBatchRefused wire opened limit tries resumes batch s t

@@ -5,8 +5,7 @@ use Rattle.std.specs.Prelude.{length, map, Option, None, Some}
 use Rattle.std.specs.List.{list_all}
 use Rattle.swd_port.specs.declared.access.Answer.{Answer}
 use Rattle.swd_port.specs.declared.access.Answer.TheVariants.{Value}
-use Rattle.swd_port.specs.declared.mark.Mark.{Mark}
-use Rattle.swd_port.specs.Port.{Port}
+use Rattle.swd_port.specs.declared.wire.Wire.{Ghosts}
 use Rattle.swd_host.specs.declared.outcome.End.TheVariants.{All}
 use Rattle.swd_host.specs.Reports.{HostReport}
 use Rattle.swd_host.specs.Resuming.{host_end_is_all}
@@ -86,6 +85,11 @@ pub data Unfolds : List ScriptListed → List BatchRuns → Type 0 where
 abbrev pub batch_again : ScriptListed → List ScriptRun → List ScriptListed
 batch_again batch runs = map (λ run. batch) runs
 
+-- the first of these batches, once for each of these runs
+abbrev pub first_batch_again : List ScriptListed → List ScriptRun → List ScriptListed
+first_batch_again [] runs = []
+first_batch_again (batch ∷ batches) runs = batch_again batch runs
+
 -- the calls that were made of these batches
 abbrev pub calls_of : List ScriptListed → List BatchRuns → List ScriptListed
 calls_of [] made = []
@@ -103,15 +107,15 @@ AreBatchesDone batches made = script_ended (runs_of made) ≡ All → ends_until
     → length made ≡ length batches
 
 -- OVER A WIRE
-module _ {W : Type 0} (port : W → Port) (plan : W → List Mark) (lawful : W → Type 0) (opened : Bool)
+module _ {W : Type 0} (wire : Ghosts W) (opened : Bool)
     (tries resumes : ℕ) (batch : ScriptListed) where
   -- the runs of one batch, from the wire s to the wire t; `opened` says whether the target is open at s
   pub record Performs (s : W) (runs : BatchRuns) (t : W) : Type 0 where
     pub between : W
-    pub earlier : RunsBatches port plan lawful opened batch_limit tries resumes s (batch_again batch runs.earlier)
+    pub earlier : RunsBatches wire opened batch_limit tries resumes s (batch_again batch runs.earlier)
         runs.earlier between
-    pub last : RunsBatchFrom port plan lawful (script_is_open opened runs.earlier) (batch_limit batch) tries resumes
-        batch between runs.last t
+    pub last : RunsBatchFrom wire (script_is_open opened runs.earlier) (batch_limit batch) tries resumes batch between
+        runs.last t
     pub are : AreRunsOfBatch batch runs
 
   -- The same, where the last run ran out of memory. Only the read of an `until` may do so once it started.
@@ -119,7 +123,7 @@ module _ {W : Type 0} (port : W → Port) (plan : W → List Mark) (lawful : W �
     pub runs : List ScriptRun
     pub are : AreEarlierReads batch.until runs
     pub between : W
-    pub earlier : RunsBatches port plan lawful opened batch_limit tries resumes s (batch_again batch runs) runs between
-    pub refused : IsBatchRefused port plan lawful (script_is_open opened runs) (batch_limit batch) tries resumes batch
+    pub earlier : RunsBatches wire opened batch_limit tries resumes s (batch_again batch runs) runs between
+    pub refused : IsBatchRefused wire (script_is_open opened runs) (batch_limit batch) tries resumes batch
         between t
     pub unsent : batch.until ≡ None → t ≡ s

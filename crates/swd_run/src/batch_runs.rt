@@ -13,6 +13,7 @@ ghost use Rattle.swd_run.specs.Sessions.{RunsBatchFrom, batch_limit};
 ghost use Rattle.swd_run.specs.Unfoldings.{IsCutShort};
 
 use crate::going_on::make_call_to;
+use crate::limits::Limits;
 use crate::options::CallOptions;
 use crate::performing::perform;
 use crate::report::write_run;
@@ -52,8 +53,8 @@ fn run_reporting<W: Wire, O: Write, A: Allocator>(
     ensures writer { report.new.block.now.writer.ghost_name ≡ report.old.block.now.writer.ghost_name }
     ensures answers { report.new.answers.ghost_name ≡ report.old.answers.ghost_name }
     ensures goes { (stops : List StopType) × Goes O.contents (λ answers. answers.items) report.old stops report.new
-        × RunsBatchFrom W.port W.plan W.lawful options.opened (batch_limit (script_batch_listed batch.now))
-        options.tries options.resumes (script_batch_listed batch.now) wire.old
+        × RunsBatchFrom W.Wire options.opened (batch_limit (script_batch_listed batch.now))
+        options.limits.tries options.limits.resumes (script_batch_listed batch.now) wire.old
         (record { stops = stops; told = host_report_to report.new.answers.now.items result }) wire.new }
     ensures plan { W.plan wire.new ≡ W.plan wire.old }
 {
@@ -77,8 +78,8 @@ fn put_run<W: Wire, O: Write, A: Allocator>(
     requires room { length (script_batch_listed batch.now).accesses ≤ vec_capacity answers.old }
     ensures writer { block.new.writer.ghost_name ≡ block.old.writer.ghost_name }
     ensures goes { (stops : List StopType)
-        × RunsBatchFrom W.port W.plan W.lawful options.opened (batch_limit (script_batch_listed batch.now))
-        options.tries options.resumes (script_batch_listed batch.now) wire.old
+        × RunsBatchFrom W.Wire options.opened (batch_limit (script_batch_listed batch.now))
+        options.limits.tries options.limits.resumes (script_batch_listed batch.now) wire.old
         (record { stops = stops; told = host_report_to answers.new.items result }) wire.new
         × ((start : Option (List ℕ)) → BlockBufferSends O.contents start block.old []
         → BlockBufferSends O.contents start block.new
@@ -104,8 +105,8 @@ fn report_call<W: Wire, O: Write, A: Allocator + Copy>(
     requires batch { IsScriptBatch (script_batch_listed batch.now) }
     requires plain { batch.now.until ≡ None }
     requires due { (W.port wire.old).link.due ≡ Nothing }
-    ensures reports { IfSome result (λ reported. ReportsBatchRunFrom W.port W.plan W.lawful options.opened
-        options.tries options.resumes (script_batch_listed batch.now)
+    ensures reports { IfSome result (λ reported. ReportsBatchRunFrom W.Wire options.opened
+        options.limits.tries options.limits.resumes (script_batch_listed batch.now)
         wire.old wire.new (O.contents report.old) (O.contents report.new) (host_report_of reported.report)
         reported.written) }
     ensures unsent { IfNone result (wire.new ≡ wire.old) }
@@ -131,14 +132,13 @@ pub fn run_on_reporting<W: Wire, O: Write, A: Allocator + Copy>(
     alloc: A,
     wire: &mut W,
     batch: &Batch<A>,
-    tries: u32,
-    resumes: u32,
+    limits: Limits,
     report: &mut O,
 ) -> Option<ReportedRun<A>>
     requires batch { IsScriptBatch (script_batch_listed batch.now) }
     requires plain { batch.now.until ≡ None }
     requires due { (W.port wire.old).link.due ≡ Nothing }
-    ensures reports { IfSome result (λ reported. ReportsBatchRun W.port W.plan W.lawful tries resumes
+    ensures reports { IfSome result (λ reported. ReportsBatchRun W.Wire limits.tries limits.resumes
         (script_batch_listed batch.now)
         wire.old wire.new (O.contents report.old) (O.contents report.new) (host_report_of reported.report)
         reported.written) }
@@ -147,8 +147,7 @@ pub fn run_on_reporting<W: Wire, O: Write, A: Allocator + Copy>(
     ensures plan { W.plan wire.new ≡ W.plan wire.old }
 {
     let options = CallOptions {
-        tries,
-        resumes,
+        limits,
         opened: false,
     };
     report_call(alloc, wire, batch, options, report)
@@ -166,11 +165,11 @@ fn report_until<W: Wire, O: Write, A: Allocator + Copy>(
     requires batch { IsScriptBatch (script_batch_listed batch.now) }
     requires until { batch.now.until ≡ Some until }
     requires due { (W.port wire.old).link.due ≡ Nothing }
-    ensures reported { IfSome result (λ reported. IsBatchReported W.port W.plan W.lawful options.opened
-        options.tries options.resumes (script_batch_listed batch.now)
+    ensures reported { IfSome result (λ reported. IsBatchReported W.Wire options.opened
+        options.limits.tries options.limits.resumes (script_batch_listed batch.now)
         wire.old wire.new (O.contents report.old) (O.contents report.new) (host_report_of reported.report)
         reported.written) }
-    ensures cut { IfNone result (IsCutShort W.port W.plan W.lawful options.opened options.tries options.resumes
+    ensures cut { IfNone result (IsCutShort W.Wire options.opened options.limits.tries options.limits.resumes
         (script_batch_listed batch.now) wire.old wire.new) }
     ensures unwritten { IfNone result (O.contents report.new ≡ O.contents report.old) }
     ensures plan { W.plan wire.new ≡ W.plan wire.old }
@@ -195,11 +194,11 @@ pub(crate) fn report_batch<W: Wire, O: Write, A: Allocator + Copy>(
 ) -> Option<Reported<A>>
     requires batch { IsScriptBatch (script_batch_listed batch.now) }
     requires due { (W.port wire.old).link.due ≡ Nothing }
-    ensures reported { IfSome result (λ reported. IsBatchReported W.port W.plan W.lawful options.opened
-        options.tries options.resumes (script_batch_listed batch.now)
+    ensures reported { IfSome result (λ reported. IsBatchReported W.Wire options.opened
+        options.limits.tries options.limits.resumes (script_batch_listed batch.now)
         wire.old wire.new (O.contents report.old) (O.contents report.new) (host_report_of reported.report)
         reported.written) }
-    ensures cut { IfNone result (IsCutShort W.port W.plan W.lawful options.opened options.tries options.resumes
+    ensures cut { IfNone result (IsCutShort W.Wire options.opened options.limits.tries options.limits.resumes
         (script_batch_listed batch.now) wire.old wire.new) }
     ensures unwritten { IfNone result (O.contents report.new ≡ O.contents report.old) }
     ensures plan { W.plan wire.new ≡ W.plan wire.old }

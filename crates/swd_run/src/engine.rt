@@ -1,20 +1,23 @@
 //! Runs the calls of a script over any wire, and writes their reports, their trace and the accesses that it shows.
 ghost use Rattle.std.specs.Prelude.{ℕ, ◌≡◌, All as Each, List, [], ◌∷◌, ◌++◌, None, Option, map, true};
+ghost use Rattle.swd_port.specs.declared.call.Call.{Call};
 ghost use Rattle.swd_port.specs.declared.wire.Due.TheVariants.{Nothing};
 ghost use Rattle.swd_port.specs.Laws.Calls.{port_with_asked};
 ghost use Rattle.swd_host.specs.Reports.{host_report_of};
 ghost use Rattle.swd_trace.specs.Listed.{AreLegalItems};
-ghost use Rattle.swd_recorder.specs.Recorders.{recorder_lawful, recorder_plan, recorder_port};
+ghost use Rattle.swd_recorder.specs.Recorders.{recorder_plan, recorder_port};
 ghost use Rattle.swd_script.specs.Readers.{script_batch_listed};
 ghost use Rattle.swd_script.specs.Laws.{IsScriptBatch};
 ghost use Rattle.swd_script.specs.Scripts.{ScriptListed};
 ghost use Rattle.swd_run.specs.Unfoldings.{AreRunsOfBatch, BatchRuns, Unfolds, until_never_came};
-ghost use Rattle.swd_run.specs.Engine.{BatchAnswersAt, BatchAnswers, IsScriptFinished, RunFilesOutcome, run_port_seen};
+ghost use Rattle.swd_run.specs.Engine.{BatchAnswersAt, BatchAnswers, IsScriptFinished, RunFilesOutcome};
+ghost use Rattle.swd_run.specs.Wires.{run_recorder_wire, run_wire_seen};
 ghost use Rattle.swd_run.specs.Records.{run_files_from, run_files_of, run_file_held, wants_run_files, no_run_files};
 ghost use Rattle.swd_run.specs.TraceFiles.{IfRunTraceHasAll, run_trace_contents};
 
 use crate::batch_runs::{Reported, report_batch};
 use crate::fault::EngineFault;
+use crate::limits::Limits;
 use crate::options::CallOptions;
 use crate::performing::never_came;
 use crate::records::{Records, write_accesses};
@@ -81,19 +84,18 @@ impl Finished {
     }
 }
 
-// Runs the batches over a wire, up to the first that doesn't end `All`, or whose word never comes, or whose report can't
-// be written.
+// Runs the batches over a wire, up to the first that doesn't end `All`, or whose word never comes, or whose report
+// can't be written.
 fn run_reported<W: Wire, O: Write, A: Allocator + Copy>(
     alloc: A,
     wire: &mut W,
     batches: &[Batch<A>],
-    tries: u32,
-    resumes: u32,
+    limits: Limits,
     report: &mut O,
 ) -> Result<Finished, EngineFault>
     requires batches { Each IsScriptBatch (map script_batch_listed batches.now) }
     requires due { (W.port wire.old).link.due ≡ Nothing }
-    ensures answer { BatchAnswers W.port W.plan W.lawful tries resumes (map script_batch_listed batches.now) wire.old
+    ensures answer { BatchAnswers W.Wire limits.tries limits.resumes (map script_batch_listed batches.now) wire.old
         wire.new
         result (O.contents report.old) (O.contents report.new) no_run_files no_run_files }
     ensures plan { W.plan wire.new ≡ W.plan wire.old }
@@ -102,11 +104,7 @@ fn run_reported<W: Wire, O: Write, A: Allocator + Copy>(
     let mut written = 0u64;
     let mut opened = false;
     for batch in batches {
-        let options = CallOptions {
-            tries,
-            resumes,
-            opened,
-        };
+        let options = CallOptions { limits, opened };
         let Some(reported) = report_batch(alloc, wire, batch, options, report) else {
             return Err(EngineFault::Memory);
         };
@@ -133,21 +131,22 @@ fn run_reported<W: Wire, O: Write, A: Allocator + Copy>(
 // `finished`, or `TraceCut` if `cut`: the items are truncated.
 fn write_records<T: Write>(
     file: &Option<TraceFile<T>>,
-    accesses: &mut Option<T>,
+    records: &mut Records<T>,
     items: &[Item],
     cut: bool,
-    made: bool,
     finished: Finished,
 ) -> Result<Finished, EngineFault>
     requires { AreLegalItems items.now }
     ensures { (start : Option (Option (List ℕ))) → ∥ IfRunTraceHasAll T.contents start items.now file.now ∥₁
-        → RunFilesOutcome finished cut items.now (run_files_from start (run_file_held T.contents accesses.old) made)
-        (run_files_from (run_trace_contents T.contents file.now) (run_file_held T.contents accesses.new) made) result }
+        → RunFilesOutcome finished cut items.now
+        (run_files_from start (run_file_held T.contents records.old.accesses) records.old.made)
+        (run_files_from (run_trace_contents T.contents file.now) (run_file_held T.contents records.new.accesses)
+        records.new.made) result }
 {
     if let Err(written) = sent_to(file) {
         return Err(EngineFault::Write { written });
     }
-    if let Err(written) = write_accesses(accesses, items, made) {
+    if let Err(written) = write_accesses(&mut records.accesses, items, records.made) {
         return Err(EngineFault::WriteAccesses { written });
     }
     if cut {
@@ -157,39 +156,39 @@ fn write_records<T: Write>(
     }
 }
 
-// Runs the batches over a wire that is recorded from its start, and writes their reports and its trace while they go on,
-// and then the accesses. Returns the recorder and the trace's writer too.
-fn run_traced<B: Origin, W: Wire, O: Write, T: Write, A: Allocator + Copy>(
+// Runs the batches over a wire that is recorded from its start, and writes their reports and its trace while they go
+// on, and then the accesses. The trace's writer is put back among the files. Returns the recorder too.
+fn run_traced<B: Origin, W: Wire, O: Write, T: Write + Drop, A: Allocator + Copy>(
     alloc: A,
     traced: Traced<W, T, A, B>,
     batches: &[Batch<A>],
-    tries: u32,
-    resumes: u32,
+    limits: Limits,
     report: &mut O,
-    accesses: &mut Option<T>,
-    made: bool,
-) -> (Result<Finished, EngineFault>, Recorder<W, A>, Option<T>)
+    records: &mut Records<T>,
+) -> (Result<Finished, EngineFault>, Recorder<W, A>)
     requires batches { Each IsScriptBatch (map script_batch_listed batches.now) }
     requires due { (recorder_port traced.recorder).link.due ≡ Nothing }
     requires asked { (recorder_port traced.recorder).tally.asked ≡ 0 }
     requires start { B.start ≡ recorder_port traced.recorder }
-    requires wanted { wants_run_files (run_files_from B.before (run_file_held T.contents accesses.old) made) ≡ true }
-    ensures answer { BatchAnswers recorder_port recorder_plan recorder_lawful tries resumes
+    requires wanted { wants_run_files (run_files_from B.before (run_file_held T.contents records.old.accesses)
+        records.old.made) ≡ true }
+    ensures answer { BatchAnswers (run_recorder_wire B.noted) limits.tries limits.resumes
         (map script_batch_listed batches.now) traced.recorder
         result.1 result.0 (O.contents report.old) (O.contents report.new)
-        (run_files_from B.before (run_file_held T.contents accesses.old) made)
-        (run_files_from (run_file_held T.contents result.2) (run_file_held T.contents accesses.new) made) }
+        (run_files_from B.before (run_file_held T.contents records.old.accesses) records.old.made)
+        (run_files_of T.contents records.new) }
     ensures plan { recorder_plan result.1 ≡ recorder_plan traced.recorder }
 {
     let mut traced = traced;
-    let ran = run_reported(alloc, &mut traced, batches, tries, resumes, report);
+    let ran = run_reported(alloc, &mut traced, batches, limits, report);
     let (recorder, file) = traced.finish();
     let (items, cut) = (recorder.items(), recorder.is_cut());
     let answer = match ran {
-        Ok(finished) => write_records(&file, accesses, items, cut, made, finished),
+        Ok(finished) => write_records(&file, records, items, cut, finished),
         Err(fault) => Err(fault),
     };
-    (answer, recorder, writer_of(file))
+    records.trace = writer_of(file);
+    (answer, recorder)
 }
 
 // Records a wire, runs the batches over it, and writes their reports and the other files.
@@ -197,8 +196,7 @@ fn run_recorded<B: Origin, W: Wire, O: Write, T: Write + Drop, A: Allocator + Co
     alloc: A,
     wire: W,
     batches: &[Batch<A>],
-    tries: u32,
-    resumes: u32,
+    limits: Limits,
     report: &mut O,
     records: &mut Records<T>,
 ) -> (Result<Finished, EngineFault>, W)
@@ -207,24 +205,14 @@ fn run_recorded<B: Origin, W: Wire, O: Write, T: Write + Drop, A: Allocator + Co
     requires start { B.start ≡ port_with_asked 0 (W.port wire) }
     requires before { B.before ≡ run_file_held T.contents records.old.trace }
     requires wanted { wants_run_files (run_files_of T.contents records.old) ≡ true }
-    ensures answer { (counted : ℕ)
-        × BatchAnswers (run_port_seen true W.port) (λ seen. W.plan seen.1) (λ seen. W.lawful seen.1) tries resumes
-        (map script_batch_listed batches.now) (0, wire) (counted, result.1) result.0 (O.contents report.old) (O.contents report.new)
+    ensures answer { (calls : List Call) × BatchAnswers (run_wire_seen true W.Wire B.noted) limits.tries limits.resumes
+        (map script_batch_listed batches.now) ([], wire) (calls, result.1) result.0 (O.contents report.old)
+        (O.contents report.new)
         (run_files_of T.contents records.old) (run_files_of T.contents records.new) }
     ensures plan { W.plan result.1 ≡ W.plan wire }
 {
     let traced = Traced::<W, T, A, B>::new(alloc, wire, records.trace.take());
-    let (answer, recorder, writer) = run_traced(
-        alloc,
-        traced,
-        batches,
-        tries,
-        resumes,
-        report,
-        &mut records.accesses,
-        records.made,
-    );
-    records.trace = writer;
+    let (answer, recorder) = run_traced(alloc, traced, batches, limits, report, records);
     (answer, recorder.into_wire())
 }
 
@@ -242,10 +230,13 @@ fn run_recorded<B: Origin, W: Wire, O: Write, T: Write + Drop, A: Allocator + Co
 /// The first call opens the target. Each later one, also each further read of an `until`, goes over the target that the
 /// call before left open. So between two calls nothing else may drive the wire, and the target may not be reset.
 ///
-/// `tries` is the number of events that the opening, and each access, may meet. After a lost acknowledgement a call
-/// continues by `swd_host::resume`, which opens the target again, at most `resumes` times. The report has a line for each
-/// time. A call allocates its answers before it starts, and nothing after that. Only the read of an `until` also allocates
-/// the places where it is resumed.
+/// Whatever comes back, and whatever the result is, the calls made of the wire are those that the reports describe:
+/// exactly the requests that each counts, and a data phase of DRW only for an access that it answers or leaves begun.
+///
+/// `limits.tries` is the number of events that the opening, and each access, may meet. After a lost acknowledgement a
+/// call continues by `swd_host::resume`, which opens the target again, at most `limits.resumes` times. The report has a
+/// line for each time. A call allocates its answers before it starts, and nothing after that. Only the read of an
+/// `until` also allocates the places where it is resumed.
 ///
 /// The trace has the items that a `swd_recorder::Recorder` keeps, as bits in characters, one item a line. These bits
 /// decode to the same items. If the target conforms to the model and was at rest, a trace that isn't truncated has one
@@ -254,7 +245,8 @@ fn run_recorded<B: Origin, W: Wire, O: Write, T: Write + Drop, A: Allocator + Co
 /// `records.made`. If an allocation for an item fails, the run continues. Without such a file no items are kept.
 ///
 /// The lines of the trace's items are written at each line reset, as the first call and each resumed one begin with,
-/// after every 1,024 items, and after the last call. If the trace's writer fails, the calls go on, and nothing more is written to it.
+/// after every 1,024 items, and after the last call. If the trace's writer fails, the calls go on, and nothing more is
+/// written to it.
 ///
 /// # Errors
 ///
@@ -264,9 +256,9 @@ fn run_recorded<B: Origin, W: Wire, O: Write, T: Write + Drop, A: Allocator + Co
 /// Returns `Write` if the report's writer failed or took no bytes. Exactly the first `written` bytes of the reports
 /// were written then, including all reports of the calls before. No call was made after that.
 ///
-/// In both cases the trace has items that its bits decode to, or exactly the first bytes of their lines if its writer
-/// failed, and nothing of the accesses was written. At `Write` it has at most one transaction for each request, if the
-/// target conforms to the model and was at rest. That these items are all so far is only tested.
+/// In both cases the trace has the items of the first calls so far, or exactly the first bytes of their lines if its
+/// writer failed. Nothing of the accesses was written. That these are all calls so far, unless an allocation for an
+/// item failed, is only tested.
 ///
 /// Returns `Write` too if the trace's writer failed: the reports are complete, exactly the first `written` bytes of
 /// the trace were written, and nothing of the accesses. Returns `WriteAccesses` if the accesses' writer failed: the
@@ -277,25 +269,22 @@ pub fn run_batches<W: Wire, O: Write, T: Write + Drop, A: Allocator + Copy>(
     alloc: A,
     wire: W,
     batches: &[Batch<A>],
-    tries: u32,
-    resumes: u32,
+    limits: Limits,
     report: &mut O,
     records: &mut Records<T>,
 ) -> (Result<Finished, EngineFault>, W)
     requires batches { Each IsScriptBatch (map script_batch_listed batches.now) }
     requires due { (W.port wire).link.due ≡ Nothing }
-    ensures answer { BatchAnswersAt W.port W.plan W.lawful tries resumes (map script_batch_listed batches.now) wire
+    ensures answer { BatchAnswersAt W.Wire limits.tries limits.resumes (map script_batch_listed batches.now) wire
         result.1 result.0
         (O.contents report.old) (O.contents report.new) (run_files_of T.contents records.old)
         (run_files_of T.contents records.new) }
     ensures plan { W.plan result.1 ≡ W.plan wire }
 {
     if records.is_wanted() {
-        return run_recorded::<Brand, W, O, T, A>(
-            alloc, wire, batches, tries, resumes, report, records,
-        );
+        return run_recorded::<Brand, W, O, T, A>(alloc, wire, batches, limits, report, records);
     }
     let mut wire = wire;
-    let answer = run_reported(alloc, &mut wire, batches, tries, resumes, report);
+    let answer = run_reported(alloc, &mut wire, batches, limits, report);
     (answer, wire)
 }

@@ -5,11 +5,13 @@ ghost use Rattle.swd_script.specs.Readers.{script_batch_listed};
 ghost use Rattle.swd_script.specs.Laws.{IsScriptBatch};
 ghost use Rattle.swd_host.specs.Plain.{AreHostAccesses};
 ghost use Rattle.swd_host.specs.Reports.{host_report_to};
+ghost use Rattle.swd_host.specs.Sent.{HostCalls, HostReportsCalls};
 ghost use Rattle.swd_host.specs.Tasks.{bursts_limit};
 ghost use Rattle.swd_run.specs.declared.going_on.Stop.{Stop as StopType};
 ghost use Rattle.swd_run.specs.Sessions.{RunsBatch, RunsBatchFrom, IsBatchRefused, script_run_of, batch_limit};
 ghost use Rattle.swd_run.specs.Starts.{ScriptCallCloses, ScriptCallFits};
 
+use crate::limits::Limits;
 use crate::options::CallOptions;
 use crate::run_sink::{KeptAnswers, RunSink};
 use std::alloc::Allocator;
@@ -61,24 +63,26 @@ fn begin<W: Wire, K: AnswerSink, A: Allocator>(
     ensures accepted { (length (script_batch_listed batch.now).accesses ≤ 65536)
         × AreHostAccesses (script_batch_listed batch.now).accesses }
     ensures closes { ScriptCallCloses options.opened (batch_limit (script_batch_listed batch.now))
-        (script_batch_listed batch.now).accesses options.tries (host_report_to (K.taken sink.new) result)
+        (script_batch_listed batch.now).accesses options.limits.tries (host_report_to (K.taken sink.new) result)
         (W.port wire.new).link.due }
     ensures fits { W.lawful wire.new → W.lawful wire.old
         × ScriptCallFits options.opened (batch_limit (script_batch_listed batch.now))
-        (script_batch_listed batch.now).accesses options.tries (host_report_to (K.taken sink.new) result)
+        (script_batch_listed batch.now).accesses options.limits.tries (host_report_to (K.taken sink.new) result)
         (W.port wire.old) (W.port wire.new) }
+    ensures told { HostCalls W.notes (HostReportsCalls (script_batch_listed batch.now).accesses
+        (host_report_to (K.taken sink.new) result)) wire.old wire.new }
     ensures keeps { K.keeps sink.old sink.new }
     ensures most { K.most sink.old ≤ K.most sink.new }
     ensures plan { W.plan wire.new ≡ W.plan wire.old }
 {
     let accesses = batch.accesses.as_slice();
     if options.opened {
-        return match run_open_to(wire, accesses, bursts_of(batch), options.tries, sink) {
+        return match run_open_to(wire, accesses, bursts_of(batch), options.limits.tries, sink) {
             Ok(ending) => ending,
             Err(_) => unreachable!(),
         };
     }
-    match run_to(wire, accesses, bursts_of(batch), options.tries, sink) {
+    match run_to(wire, accesses, bursts_of(batch), options.limits.tries, sink) {
         Ok(ending) => ending,
         Err(_) => unreachable!(),
     }
@@ -96,17 +100,17 @@ pub(crate) fn make_call_to<W: Wire, K: RunSink, A: Allocator>(
     requires none { K.taken sink.old ≡ [] }
     requires room { length (script_batch_listed batch.now).accesses ≤ K.most sink.old }
     ensures goes { IfOk result (λ ending. (stops : List StopType) × K.follows sink.old stops sink.new
-        × RunsBatchFrom W.port W.plan W.lawful options.opened (batch_limit (script_batch_listed batch.now))
-        options.tries options.resumes (script_batch_listed batch.now) wire.old
+        × RunsBatchFrom W.Wire options.opened (batch_limit (script_batch_listed batch.now))
+        options.limits.tries options.limits.resumes (script_batch_listed batch.now) wire.old
         (record { stops = stops; told = host_report_to (K.taken sink.new) ending }) wire.new) }
-    ensures refused { OnErr result (IsBatchRefused W.port W.plan W.lawful options.opened
-        (batch_limit (script_batch_listed batch.now)) options.tries options.resumes (script_batch_listed batch.now)
-        wire.old wire.new) }
+    ensures refused { OnErr result (IsBatchRefused W.Wire options.opened
+        (batch_limit (script_batch_listed batch.now)) options.limits.tries options.limits.resumes
+        (script_batch_listed batch.now) wire.old wire.new) }
     ensures plan { W.plan wire.new ≡ W.plan wire.old }
 {
     let mut ending = begin(wire, batch, options, sink);
     let accesses = batch.accesses.as_slice();
-    for done in 0..options.resumes {
+    for done in 0..options.limits.resumes {
         let End::Lost = ending.ended else {
             return Ok(ending);
         };
@@ -115,14 +119,14 @@ pub(crate) fn make_call_to<W: Wire, K: RunSink, A: Allocator>(
             begun: ending.begun,
             requests: ending.requests,
         })?;
-        ending = resume_to(wire, accesses, ending, options.tries, sink);
+        ending = resume_to(wire, accesses, ending, options.limits.tries, sink);
     }
     Ok(ending)
 }
 
-/// Performs the accesses of a batch over a wire, and resumes the run after a lost acknowledgement, at most `resumes`
-/// times. Hands each answer on once it is certain, and the place where the run is resumed before the next call. Allocates
-/// no memory itself.
+/// Performs the accesses of a batch over a wire, and resumes the run after a lost acknowledgement, at most
+/// `limits.resumes` times. Hands each answer on once it is certain, and the place where the run is resumed before the
+/// next call. Allocates no memory itself.
 ///
 /// # Errors
 ///
@@ -130,8 +134,7 @@ pub(crate) fn make_call_to<W: Wire, K: RunSink, A: Allocator>(
 pub fn run_on_to<W: Wire, K: RunSink, A: Allocator>(
     wire: &mut W,
     batch: &Batch<A>,
-    tries: u32,
-    resumes: u32,
+    limits: Limits,
     sink: &mut K,
 ) -> Result<Ending, K::Refusal>
     requires batch { IsScriptBatch (script_batch_listed batch.now) }
@@ -139,17 +142,16 @@ pub fn run_on_to<W: Wire, K: RunSink, A: Allocator>(
     requires none { K.taken sink.old ≡ [] }
     requires room { length (script_batch_listed batch.now).accesses ≤ K.most sink.old }
     ensures goes { IfOk result (λ ending. (stops : List StopType) × K.follows sink.old stops sink.new
-        × RunsBatch W.port W.plan W.lawful (batch_limit (script_batch_listed batch.now)) tries resumes
+        × RunsBatch W.Wire (batch_limit (script_batch_listed batch.now)) limits.tries limits.resumes
         (script_batch_listed batch.now) wire.old
         (record { stops = stops; told = host_report_to (K.taken sink.new) ending }) wire.new) }
-    ensures refused { OnErr result (IsBatchRefused W.port W.plan W.lawful false
-        (batch_limit (script_batch_listed batch.now)) tries resumes
+    ensures refused { OnErr result (IsBatchRefused W.Wire false
+        (batch_limit (script_batch_listed batch.now)) limits.tries limits.resumes
         (script_batch_listed batch.now) wire.old wire.new) }
     ensures plan { W.plan wire.new ≡ W.plan wire.old }
 {
     let options = CallOptions {
-        tries,
-        resumes,
+        limits,
         opened: false,
     };
     make_call_to(wire, batch, options, sink)
@@ -164,11 +166,11 @@ pub(crate) fn make_call<W: Wire, A: Allocator + Copy>(
 ) -> Option<Resumed<A>>
     requires batch { IsScriptBatch (script_batch_listed batch.now) }
     requires due { (W.port wire.old).link.due ≡ Nothing }
-    ensures goes { IfSome result (λ resumed. RunsBatchFrom W.port W.plan W.lawful options.opened
-        (batch_limit (script_batch_listed batch.now)) options.tries options.resumes
+    ensures goes { IfSome result (λ resumed. RunsBatchFrom W.Wire options.opened
+        (batch_limit (script_batch_listed batch.now)) options.limits.tries options.limits.resumes
         (script_batch_listed batch.now) wire.old (script_run_of resumed) wire.new) }
-    ensures refused { IfNone result (IsBatchRefused W.port W.plan W.lawful options.opened
-        (batch_limit (script_batch_listed batch.now)) options.tries options.resumes
+    ensures refused { IfNone result (IsBatchRefused W.Wire options.opened
+        (batch_limit (script_batch_listed batch.now)) options.limits.tries options.limits.resumes
         (script_batch_listed batch.now) wire.old wire.new) }
     ensures plan { W.plan wire.new ≡ W.plan wire.old }
 {
@@ -189,28 +191,27 @@ pub(crate) fn make_call<W: Wire, A: Allocator + Copy>(
     })
 }
 
-/// Performs the accesses of a batch over a wire, and resumes the run after a lost acknowledgement, at most `resumes`
-/// times. Returns `None` if an allocation fails, before the first bit is sent or when the run is to be resumed.
+/// Performs the accesses of a batch over a wire, and resumes the run after a lost acknowledgement, at most
+/// `limits.resumes` times. Returns `None` if an allocation fails, before the first bit is sent or when the run is to be
+/// resumed.
 pub fn run_on<W: Wire, A: Allocator + Copy>(
     alloc: A,
     wire: &mut W,
     batch: &Batch<A>,
-    tries: u32,
-    resumes: u32,
+    limits: Limits,
 ) -> Option<Resumed<A>>
     requires batch { IsScriptBatch (script_batch_listed batch.now) }
     requires due { (W.port wire.old).link.due ≡ Nothing }
-    ensures goes { IfSome result (λ resumed. RunsBatch W.port W.plan W.lawful
-        (batch_limit (script_batch_listed batch.now)) tries resumes
+    ensures goes { IfSome result (λ resumed. RunsBatch W.Wire
+        (batch_limit (script_batch_listed batch.now)) limits.tries limits.resumes
         (script_batch_listed batch.now) wire.old (script_run_of resumed) wire.new) }
-    ensures refused { IfNone result (IsBatchRefused W.port W.plan W.lawful false
-        (batch_limit (script_batch_listed batch.now)) tries resumes
+    ensures refused { IfNone result (IsBatchRefused W.Wire false
+        (batch_limit (script_batch_listed batch.now)) limits.tries limits.resumes
         (script_batch_listed batch.now) wire.old wire.new) }
     ensures plan { W.plan wire.new ≡ W.plan wire.old }
 {
     let options = CallOptions {
-        tries,
-        resumes,
+        limits,
         opened: false,
     };
     make_call(alloc, wire, batch, options)

@@ -18,9 +18,9 @@ pub fn recorded_accesses()
     ensures any { AnyRunTraceIsAccounted }
 {}
 
-/// States what the accesses that an observer reports have to do with the answers of runs. Let successive runs and blocks
-/// over a target at rest each have ended `All`. Then accesses that explain what the memory logged in them explain the
-/// transfers of their answers: one for each access of the lists, but for bus errors.
+/// States what the accesses that an observer reports have to do with the answers of runs. Let successive runs and
+/// blocks over a target at rest each have ended `All`. Then accesses that explain what the memory logged in them
+/// explain the transfers of their answers: one for each access of the lists, but for bus errors.
 ///
 /// If none is reported as `May`, those that took effect are these transfers, one by one and in order. Each has the
 /// direction of its transfer, and its address and word unless they are unknown. If none of these is unknown, they are

@@ -19,8 +19,8 @@ use swd_port::{Access, Answer};
 const MOST_WAITING: usize = 1024;
 
 /// Appends the line of each answer to a block when the answer comes, and a line wherever the run is resumed, and passes
-/// the answers on. Writes the block after every 1,024 answers. If the writer fails, the further lines are dropped, and the
-/// block keeps the count of the bytes written.
+/// the answers on. Writes the block after every 1,024 answers. If the writer fails, the further lines are dropped, and
+/// the block keeps the count of the bytes written.
 #[derive(Drop)]
 pub(crate) struct Reporting<'a, 'b, W, K> {
     /// What the lines are appended to.
@@ -87,7 +87,8 @@ impl<'a, 'b, W: Write, K: AnswerSink> RunSink for Reporting<'a, 'b, W, K> {
       writer = next.writer ∙ first.writer;
       answers = next.answers ∙ first.answers;
       accesses = next.accesses ∙ first.accesses;
-      has = λ start. leads_further (Has W.contents K.taken start) a b c stops further (first.has start) (next.has start);
+      has = λ start. leads_further (Has W.contents K.taken start) a b c stops further (first.has start)
+          (next.has start);
     } };
 }
 

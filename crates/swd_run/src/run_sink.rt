@@ -10,8 +10,8 @@ use std::alloc::Allocator;
 use swd_host::AnswerSink;
 use swd_port::Answer;
 
-/// Takes the answers of a run in order, each once it is certain, and the places where the run is resumed, each before the
-/// next call.
+/// Takes the answers of a run in order, each once it is certain, and the places where the run is resumed, each before
+/// the next call.
 pub trait RunSink: AnswerSink {
     /// The reason why it doesn't take a place: `Infallible` for a sink that takes each.
     type Refusal;

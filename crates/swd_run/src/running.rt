@@ -12,6 +12,7 @@ ghost use Rattle.swd_run.specs.Running.{with_full_room};
 
 use crate::engine::{Finished, run_batches};
 use crate::fault::{EngineFault, RunFault};
+use crate::limits::Limits;
 use crate::records::Records;
 use crate::texts::{Texts, read_texts};
 use std::alloc::Allocator;
@@ -98,15 +99,15 @@ pub fn run_script<W: Write, T: Write + Drop, A: Allocator + Copy>(
     alloc: A,
     script: &Script<A>,
     plan: Vec<Mark, A>,
-    tries: u32,
-    resumes: u32,
+    limits: Limits,
     writer: &mut W,
     records: &mut Records<T>,
 ) -> Result<Finished, EngineFault>
     requires script { IsScriptRunnable (read_script_meaning script.now) }
     requires plan { IsLegalPlan plan.items }
-    ensures { ScriptRunAnswers tries resumes (read_script_meaning script.now) plan.items result (W.contents writer.old)
-        (W.contents writer.new) (run_files_of T.contents records.old) (run_files_of T.contents records.new) }
+    ensures { ScriptRunAnswers limits.tries limits.resumes (read_script_meaning script.now) plan.items result
+        (W.contents writer.old) (W.contents writer.new) (run_files_of T.contents records.old)
+        (run_files_of T.contents records.new) }
 {
     let Some(bench) = target_of(alloc, script, plan) else {
         return Err(EngineFault::Memory);
@@ -114,7 +115,7 @@ pub fn run_script<W: Write, T: Write + Drop, A: Allocator + Copy>(
     // The marks that a run uses are among those of the plan.
     marks_used::<Memory<A>, A>();
     let batches = script.batches.as_slice();
-    let (answer, bench) = run_batches(alloc, bench, batches, tries, resumes, writer, records);
+    let (answer, bench) = run_batches(alloc, bench, batches, limits, writer, records);
     with_full(answer, full_room(bench.memory(), script.room))
 }
 
@@ -131,12 +132,11 @@ pub fn run_text<S: Read, P: Read, W: Write, T: Write + Drop, A: Allocator + Copy
     alloc: A,
     script: &mut S,
     plan: &mut P,
-    tries: u32,
-    resumes: u32,
+    limits: Limits,
     writer: &mut W,
     records: &mut Records<T>,
 ) -> Result<Finished, RunFault>
-    ensures { RunsText tries resumes result (S.remaining script.old) (P.remaining plan.old)
+    ensures { RunsText limits.tries limits.resumes result (S.remaining script.old) (P.remaining plan.old)
         (W.contents writer.old) (W.contents writer.new) (run_files_of T.contents records.old)
         (run_files_of T.contents records.new) }
 {
@@ -144,7 +144,7 @@ pub fn run_text<S: Read, P: Read, W: Write, T: Write + Drop, A: Allocator + Copy
         Ok(texts) => texts,
         Err(fault) => return Err(RunFault::Texts(fault)),
     };
-    match run_script(alloc, &script, plan, tries, resumes, writer, records) {
+    match run_script(alloc, &script, plan, limits, writer, records) {
         Ok(finished) => Ok(finished),
         Err(fault) => Err(RunFault::Engine(fault)),
     }

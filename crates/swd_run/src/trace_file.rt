@@ -98,8 +98,8 @@ fn is_reset(cue: Cue) -> bool {
     }
 }
 
-/// Writes the lines of the items that no further call changes: all but the last one. It does so after a line reset, with
-/// which each opening begins, and where many lines wait.
+/// Writes the lines of the items that no further call changes: all but the last one. It does so after a line reset,
+/// with which each opening begins, and where many lines wait.
 #[inline]
 pub(crate) fn write_settled<T: Write>(file: &mut Option<TraceFile<T>>, items: &[Item], cue: Cue)
     requires legal { AreLegalItems items.now }

@@ -1,7 +1,8 @@
 //! A recorder whose calls are known to be steps of the port model from the start of a run on. It writes the file of its
 //! trace while it goes on.
-ghost use Rattle.std.specs.Prelude.{◌≡◌, ◌-◌, ◌≤◌, [], List, None, Option, length, ℕ};
+ghost use Rattle.std.specs.Prelude.{◌≡◌, ◌-◌, ◌≤◌, [], List, None, Option, length, true, ℕ};
 ghost use Rattle.std.specs.FinMap.{empty};
+ghost use Rattle.swd_port.specs.declared.call.Call.{Call};
 ghost use Rattle.swd_port.specs.declared.wire.Due.TheVariants.{Nothing};
 ghost use Rattle.swd_port.specs.Bus.{bus_of};
 ghost use Rattle.swd_port.specs.Port.{Port, port_made};
@@ -10,6 +11,7 @@ ghost use Rattle.swd_recorder.specs.Recorders.{recorder_calls, recorder_kept, re
 ghost use Rattle.swd_run.specs.Recorded.{RunCallsStepped};
 ghost use Rattle.swd_run.specs.Records.{run_file_held};
 ghost use Rattle.swd_run.specs.TraceFiles.{IfRunTraceHasAll, IfRunTraceHasDone, run_trace_count_done};
+ghost use Rattle.swd_run.specs.Wires.{run_wire_seen};
 
 use crate::trace_file::{TraceFile, fresh, write_rest, write_settled};
 use std::alloc::Allocator;
@@ -18,18 +20,22 @@ use std::marker::{Brand, PhantomData};
 use swd_port::{Cue, Due, Wire};
 use swd_recorder::Recorder;
 
-/// The state of the port model at the start of a recorded run, and the contents of the trace's writer, if there is one.
-/// They are for contracts alone: a caller passes [`Brand`], and its proof gives them.
+/// The state of the port model at the start of a recorded run, the contents of the trace's writer, if there is one, and
+/// which calls the wire had noted. They are for contracts alone: a caller passes [`Brand`], and its proof gives them.
 pub(crate) trait Origin {
     ghost start: { Port };
 
     ghost before: { Option (Option (List ℕ)) };
+
+    ghost noted: { List Call → Type 0 };
 }
 
 impl Origin for Brand {
     ghost start = { port_made 0 (bus_of (record { words = empty; log = []; room = 0 })) };
 
     ghost before = { None };
+
+    ghost noted = { λ calls. ⊥ };
 }
 
 /// A recorder that was made at the start of a run. If its wire is lawful, its calls are steps of the port model from
@@ -55,6 +61,7 @@ impl<W: Wire, T: Write, A: Allocator, B: Origin> Traced<W, T, A, B> {
         requires due { (W.port wire).link.due ≡ Nothing }
         requires start { B.start ≡ port_with_asked 0 (W.port wire) }
         requires before { B.before ≡ run_file_held T.contents writer }
+        ensures calls { recorder_calls result.recorder ≡ [] }
         ensures port { recorder_port result.recorder ≡ port_with_asked 0 (W.port wire) }
         ensures plan { recorder_plan result.recorder ≡ W.plan wire }
         ensures wire { recorder_wire_under result.recorder ≡ wire }
@@ -82,13 +89,16 @@ impl<W: Wire, T: Write, A: Allocator, B: Origin> Traced<W, T, A, B> {
 }
 
 impl<W: Wire, T: Write, A: Allocator, B: Origin> Wire for Traced<W, T, A, B> {
-    ghost use Rattle.swd_recorder.specs.Recorders.{recorder_plan};
+    ghost use Rattle.swd_recorder.specs.Recorders.{recorder_plan, recorder_wire_under};
 
     ghost port = { λ traced. recorder_port traced.recorder };
 
     ghost plan = { λ traced. recorder_plan traced.recorder };
 
     ghost lawful = { λ traced. recorder_lawful traced.recorder };
+
+    ghost notes = { λ calls traced. (run_wire_seen true W.Wire B.noted).notes calls
+        (recorder_calls traced.recorder, recorder_wire_under traced.recorder) };
 
     fn due(&self) -> Due {
         self.recorder.due()

@@ -13,7 +13,7 @@ use std::io::{Read, Write};
 use std::marker::{Brand, PhantomData};
 use swd_console::{Clock, Console};
 use swd_port::Mark;
-use swd_run::{EngineFault, Finished, Records, RunFault, Texts, read_texts, run_script};
+use swd_run::{EngineFault, Finished, Limits, Records, RunFault, Texts, read_texts, run_script};
 use swd_script::Script;
 use swd_words::RunLine;
 
@@ -63,7 +63,11 @@ fn run_to_same<O: Write, T: Write + Drop, E: Write, C: Clock, L: Loan, A: Alloca
         (O.contents report.old.progress.report.now) (O.contents report.new.progress.report.now)
         (run_files_of T.contents records.old) (run_files_of T.contents records.new) }
 {
-    run_script(alloc, script, plan, run.tries, run.resumes, report, records)
+    let limits = Limits {
+        tries: run.tries,
+        resumes: run.resumes,
+    };
+    run_script(alloc, script, plan, limits, report, records)
 }
 
 // Runs the script, and returns the writer of the report, which holds the same borrow.

@@ -16,10 +16,10 @@ use swd_console::{
     TrackedReader, Watched, WriteRole, cannot_open, cut_off, gone_status, line_streams,
     name_or_nothing, run_status, script_status, tell, tell_failure,
 };
-use swd_ends::{RemoteFault, run_remote, run_remote_script};
+use swd_ends::{Line, RemoteFault, run_remote, run_remote_script};
 use swd_port::Story;
 use swd_remote::RemoteStreams;
-use swd_run::{Finished, Records};
+use swd_run::{Finished, Limits, Records};
 use swd_script::read_script;
 use swd_words::RunLine;
 
@@ -216,10 +216,14 @@ fn run_paced<
     let (answer, line) = run_remote_script::<P, _, _, _, _, _>(
         console.alloc,
         &script,
-        input,
-        output,
-        run.tries,
-        run.resumes,
+        Line {
+            reader: input,
+            writer: output,
+        },
+        Limits {
+            tries: run.tries,
+            resumes: run.resumes,
+        },
         &mut report,
         &mut records,
     );
@@ -263,15 +267,19 @@ fn report_to_errors<
         result.1 (S.remaining script.entry.reader) }
 {
     let (mut script, mut records) = (script, records);
-    let (tries, resumes) = (run.tries, run.resumes);
+    let limits = Limits {
+        tries: run.tries,
+        resumes: run.resumes,
+    };
     let mut report = errors_writer::<T, E>(&mut *console.errors);
     let (answer, line) = run_remote::<P, _, _, _, _, _, _>(
         console.alloc,
         &mut script,
-        input,
-        output,
-        tries,
-        resumes,
+        Line {
+            reader: input,
+            writer: output,
+        },
+        limits,
         &mut report,
         &mut records,
     );

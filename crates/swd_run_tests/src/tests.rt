@@ -6,7 +6,7 @@ use swd_fakes::{FailingReader, ShortWriter};
 use swd_host::End;
 use swd_port::{Access, Answer};
 use swd_run::{
-    EngineFault, Finished, Records, RunFault, Stop, TextsFault, answer_line, last_line,
+    EngineFault, Finished, Limits, Records, RunFault, Stop, TextsFault, answer_line, last_line,
     resume_line, run_text,
 };
 use swd_script::ScriptFault;
@@ -16,6 +16,7 @@ mod expect;
 mod faults;
 mod flash;
 mod images;
+mod jobs;
 mod logged;
 mod long_texts;
 mod memory_server;
@@ -29,6 +30,7 @@ mod same_reports;
 mod serving;
 mod sessions;
 mod simulated;
+mod stopped;
 mod streamed;
 mod streamed_trace;
 mod tracing;
@@ -39,11 +41,6 @@ mod untils;
 struct Ran {
     answer: Result<Finished, RunFault>,
     text: Vec<u8>,
-}
-
-/// No writer of a report.
-fn no_report() -> Option<Vec<u8>> {
-    None
 }
 
 // A run that ended so, in which no word differed and no access met a bus error.
@@ -97,8 +94,7 @@ fn resumed_on(rt: &HostRuntime, script: &[u8], plan: &[u8], tries: u32, resumes:
         rt.alloc(),
         &mut script,
         &mut plan,
-        tries,
-        resumes,
+        Limits { tries, resumes },
         &mut text,
         &mut Records::<Vec<u8>>::none(),
     );
@@ -106,6 +102,14 @@ fn resumed_on(rt: &HostRuntime, script: &[u8], plan: &[u8], tries: u32, resumes:
 }
 
 const TRIES: u32 = 8;
+
+// Returns what each call may meet, if it may be resumed so often.
+fn limits(resumes: u32) -> Limits {
+    Limits {
+        tries: TRIES,
+        resumes,
+    }
+}
 
 const WORKED: &[u8] = b"memory 20000000 16\nw 20000000 deadbeef\nrn 20000000 2\nr 30000000\n";
 
@@ -185,8 +189,7 @@ fn a_run_at_each_read_that_fails(rt: HostRuntime) {
             rt.alloc(),
             &mut script,
             &mut plan,
-            TRIES,
-            0,
+            limits(0),
             &mut text,
             &mut Records::<Vec<u8>>::none(),
         );
@@ -201,8 +204,7 @@ fn a_run_at_each_read_that_fails(rt: HostRuntime) {
             rt.alloc(),
             &mut script,
             &mut plan,
-            TRIES,
-            0,
+            limits(0),
             &mut text,
             &mut Records::<Vec<u8>>::none(),
         );
@@ -222,8 +224,7 @@ fn a_run_at_each_write_that_fails(rt: HostRuntime) {
                 rt.alloc(),
                 &mut script,
                 &mut plan,
-                TRIES,
-                0,
+                limits(0),
                 &mut writer,
                 &mut Records::<Vec<u8>>::none(),
             );
@@ -262,8 +263,7 @@ fn a_long_report_where_a_write_fails(rt: HostRuntime) -> Result<(), Fail> {
             rt.alloc(),
             &mut script,
             &mut plan,
-            TRIES,
-            0,
+            limits(0),
             &mut writer,
             &mut Records::<Vec<u8>>::none(),
         );

@@ -1,13 +1,13 @@
 //! The reports of the calls of loads, verifications and dumps.
 use super::expect::{expect_at, expect_eq_at};
-use super::{BASE, TRIES, WORDS, target_of};
+use super::{BASE, WORDS, limits, target_of};
 use linked_list_allocator::LocalHeap;
 use std::alloc::Allocator;
 use std::io::Write;
 use std::test::Fail;
 use swd_fakes::ShortWriter;
 use swd_host::End;
-use swd_image::{ByteDifference, ImageFault, dump_reporting, load_reporting, verify_reporting};
+use swd_image::{ByteDifference, ImageFault, dump, load, verify};
 use swd_port::{Due, Mark, Wire};
 
 // A load, what it ends with, and the report of its calls.
@@ -112,13 +112,12 @@ fn load_of<W: Wire, O: Write, A: Allocator + Copy>(
     report: &mut Option<O>,
 ) -> Option<Result<(), ImageFault>> {
     match wire.due() {
-        Due::Nothing => Some(load_reporting(
+        Due::Nothing => Some(load(
             alloc,
             wire,
             row.addr,
             row.bytes,
-            TRIES,
-            row.resumes,
+            limits(row.resumes),
             report,
         )),
         _ => None,
@@ -224,7 +223,7 @@ fn a_dump_and_a_verification(rt: HostRuntime) -> Result<(), Fail> {
     let mut bench = target.expect(&rt, "a target");
     if let Due::Nothing = bench.due() {
         let mut report = Some(Vec::new(rt.alloc()));
-        let bytes = dump_reporting(rt.alloc(), &mut bench, BASE + 3, 6, TRIES, 0, &mut report)?;
+        let bytes = dump(rt.alloc(), &mut bench, BASE + 3, 6, limits(0), &mut report)?;
         let found = b"\x44\x55\x66\x77\x88\x99".as_slice();
         expect_eq_at(&rt, &"dump", &bytes.as_slice(), &found);
         expect_eq_at(&rt, &"dump", &text_of(&report), &THREE_READS);
@@ -232,13 +231,12 @@ fn a_dump_and_a_verification(rt: HostRuntime) -> Result<(), Fail> {
     if let Due::Nothing = bench.due() {
         let mut report = Some(Vec::new(rt.alloc()));
         let bytes = b"\x44\x55\x66\x77\x88\x9a".as_slice();
-        let found = verify_reporting(
+        let found = verify(
             rt.alloc(),
             &mut bench,
             BASE + 3,
             bytes,
-            TRIES,
-            0,
+            limits(0),
             &mut report,
         )?;
         let difference = ByteDifference {
@@ -249,13 +247,12 @@ fn a_dump_and_a_verification(rt: HostRuntime) -> Result<(), Fail> {
         expect_eq_at(&rt, &"verify", &found, &Some(difference));
         expect_eq_at(&rt, &"verify", &text_of(&report), &THREE_READS);
         let mut short = Some(ShortWriter::new(rt.alloc(), 7, true));
-        let found = verify_reporting(
+        let found = verify(
             rt.alloc(),
             &mut bench,
             BASE + 3,
             bytes,
-            TRIES,
-            0,
+            limits(0),
             &mut short,
         );
         expect_eq_at(

@@ -1,6 +1,6 @@
 //! Runs with their accesses: worked ones, and writers that fail.
 use super::expect::expect_eq_at;
-use super::{ONE_READ, ONE_WRITE, TRIES, WORKED, WORKED_REPORT};
+use super::{ONE_READ, ONE_WRITE, WORKED, WORKED_REPORT, limits};
 use std::test::Fail;
 use swd_fakes::ShortWriter;
 use swd_run::{EngineFault, Finished, Records, RunFault, run_text};
@@ -39,8 +39,7 @@ fn run_on(rt: &HostRuntime, script: &[u8], plan: &[u8], trace: usize, accesses: 
         rt.alloc(),
         &mut script,
         &mut plan,
-        TRIES,
-        0,
+        limits(0),
         &mut report,
         &mut records,
     );

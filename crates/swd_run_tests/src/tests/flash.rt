@@ -5,7 +5,7 @@ ghost use Rattle.swd_port.specs.Choices.{IsPortMark};
 ghost use Rattle.swd_target.specs.Marks.{IsLegalPlan};
 
 use super::expect::{expect_eq, expect_eq_at};
-use super::{TRIES, ended_with};
+use super::{ended_with, limits};
 use std::alloc::{AllocError, Global};
 use std::process::Abort;
 use std::test::Fail;
@@ -116,8 +116,7 @@ fn programs_under<R: Abort>(rt: &R, alloc: Global, place: usize, mark: Mark) -> 
         alloc,
         bench,
         script.batches.as_slice(),
-        TRIES,
-        0,
+        limits(0),
         &mut report,
         &mut Records::<Vec<u8>>::none(),
     );

@@ -1,13 +1,13 @@
 //! Images over a served line, and the files that they come from.
 use super::expect::{expect_at, expect_eq, expect_eq_at};
-use super::memory_server::{BASE, Cut, End, Task, Untold, plain, server_of, transfers};
-use super::no_report;
+use super::jobs::{dump_over, load_over, piece_of, verify_over};
+use super::memory_server::{BASE, Cut, End, Task, plain, server_of, transfers};
 use linked_list_allocator::LocalHeap;
 use std::test::Fail;
 use swd_fakes::FailingReader;
 use swd_host::End as RunEnd;
 use swd_image::{ByteDifference, ImageFault};
-use swd_image_ends::{FileFault, dump_remote, load_remote, read_file, verify_remote};
+use swd_image_ends::{FileFault, read_file};
 use swd_io::Unread;
 use swd_port::{Mark, Transfer};
 use swd_remote::Fault;
@@ -28,28 +28,10 @@ fn an_image_goes_over_a_line_and_back(rt: HostRuntime) -> Result<(), Fail> {
     for piece in [usize::MAX, 7, 1] {
         let server = server_of(rt.alloc(), &plain(&[]), Cut::Never, piece)?;
         let end = End { server: &server };
-        let (answer, line) = load_remote::<Untold, _, _, _, _>(
-            rt.alloc(),
-            end,
-            end,
-            AT,
-            IMAGE,
-            8,
-            0,
-            &mut no_report(),
-        );
+        let (answer, line) = load_over(rt.alloc(), end, &piece_of(rt.alloc(), AT, IMAGE)?, 0);
         expect_eq_at(&rt, &piece, &answer, &Ok(()));
         expect_eq_at(&rt, &piece, &line.fault, &None);
-        let (answer, line) = dump_remote::<Untold, _, _, _, _>(
-            rt.alloc(),
-            end,
-            end,
-            BASE,
-            8,
-            8,
-            0,
-            &mut no_report(),
-        );
+        let (answer, line) = dump_over(rt.alloc(), end, BASE, 8);
         expect_eq_at(
             &rt,
             &piece,
@@ -63,16 +45,7 @@ fn an_image_goes_over_a_line_and_back(rt: HostRuntime) -> Result<(), Fail> {
             expected: 0xc4,
         };
         for (bytes, difference) in [(IMAGE, None), (OTHER, Some(different))] {
-            let (answer, line) = verify_remote::<Untold, _, _, _, _>(
-                rt.alloc(),
-                end,
-                end,
-                AT,
-                bytes,
-                8,
-                0,
-                &mut no_report(),
-            );
+            let (answer, line) = verify_over(rt.alloc(), end, &piece_of(rt.alloc(), AT, bytes)?);
             expect_eq_at(&rt, &piece, &answer, &Ok(difference));
             expect_eq_at(&rt, &piece, &line.fault, &None);
         }
@@ -85,16 +58,7 @@ fn an_image_goes_over_a_line_and_back(rt: HostRuntime) -> Result<(), Fail> {
 fn a_load_over_a_line_is_logged(rt: HostRuntime) -> Result<(), Fail> {
     let server = server_of(rt.alloc(), &plain(&[]), Cut::Never, usize::MAX)?;
     let end = End { server: &server };
-    let (answer, _) = load_remote::<Untold, _, _, _, _>(
-        rt.alloc(),
-        end,
-        end,
-        AT,
-        IMAGE,
-        8,
-        0,
-        &mut no_report(),
-    );
+    let (answer, _) = load_over(rt.alloc(), end, &piece_of(rt.alloc(), AT, IMAGE)?, 0);
     expect_eq(&rt, &answer, &Ok(()));
     let wanted = [
         (true, BASE, 0),
@@ -191,15 +155,11 @@ fn an_image_ends_at_what_it_meets(rt: HostRuntime) -> Result<(), Fail> {
         };
         let server = server_of(rt.alloc(), &task, cut, usize::MAX)?;
         let end = End { server: &server };
-        let (answer, line) = load_remote::<Untold, _, _, _, _>(
+        let (answer, line) = load_over(
             rt.alloc(),
             end,
-            end,
-            addr,
-            IMAGE,
-            8,
+            &piece_of(rt.alloc(), addr, IMAGE)?,
             resumes,
-            &mut no_report(),
         );
         expect_eq_at(&rt, &name, &answer, &wanted);
         expect_eq_at(&rt, &name, &line.fault, &fault);

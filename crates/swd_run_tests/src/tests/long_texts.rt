@@ -1,6 +1,6 @@
 //! Long texts, one byte at a read and one at a write: nothing gives up before the end. And long traces.
 use super::expect::expect_eq;
-use super::{TRIES, ended, only_trace};
+use super::{ended, limits, only_trace};
 use std::alloc::Global;
 use std::test::Fail;
 use swd_fakes::{OneByteReader, OneByteWriter};
@@ -43,8 +43,7 @@ fn long_texts_are_run_byte_by_byte(rt: HostRuntime) -> Result<(), Fail> {
         rt.alloc(),
         &mut script,
         &mut plan,
-        TRIES,
-        0,
+        limits(0),
         &mut report,
         &mut Records::<Vec<u8>>::none(),
     );
@@ -85,8 +84,7 @@ fn a_long_run_is_traced_byte_by_byte(rt: HostRuntime) -> Result<(), Fail> {
         rt.alloc(),
         &mut script,
         &mut plan,
-        TRIES,
-        0,
+        limits(0),
         &mut report,
         &mut records,
     );

@@ -1,12 +1,11 @@
 //! Images of several pieces over a served line. The checksums of the files were added up by hand.
 use super::expect::{expect_eq, expect_eq_at};
-use super::memory_server::{BASE, Cut, End, Untold, plain, server_of, transfers};
-use super::no_report;
+use super::jobs::{load_over, verify_over};
+use super::memory_server::{BASE, Cut, End, plain, server_of, transfers};
 use std::alloc::Global;
 use std::test::Fail;
 use swd_host::End as RunEnd;
 use swd_image::{ByteDifference, ImageFault};
-use swd_image_ends::{load_pieces_remote, verify_pieces_remote};
 use swd_image_files::{Format, Image, read_image};
 use swd_port::{Mark, Transfer};
 
@@ -31,15 +30,7 @@ fn pieces_are_loaded_in_the_order_of_the_file(rt: HostRuntime) -> Result<(), Fai
     let image = image_of(rt.alloc(), Format::IntelHex, HEX, 0)?;
     let server = server_of(rt.alloc(), &plain(&[]), Cut::Never, usize::MAX)?;
     let end = End { server: &server };
-    let (answer, line) = load_pieces_remote::<Untold, _, _, _, _>(
-        rt.alloc(),
-        end,
-        end,
-        &image,
-        8,
-        0,
-        &mut no_report(),
-    );
+    let (answer, line) = load_over(rt.alloc(), end, &image, 0);
     expect_eq(&rt, &answer, &Ok(()));
     expect_eq(&rt, &line.fault, &None);
     let wanted = [
@@ -63,15 +54,7 @@ fn pieces_are_verified_up_to_the_first_that_differs(rt: HostRuntime) -> Result<(
     let image = image_of(rt.alloc(), Format::IntelHex, HEX, 0)?;
     let server = server_of(rt.alloc(), &plain(&[]), Cut::Never, 7)?;
     let end = End { server: &server };
-    let (loaded, _) = load_pieces_remote::<Untold, _, _, _, _>(
-        rt.alloc(),
-        end,
-        end,
-        &image,
-        8,
-        0,
-        &mut no_report(),
-    );
+    let (loaded, _) = load_over(rt.alloc(), end, &image, 0);
     expect_eq(&rt, &loaded, &Ok(()));
     let last = ByteDifference {
         addr: BASE + 0x12,
@@ -92,15 +75,7 @@ fn pieces_are_verified_up_to_the_first_that_differs(rt: HostRuntime) -> Result<(
         (Format::Binary, b"a", BASE + 0x43, nowhere),
     ] {
         let image = image_of(rt.alloc(), format, file, offset)?;
-        let (answer, line) = verify_pieces_remote::<Untold, _, _, _, _>(
-            rt.alloc(),
-            end,
-            end,
-            &image,
-            8,
-            0,
-            &mut no_report(),
-        );
+        let (answer, line) = verify_over(rt.alloc(), end, &image);
         expect_eq_at(&rt, &(file, offset), &answer, &wanted);
         expect_eq_at(&rt, &(file, offset), &line.fault, &None);
     }
@@ -121,15 +96,7 @@ fn a_load_of_pieces_ends_at_the_first_that_fails(rt: HostRuntime) -> Result<(), 
         task.marks = marks;
         let server = server_of(rt.alloc(), &task, Cut::Never, usize::MAX)?;
         let end = End { server: &server };
-        let (answer, line) = load_pieces_remote::<Untold, _, _, _, _>(
-            rt.alloc(),
-            end,
-            end,
-            &image,
-            8,
-            0,
-            &mut no_report(),
-        );
+        let (answer, line) = load_over(rt.alloc(), end, &image, 0);
         expect_eq_at(&rt, &count, &answer, &wanted);
         expect_eq_at(&rt, &count, &line.fault, &None);
         expect_eq_at(&rt, &count, &transfers(rt.alloc(), server)?.len(), &count);

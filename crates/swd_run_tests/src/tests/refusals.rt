@@ -1,7 +1,7 @@
 //! Runs on heaps of each size: where memory ended is told, and nothing has been written but the report of the calls
 //! before.
 use super::expect::{expect_at, expect_eq, expect_eq_at};
-use super::{ended_with, only_trace};
+use super::{ended_with, limits, only_trace};
 use linked_list_allocator::LocalHeap;
 use std::alloc::Allocator;
 use std::process::Abort;
@@ -9,8 +9,6 @@ use std::test::Fail;
 use swd_host::End;
 use swd_run::{EngineFault, Finished, Records, RunFault, TextsFault, run_text};
 use swd_script::ScriptFault;
-
-const TRIES: u32 = 8;
 
 // The list of accesses grows at lines 3 and 4.
 const SCRIPT: &[u8] =
@@ -119,8 +117,7 @@ fn a_run_where_memory_ends(rt: HostRuntime) -> Result<(), Fail> {
             &heap,
             &mut script,
             &mut plan,
-            TRIES,
-            0,
+            limits(0),
             &mut report,
             &mut Records::<Vec<u8>>::none(),
         );
@@ -156,8 +153,7 @@ fn a_second_call_where_memory_ends(rt: HostRuntime) -> Result<(), Fail> {
             &heap,
             &mut script,
             &mut plan,
-            TRIES,
-            0,
+            limits(0),
             &mut report,
             &mut Records::<Vec<u8>>::none(),
         );
@@ -200,8 +196,7 @@ fn traced_on<A: Allocator + Copy>(
         alloc,
         &mut script,
         &mut plan,
-        TRIES,
-        0,
+        limits(0),
         &mut report,
         &mut records,
     );

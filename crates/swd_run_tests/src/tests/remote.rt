@@ -8,11 +8,11 @@ ghost use Rattle.swd_port.specs.Port.{port_made};
 use super::expect::{expect_eq, expect_eq_at};
 use super::recorded::UNDISTURBED;
 use super::sessions::calls_of;
-use super::{ended, only_trace};
+use super::{ended, limits, only_trace};
 use std::cell::Cell;
 use std::process::Abort;
 use std::test::Fail;
-use swd_ends::{RemoteFault, run_remote};
+use swd_ends::{Line, RemoteFault, run_remote};
 use swd_fakes::{CountingWriter, ShortWriter, WatchingReader};
 use swd_host::End;
 use swd_port::{Answer, Story};
@@ -51,10 +51,11 @@ fn a_script_sends_what_was_recorded(rt: HostRuntime) {
     let (answer, line) = run_remote::<Untold, _, _, _, _, _, _>(
         rt.alloc(),
         &mut script,
-        UNDISTURBED.levels,
-        &mut sent,
-        8,
-        0,
+        Line {
+            reader: UNDISTURBED.levels,
+            writer: &mut sent,
+        },
+        limits(0),
         &mut report,
         &mut Records::<Vec<u8>>::none(),
     );
@@ -86,10 +87,11 @@ fn a_remote_run_is_traced(rt: HostRuntime) {
     let (answer, line) = run_remote::<Untold, _, _, _, _, _, _>(
         rt.alloc(),
         &mut script,
-        UNDISTURBED.levels,
-        &mut sent,
-        8,
-        0,
+        Line {
+            reader: UNDISTURBED.levels,
+            writer: &mut sent,
+        },
+        limits(0),
         &mut report,
         &mut records,
     );
@@ -119,8 +121,7 @@ fn a_remote_run_is_traced(rt: HostRuntime) {
         rt.alloc(),
         &mut script,
         &mut plan,
-        8,
-        0,
+        limits(0),
         &mut told,
         &mut simulated,
     );
@@ -141,10 +142,11 @@ fn a_failed_write_ends_the_session(rt: HostRuntime) {
         let (answer, _) = run_remote::<Untold, _, _, _, _, _, _>(
             rt.alloc(),
             &mut script,
-            UNDISTURBED.levels,
-            &mut sent,
-            8,
-            0,
+            Line {
+                reader: UNDISTURBED.levels,
+                writer: &mut sent,
+            },
+            limits(0),
             &mut report,
             &mut records,
         );
@@ -182,10 +184,11 @@ fn a_report_is_written_before_the_next_call(rt: HostRuntime) {
     let (answer, _line) = run_remote::<Untold, _, _, _, _, _, _>(
         rt.alloc(),
         &mut script,
-        &mut reader,
-        &mut sent,
-        8,
-        0,
+        Line {
+            reader: &mut reader,
+            writer: &mut sent,
+        },
+        limits(0),
         &mut report,
         &mut Records::<Vec<u8>>::none(),
     );
@@ -211,10 +214,11 @@ fn no_call_is_made_after_a_failed_write(rt: HostRuntime) {
         let (answer, line) = run_remote::<Untold, _, _, _, _, _, _>(
             rt.alloc(),
             &mut script,
-            UNDISTURBED.levels,
-            &mut sent,
-            8,
-            0,
+            Line {
+                reader: UNDISTURBED.levels,
+                writer: &mut sent,
+            },
+            limits(0),
             &mut report,
             &mut Records::<Vec<u8>>::none(),
         );
@@ -238,10 +242,11 @@ fn a_call_that_is_lost_is_the_last_one(rt: HostRuntime) {
     let (answer, line) = run_remote::<Untold, _, _, _, _, _, _>(
         rt.alloc(),
         &mut script,
-        UNDISTURBED.levels,
-        &mut sent,
-        8,
-        0,
+        Line {
+            reader: UNDISTURBED.levels,
+            writer: &mut sent,
+        },
+        limits(0),
         &mut report,
         &mut Records::<Vec<u8>>::none(),
     );
@@ -287,10 +292,11 @@ fn a_target_that_goes_away_is_told(rt: HostRuntime) {
         let (answer, line) = run_remote::<Untold, _, _, _, _, _, _>(
             rt.alloc(),
             &mut script,
-            levels,
-            &mut sent,
-            8,
-            0,
+            Line {
+                reader: levels,
+                writer: &mut sent,
+            },
+            limits(0),
             &mut report,
             &mut Records::<Vec<u8>>::none(),
         );
@@ -316,10 +322,11 @@ fn a_script_at_fault_sends_nothing(rt: HostRuntime) {
     let (answer, line) = run_remote::<Untold, _, _, _, _, _, _>(
         rt.alloc(),
         &mut script,
-        UNDISTURBED.levels,
-        &mut sent,
-        8,
-        0,
+        Line {
+            reader: UNDISTURBED.levels,
+            writer: &mut sent,
+        },
+        limits(0),
         &mut report,
         &mut Records::<Vec<u8>>::none(),
     );
@@ -338,10 +345,11 @@ fn a_remote_script_of_a_thousand_calls_is_begun(rt: HostRuntime) -> Result<(), F
     let (answer, _line) = run_remote::<Untold, _, _, _, _, _, _>(
         rt.alloc(),
         &mut script,
-        b"".as_slice(),
-        &mut sent,
-        8,
-        0,
+        Line {
+            reader: b"".as_slice(),
+            writer: &mut sent,
+        },
+        limits(0),
         &mut report,
         &mut Records::<Vec<u8>>::none(),
     );

@@ -1,6 +1,6 @@
 //! Runs that are resumed at a lost acknowledgement.
 use super::expect::expect_eq;
-use super::{ONE_WRITE, Ran, TRIES, WORKED, ended, ended_with, only_trace, resumed_on};
+use super::{ONE_WRITE, Ran, TRIES, WORKED, ended, ended_with, limits, only_trace, resumed_on};
 use linked_list_allocator::LocalHeap;
 use std::alloc::Allocator;
 use std::process::Abort;
@@ -57,8 +57,7 @@ fn a_resumed_run_is_traced_whole(rt: HostRuntime) {
         rt.alloc(),
         &mut script,
         &mut plan,
-        TRIES,
-        1,
+        limits(1),
         &mut report,
         &mut records,
     );
@@ -92,8 +91,7 @@ fn lost_write_on<A: Allocator + Copy>(
         alloc,
         &mut script,
         &mut plan,
-        TRIES,
-        resumes,
+        limits(resumes),
         report,
         &mut Records::<Vec<u8>>::none(),
     )

@@ -1,6 +1,6 @@
 //! Scripts of several calls, and reads whose words the script tells.
 use super::expect::expect_eq;
-use super::{Ran, TRIES, ended_with, has_bus_fault, only_trace, run_on};
+use super::{Ran, TRIES, ended_with, has_bus_fault, limits, only_trace, run_on};
 use std::process::Abort;
 use std::test::Fail;
 use swd_fakes::ShortWriter;
@@ -74,8 +74,7 @@ fn the_trace_is_that_of_all_calls(rt: HostRuntime) {
         rt.alloc(),
         &mut script,
         &mut plan,
-        TRIES,
-        0,
+        limits(0),
         &mut report,
         &mut records,
     );
@@ -105,8 +104,7 @@ fn a_writer_that_fails_has_the_first_bytes_of_all_reports(rt: HostRuntime) {
                 rt.alloc(),
                 &mut script,
                 &mut plan,
-                TRIES,
-                0,
+                limits(0),
                 &mut writer,
                 &mut Records::<Vec<u8>>::none(),
             );

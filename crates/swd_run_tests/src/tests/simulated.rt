@@ -1,14 +1,16 @@
 //! Images at a simulated target: memory that is refused at each place, and a target that stays at rest.
 use super::expect::{expect_eq, expect_eq_at};
-use super::no_report;
 use linked_list_allocator::LocalHeap;
 use std::alloc::Allocator;
 use std::test::Fail;
-use swd_image::{ByteDifference, ImageFault};
-use swd_image_ends::{
-    dump_simulated, load_simulated, memory_bytes, simulated_target, verify_simulated,
-};
+use swd_image::{ByteDifference, ImageFault, Limits, NoReports, dump};
+use swd_image_ends::{load_pieces, memory_bytes, simulated_target, verify_pieces};
 use swd_image_files::{Format, read_image};
+
+const LIMITS: Limits = Limits {
+    tries: 3,
+    resumes: 0,
+};
 
 // The memory of a target, into which an image of five bytes was loaded. `None` where memory is refused.
 fn loaded<A: Allocator + Copy>(alloc: A) -> Option<Vec<u8, A>> {
@@ -17,7 +19,7 @@ fn loaded<A: Allocator + Copy>(alloc: A) -> Option<Vec<u8, A>> {
     };
     let memory = b"abcdefgh".as_slice();
     let mut bench = simulated_target(alloc, 0x2000_0000, memory, 64, Vec::new(alloc))?;
-    match load_simulated(alloc, &mut bench, &image, 3, 0, &mut no_report()) {
+    match load_pieces(alloc, &mut bench, &image, LIMITS, &mut NoReports) {
         Ok(()) => memory_bytes(alloc, bench.memory(), 0x2000_0000, 8),
         Err(_) => None,
     }
@@ -50,7 +52,7 @@ fn a_memory_is_read_and_compared(rt: HostRuntime) -> Result<(), Fail> {
     let Some(mut bench) = simulated_target(alloc, 0x2000_0000, memory, 16, Vec::new(alloc)) else {
         return Err(Fail::from("no memory"));
     };
-    let found = verify_simulated(alloc, &mut bench, &image, 3, 0, &mut no_report());
+    let found = verify_pieces(alloc, &mut bench, &image, LIMITS, &mut NoReports);
     let wanted = ByteDifference {
         addr: 0x2000_0003,
         found: b'd',
@@ -65,12 +67,12 @@ fn a_memory_is_read_and_compared(rt: HostRuntime) -> Result<(), Fail> {
     let Some(mut bench) = simulated_target(alloc, 0x2000_0000, memory, 16, Vec::new(alloc)) else {
         return Err(Fail::from("no memory"));
     };
-    let bytes = dump_simulated(alloc, &mut bench, 0x2000_0003, 4, 3, 0, &mut no_report())?;
+    let bytes = dump(alloc, &mut bench, 0x2000_0003, 4, LIMITS, &mut NoReports)?;
     expect_eq(&rt, &bytes.as_slice(), &b"defg".as_slice());
     let Some(mut bench) = simulated_target(alloc, 0, b"".as_slice(), 16, Vec::new(alloc)) else {
         return Err(Fail::from("no memory"));
     };
-    match dump_simulated(alloc, &mut bench, 0, 1, 3, 0, &mut no_report()) {
+    match dump(alloc, &mut bench, 0, 1, LIMITS, &mut NoReports) {
         Ok(_) => Err(Fail::from("a byte")),
         Err(fault) => {
             expect_eq(&rt, &fault, &ImageFault::BusFault(0));

@@ -3,8 +3,8 @@
 ghost use Rattle.std.specs.Prelude.{IfOk};
 ghost use Rattle.swd_target.specs.Marks.{IsLegalPlan};
 
-use super::TRIES;
 use super::expect::expect_eq_at;
+use super::limits;
 use std::alloc::Global;
 use std::cell::Cell;
 use std::io;
@@ -117,8 +117,7 @@ fn run_at(
         alloc,
         wire,
         script.batches.as_slice(),
-        TRIES,
-        resumes,
+        limits(resumes),
         &mut report,
         &mut Records::<Vec<u8>>::none(),
     );

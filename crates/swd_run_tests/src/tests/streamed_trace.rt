@@ -2,8 +2,8 @@
 //! ones, switch, ones and zeros are four items. Each request is one item, after which no zeros come but those after the
 //! call's last one.
 
-use super::TRIES;
 use super::expect::{expect_at, expect_eq_at};
+use super::limits;
 use super::streamed::{Asked, Watching, lost_after, marks_of, reads};
 use std::alloc::Global;
 use std::cell::Cell;
@@ -66,8 +66,7 @@ fn run_at(
         alloc,
         wire,
         script.batches.as_slice(),
-        TRIES,
-        resumes,
+        limits(resumes),
         &mut report,
         &mut records,
     );

@@ -1,14 +1,12 @@
 //! Runs with their traces: worked ones, and writers and memory that fail.
 use super::expect::expect_eq;
-use super::{ended, only_trace};
+use super::{ended, limits, only_trace};
 use std::test::Fail;
 use swd_fakes::ShortWriter;
 use swd_host::End;
 use swd_run::{EngineFault, Finished, RunFault, TextsFault, run_text};
 use swd_script::ScriptFault;
 use swd_text::{decode_text, encode_text};
-
-const TRIES: u32 = 8;
 
 const NO_ACCESS: &[u8] = b"memory 20000000 1\n";
 
@@ -41,8 +39,7 @@ fn run_on(rt: &HostRuntime, script: &[u8], plan: &[u8]) -> Traced {
         rt.alloc(),
         &mut script,
         &mut plan,
-        TRIES,
-        0,
+        limits(0),
         &mut report,
         &mut records,
     );
@@ -217,8 +214,7 @@ fn traces_at_each_write_that_fails(rt: HostRuntime) {
                 rt.alloc(),
                 &mut script,
                 &mut plan,
-                TRIES,
-                0,
+                limits(0),
                 &mut report,
                 &mut records,
             );
@@ -250,8 +246,7 @@ fn a_report_that_fails_leaves_the_trace(rt: HostRuntime) {
                 rt.alloc(),
                 &mut script,
                 &mut plan,
-                TRIES,
-                0,
+                limits(0),
                 &mut report,
                 &mut records,
             );

@@ -5,7 +5,7 @@ ghost use Rattle.swd_port.specs.Bus.{bus_of};
 ghost use Rattle.swd_port.specs.Port.{port_made};
 
 use super::expect::{expect_eq, expect_eq_at};
-use super::{Ran, TRIES, only_trace, resumed_on};
+use super::{Ran, TRIES, limits, only_trace, resumed_on};
 use linked_list_allocator::LocalHeap;
 use std::alloc::Global;
 use std::test::Fail;
@@ -281,8 +281,7 @@ fn run_at(
         alloc,
         wire,
         batches,
-        TRIES,
-        0,
+        limits(0),
         &mut report,
         &mut Records::<Vec<u8>>::none(),
     );
@@ -376,8 +375,7 @@ fn the_trace_has_every_read(rt: HostRuntime) {
         rt.alloc(),
         &mut script,
         &mut plan,
-        TRIES,
-        0,
+        limits(0),
         &mut report,
         &mut records,
     );
@@ -416,8 +414,7 @@ fn a_writer_that_fails_has_the_first_bytes(rt: HostRuntime) {
             rt.alloc(),
             &mut script,
             &mut plan,
-            TRIES,
-            0,
+            limits(0),
             &mut writer,
             &mut Records::<Vec<u8>>::none(),
         );
@@ -443,8 +440,7 @@ fn an_until_where_memory_ends(rt: HostRuntime) -> Result<(), Fail> {
             &heap,
             &mut script,
             &mut plan,
-            TRIES,
-            0,
+            limits(0),
             &mut report,
             &mut Records::<Vec<u8>>::none(),
         );

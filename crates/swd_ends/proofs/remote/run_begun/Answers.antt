@@ -1,12 +1,10 @@
-use Rattle.std.proofs.Common.{List, [], map, refl, sym, subst}
+use Rattle.std.proofs.Common.{List, ap, map, refl, sym, subst}
 use Rattle.std.specs.Prelude.{All as Each}
 use Rattle.swd_port.specs.declared.call.Call.{Call}
-use Rattle.swd_port.specs.Stories.{port_at, FitsStory}
 use Rattle.swd_remote.specs.WholeRuns.{GoesOver}
 use Rattle.swd_remote.proofs.WholeLemmas.{remote_connection_went_over}
 use Rattle.swd_script.specs.Laws.{IsScriptBatch}
 use Rattle.swd_script.specs.Readers.{script_batch_listed}
-use Rattle.swd_run.specs.Engine.{BatchAnswersAt}
 use Rattle.swd_run.specs.Records.{run_files_of}
 use Rattle.swd_ends.proofs.RemoteLemmas.{remote_end_ran_by_calls}
 use Rattle.swd_ends.proofs.remote.run_begun.Goals as goal
@@ -27,12 +25,10 @@ returns g c =
     let after = run_files_of g.T.Write.contents ran.new.records in
     let Over : List Call → Type 0 = λ calls. ∥ GoesOver g.R.Read.remaining g.W.Write.contents g.B.InitialStreams.sent
     g.B.InitialStreams.left c.hang_up.result calls ∥₁ in
-    remote_end_ran_by_calls (λ w. w.noted.calls) story c.args.tries c.args.resumes Over
-    (map script_batch_listed c.args.script.now.batches.items) c.begun-wire.result wire c.begun-wire.ensures
+    remote_end_ran_by_calls (λ w. w.noted.calls) story c.args.limits.tries c.args.limits.resumes Over
+    (map script_batch_listed c.args.script.now.batches.items) (map script_batch_listed c.as_slice-batches.result.now)
+    (ap (map script_batch_listed) c.as_slice-batches.ensures.value) c.begun-wire.result wire c.begun-wire.ensures
     (remote_connection_went_over g.R.Read.remaining g.W.Write.contents g.B.InitialStreams.sent g.B.InitialStreams.left
     wire.noted.calls wire.gone
     c.into_transport.result c.hang_up.result (c.into_transport.ensures refl) c.hang_up.ensures)
-    ran.result.0 old new before after
-    (subst (λ batches. BatchAnswersAt (λ w. port_at story w.noted.calls) (λ w. []) (λ w. FitsStory story w.noted.calls)
-    c.args.tries c.args.resumes (map script_batch_listed batches) c.begun-wire.result wire ran.result.0 old new before
-    after) c.as_slice-batches.ensures.value ran.ensures.answer)
+    ran.result.0 old new before after ran.ensures.answer

@@ -2,7 +2,6 @@ use Rattle.std.proofs.Common.{◌≡◌, ◌∙◌, ◌++◌, [], ℕ, Bool, Lis
 use Rattle.std.proofs.lemmas.List.{append-nil}
 use Rattle.std.proofs.lemmas.Result.{err_from_is_err_and}
 use Rattle.swd_port.specs.declared.access.Access.{Access}
-use Rattle.swd_run.specs.Records.{run_file_held}
 use Rattle.swd_image.specs.Bytes.{image_word_of}
 use Rattle.swd_image.specs.Lists.{image_edge_list, image_last_word, image_needs_head, image_needs_tail, image_read_if}
 use Rattle.swd_image.specs.Lists.{image_word_if}
@@ -20,13 +19,13 @@ returns-in_err-tail-clause-fault g c =
     let t = image_needs_tail c.args.addr c.args.len in
     let first = image_word_of c.args.addr in
     let last = image_last_word c.args.addr c.args.len in
-    let Reads = ReadsAs g.W.Wire.port g.W.Wire.plan g.W.Wire.lawful c.args.tries c.args.resumes in
-    let Fails = FailsAs g.W.Wire.port g.W.Wire.plan g.W.Wire.lawful c.args.tries c.args.resumes in
+    let Reads = ReadsAs g.W.Wire c.args.limits in
+    let Fails = FailsAs g.W.Wire c.args.limits in
     let head = subst (λ a. Reads (image_read_if h a) (image_word_if h c.in_ok-head.head) s r) c.word_of.ensures
     (subst (λ b. Reads (image_read_if b c.word_of.result) (image_word_if b c.in_ok-head.head) s r)
     c.needs_head-first.ensures c.in_ok-head.ensures.read) in
     let p = err_from_is_err_and c.from_residual-in_err-tail.result c.from_residual-in_err-tail.ensures.1 in
-    rw (p.1, p.2) (fails_after g.W.Wire.port g.W.Wire.plan g.W.Wire.lawful c.args.tries c.args.resumes s r u
+    rw (p.1, p.2) (fails_after g.W.Wire c.args.limits s r u
     (image_read_if h first) (image_read_if t last) head.answers _ head.calls
     (subst (λ a. Fails (image_read_if t a) r u c.in_err-tail.field-0.0) c.last_word.ensures
     (subst (λ b. Fails (image_read_if b c.last_word.result) r u c.in_err-tail.field-0.0) c.needs_tail-last.ensures
@@ -41,8 +40,8 @@ returns-clause-read g c =
     let t = image_needs_tail c.args.addr c.args.len in
     let first = image_word_of c.args.addr in
     let last = image_last_word c.args.addr c.args.len in
-    let Reads = ReadsAs g.W.Wire.port g.W.Wire.plan g.W.Wire.lawful c.args.tries c.args.resumes in
-    reads_append g.W.Wire.port g.W.Wire.plan g.W.Wire.lawful c.args.tries c.args.resumes s r u (image_read_if h first)
+    let Reads = ReadsAs g.W.Wire c.args.limits in
+    reads_append g.W.Wire c.args.limits s r u (image_read_if h first)
     (image_read_if t last) (image_word_if h c.in_ok-head.head) (image_word_if t c.in_ok-tail.tail)
     (subst (λ a. Reads (image_read_if h a) (image_word_if h c.in_ok-head.head) s r) c.word_of.ensures
     (subst (λ b. Reads (image_read_if b c.word_of.result) (image_word_if b c.in_ok-head.head) s r)
@@ -62,10 +61,10 @@ returns-in_err-head-clause-report g c =
     let addr = c.args.addr in
     let len = c.args.len in
     let p = err_from_is_err_and c.from_residual.result c.from_residual.ensures.1 in
-    rw (p.1, p.2) (to_front g.W.Wire.port g.W.Wire.plan g.W.Wire.lawful c.args.tries c.args.resumes c.args.wire.now
+    rw (p.1, p.2) (to_front g.W.Wire c.args.limits c.args.wire.now
     c.read_word.new.wire (image_read_if c.needs_head-first.result c.word_of.result)
     (image_read_if (image_needs_tail addr len) (image_last_word addr len)) (image_edge_list addr len) _
-    (run_file_held g.O.Write.contents c.args.report.now) (run_file_held g.O.Write.contents c.read_word.new.report)
+    (g.S.CallReports.held c.args.report.now) (g.S.CallReports.held c.read_word.new.report)
     c.in_err-head.ensures.report
     (edges c.word_of.result (image_last_word addr len) c.needs_head-first.result (image_needs_tail addr len)
     (image_needs_head addr len)
@@ -79,10 +78,10 @@ returns-in_err-tail-clause-report g c =
     let last = image_read_if c.needs_tail-last.result c.last_word.result in
     let first = image_read_if c.needs_head-first.result c.word_of.result in
     let p = err_from_is_err_and c.from_residual-in_err-tail.result c.from_residual-in_err-tail.ensures.1 in
-    rw (p.1, p.2) (to_after g.W.Wire.port g.W.Wire.plan g.W.Wire.lawful c.args.tries c.args.resumes c.args.wire.now
+    rw (p.1, p.2) (to_after g.W.Wire c.args.limits c.args.wire.now
     c.read_word.new.wire c.read_word-2.new.wire first last [] (image_edge_list addr len) _
-    (run_file_held g.O.Write.contents c.args.report.now) (run_file_held g.O.Write.contents c.read_word.new.report)
-    (run_file_held g.O.Write.contents c.read_word-2.new.report) c.in_ok-head.ensures.report c.in_err-tail.ensures.report
+    (g.S.CallReports.held c.args.report.now) (g.S.CallReports.held c.read_word.new.report)
+    (g.S.CallReports.held c.read_word-2.new.report) c.in_ok-head.ensures.report c.in_err-tail.ensures.report
     (edges c.word_of.result c.last_word.result c.needs_head-first.result c.needs_tail-last.result
     (image_needs_head addr len)
     (image_needs_tail addr len) (image_word_of addr) (image_last_word addr len) c.needs_head-first.ensures
@@ -95,10 +94,10 @@ returns-clause-report g c =
     let len = c.args.len in
     let last = image_read_if c.needs_tail-last.result c.last_word.result in
     let first = image_read_if c.needs_head-first.result c.word_of.result in
-    to_after g.W.Wire.port g.W.Wire.plan g.W.Wire.lawful c.args.tries c.args.resumes c.args.wire.now
+    to_after g.W.Wire c.args.limits c.args.wire.now
     c.read_word.new.wire c.read_word-2.new.wire first last [] (image_edge_list addr len) None
-    (run_file_held g.O.Write.contents c.args.report.now) (run_file_held g.O.Write.contents c.read_word.new.report)
-    (run_file_held g.O.Write.contents c.read_word-2.new.report) c.in_ok-head.ensures.report c.in_ok-tail.ensures.report
+    (g.S.CallReports.held c.args.report.now) (g.S.CallReports.held c.read_word.new.report)
+    (g.S.CallReports.held c.read_word-2.new.report) c.in_ok-head.ensures.report c.in_ok-tail.ensures.report
     (edges c.word_of.result c.last_word.result c.needs_head-first.result c.needs_tail-last.result
     (image_needs_head addr len)
     (image_needs_tail addr len) (image_word_of addr) (image_last_word addr len) c.needs_head-first.ensures

@@ -1,17 +1,16 @@
 use Rattle.std.proofs.Common.{◌≡◌, ◌-◌, ◌≤◌, None}
 use Rattle.swd_port.specs.declared.wire.Due.TheVariants.{Nothing}
 use Rattle.swd_port.specs.PlainMemory.{plain_reads}
-use Rattle.swd_run.specs.Records.{run_file_held}
 use Rattle.swd_image.specs.Reports.{ReportsTo}
 use Rattle.swd_image.specs.Sessions.{ReadsAs}
 use Rattle.swd_image.proofs.reading.read_words.Given as goal
 
 abbrev pub invariant-loop-done : goal.invariant-loop-done
 invariant-loop-done g l = record {
-  read : ReadsAs g.W.Wire.port g.W.Wire.plan g.W.Wire.lawful l.tries l.resumes (plain_reads l.first l.done)
+  read : ReadsAs g.W.Wire l.limits (plain_reads l.first l.done)
       l.words.items l.fn.wire l.wire;
-  reported : ReportsTo g.W.Wire.port g.W.Wire.plan g.W.Wire.lawful l.tries l.resumes (plain_reads l.first l.done) None
-      l.fn.wire l.wire (run_file_held g.O.Write.contents l.fn.report) (run_file_held g.O.Write.contents l.report);
+  reported : ReportsTo g.W.Wire l.limits (plain_reads l.first l.done) None
+      l.fn.wire l.wire (g.S.CallReports.held l.fn.report) (g.S.CallReports.held l.report);
   few : l.done ≤ l.count;
   due : (g.W.Wire.port l.wire).link.due ≡ Nothing;
   plan : g.W.Wire.plan l.wire ≡ g.W.Wire.plan l.fn.wire;

@@ -1,22 +1,23 @@
 use Rattle.std.proofs.Common.{◌≡◌, ◌-◌, ◌≤◌, None}
 use Rattle.swd_port.specs.declared.wire.Due.TheVariants.{Nothing}
 use Rattle.swd_image.specs.Lists.{image_loaded_word, image_writes}
-use Rattle.swd_run.specs.Records.{run_file_held}
 use Rattle.swd_image.specs.Reports.{ReportsTo}
 use Rattle.swd_image.specs.Sessions.{MadeAll}
 use Rattle.swd_image.proofs.writing.write_words.Given as goal
 
 abbrev pub invariant-loop-done : goal.invariant-loop-done
 invariant-loop-done g l = record {
-  made : MadeAll g.W.Wire.port g.W.Wire.plan g.W.Wire.lawful l.tries l.resumes
-      (image_writes (image_loaded_word l.addr l.bytes l.edges.head l.edges.tail) l.first l.done) l.fn.wire l.wire;
-  reported : ReportsTo g.W.Wire.port g.W.Wire.plan g.W.Wire.lawful l.tries l.resumes
-      (image_writes (image_loaded_word l.addr l.bytes l.edges.head l.edges.tail) l.first l.done) None l.fn.wire l.wire
-      (run_file_held g.O.Write.contents l.fn.report) (run_file_held g.O.Write.contents l.report);
-  few : l.done ≤ l.count;
+  made : MadeAll g.W.Wire l.limits
+      (image_writes (image_loaded_word l.image.addr l.image.bytes.now l.image.edges.head l.image.edges.tail)
+      l.image.first l.done) l.fn.wire l.wire;
+  reported : ReportsTo g.W.Wire l.limits
+      (image_writes (image_loaded_word l.image.addr l.image.bytes.now l.image.edges.head l.image.edges.tail)
+      l.image.first l.done) None l.fn.wire l.wire
+      (g.S.CallReports.held l.fn.report) (g.S.CallReports.held l.report);
+  few : l.done ≤ l.image.count;
   due : (g.W.Wire.port l.wire).link.due ≡ Nothing;
   plan : g.W.Wire.plan l.wire ≡ g.W.Wire.plan l.fn.wire;
 }
 
 abbrev pub decreases-loop-done : goal.decreases-loop-done
-decreases-loop-done g l = l.count - l.done
+decreases-loop-done g l = l.image.count - l.done

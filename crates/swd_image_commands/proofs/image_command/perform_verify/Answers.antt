@@ -1,16 +1,29 @@
-use Rattle.std.proofs.Common.{◌∙◌, inr}
+use Rattle.std.proofs.Common.{◌∙◌, [], inr, subst}
+use Rattle.swd_run.specs.Records.{run_file_held}
 use Rattle.swd_run.proofs.EngineLemmas.{run_file_is_some}
+use Rattle.swd_image_ends.specs.Came.{VerifyCame, image_story_wire}
 use Rattle.swd_image_ends.specs.Pieces.{pieces_to_load}
+use Rattle.swd_console.specs.Destinations.{console_report_contents}
+use Rattle.swd_console.specs.Streams.{stream_watched}
 use Rattle.swd_image_commands.proofs.image_command.perform_verify.Goals as goal
 
 pub returns : goal.returns
-returns g c = inr (
-  pieces_to_load c.in-Ok.whole,
-  c.verify_pieces_remote-answer.result.0,
-  c.in-Ok.ensures.pieces,
-  _,
-  _,
-  run_file_is_some _ c.report_writer-report.result ∙ c.report_writer-report.ensures ∙ c.in-Ok-open_report.ensures.named,
-  c.verify_pieces_remote-answer.ensures,
-  c.verified_status-status.ensures,
-)
+returns g c =
+    let (calls, came, over) = c.over_line-answer.ensures in
+    let bytes = stream_watched (console_report_contents g.F.Made.Write.contents (λ e. g.E.Write.contents e.now)) in
+    let before = run_file_held bytes c.report_writer.result in
+    let after = run_file_held bytes c.over_line-answer.new.job.report in
+    let pieces = pieces_to_load c.in-Ok.whole in
+    let answer = c.over_line-answer.result.0 in inr (
+      pieces,
+      answer,
+      c.in-Ok.ensures.pieces,
+      before,
+      after,
+      run_file_is_some bytes c.report_writer.result ∙ c.report_writer.ensures ∙ c.in-Ok-open_report.ensures.named,
+      calls,
+      subst (λ limits. VerifyCame (image_story_wire g.P.Story.at) limits pieces answer [] calls before after)
+          c.limits_of.ensures came,
+      over,
+      c.verified_status-status.ensures,
+    )

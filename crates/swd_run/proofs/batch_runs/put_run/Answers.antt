@@ -26,8 +26,8 @@ returns-clause-goes g c =
       sends = subst (BlockBufferSends g.O.Write.contents start c.args.block.now)
           (sym (report_lines_empty c.as_slice.result.now c.args.answers.now.items c.requires.none)) h;
     })).sends in
-    let done : (x : List Stop) × RunsBatchFrom g.W.Wire.port g.W.Wire.plan g.W.Wire.lawful c.args.options.opened
-    (batch_limit batch) c.args.options.tries c.args.options.resumes batch c.args.wire.now (record {
+    let done : (x : List Stop) × RunsBatchFrom g.W.Wire c.args.options.opened
+    (batch_limit batch) c.args.options.limits.tries c.args.options.limits.resumes batch c.args.wire.now (record {
       stops = x;
       told = host_report_to report.answers.now.items
           c.run_reporting.result;

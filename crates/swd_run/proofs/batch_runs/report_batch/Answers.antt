@@ -1,7 +1,6 @@
 use Rattle.std.proofs.Common.{◌≡◌, ◌∙◌, ap, ap₂, ℕ, Bool, List, Option, None, Result, Some, subst, sym}
 use Rattle.std.specs.Prelude.{IfNone, IfSome}
-use Rattle.swd_port.specs.declared.mark.Mark.{Mark}
-use Rattle.swd_port.specs.Port.{Port}
+use Rattle.swd_port.specs.declared.wire.Wire.{Ghosts}
 use Rattle.swd_host.specs.Reports.{HostReport, host_report_of}
 use Rattle.swd_script.specs.Readers.{script_batch_listed}
 use Rattle.swd_script.specs.Scripts.{ScriptListed}
@@ -24,18 +23,18 @@ if_some (Some x) f p = f x p
 pub returns-in-None-clause-cut : goal.returns-in-None-clause-cut
 returns-in-None-clause-cut g c =
     if_none c.report_call.result
-    (λ same. cut_first g.W.Wire.port g.W.Wire.plan g.W.Wire.lawful c.args.options.opened c.args.options.tries c.args.options.resumes
+    (λ same. cut_first g.W.Wire c.args.options.opened c.args.options.limits.tries c.args.options.limits.resumes
     (script_batch_listed c.args.batch.now) c.args.wire.now c.requires.batch c.report_call.new.wire (unsent same)
     (λ plain. same)) c.report_call.ensures.unsent
 
-module _ {W : Type 0} (port : W → Port) (plan : W → List Mark) (lawful : W → Type 0) (opened : Bool)
+module _ {W : Type 0} (wire : Ghosts W) (opened : Bool)
     (tries resumes : ℕ) (batch : ScriptListed) (s t : W) (old new : Option (List ℕ)) (told : HostReport) (written : Result ℕ ℕ) where
   -- the report of one run is that of a batch that is no `until`
   reported_once : batch.until ≡ None
-      → ReportsBatchRunFrom port plan lawful opened tries resumes batch s t old new told written
-      → IsBatchReported port plan lawful opened tries resumes batch s t old new told written
+      → ReportsBatchRunFrom wire opened tries resumes batch s t old new told written
+      → IsBatchReported wire opened tries resumes batch s t old new told written
   reported_once plain h =
-      let (runs, last_is, reads, performs) = performed_once port plan lawful opened tries resumes batch s h.run t plain h.goes
+      let (runs, last_is, reads, performs) = performed_once wire opened tries resumes batch s h.run t plain h.goes
       in
       record {
         runs = runs;
@@ -48,7 +47,7 @@ module _ {W : Type 0} (port : W → Port) (plan : W → List Mark) (lawful : W �
 pub returns-in-None-clause-reported : goal.returns-in-None-clause-reported
 returns-in-None-clause-reported g c =
     if_some c.report_call.result
-    (λ reported h. reported_once g.W.Wire.port g.W.Wire.plan g.W.Wire.lawful c.args.options.opened c.args.options.tries c.args.options.resumes
+    (λ reported h. reported_once g.W.Wire c.args.options.opened c.args.options.limits.tries c.args.options.limits.resumes
     (script_batch_listed c.args.batch.now) c.args.wire.now c.report_call.new.wire
     (g.O.Write.contents c.args.report.now)
     (g.O.Write.contents c.report_call.new.report) (host_report_of reported.report) reported.written c.in-None.is h)

@@ -1,15 +1,15 @@
-use Rattle.std.proofs.Common.{List, Option, ap, map, ℕ, subst}
-use Rattle.swd_port.specs.Port.{Port}
-use Rattle.swd_recorder.specs.Recorders.{recorder_lawful, recorder_plan, recorder_port}
+use Rattle.std.proofs.Common.{List, Option, map, ℕ, subst}
 use Rattle.swd_script.specs.Readers.{script_batch_listed}
 use Rattle.swd_run.specs.Engine.{BatchAnswers}
-use Rattle.swd_run.specs.Records.{RunFiles, run_files_from, run_file_held}
+use Rattle.swd_run.specs.Records.{RunFiles, run_files_from, run_files_of, run_file_held}
+use Rattle.swd_run.specs.Wires.{run_recorder_wire}
 use Rattle.swd_run.proofs.EngineLemmas.{batch_answers_recorded}
 use Rattle.swd_run.proofs.engine.run_recorded.Goals as goal
 
 pub returns-clause-answer : goal.returns-clause-answer
 returns-clause-answer g c =
     let contents = g.T.Write.contents in
+    let noted = g.B.Origin.noted in
     let records = c.args.records.now in
     let ran = c.run_traced-answer in
     let batches = map script_batch_listed c.args.batches.now in
@@ -18,12 +18,11 @@ returns-clause-answer g c =
     let new = g.O.Write.contents ran.new.report in
     let before : Option (Option (List ℕ)) → RunFiles =
     λ trace. run_files_from trace (run_file_held contents records.accesses) records.made in
-    let after = run_files_from (run_file_held contents ran.result.2) (run_file_held contents ran.new.accesses)
-    records.made in
-    let over : BatchAnswers recorder_port recorder_plan recorder_lawful c.args.tries c.args.resumes batches start
+    let after = run_files_of contents ran.new.records in
+    let over : BatchAnswers (run_recorder_wire noted) c.args.limits.tries c.args.limits.resumes batches start
     ran.result.1 ran.result.0 old new (before (run_file_held contents records.trace)) after =
-    subst (λ trace. BatchAnswers recorder_port recorder_plan recorder_lawful c.args.tries c.args.resumes batches start
+    subst (λ trace. BatchAnswers (run_recorder_wire noted) c.args.limits.tries c.args.limits.resumes batches start
     ran.result.1 ran.result.0 old new (before trace) after) c.requires.before ran.ensures.answer in
-    batch_answers_recorded c.args.tries c.args.resumes batches start ran.result.1 c.args.wire c.into_wire.result
-    c.new-traced.ensures.wire (ap (λ (x : Port). x.tally.asked) c.new-traced.ensures.port) c.into_wire.ensures.wire
+    batch_answers_recorded noted c.args.limits.tries c.args.limits.resumes batches start ran.result.1 c.args.wire c.into_wire.result
+    c.new-traced.ensures.wire c.new-traced.ensures.calls c.into_wire.ensures.wire
     ran.result.0 old new (before (run_file_held contents records.trace)) after over

@@ -12,12 +12,12 @@ returns-in-Err g c = λ start h.
     trace_stops (record {
       wanted = stop.0;
       trace = stop.1;
-      accesses = run_file_unchanged (run_file_held g.T.Write.contents c.args.accesses.now);
+      accesses = run_file_unchanged (run_file_held g.T.Write.contents c.args.records.now.accesses);
     })
 
 pub returns-in-Err-write_accesses : goal.returns-in-Err-write_accesses
 returns-in-Err-write_accesses g c = λ start h. accesses_stop (record {
-  wanted = run_file_some g.T.Write.contents c.args.accesses.now c.in-Err-write_accesses.ensures.err;
+  wanted = run_file_some g.T.Write.contents c.args.records.now.accesses c.in-Err-write_accesses.ensures.err;
   trace = run_trace_file_whole g.T.Write.contents start c.args.items.now c.args.file.now c.in_default.field-0
       (sym c.in_default.ensures) h;
   accesses = c.in-Err-write_accesses.ensures.file;

@@ -4,8 +4,9 @@ use Rattle.std.specs.Prelude.{OnErr}
 use Rattle.std.proofs.lemmas.List.{length-append}
 use Rattle.swd_port.specs.declared.access.Access.{Access}
 use Rattle.swd_port.specs.declared.access.Answer.{Answer}
-use Rattle.swd_host.specs.Again.{ResumeCloses, ResumesOver}
+use Rattle.swd_host.specs.Again.{ResumeCloses, ResumeReportsCalls, ResumesOver}
 use Rattle.swd_host.specs.Plain.{AreHostAccesses}
+use Rattle.swd_host.specs.Sent.{HostCalls}
 use Rattle.swd_host.specs.Reports.{host_report_to}
 use Rattle.swd_script.specs.Readers.{script_batch_listed}
 use Rattle.swd_run.specs.declared.going_on.Stop.{Stop}
@@ -32,7 +33,7 @@ loop-done-init g c =
         [],
         refl,
         g.met.K.RunSink.answers_follow c.args.sink.now c.begin-ending.new.sink ensures.keeps,
-        ran ensures.plan ensures.closes ensures.fits,
+        ran ensures.plan ensures.closes ensures.fits ensures.told,
       );
     }
 
@@ -50,7 +51,7 @@ resume_to-ending-requires-clause-accepted g c =
 pub loop-done-preserved : goal.loop-done-preserved
 loop-done-preserved g c =
     let batch = script_batch_listed c.args.batch.now in
-    let tries = c.args.options.tries in
+    let tries = c.args.options.limits.tries in
     let (stops, count, follows, went) = c.loop-done.invariant.went in
     let before = g.K.AnswerSink.taken c.loop-done.sink in
     let earlier = host_report_to before c.loop-done.ending in
@@ -100,6 +101,11 @@ loop-done-preserved g c =
             (g.W.Wire.port end)) taken
             (subst (λ (l : List Access). g.W.Wire.lawful end → g.W.Wire.lawful start
             × ResumesOver l tries (host_report_to (g.K.AnswerSink.taken c.stop.new.self) c.loop-done.ending) told
-            (g.W.Wire.port start) (g.W.Wire.port end)) list ensures.fits)),
+            (g.W.Wire.port start) (g.W.Wire.port end)) list ensures.fits))
+            (subst (λ (l : List Answer). HostCalls g.W.Wire.notes (ResumeReportsCalls batch.accesses
+            (host_report_to l c.loop-done.ending) told) start end) taken
+            (subst (λ (l : List Access). HostCalls g.W.Wire.notes (ResumeReportsCalls l
+            (host_report_to (g.K.AnswerSink.taken c.stop.new.self) c.loop-done.ending) told) start end) list
+            ensures.told)),
       );
     }

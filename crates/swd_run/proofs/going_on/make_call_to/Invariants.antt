@@ -14,6 +14,6 @@ invariant-loop-done g l =
       room : length batch.accesses ≤ g.K.AnswerSink.most l.sink;
       plan : g.W.Wire.plan l.wire ≡ g.W.Wire.plan l.fn.wire;
       went : (stops : List Stop) × (length stops ≡ l.done) × g.K.RunSink.follows l.fn.sink stops l.sink
-          × ScriptCallsFrom g.W.Wire.port g.W.Wire.plan g.W.Wire.lawful l.options.opened (batch_limit batch)
-          batch.accesses l.options.tries l.fn.wire stops (host_report_to (g.K.AnswerSink.taken l.sink) l.ending) l.wire;
+          × ScriptCallsFrom g.W.Wire l.options.opened (batch_limit batch)
+          batch.accesses l.options.limits.tries l.fn.wire stops (host_report_to (g.K.AnswerSink.taken l.sink) l.ending) l.wire;
     }

@@ -1,9 +1,12 @@
-use Rattle.std.proofs.Common.{◌∙◌, ◌≡◌, ◌≤◌, List, [], map, refl, sym, ap, subst}
+use Rattle.std.proofs.Common.{◌∙◌, ◌≡◌, ◌≤◌, List, [], inl, map, refl, sym, ap, subst}
 use Rattle.std.proofs.KnownBytes.{Appends-nil}
 use Rattle.std.specs.Prelude.{All as Each}
 use Rattle.swd_port.specs.declared.mark.Mark.{Mark}
+use Rattle.swd_port.specs.declared.wire.Wire.{Ghosts}
 use Rattle.swd_port.specs.Choices.{port_disturbed_among, port_lost_among}
 use Rattle.swd_port.specs.Bus.{bus_of}
+use Rattle.swd_port.specs.PlainMemory.{PlainMemory}
+use Rattle.swd_target.specs.declared.bench.Bench.{Bench}
 use Rattle.swd_target.specs.Benches.{bench_plan, bench_port}
 use Rattle.swd_script.specs.Laws.{IsScriptBatch}
 use Rattle.swd_script.specs.Readers.{script_batch_listed, read_script_meaning}
@@ -11,12 +14,23 @@ use Rattle.std.specs.Io.KnownBytes.{Appends}
 use Rattle.swd_run.specs.Engine.{BatchAnswersAt}
 use Rattle.swd_run.specs.Records.{run_files_of}
 use Rattle.swd_run.specs.Reports.{batch_report}
-use Rattle.swd_run.specs.Running.{ScriptRunAnswers, ScriptSession, full_room, script_bus, none, with_full_room}
+use Rattle.swd_run.specs.Running.{IsTraceUpTo, ScriptRunAnswers, ScriptSession, full_room, script_bus, none}
+use Rattle.swd_run.specs.Running.{with_full_room}
 use Rattle.swd_run.specs.Unfoldings.{no_batch}
 use Rattle.swd_run.proofs.ReportLemmas.{report_pairs_empty}
-use Rattle.swd_run.proofs.EngineLemmas.{no_call_run_files, script_run_answers}
+use Rattle.swd_run.proofs.EngineLemmas.{no_call_run_files, no_items_read, script_run_answers}
+use Rattle.swd_run.proofs.ToldLemmas.{none_told}
 use Rattle.swd_run.proofs.UnfoldingLemmas.{unfolded_calls_empty, unfolded_until_empty}
 use Rattle.swd_run.proofs.running.run_script.Goals as goal
+
+-- the simulated target of a script, as a wire
+abbrev bench_wire : {A : Type 0} → Ghosts (Bench PlainMemory A)
+bench_wire {A} = record {
+  port = bench_port bus_of;
+  plan = bench_plan;
+  lawful = λ bench. Unit {0};
+  notes = λ calls bench. Unit {0};
+}
 
 pub run_batches-answer-requires-clause-batches : goal.run_batches-answer-requires-clause-batches
 run_batches-answer-requires-clause-batches g c =
@@ -37,14 +51,20 @@ returns-in_default g c =
           memory = script_bus script;
           are = record {
             unfolds = no_batch;
-            session = subst (λ calls. ScriptSession c.args.tries c.args.resumes c.args.plan.items (script_bus script)
+            session = subst (λ calls. ScriptSession c.args.limits.tries c.args.limits.resumes c.args.plan.items (script_bus script)
                 calls [] (script_bus script)) (sym (unfolded_calls_empty script.batches)) none;
           };
           all = refl;
           came = unfolded_until_empty script.batches;
         },
         subst (Appends writer writer) (sym (report_pairs_empty batch_report script.batches)) (Appends-nil writer),
-        no_call_run_files (run_files_of g.T.Write.contents c.args.records.now),
+        no_call_run_files (IsTraceUpTo script.batches []) (record {
+          read = no_items_read;
+          more = [];
+          calls = [];
+          told = none_told script.batches;
+          of_calls = inl refl;
+        }) (run_files_of g.T.Write.contents c.args.records.now),
       ),
     )
 
@@ -59,16 +79,16 @@ returns g c =
     let memory = (bench_port bus_of ran.result.1).target.memory in
     let full : c.full_room.result ≡ full_room script.room memory = c.full_room.ensures
     ∙ ap (full_room script.room) (sym c.memory.ensures) in
-    subst (λ answer. ScriptRunAnswers c.args.tries c.args.resumes script c.args.plan.items answer old new before after)
+    subst (λ answer. ScriptRunAnswers c.args.limits.tries c.args.limits.resumes script c.args.plan.items answer old new before after)
     (sym (c.with_full.ensures ∙ ap (λ used. with_full_room used ran.result.0) full))
-    (script_run_answers (bench_port bus_of) bench_plan (λ bench. Unit {0}) c.args.tries c.args.resumes script
-    c.args.plan.items c.in-Some.bench ran.result.1 c.in-Some.ensures.port c.in-Some.ensures.plan
+    (script_run_answers bench_wire c.args.limits.tries c.args.limits.resumes script
+    c.args.plan.items c.in-Some.bench ran.result.1 c.in-Some.ensures.port c.in-Some.ensures.plan tt
     (λ bench same. (
       subst (λ (x : List Mark). (bench_port bus_of bench).tally.disturbed ≤ port_disturbed_among x) same
           (c.marks_used.ensures.disturbed_most bench),
       subst (λ (x : List Mark). (bench_port bus_of bench).tally.lost ≤ port_lost_among x) same
           (c.marks_used.ensures.lost_most bench),
     )) tt memory refl ran.result.0 old new before after
-    (subst (λ batches. BatchAnswersAt (bench_port bus_of) bench_plan (λ bench. Unit {0}) c.args.tries c.args.resumes
+    (subst (λ batches. BatchAnswersAt bench_wire c.args.limits.tries c.args.limits.resumes
     (map script_batch_listed batches) c.in-Some.bench ran.result.1 ran.result.0 old new before after)
     c.as_slice-batches.ensures.value ran.ensures.answer))

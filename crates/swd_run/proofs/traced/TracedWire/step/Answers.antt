@@ -1,4 +1,4 @@
-use Rattle.std.proofs.Common.{◌-◌, ◌≤◌, List, length, sym, subst}
+use Rattle.std.proofs.Common.{◌-◌, ◌≤◌, ◌∙◌, ◌∷◌, ◌++◌, List, length, ap, sym, subst}
 use Rattle.std.proofs.Math.Logic.{∥∥₁_map}
 use Rattle.swd_port.specs.declared.call.Call.{Call}
 use Rattle.swd_recorder.specs.Recorders.{recorder_kept, recorder_port}
@@ -14,6 +14,13 @@ write_settled-requires-clause-within g c =
     let stay = run_trace_settled_stays _ (recorder_kept self.recorder) (recorder_kept c.step-seen.new.self) done
     c.step-seen.ensures.adds self.settled in
     subst (λ l. done ≤ length l - 1) (sym c.items.ensures.items) stay.1
+
+pub returns-clause-notes : goal.returns-clause-notes
+returns-clause-notes g c = λ calls noted.
+    let call : Call = record { cue = c.args.cue; seen = c.step-seen.result } in (
+      c.step-seen.ensures.calls ∙ ap (λ l. call ∷ l) noted.0,
+      λ before was. c.step-seen.ensures.noted (calls ++ before) (noted.1 before was),
+    )
 
 pub invariant_of-self : goal.invariant_of-self
 invariant_of-self g c =

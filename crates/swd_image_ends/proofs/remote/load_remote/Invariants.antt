@@ -1,4 +1,0 @@
-use Rattle.swd_image_ends.proofs.remote.load_remote.Given as goal
-
-abbrev pub ghosts-load_begun : goal.ghosts-load_begun
-ghosts-load_begun g a = record { sent = g.W.Write.contents a.writer; left = g.R.Read.remaining a.reader }

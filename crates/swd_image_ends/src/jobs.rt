@@ -1,0 +1,101 @@
+//! The jobs of an image, for [`over_line`](swd_remote::over_line).
+ghost use Rattle.std.specs.Prelude.{[]};
+ghost use Rattle.swd_image_ends.specs.Came.{DumpCame, LoadCame, VerifyCame, image_story_wire};
+ghost use Rattle.swd_image_ends.specs.Pieces.{pieces_to_load};
+
+use crate::pieces::{load_pieces, verify_pieces};
+use std::alloc::Allocator;
+use swd_image::{ByteDifference, CallReports, ImageFault, Limits, dump};
+use swd_image_files::Image;
+use swd_port::{Story, Tied, Transport, TransportWire};
+use swd_remote::LineJob;
+
+/// A load of the pieces of an image, by [`load_pieces`].
+#[derive(Drop)]
+pub struct LoadJob<'a, S, A: Allocator> {
+    /// What the answers are allocated with.
+    pub alloc: A,
+    /// The image.
+    pub image: &'a Image<A>,
+    /// What each call may meet.
+    pub limits: Limits,
+    /// What gets the reports of the calls.
+    pub report: S,
+}
+
+impl<'a, S: CallReports, A: Allocator + Copy> LineJob for LoadJob<'a, S, A> {
+    type Answer = Result<(), ImageFault>;
+
+    ghost came = { λ story old new answer calls. LoadCame (image_story_wire story) old.limits
+        (pieces_to_load old.image.now) answer [] calls (S.held old.report) (S.held new.report) };
+
+    fn perform<T: Transport, P: Story>(
+        &mut self,
+        wire: &mut TransportWire<T, P, Tied>,
+    ) -> Result<(), ImageFault> {
+        load_pieces(self.alloc, wire, self.image, self.limits, &mut self.report)
+    }
+}
+
+/// A verification of the pieces of an image, by [`verify_pieces`].
+#[derive(Drop)]
+pub struct VerifyJob<'a, S, A: Allocator> {
+    /// What the answers are allocated with.
+    pub alloc: A,
+    /// The image.
+    pub image: &'a Image<A>,
+    /// What each call may meet.
+    pub limits: Limits,
+    /// What gets the reports of the calls.
+    pub report: S,
+}
+
+impl<'a, S: CallReports, A: Allocator + Copy> LineJob for VerifyJob<'a, S, A> {
+    type Answer = Result<Option<ByteDifference>, ImageFault>;
+
+    ghost came = { λ story old new answer calls. VerifyCame (image_story_wire story) old.limits
+        (pieces_to_load old.image.now) answer [] calls (S.held old.report) (S.held new.report) };
+
+    fn perform<T: Transport, P: Story>(
+        &mut self,
+        wire: &mut TransportWire<T, P, Tied>,
+    ) -> Result<Option<ByteDifference>, ImageFault> {
+        verify_pieces(self.alloc, wire, self.image, self.limits, &mut self.report)
+    }
+}
+
+/// A dump of `count` bytes from `addr` on, by `swd_image::dump`.
+#[derive(Drop)]
+pub struct DumpJob<S, A: Allocator> {
+    /// What the answers and the bytes are allocated with.
+    pub alloc: A,
+    /// The address of the first byte.
+    pub addr: u32,
+    /// How many bytes are read.
+    pub count: u64,
+    /// What each call may meet.
+    pub limits: Limits,
+    /// What gets the reports of the calls.
+    pub report: S,
+}
+
+impl<S: CallReports, A: Allocator + Copy> LineJob for DumpJob<S, A> {
+    type Answer = Result<Vec<u8, A>, ImageFault>;
+
+    ghost came = { λ story old new answer calls. DumpCame (image_story_wire story) old.limits old.addr old.count
+        answer (λ bytes. bytes.items) [] calls (S.held old.report) (S.held new.report) };
+
+    fn perform<T: Transport, P: Story>(
+        &mut self,
+        wire: &mut TransportWire<T, P, Tied>,
+    ) -> Result<Vec<u8, A>, ImageFault> {
+        dump(
+            self.alloc,
+            wire,
+            self.addr,
+            self.count,
+            self.limits,
+            &mut self.report,
+        )
+    }
+}

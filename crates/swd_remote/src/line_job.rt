@@ -1,0 +1,65 @@
+//! Does a job over a remote_bitbang connection, from its beginning to its end.
+ghost use Rattle.std.specs.Prelude.{◌≡◌, ℕ, List, []};
+ghost use Rattle.swd_port.specs.declared.call.Call.{Call};
+ghost use Rattle.swd_port.specs.Outside.{wire_calls};
+ghost use Rattle.swd_port.specs.Port.{Port};
+ghost use Rattle.swd_remote.specs.WholeRuns.{GoesOver};
+
+use crate::kept::{InitialStreams, RemoteStreams, RemoteTransport};
+use std::io::{Read, Write};
+use std::marker::Brand;
+use swd_port::{Story, Tied, Transport, TransportWire};
+
+/// What is done over a wire, such as a load of an image.
+pub trait LineJob {
+    /// The result.
+    type Answer;
+
+    /// What the job before, the job after and the answer state of the calls that were made of the wire, the last one
+    /// first, for each story.
+    ghost came: { (ℕ → Port) → Self → Self → Self.Answer → List Call → Type 0 };
+
+    /// Does the job over a wire without calls.
+    fn perform<T: Transport, S: Story>(
+        &mut self,
+        wire: &mut TransportWire<T, S, Tied>,
+    ) -> Self::Answer
+        requires { wire_calls wire.old ≡ [] }
+        ensures { came S.at self.old self.new result (wire_calls wire.new) };
+}
+
+/// Does a job at the target behind a remote_bitbang server, and then sends `Q`. Returns the connection too, with the
+/// error that ended it, if any.
+///
+/// Whatever comes back, the job ends as it does over any wire, unless the connection blocks. What it states holds for
+/// every story with which the replies are consistent. If the target conforms to the model, one of these stories is its
+/// own. Up to the first I/O error, exactly `O`, the characters of the job's calls and `Q` are sent, and exactly the
+/// levels that these calls ask for are read. Nothing is sent after that error.
+pub fn over_line<P: Story, J: LineJob, R: Read, W: Write>(
+    job: &mut J,
+    reader: R,
+    writer: W,
+) -> (J::Answer, RemoteStreams<R, W>)
+    ensures { (calls : List Call) × J.came P.at job.old job.new result.0 calls
+        × ∥ GoesOver R.remaining W.contents (W.contents writer) (R.remaining reader) result.1 calls ∥₁ }
+{
+    over_begun::<P, Brand, J, R, W>(job, reader, writer)
+}
+
+// Does a job over a connection whose beginning contracts know.
+fn over_begun<P: Story, B: InitialStreams, J: LineJob, R: Read, W: Write>(
+    job: &mut J,
+    reader: R,
+    writer: W,
+) -> (J::Answer, RemoteStreams<R, W>)
+    requires sent { B.sent ≡ W.contents writer }
+    requires left { B.left ≡ R.remaining reader }
+    ensures { (calls : List Call) × J.came P.at job.old job.new result.0 calls
+        × ∥ GoesOver R.remaining W.contents B.sent B.left result.1 calls ∥₁ }
+{
+    let mut wire: TransportWire<RemoteTransport<R, W, B>, P, Tied> = TransportWire::begun(
+        RemoteTransport::new(reader, writer),
+    );
+    let answer = job.perform(&mut wire);
+    (answer, wire.into_transport().hang_up())
+}
