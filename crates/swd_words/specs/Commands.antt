@@ -1,6 +1,6 @@
 -- The program's command line, as the parser reads it, and the meaning of its arguments.
 use Rattle.std.specs.Prelude.{ℕ, ◌≡◌, ◌≢◌, ◌≤◌, ◌%◌, ◌↔◌, ◌⊎◌, List, [], ◌∷◌, Option, Some, None, IsSomeAnd, true}
-use Rattle.std.specs.Prelude.{◌+◌, ◌*◌, ◌^◌, Bool, false, codes, pos, unwrap_or, if◌then◌else◌}
+use Rattle.std.specs.Prelude.{◌+◌, ◌++◌, ◌<◌, ◌*◌, ◌^◌, Bool, false, codes, pos, unwrap_or, if◌then◌else◌}
 use Rattle.std.specs.Option.{option_and_then, option_map}
 use Rattle.std.specs.String.{string_bytes}
 use Rattle.std.specs.Str.{bytes_eq}
@@ -30,7 +30,7 @@ use Rattle.swd_image_files.specs.declared.elf.ElfChoice.{ElfChoice}
 use Rattle.swd_image_files.specs.declared.elf.ElfChoice.TheVariants.{Auto, Always, Never}
 use Rattle.swd_image_files.specs.declared.format.Format.{Format}
 use Rattle.swd_image_files.specs.Formats.{image_format_of_name, image_format_of_word}
-use Rattle.swd_script.specs.Numerals.{script_decimal_number, script_hex_number}
+use Rattle.swd_script.specs.Numerals.{is_script_hex_prefix, script_decimal_number, script_hex_number}
 use Rattle.clap.specs.declared.error.kind.ErrorKind.{ErrorKind}
 use Rattle.clap.specs.declared.builder.action.ArgAction.TheVariants.{Append, SetTrue}
 use Rattle.clap.specs.declared.builder.value_parser.ValueParser.TheVariants.{Signed}
@@ -351,12 +351,27 @@ pub record AreRunArguments (run : RunLine) (rows : List Row) : Type 0 where
   pub report : option_map string_bytes run.report ≡ first_of (codes "report") rows
   pub progress : (run.progress ≡ true) ↔ (first_of (codes "progress") rows ≡ Some (codes "true"))
 
--- what is done with an image, by the command's name; a dump's number of bytes is 1 to 10 decimal digits
+-- a number of bytes in units of this size: 1 to 10 decimal digits are the number of units
+abbrev pub AreBytesInUnits : ℕ → ℕ → Text → Type 0
+AreBytesInUnits count size digits =
+    (units : ℕ) × (Some units ≡ script_decimal_number digits) × (count ≡ units * size) × (count < 2 ^ 32)
+
+-- a number of bytes: 1 to 10 decimal digits, or 1 to 8 hexadecimal digits after 0x or 0X, or decimal digits and k (107),
+-- for 1,024 bytes each, or M (77), for 1,048,576
+abbrev pub IsBytesArgument : ℕ → Text → Type 0
+IsBytesArgument count text =
+    (Some count ≡ script_decimal_number text)
+    ⊎ ((first second : ℕ) × (digits : Text) × (text ≡ first ∷ second ∷ digits)
+    × (is_script_hex_prefix first second ≡ true) × (Some count ≡ script_hex_number text))
+    ⊎ ((digits : Text) × (text ≡ digits ++ 107 ∷ []) × AreBytesInUnits count 1024 digits)
+    ⊎ ((digits : Text) × (text ≡ digits ++ 77 ∷ []) × AreBytesInUnits count 1048576 digits)
+
+-- what is done with an image, by the command's name, and a dump's number of bytes
 abbrev pub IsActionArgument : ImageAction → Text → List Row → Type 0
 IsActionArgument Load name rows = name ≡ codes "load"
 IsActionArgument Verify name rows = name ≡ codes "verify"
 IsActionArgument (Dump count) name rows =
-    (name ≡ codes "dump") × (Some count ≡ option_and_then script_decimal_number (first_of (codes "BYTES") rows))
+    (name ≡ codes "dump") × IsSomeAnd (first_of (codes "BYTES") rows) (IsBytesArgument count)
 
 -- an image's file is ELF by its content, but after --format by the word there
 abbrev pub elf_choice_of_word : Option Text → ElfChoice

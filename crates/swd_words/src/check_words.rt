@@ -7,7 +7,7 @@ ghost use Rattle.swd_words.specs.Commands.{check_args_app, checked_args_app, fla
 ghost use Rattle.swd_words.specs.Commands.{AreCheckArguments, ArePlainArguments, IsPlainArgument};
 
 use crate::command::{CheckLine, LineFault, PlainWords};
-use crate::words::{file_arg, is_asked_for, owned, refused, with_arg};
+use crate::words::{file_arg, invalid, is_asked_for, owned, refused, with_arg};
 use clap::error::ErrorKind;
 use clap::{Arg, ArgAction, ArgMatches, Command};
 use std::alloc::{AllocError, Global};
@@ -58,8 +58,11 @@ const OVERRUN: &str = "As --resync; WAIT and FAULT have a data phase";
 
 const TWO_STARTS: &str = "--made goes without --rest";
 
-const PLAIN_FORM: &str =
-    "the values of '--plain <BASE> <WORDS>' are not a multiple of 4 and a number of words up to ffffffff";
+const PLAIN_OPTION: &str = "--plain <BASE> <WORDS>";
+
+const PLAIN_BASE: &str = "it is not 1 to 8 hexadecimal digits of a multiple of 4";
+
+const PLAIN_WORDS: &str = "it is not a number of words, at least 1 and none past ffffffff";
 
 const PLAIN_NAMES: [&str; 2] = ["BASE", "WORDS"];
 
@@ -129,6 +132,16 @@ fn words_in(base: &str, words: &str) -> Option<PlainWords>
     }
 }
 
+// Returns the error of these values of one use of `--plain`.
+fn unfit(alloc: Global, base: &str, words: &str) -> LineFault {
+    let (value, why) = match hex_of(base.as_bytes()) {
+        Some(addr) if addr % 4 == 0 => (words, PLAIN_WORDS),
+        _ => (base, PLAIN_BASE),
+    };
+    let kind = ErrorKind::InvalidValue;
+    invalid(alloc, kind, Some(value), PLAIN_OPTION, why)
+}
+
 // Adds the words of plain memory of these values, two for each use of `--plain`.
 fn add_plain(alloc: Global, values: &[&str], plain: &mut Vec<PlainWords>) -> Result<(), LineFault>
     ensures { IfOk result (λ _. (more : List PlainWords) × (plain.new.items ≡ plain.old.items ++ more)
@@ -138,14 +151,14 @@ fn add_plain(alloc: Global, values: &[&str], plain: &mut Vec<PlainWords>) -> Res
         [] => Ok(()),
         [base, words, rest @ ..] => {
             let Some(found) = words_in(*base, *words) else {
-                return Err(refused(alloc, ErrorKind::InvalidValue, PLAIN_FORM));
+                return Err(unfit(alloc, *base, *words));
             };
             if plain.push(found).is_err() {
                 return Err(LineFault::Memory);
             }
             add_plain(alloc, rest, plain)
         }
-        _ => Err(refused(alloc, ErrorKind::InvalidValue, PLAIN_FORM)),
+        [base, ..] => Err(unfit(alloc, *base, "")),
     }
 }
 

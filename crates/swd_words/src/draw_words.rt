@@ -8,7 +8,7 @@ ghost use Rattle.swd_words.specs.Commands.{AreDrawArguments, IsItemsArgument};
 
 use crate::command::{DrawLine, LineFault};
 use crate::decode_words::{OVERRUN_WITH_RESYNC, names_arg, overrun_arg, resync_arg};
-use crate::words::{file_arg, is_asked_for, number_in, owned, refused, with_arg};
+use crate::words::{file_arg, invalid, is_asked_for, number_in, owned, refused, with_arg};
 use clap::error::ErrorKind;
 use clap::{Arg, ArgMatches, Command, value_parser};
 use std::alloc::{AllocError, Global};
@@ -34,8 +34,10 @@ read first: where it is invalid there is no picture.";
 // The most items of a drawing without --items.
 const ITEMS: u32 = 200;
 
-/// The error of a number of items that is too small or too large.
-pub(crate) const ITEMS_RANGE: &str = "the value of '--items <N>' is not in 1..=1000";
+/// The option for the most items, as `clap` names it, and what is said of a number that is too small or too large.
+pub(crate) const ITEMS_OPTION: &str = "--items <N>";
+
+pub(crate) const ITEMS_RANGE: &str = "it is not in 1..=1000";
 
 // Returns the option for the most items.
 fn items_arg<'a>(alloc: Global) -> Arg<'a>
@@ -95,8 +97,10 @@ pub(crate) fn draw_line(alloc: Global, matches: &ArgMatches<'_>) -> Result<DrawL
         let kind = ErrorKind::MissingRequiredArgument;
         return Err(refused(alloc, kind, OVERRUN_WITH_RESYNC));
     }
-    let Some(items) = items_in(matches.get_str("items")) else {
-        return Err(refused(alloc, ErrorKind::InvalidValue, ITEMS_RANGE));
+    let given = matches.get_str("items");
+    let Some(items) = items_in(given) else {
+        let kind = ErrorKind::InvalidValue;
+        return Err(invalid(alloc, kind, given, ITEMS_OPTION, ITEMS_RANGE));
     };
     let names = is_asked_for(matches.get_str("names"));
     Ok(DrawLine {

@@ -28,12 +28,12 @@ pub(crate) fn format_arg<'a>(alloc: Global, help: &'a str) -> Arg<'a>
         .help(help)
 }
 
-/// Returns the error of a word after `--format`.
+/// Returns what is said of another word after `--format`.
 pub(crate) fn format_form(action: ImageAction) -> &'static str {
     if is_read(action) {
-        "the value of '--format <FORMAT>' is not bin, hex, srec or elf"
+        "it is not bin, hex, srec or elf"
     } else {
-        "the value of '--format <FORMAT>' is not bin, hex or srec"
+        "it is not bin, hex or srec"
     }
 }
 

@@ -1,24 +1,28 @@
 //! The arguments of `swd load`, `swd verify` and `swd dump`.
-ghost use Rattle.std.specs.Prelude.{◌≡◌, IfOk, IfSome, Some, false};
+ghost use Rattle.std.specs.Prelude.{◌≡◌, IfOk, IfSome, IsSomeAnd, Some, false};
 ghost use Rattle.std.specs.Option.{option_and_then, option_map};
 ghost use Rattle.clap.specs.Words.{app_of, found_of, rows_of, rule_of};
 ghost use Rattle.clap.specs.declared.builder.command.Command.TheViews.{out-Command};
-ghost use Rattle.swd_script.specs.Numerals.{script_decimal_number, script_hex_number};
+ghost use Rattle.swd_script.specs.Numerals.{is_script_hex_prefix, script_hex_number};
 ghost use Rattle.swd_words.specs.Commands.{addr_rule, bytes_rule, dump_args_app, image_rule, image_args_app};
 ghost use Rattle.swd_words.specs.Commands.{with_image_args, with_image_args_apps as images_of, IsActionArgument};
-ghost use Rattle.swd_words.specs.Commands.{AreImageArguments};
+ghost use Rattle.swd_words.specs.Commands.{AreBytesInUnits, AreImageArguments, IsBytesArgument};
 
 use crate::command::{ImageAction, ImageLine, LineFault};
 use crate::format_words::{READ_FORMATS, WRITTEN_FORMATS, format_arg, format_form, formats_in};
 use crate::memory_words::{target_in, with_target_options};
 use crate::words::{
-    RESUMES_RANGE, TRIES_RANGE, owned, refused, report_arg, resume_arg, resumes_in, tries_arg,
-    tries_in, unknown, with_arg, with_sub,
+    invalid, numbers_in, owned, report_arg, resume_arg, tries_arg, unknown, with_arg, with_sub,
 };
 use clap::error::ErrorKind;
 use clap::{Arg, ArgMatches, Command};
 use std::alloc::{AllocError, Global};
 use swd_script::{decimal_of, hex_of};
+
+// The bytes that a `k` and an `M` behind a number stand for.
+const KILO: u32 = 1024;
+
+const MEGA: u32 = 1024 * 1024;
 
 const LOAD_ABOUT: &str = "Load a file into a target's memory";
 
@@ -84,11 +88,12 @@ access met a bus error or the other end went away, 2 at an error.";
 const DUMP_ABOUT: &str = "Dump a target's memory to a file";
 
 const DUMP_AFTER: &str = "\
-BYTES is 1 to 10 decimal digits, and ADDR 1 to 8 hexadecimal digits, after an
-optional 0x. --remote and --memory are as for swd load; the memory's FILE is
-only read. --report is as for swd verify. FILE is hex, srec or bin by its name,
-as for swd load, or by --format. In a hex or srec file the addresses are the
-target's.
+BYTES is 1 to 10 decimal digits, which k (1024 bytes) or M (1048576 bytes) may
+follow, or 1 to 8 hexadecimal digits after 0x. ADDR is 1 to 8 hexadecimal
+digits, after an optional 0x. --remote and --memory are as for swd load; the
+memory's FILE is only read. --report is as for swd verify. FILE is hex, srec or
+bin by its name, as for swd load, or by --format. In a hex or srec file the
+addresses are the target's.
 
 FILE is replaced once all bytes are read, by a new file beside it that gets its
 name. At an error it is unchanged, or isn't created. A line on standard error
@@ -98,9 +103,10 @@ has the result:
 Status: 0 if all was dumped, 1 if the run ended early, an access met a bus error
 or the other end went away, 2 at an error.";
 
-const ADDR_FORM: &str = "ADDR is not 1 to 8 hexadecimal digits";
+const ADDR_FORM: &str = "it is not 1 to 8 hexadecimal digits";
 
-const BYTES_FORM: &str = "BYTES is not a number of 32 bits";
+const BYTES_FORM: &str =
+    "it is not a number below 2^32: decimal, as 64k or 1M, or hexadecimal behind 0x";
 
 // Returns the required argument for the address.
 fn addr_arg<'a>(alloc: Global, help: &'a str) -> Arg<'a>
@@ -117,7 +123,7 @@ fn bytes_arg<'a>(alloc: Global) -> Arg<'a>
 {
     Arg::new(alloc, "BYTES")
         .required(true)
-        .help("The number of bytes, decimal")
+        .help("The number of bytes, such as 65536, 64k, 1M or 0x10000")
 }
 
 // Returns the required argument for the file of the bytes.
@@ -216,15 +222,57 @@ fn addr_in(word: Option<&str>) -> Option<u32>
     }
 }
 
-// Returns the number of an argument, or `None` if it isn't one of 32 bits.
+// Returns the number of bytes of an argument, or `None` if it isn't one below 2^32.
 fn count_in(word: Option<&str>) -> Option<u32>
-    ensures { IfSome result (λ count. Some count
-        ≡ option_and_then script_decimal_number (option_map (λ s. s.now) word.entry)) }
+    ensures { IfSome result (λ count. IsSomeAnd (option_map (λ s. s.now) word.entry) (IsBytesArgument count)) }
 {
     match word {
-        Some(word) => decimal_of(word.as_bytes()),
+        Some(word) => count_of(word.as_bytes()),
         None => None,
     }
+}
+
+// Returns the number of bytes that a word is, or `None` if it isn't one below 2^32.
+fn count_of(word: &[u8]) -> Option<u32>
+    ensures { IfSome result (λ count. IsBytesArgument count word.now) }
+{
+    let Some((last, digits)) = word.split_last() else {
+        return None;
+    };
+    match *last {
+        b'k' => units_of(digits, KILO),
+        b'M' => units_of(digits, MEGA),
+        _ => bytes_of(word),
+    }
+}
+
+// Returns the number of bytes that a word without a unit is, or `None` if it isn't one below 2^32.
+fn bytes_of(word: &[u8]) -> Option<u32>
+    ensures { IfSome result (λ count. IsBytesArgument count word.now) }
+{
+    match word {
+        [first, second, _digits @ ..] if is_prefix(*first, *second) => hex_of(word),
+        _ => decimal_of(word),
+    }
+}
+
+// Returns whether these are `0x` or `0X`.
+fn is_prefix(first: u8, second: u8) -> bool
+    ensures { result ≡ is_script_hex_prefix first second }
+{
+    first == b'0' && (second == b'x' || second == b'X')
+}
+
+// Returns the number of bytes of so many units of this size, or `None` if it isn't below 2^32.
+fn units_of(digits: &[u8], size: u32) -> Option<u32>
+    ensures { IfSome result (λ count. AreBytesInUnits count size digits.now) }
+{
+    decimal_of(digits)?.checked_mul(size)
+}
+
+// Returns the error of a value that isn't one of this argument.
+fn unfit(alloc: Global, value: Option<&str>, argument: &str, why: &str) -> LineFault {
+    invalid(alloc, ErrorKind::InvalidValue, value, argument, why)
 }
 
 // Returns what the command of this name does with an image.
@@ -234,10 +282,13 @@ fn action_of(alloc: Global, name: &str, matches: &ArgMatches<'_>) -> Result<Imag
     match name {
         "load" => Ok(ImageAction::Load),
         "verify" => Ok(ImageAction::Verify),
-        "dump" => match count_in(matches.get_str("BYTES")) {
-            Some(count) => Ok(ImageAction::Dump(count)),
-            None => Err(refused(alloc, ErrorKind::InvalidValue, BYTES_FORM)),
-        },
+        "dump" => {
+            let bytes = matches.get_str("BYTES");
+            match count_in(bytes) {
+                Some(count) => Ok(ImageAction::Dump(count)),
+                None => Err(unfit(alloc, bytes, "<BYTES>", BYTES_FORM)),
+            }
+        }
         _ => Err(unknown(alloc)),
     }
 }
@@ -251,24 +302,21 @@ pub(crate) fn image_line(
     ensures { IfOk result (λ image. AreImageArguments image name.now (rows_of (found_of matches.now))) }
 {
     let action = action_of(alloc, name, matches)?;
-    let Some(addr) = addr_in(matches.get_str("ADDR")) else {
-        return Err(refused(alloc, ErrorKind::InvalidValue, ADDR_FORM));
+    let address = matches.get_str("ADDR");
+    let Some(addr) = addr_in(address) else {
+        return Err(unfit(alloc, address, "<ADDR>", ADDR_FORM));
     };
     let Ok(Some(file)) = owned(alloc, matches.get_str("FILE")) else {
         return Err(LineFault::Memory);
     };
-    let Some(tries) = tries_in(matches.get_str("tries")) else {
-        return Err(refused(alloc, ErrorKind::InvalidValue, TRIES_RANGE));
-    };
-    let Some(resumes) = resumes_in(matches.get_str("resume")) else {
-        return Err(refused(alloc, ErrorKind::InvalidValue, RESUMES_RANGE));
-    };
+    let numbers = numbers_in(alloc, matches)?;
     let Ok(report) = owned(alloc, matches.get_str("report")) else {
         return Err(LineFault::Memory);
     };
     let memory = target_in(alloc, matches)?;
-    let Some(formats) = formats_in(action, matches.get_str("format"), file.as_str()) else {
-        return Err(refused(alloc, ErrorKind::InvalidValue, format_form(action)));
+    let word = matches.get_str("format");
+    let Some(formats) = formats_in(action, word, file.as_str()) else {
+        return Err(unfit(alloc, word, "--format <FORMAT>", format_form(action)));
     };
     Ok(ImageLine {
         action,
@@ -276,8 +324,8 @@ pub(crate) fn image_line(
         file,
         format: formats.0,
         elf: formats.1,
-        tries,
-        resumes,
+        tries: numbers.0,
+        resumes: numbers.1,
         report,
         memory,
     })

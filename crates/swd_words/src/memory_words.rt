@@ -8,7 +8,7 @@ ghost use Rattle.swd_words.specs.Commands.{base_rule, memory_rule, with_target_a
 ghost use Rattle.swd_words.specs.Commands.{IsBaseArgument, AreMemoryArguments, IsTargetArgument};
 
 use crate::command::{LineFault, MemoryLine};
-use crate::words::{is_asked_for, owned, plan_arg, refused, remote_arg, with_arg};
+use crate::words::{invalid, is_asked_for, owned, plan_arg, refused, remote_arg, with_arg};
 use clap::error::ErrorKind;
 use clap::{Arg, ArgMatches, Command};
 use std::alloc::{AllocError, Global};
@@ -17,8 +17,7 @@ use swd_script::hex_of;
 // The address of a simulated memory without `--base`: where the memory of most microcontrollers begins.
 const BASE: u32 = 0x2000_0000;
 
-const BASE_FORM: &str =
-    "the value of '--base <ADDR>' is not 1 to 8 hexadecimal digits of a multiple of 4";
+const BASE_FORM: &str = "it is not 1 to 8 hexadecimal digits of a multiple of 4";
 
 const NO_TARGET: &str = "the target is missing: give --remote or --memory FILE";
 
@@ -103,8 +102,10 @@ pub(crate) fn memory_line(
     let Ok(plan) = owned(alloc, matches.get_str("plan")) else {
         return Err(LineFault::Memory);
     };
-    let Some(base) = base_in(matches.get_str("base")) else {
-        return Err(refused(alloc, ErrorKind::InvalidValue, BASE_FORM));
+    let given = matches.get_str("base");
+    let Some(base) = base_in(given) else {
+        let kind = ErrorKind::InvalidValue;
+        return Err(invalid(alloc, kind, given, "--base <ADDR>", BASE_FORM));
     };
     Ok(MemoryLine { file, base, plan })
 }

@@ -8,7 +8,7 @@ ghost use Rattle.swd_words.specs.Commands.{AreServedArguments, AreTargetArgument
 
 use crate::command::{LineFault, ScriptLine, ServedMemory, TargetLine};
 use crate::memory_words::{base_arg, is_missing, memory_arg, memory_line};
-use crate::words::{owned, plan_arg, refused, trace_arg, with_arg};
+use crate::words::{invalid, owned, plan_arg, refused, trace_arg, with_arg};
 use clap::error::ErrorKind;
 use clap::{Arg, ArgMatches, Command};
 use std::alloc::{AllocError, Global};
@@ -53,7 +53,7 @@ const TWO_MEMORIES: &str = "SCRIPT and --memory FILE are two memories: give one 
 
 const NO_BASE: &str = "--base ADDR goes with --memory FILE";
 
-const IDR_FORM: &str = "the value of '--idr <WORD>' is not 1 to 8 hexadecimal digits";
+const IDR_FORM: &str = "it is not 1 to 8 hexadecimal digits";
 
 // Returns the argument for the script's file.
 fn served_script_arg<'a>(alloc: Global) -> Arg<'a>
@@ -159,8 +159,10 @@ pub(crate) fn target_line(alloc: Global, matches: &ArgMatches<'_>) -> Result<Tar
     let Ok(trace) = owned(alloc, matches.get_str("trace")) else {
         return Err(LineFault::Memory);
     };
-    let Some(idr) = idr_in(matches.get_str("idr")) else {
-        return Err(refused(alloc, ErrorKind::InvalidValue, IDR_FORM));
+    let given = matches.get_str("idr");
+    let Some(idr) = idr_in(given) else {
+        let kind = ErrorKind::InvalidValue;
+        return Err(invalid(alloc, kind, given, "--idr <WORD>", IDR_FORM));
     };
     Ok(TargetLine {
         memory,

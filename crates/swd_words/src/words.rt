@@ -3,7 +3,7 @@ ghost use Rattle.std.specs.Prelude.{◌≡◌, ◌↔◌, IfOk, IfErr, IfSome, S
 ghost use Rattle.std.specs.Option.{option_map};
 ghost use Rattle.std.specs.String.{string_bytes};
 ghost use Rattle.clap.specs.Words.{app_of, found_of, rows_of, subcommand_of, subcommand_rows_of, rule_of, shape_of};
-ghost use Rattle.clap.specs.Words.{fault_of, kind_of, with_rule, with_subcommand};
+ghost use Rattle.clap.specs.Words.{fault_of, first_of, kind_of, with_rule, with_subcommand};
 ghost use Rattle.clap.specs.declared.builder.command.Command.TheViews.{out-Command};
 ghost use Rattle.swd_words.specs.Commands.{file_rule, plan_rule, resume_rule, script_rule, strict_rule, trace_rule};
 ghost use Rattle.swd_words.specs.Commands.{accesses_file_rule, tries_rule, progress_rule, remote_rule, report_rule};
@@ -14,7 +14,7 @@ ghost use Rattle.swd_words.specs.Commands.{IsArgumentsErrorKind, AreRunArguments
 use crate::check_words::{check_command, check_line};
 use crate::command::{CommandLine, LineFault, RunLine};
 use crate::decode_words::{decode_command, decode_line};
-use crate::draw_words::{ITEMS_RANGE, draw_command, draw_line};
+use crate::draw_words::{ITEMS_OPTION, ITEMS_RANGE, draw_command, draw_line};
 use crate::image_words::{image_line, with_images};
 use crate::target_words::{target_command, target_line};
 use clap::error::ErrorKind;
@@ -161,9 +161,12 @@ const TRIES: u32 = 8;
 
 const MOST_TRIES: i64 = 1000;
 
-pub(crate) const TRIES_RANGE: &str = "the value of '--tries <N>' is not in 0..=1000";
+/// The options with a number up to 1,000, as `clap` names them, and what is said of another number.
+pub(crate) const TRIES_OPTION: &str = "--tries <N>";
 
-pub(crate) const RESUMES_RANGE: &str = "the value of '--resume <N>' is not in 0..=1000";
+pub(crate) const RESUME_OPTION: &str = "--resume <N>";
+
+pub(crate) const NUMBER_RANGE: &str = "it is not in 0..=1000";
 
 // Returns a value as an owned string.
 pub(crate) fn owned(alloc: Global, text: Option<&str>) -> Result<Option<String>, AllocError>
@@ -402,29 +405,72 @@ pub(crate) fn refused(alloc: Global, kind: ErrorKind, why: &str) -> LineFault
     }
 }
 
+/// Returns the error of a value that an argument can't have, in the form of `clap`'s own errors.
+pub(crate) fn invalid(
+    alloc: Global,
+    kind: ErrorKind,
+    value: Option<&str>,
+    argument: &str,
+    why: &str,
+) -> LineFault
+    ensures { IsArgumentsErrorKind kind result }
+{
+    let value = value.unwrap_or("");
+    match format!(in alloc; "invalid value '{value}' for '{argument}': {why}") {
+        Ok(text) => refused(alloc, kind, text.as_str()),
+        Err(_) => LineFault::Memory,
+    }
+}
+
 pub(crate) fn unknown(alloc: Global) -> LineFault {
     refused(alloc, ErrorKind::InvalidSubcommand, "unknown command")
 }
 
-// Returns whether an option with a number is followed by a negative one. `clap` reports that number as an unknown
-// option.
-fn asks_for_negative(words: &[&str], option: &str) -> bool {
-    words.windows(2).any(|pair| {
-        pair[0] == option && pair[1].parse::<i64>().is_ok_and(|number| number < 0)
-    })
+// Returns the negative number that follows an option with a number. `clap` reports it as an unknown option.
+fn negative_of<'a>(words: &[&'a str], option: &str) -> Option<&'a str> {
+    for pair in words.windows(2) {
+        if pair[0] == option && pair[1].parse::<i64>().is_ok_and(|number| number < 0) {
+            return Some(pair[1]);
+        }
+    }
+    None
 }
 
-// Returns the range of the option with a number that is followed by a negative one, if the command has that option.
-fn negative_range(words: &[&str]) -> Option<&'static str> {
+// A negative number, the option with a number that it follows, as `clap` names it, and what is said of the number.
+#[derive(Clone, Copy)]
+struct Negative<'a> {
+    number: &'a str,
+    option: &'static str,
+    range: &'static str,
+}
+
+// Returns the negative number that follows this option, or `otherwise` if none does.
+fn negative_or<'a>(
+    words: &[&'a str],
+    name: &str,
+    option: &'static str,
+    range: &'static str,
+    otherwise: Option<Negative<'a>>,
+) -> Option<Negative<'a>> {
+    match negative_of(words, name) {
+        Some(number) => Some(Negative {
+            number,
+            option,
+            range,
+        }),
+        None => otherwise,
+    }
+}
+
+// Returns the negative number of these arguments, if the command has an option with a number that it follows.
+fn negative_in<'a>(words: &[&'a str]) -> Option<Negative<'a>> {
     let name = words.get(1)?;
     match *name {
-        "run" | "load" | "verify" | "dump" if asks_for_negative(words, "--tries") => {
-            Some(TRIES_RANGE)
+        "run" | "load" | "verify" | "dump" => {
+            let resume = negative_or(words, "--resume", RESUME_OPTION, NUMBER_RANGE, None);
+            negative_or(words, "--tries", TRIES_OPTION, NUMBER_RANGE, resume)
         }
-        "run" | "load" | "verify" | "dump" if asks_for_negative(words, "--resume") => {
-            Some(RESUMES_RANGE)
-        }
-        "draw" if asks_for_negative(words, "--items") => Some(ITEMS_RANGE),
+        "draw" => negative_or(words, "--items", ITEMS_OPTION, ITEMS_RANGE, None),
         _ => None,
     }
 }
@@ -433,9 +479,15 @@ fn negative_range(words: &[&str]) -> Option<&'static str> {
 fn line_fault(alloc: Global, words: &[&str], fault: Error) -> LineFault
     ensures { IsArgumentsErrorKind (kind_of fault) result }
 {
-    match negative_range(words) {
-        Some(range) if fault.kind() == ErrorKind::UnknownArgument => {
-            refused(alloc, fault.kind(), range)
+    match negative_in(words) {
+        Some(
+            Negative {
+                number,
+                option,
+                range,
+            },
+        ) if fault.kind() == ErrorKind::UnknownArgument => {
+            invalid(alloc, fault.kind(), Some(number), option, range)
         }
         _ => LineFault::Clap(fault),
     }
@@ -455,8 +507,8 @@ pub(crate) fn number_in(word: &str) -> Option<u32>
     }
 }
 
-/// Returns the number of tries, 8 without an argument. Returns `None` if it isn't one of 0 to 1,000.
-pub(crate) fn tries_in(word: Option<&str>) -> Option<u32>
+// Returns the number of tries, 8 without an argument. Returns `None` if it isn't one of 0 to 1,000.
+fn tries_in(word: Option<&str>) -> Option<u32>
     ensures { IfSome result (λ tries. IsTriesArgument tries (option_map (λ s. s.now) word.entry)) }
 {
     match word {
@@ -465,14 +517,33 @@ pub(crate) fn tries_in(word: Option<&str>) -> Option<u32>
     }
 }
 
-/// Returns how often a call is resumed, 0 without an argument. Returns `None` if it isn't one of 0 to 1,000.
-pub(crate) fn resumes_in(word: Option<&str>) -> Option<u32>
+// Returns how often a call is resumed, 0 without an argument. Returns `None` if it isn't one of 0 to 1,000.
+fn resumes_in(word: Option<&str>) -> Option<u32>
     ensures { IfSome result (λ resumes. IsResumeArgument resumes (option_map (λ s. s.now) word.entry)) }
 {
     match word {
         Some(word) => number_in(word),
         None => Some(0),
     }
+}
+
+/// Returns the number of tries, and how often a call is resumed.
+pub(crate) fn numbers_in(alloc: Global, matches: &ArgMatches<'_>) -> Result<(u32, u32), LineFault>
+    ensures tries { IfOk result (λ found. IsTriesArgument found.0
+        (first_of (codes "tries") (rows_of (found_of matches.now)))) }
+    ensures resumes { IfOk result (λ found. IsResumeArgument found.1
+        (first_of (codes "resume") (rows_of (found_of matches.now)))) }
+{
+    let kind = ErrorKind::InvalidValue;
+    let named = matches.get_str("tries");
+    let Some(tries) = tries_in(named) else {
+        return Err(invalid(alloc, kind, named, TRIES_OPTION, NUMBER_RANGE));
+    };
+    let given = matches.get_str("resume");
+    let Some(resumes) = resumes_in(given) else {
+        return Err(invalid(alloc, kind, given, RESUME_OPTION, NUMBER_RANGE));
+    };
+    Ok((tries, resumes))
 }
 
 // Returns whether a flag is set.
@@ -501,17 +572,12 @@ fn run_line(alloc: Global, matches: &ArgMatches<'_>) -> Result<RunLine, LineFaul
     let Ok(report) = owned(alloc, matches.get_str("report")) else {
         return Err(LineFault::Memory);
     };
-    let Some(tries) = tries_in(matches.get_str("tries")) else {
-        return Err(refused(alloc, ErrorKind::InvalidValue, TRIES_RANGE));
-    };
-    let Some(resumes) = resumes_in(matches.get_str("resume")) else {
-        return Err(refused(alloc, ErrorKind::InvalidValue, RESUMES_RANGE));
-    };
+    let numbers = numbers_in(alloc, matches)?;
     Ok(RunLine {
         script,
         plan,
-        tries,
-        resumes,
+        tries: numbers.0,
+        resumes: numbers.1,
         trace,
         accesses,
         strict: is_asked_for(matches.get_str("strict")),

@@ -18,7 +18,7 @@ pub write_image_file-requires : goal.write_image_file-requires
 write_image_file-requires g c =
     let dumped = c.dump-answer in
     subst (λ l. c.args.image.now.addr + length l ≤ 2 ^ 32) (sym c.as_slice-in-Ok.ensures.value)
-    (dump_command_fits (λ v. v.items) (image_bench_wire _) c.limits_of.result c.args.image.now.addr c.args.count None
+    (dump_command_fits (λ v. v.items) (image_bench_wire _) c.limits_of-limits.result c.args.image.now.addr c.args.count None
     dumped.result c.in-Ok.bytes c.args.bench dumped.new.wire c.in-Ok.ensures dumped.ensures.dumps)
 
 pub returns-in-Ok : goal.returns-in-Ok
@@ -27,8 +27,8 @@ returns-in-Ok g c =
     let dumped = c.dump-answer in
     let bytes = stream_watched (console_report_contents g.F.Made.Write.contents (λ e. g.E.Write.contents e.now)) in
     let opened = c.report_writer-report.result in
-    dump_command_simulated (λ v. v.items) image c.limits_of.result c.args.count c.args.bench dumped.new.wire
-    dumped.result (run_file_held bytes opened) (run_file_held bytes dumped.new.report) c.limits_of.ensures
+    dump_command_simulated (λ v. v.items) image c.limits_of-limits.result c.args.count c.args.bench dumped.new.wire
+    dumped.result (run_file_held bytes opened) (run_file_held bytes dumped.new.report) c.limits_of-limits.ensures
     c.requires.rests (run_file_is_some bytes opened ∙ c.report_writer-report.ensures ∙ c.requires.named)
     (record {
       dumps = dumped.ensures.dumps;
@@ -47,8 +47,8 @@ returns g c =
     let dumped = c.dump-answer in
     let bytes = stream_watched (console_report_contents g.F.Made.Write.contents (λ e. g.E.Write.contents e.now)) in
     let opened = c.report_writer-report.result in
-    dump_command_simulated (λ v. v.items) image c.limits_of.result c.args.count c.args.bench dumped.new.wire
-    dumped.result (run_file_held bytes opened) (run_file_held bytes dumped.new.report) c.limits_of.ensures
+    dump_command_simulated (λ v. v.items) image c.limits_of-limits.result c.args.count c.args.bench dumped.new.wire
+    dumped.result (run_file_held bytes opened) (run_file_held bytes dumped.new.report) c.limits_of-limits.ensures
     c.requires.rests (run_file_is_some bytes opened ∙ c.report_writer-report.ensures ∙ c.requires.named)
     (record {
       dumps = dumped.ensures.dumps;

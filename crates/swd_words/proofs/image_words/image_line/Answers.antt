@@ -4,7 +4,7 @@ use Rattle.std.specs.String.{string_bytes}
 use Rattle.clap.specs.Words.{Text, first_of, found_of, rows_of}
 use Rattle.clap.proofs.WalkLemmas.{first_value-rows}
 use Rattle.swd_script.specs.Numerals.{script_hex_number}
-use Rattle.swd_words.specs.Commands.{IsResumeArgument, IsTriesArgument, AreFormatArguments}
+use Rattle.swd_words.specs.Commands.{AreFormatArguments}
 use Rattle.swd_words.proofs.image_words.image_line.Goals as goal
 
 pub returns : goal.returns
@@ -12,16 +12,12 @@ returns c = record {
   action = c.in_ok-action.ensures;
   addr = c.in-Some.ensures
       ∙ ap (option_and_then (λ text. script_hex_number text))
-      (c.get_str.ensures ∙ first_value-rows (found_of c.args.matches.now) (codes "ADDR"));
-  file = ap (option_map string_bytes) (sym c.in-Ok-Some.field-0-is) ∙ c.in-Ok-Some.ensures ∙ c.get_str-2.ensures
+      (c.get_str-address.ensures ∙ first_value-rows (found_of c.args.matches.now) (codes "ADDR"));
+  file = ap (option_map string_bytes) (sym c.in-Ok-Some.field-0-is) ∙ c.in-Ok-Some.ensures ∙ c.get_str.ensures
       ∙ first_value-rows (found_of c.args.matches.now) (codes "FILE");
-  tries = subst (λ (word : Option Text). IsTriesArgument c.in-Some-tries_in.tries word)
-      (c.get_str-3.ensures ∙ first_value-rows (found_of c.args.matches.now) (codes "tries"))
-      c.in-Some-tries_in.ensures;
-  resumes = subst (λ (word : Option Text). IsResumeArgument c.in-Some-resumes_in.resumes word)
-      (c.get_str-4.ensures ∙ first_value-rows (found_of c.args.matches.now) (codes "resume"))
-      c.in-Some-resumes_in.ensures;
-  report = c.in-Ok.ensures ∙ c.get_str-5.ensures ∙ first_value-rows (found_of c.args.matches.now) (codes "report");
+  tries = c.in_ok-numbers.ensures.tries;
+  resumes = c.in_ok-numbers.ensures.resumes;
+  report = c.in-Ok.ensures ∙ c.get_str-2.ensures ∙ first_value-rows (found_of c.args.matches.now) (codes "report");
   target = c.in_ok-memory.ensures;
   format =
       let formats = c.in-Some-formats_in.formats in
@@ -29,6 +25,6 @@ returns c = record {
       (first_of (codes "format") (rows_of (found_of c.args.matches.now)))) c.as_str.ensures.value
       (subst (λ (word : Option Text). AreFormatArguments c.in_ok-action.action formats.0 formats.1
       c.as_str.result.now word)
-      (c.get_str-6.ensures ∙ first_value-rows (found_of c.args.matches.now) (codes "format"))
+      (c.get_str-word.ensures ∙ first_value-rows (found_of c.args.matches.now) (codes "format"))
       c.in-Some-formats_in.ensures);
 }

@@ -11,7 +11,7 @@ returns c = record {
   file = ap (option_map string_bytes) (sym c.in-Some.is) ∙ c.in-Ok.ensures ∙ c.get_str.ensures
       ∙ first_value-rows (found_of c.args.matches.now) (codes "memory");
   base = subst (λ (word : Option Text). IsBaseArgument c.in-Some-base_in.base word)
-      (c.get_str-3.ensures ∙ first_value-rows (found_of c.args.matches.now) (codes "base"))
+      (c.get_str-given.ensures ∙ first_value-rows (found_of c.args.matches.now) (codes "base"))
       c.in-Some-base_in.ensures.base;
   plan = c.in-Ok-owned.ensures ∙ c.get_str-2.ensures
       ∙ first_value-rows (found_of c.args.matches.now) (codes "plan");

@@ -11,5 +11,5 @@ returns c = record {
   trace = c.in-Ok-owned.ensures ∙ c.get_str-2.ensures
       ∙ first_value-rows (found_of c.args.matches.now) (codes "trace");
   idr = subst (λ (word : Option Text). IsIdrArgument c.in-Some.idr word)
-      (c.get_str-3.ensures ∙ first_value-rows (found_of c.args.matches.now) (codes "idr")) c.in-Some.ensures;
+      (c.get_str-given.ensures ∙ first_value-rows (found_of c.args.matches.now) (codes "idr")) c.in-Some.ensures;
 }

@@ -3,7 +3,6 @@ use Rattle.std.specs.Option.{option_map}
 use Rattle.std.specs.String.{string_bytes}
 use Rattle.clap.specs.Words.{Text, found_of}
 use Rattle.clap.proofs.WalkLemmas.{first_value-rows}
-use Rattle.swd_words.specs.Commands.{IsResumeArgument, IsTriesArgument}
 use Rattle.swd_words.proofs.words.run_line.Goals as goal
 
 pub returns : goal.returns
@@ -11,21 +10,18 @@ returns c = record {
   script = ap (option_map string_bytes) (sym c.in-Ok-Some.field-0-is) ∙ c.in-Ok-Some.ensures ∙ c.get_str.ensures
       ∙ first_value-rows (found_of c.args.matches.now) (codes "SCRIPT");
   plan = c.in-Ok.ensures ∙ c.get_str-2.ensures ∙ first_value-rows (found_of c.args.matches.now) (codes "plan");
-  tries = subst (λ (word : Option Text). IsTriesArgument c.in-Some.tries word)
-      (c.get_str-6.ensures ∙ first_value-rows (found_of c.args.matches.now) (codes "tries")) c.in-Some.ensures;
-  resumes = subst (λ (word : Option Text). IsResumeArgument c.in-Some-resumes_in.resumes word)
-      (c.get_str-7.ensures ∙ first_value-rows (found_of c.args.matches.now) (codes "resume"))
-      c.in-Some-resumes_in.ensures;
+  tries = c.in_ok-numbers.ensures.tries;
+  resumes = c.in_ok-numbers.ensures.resumes;
   trace = c.in-Ok-owned.ensures ∙ c.get_str-3.ensures ∙ first_value-rows (found_of c.args.matches.now) (codes "trace");
   accesses = c.in-Ok-owned-2.ensures ∙ c.get_str-4.ensures
       ∙ first_value-rows (found_of c.args.matches.now) (codes "accesses");
   strict = subst (λ (word : Option Text). (c.is_asked_for.result ≡ true) ↔ (word ≡ Some (codes "true")))
-      (c.get_str-8.ensures ∙ first_value-rows (found_of c.args.matches.now) (codes "strict")) c.is_asked_for.ensures;
+      (c.get_str-6.ensures ∙ first_value-rows (found_of c.args.matches.now) (codes "strict")) c.is_asked_for.ensures;
   remote = subst (λ (word : Option Text). (c.is_asked_for-2.result ≡ true) ↔ (word ≡ Some (codes "true")))
-      (c.get_str-9.ensures ∙ first_value-rows (found_of c.args.matches.now) (codes "remote")) c.is_asked_for-2.ensures;
+      (c.get_str-7.ensures ∙ first_value-rows (found_of c.args.matches.now) (codes "remote")) c.is_asked_for-2.ensures;
   report = c.in-Ok-owned-3.ensures ∙ c.get_str-5.ensures
       ∙ first_value-rows (found_of c.args.matches.now) (codes "report");
   progress = subst (λ (word : Option Text). (c.is_asked_for-3.result ≡ true) ↔ (word ≡ Some (codes "true")))
-      (c.get_str-10.ensures ∙ first_value-rows (found_of c.args.matches.now) (codes "progress"))
+      (c.get_str-8.ensures ∙ first_value-rows (found_of c.args.matches.now) (codes "progress"))
       c.is_asked_for-3.ensures;
 }
