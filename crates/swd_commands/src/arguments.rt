@@ -24,7 +24,8 @@ pub fn run_arguments<A: Allocator, I: Read, O: Write, F: Files, C: Clock, E: Wri
     let arguments = match arguments {
         Ok(arguments) => arguments,
         Err(error) if error.kind() == ErrorKind::InvalidData => {
-            return tell(console.errors, "a word is not UTF-8");
+            let why = "an argument is not UTF-8: rename the file, or link to it";
+            return tell(console.errors, why);
         }
         Err(_) => return tell(console.errors, "no memory"),
     };

@@ -1,13 +1,18 @@
-//! Says what is wrong with a trace that was decoded, or with how it was.
+//! Says what is wrong with a trace or a listing that was converted, or with how it was.
 ghost use Rattle.std.specs.Prelude.{◌≡◌, is_ok};
 ghost use Rattle.swd_console.specs.Statuses.{command_status_of};
 
 use std::fmt;
 use std::fmt::{Display, Formatter};
 use std::io::Write;
+use swd_bits::OneFault;
 use swd_capture_text::Reading;
-use swd_console::{DONE, FAULT, KeepsError, Stream, cannot_use, conversion_status, tell_failure};
-use swd_text::{DecodeFault, TextFault};
+use swd_console::{
+    DONE, FAULT, KeepsError, Stream, TrackedReader, cannot_use, conversion_status,
+    list_line_status, tell_failure,
+};
+use swd_text::{DecodeFault, EncodeFault, TextFault};
+use swd_trace::ListFault;
 
 // From so many lines of stray bits on, a capture may be one that has lost bits.
 const STRAY: u64 = 8;
@@ -55,6 +60,65 @@ impl Display for BadCharacter<'_> {
     }
 }
 
+// Prints that a trace has a character at this place that no trace has, or why a stream failed. Returns the status 2.
+fn bad_character<E: Write>(errors: &mut E, place: u64, first: &[u8], streams: &[Stream<'_>]) -> u8
+    ensures { result ≡ 2 }
+{
+    if !tell_failure(errors, streams) {
+        let _ = writeln!(errors, "swd: {}", BadCharacter { place, first });
+    }
+    FAULT
+}
+
+/// Prints why a trace isn't listed as one transaction, if it isn't. Returns the status: 0 or 2. `name` is the input's.
+pub(crate) fn one_status<I: KeepsError, O: KeepsError, E: Write>(
+    errors: &mut E,
+    answer: Result<(), OneFault>,
+    name: &str,
+    input: &I,
+    output: &O,
+) -> u8
+    ensures { result ≡ command_status_of (is_ok answer) }
+{
+    let streams = [Stream::output(output), Stream::read(name, input)];
+    match answer {
+        Err(OneFault::BadChar { place }) => {
+            bad_character(errors, place, input.sample().first(), streams.as_slice())
+        }
+        Err(OneFault::NotOne) => {
+            let why =
+                "not one transaction: it has other bits too, or not all; swd decode lists any trace";
+            cannot_use(errors, name, &why)
+        }
+        answer => conversion_status(errors, answer, name, input, output),
+    }
+}
+
+/// Prints why a listing could not be encoded, if it couldn't. Returns the status: 0 or 2. `list` is the input.
+pub(crate) fn list_status<I: KeepsError, O: KeepsError, E: Write>(
+    errors: &mut E,
+    answer: Result<(), EncodeFault>,
+    list: &TrackedReader<'_, I>,
+    output: &O,
+) -> u8
+    ensures { result ≡ command_status_of (is_ok answer) }
+{
+    match answer {
+        Err(EncodeFault::List(ListFault::BadLine { line })) => {
+            list_line_status(errors, line, &list.seen)
+        }
+        Err(EncodeFault::List(ListFault::NotNormal { line })) => {
+            let _ = writeln!(
+                errors,
+                "swd: list line {line}: not normal: among the bits of the list those of this item are read otherwise, \
+                    as two lines idle are one"
+            );
+            FAULT
+        }
+        answer => conversion_status(errors, answer, list.name(), list, output),
+    }
+}
+
 /// Prints why a trace could not be decoded, or that it has no bits, or many stray ones. Returns the status: 0 or 2.
 /// `name` is the input's.
 pub(crate) fn trace_status<I: KeepsError, O: KeepsError, E: Write>(
@@ -69,11 +133,7 @@ pub(crate) fn trace_status<I: KeepsError, O: KeepsError, E: Write>(
 {
     if let Err(DecodeFault::Text(TextFault::BadChar { place })) = answer {
         let streams = [Stream::output(output), Stream::read(name, input)];
-        if !tell_failure(errors, streams.as_slice()) {
-            let first = input.sample().first();
-            let _ = writeln!(errors, "swd: {}", BadCharacter { place, first });
-        }
-        return FAULT;
+        return bad_character(errors, place, input.sample().first(), streams.as_slice());
     }
     let status = conversion_status(errors, answer, name, input, output);
     if status == DONE && !input.sample().has_bits() {

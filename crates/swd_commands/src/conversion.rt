@@ -7,7 +7,7 @@ ghost use Rattle.swd_commands.specs.Inputs.{IsStandardInput};
 ghost use Rattle.swd_commands.specs.Conversions.{ConvertsCommandInput, command_capture_reading};
 ghost use Rattle.swd_commands.specs.Conversions.{decode_command_conversion, draw_command_conversion};
 
-use crate::character::trace_status;
+use crate::character::{list_status, one_status, trace_status};
 use crate::check::check_read;
 use std::alloc::Allocator;
 use std::io::{Read, Write};
@@ -15,7 +15,7 @@ use swd_bits::one_text;
 use swd_capture::{LineForm, Printed};
 use swd_capture_text::{Reading, print_capture};
 use swd_console::{
-    Console, Files, INPUT, KeepsError, Watched, cannot_open, conversion_status, named_file_of,
+    Console, Files, INPUT, KeepsError, TrackedReader, Watched, cannot_open, named_file_of,
     status_after,
 };
 use swd_draw::{DrawnForm, draw_capture};
@@ -131,6 +131,21 @@ fn source_of(file: &Option<String>) -> Option<&str>
     }
 }
 
+// Converts a listing to its trace. `name` is the input's. Returns the status: 0, or 2 at an error.
+fn encode_read<R: Read + KeepsError, O: Write + KeepsError, A: Allocator + Copy, F, C, E: Write>(
+    name: &str,
+    input: &mut R,
+    output: &mut O,
+    console: &mut Console<'_, A, F, C, E>,
+) -> u8
+    ensures { ConvertsCommandInput Conversion.Encode result (R.remaining input.old) (R.remaining input.new)
+        (O.contents output.old) (O.contents output.new) }
+{
+    let mut list = TrackedReader::new(name, input);
+    let answer = encode_text(console.alloc, &mut list, output);
+    list_status(console.errors, answer, &list, output)
+}
+
 // Converts what the reader has. `name` is the input's. Returns the status: 0, or 2 at an error, or that of a verdict.
 fn convert_read<R: Read + KeepsError, O: Write + KeepsError, A: Allocator + Copy, F, C, E: Write>(
     conversion: Conversion<'_>,
@@ -145,12 +160,9 @@ fn convert_read<R: Read + KeepsError, O: Write + KeepsError, A: Allocator + Copy
     match conversion {
         Conversion::One => {
             let answer = one_text(input, output);
-            conversion_status(console.errors, answer, name, input, output)
+            one_status(console.errors, answer, name, input, output)
         }
-        Conversion::Encode => {
-            let answer = encode_text(console.alloc, input, output);
-            conversion_status(console.errors, answer, name, input, output)
-        }
+        Conversion::Encode => encode_read(name, input, output, console),
         Conversion::Listing => {
             let answer = decode_text(input, output);
             trace_status(console.errors, answer, Reading::Trace, name, input, output)

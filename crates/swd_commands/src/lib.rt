@@ -7,6 +7,7 @@ mod character;
 mod check;
 mod conversion;
 mod program;
+mod reached;
 mod usage;
 
 pub use arguments::run_arguments;

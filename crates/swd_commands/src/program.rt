@@ -7,13 +7,14 @@ ghost use Rattle.swd_commands.specs.Inputs.{CommandReadsStdin, command_served_fi
 ghost use Rattle.swd_commands.specs.Statuses.{PerformsCommand};
 
 use crate::conversion::{Conversion, convert, decode_conversion, draw_conversion};
+use crate::reached::Reached;
 use crate::usage::tell_usage;
 use clap::Error;
 use std::alloc::Global;
 use std::io::{Read, Write};
 use swd_console::{
-    Clock, Console, DONE, FAULT, Files, KeepsError, STOPPED, Stream, Untold, Watched,
-    named_file_of, status_after, tell, tell_failure,
+    Clock, Console, DONE, FAULT, Files, KeepsError, STOPPED, Stream, Untold, Watched, cannot_open,
+    named_file_of, status_after, tell, tell_failure, unnamed_file,
 };
 use swd_image_commands::perform_image;
 use swd_run_commands::{perform_run, perform_target};
@@ -103,8 +104,8 @@ fn is_remote(line: &CommandLine) -> bool
     }
 }
 
-// Performs the command. In a terminal none speaks to a target: its characters would fill the screen. If a target gave no
-// reply at all, prints a line that says so.
+// Performs the command. In a terminal none speaks to a target: its characters would fill the screen. If a target wasn't
+// opened, prints how far the session came.
 fn carry_out<I: Read + KeepsError, O: Write + KeepsError, F: Files, C: Clock, E: Write>(
     line: &CommandLine,
     input: &mut I,
@@ -120,26 +121,31 @@ fn carry_out<I: Read + KeepsError, O: Write + KeepsError, F: Files, C: Clock, E:
     }
     let status = perform(line, input, output, console);
     if is_remote(line) && status == STOPPED {
-        tell_no_reply(console.errors, only_bit(input));
+        tell_reached(console.errors, input, output);
     }
     status
 }
 
-// Returns the only bit that an input had, if it had no other character, nor came to its end.
-fn only_bit<I: KeepsError>(input: &I) -> Option<bool> {
-    input.sample().only_bit()
+// Prints how far a session came that ended before the target was open: one line, unless the target sent nothing.
+fn tell_reached<I: KeepsError, O: KeepsError, E: Write>(errors: &mut E, input: &I, output: &O) {
+    if let Some(level) = input.sample().only_bit() {
+        tell_no_reply(errors, level);
+        return;
+    }
+    let reached = Reached::of(input, output);
+    if reached.is_answered() && !reached.is_open() {
+        let _ = writeln!(errors, "swd: {reached}");
+    }
 }
 
 // Prints that a target that can't be reached gave no reply: an acknowledgement has a 0 and a 1, and all levels that came
 // were this one.
-fn tell_no_reply<E: Write>(errors: &mut E, only: Option<bool>) {
-    if let Some(level) = only {
-        let _ = writeln!(
-            errors,
-            "swd: no reply to the first request, SWDIO read {}: is it driven, and the target connected and powered?",
-            u8::from(level)
-        );
-    }
+fn tell_no_reply<E: Write>(errors: &mut E, level: bool) {
+    let _ = writeln!(
+        errors,
+        "swd: no reply to the first request, SWDIO read {}: is it driven, and the target connected and powered?",
+        u8::from(level)
+    );
 }
 
 // Performs the command at whatever the streams are.
@@ -190,17 +196,21 @@ fn carry_out_target<I: Read + KeepsError, O: Write + KeepsError, F: Files, C, E:
         → CommandEndsOver (O.kept output.new)
         (λ status. CommandNotOpened status (O.contents output.old) (O.contents output.new)) result }
 {
-    let (name, why) = match &target.memory {
-        ServedMemory::Script(texts) => (
-            texts.script.as_str(),
-            "SCRIPT is a file: standard input is the debugger's",
-        ),
-        ServedMemory::File(memory) => (memory.file.as_str(), "cannot open -: it has to be a file"),
+    let name = match &target.memory {
+        ServedMemory::Script(texts) => texts.script.as_str(),
+        ServedMemory::File(memory) => memory.file.as_str(),
     };
-    match named_file_of(name) {
-        Some(_) => perform_target(target, input, output, console),
-        None => status_after(output.kept_error(), tell(console.errors, why)),
+    if named_file_of(name).is_some() {
+        return perform_target(target, input, output, console);
     }
+    let status = match &target.memory {
+        ServedMemory::Script(_) => {
+            let why = "SCRIPT has to be a file: standard input is the debugger's";
+            tell(console.errors, why)
+        }
+        ServedMemory::File(_) => cannot_open(console.errors, name, &unnamed_file()),
+    };
+    status_after(output.kept_error(), status)
 }
 
 // Performs a command over an image, which is in a file.
@@ -218,9 +228,12 @@ fn carry_out_image<I: Read + KeepsError, O: Write + KeepsError, F: Files, C, E: 
         let (status, _) = perform_image::<Untold, _, _, _, _, _, _>(image, input, output, console);
         return status;
     }
-    let why = match &image.memory {
-        Some(_) => "FILE has to be a file",
-        None => "FILE is a file: standard input is the target's",
+    let status = match &image.memory {
+        Some(_) => cannot_open(console.errors, "-", &unnamed_file()),
+        None => tell(
+            console.errors,
+            "FILE has to be a file: standard input is the target's",
+        ),
     };
-    status_after(output.kept_error(), tell(console.errors, why))
+    status_after(output.kept_error(), status)
 }

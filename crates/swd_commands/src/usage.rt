@@ -15,6 +15,13 @@ const BARE_USAGE: &str = "Usage: swd";
 
 const NO_DIGIT: &str = "invalid digit found in string";
 
+const TOO_LARGE: &str = "number too large to fit in target type";
+
+const TOO_SMALL: &str = "number too small to fit in target type";
+
+// What `clap` prints before a tip of its own.
+const TIP: &str = "  tip: ";
+
 // The text of a usage error: control characters are escaped, and the usage is that of the command.
 #[derive(Drop)]
 struct UsageText<'a> {
@@ -22,27 +29,87 @@ struct UsageText<'a> {
     usage: Option<String>,
     // The commands, for a word that is none and like none.
     commands: Option<String>,
+    // What to do, in place of what `clap` says.
+    tip: Option<&'static str>,
+}
+
+// Returns what to do about these arguments, where `clap` can't know it.
+fn tip_for(words: &[&str]) -> Option<&'static str> {
+    let name = words.get(1)?;
+    match *name {
+        "version" => Some("swd --version prints the version"),
+        "help" => Some("swd --help prints the help, and swd COMMAND --help that of a command"),
+        "one" | "decode" | "encode" | "draw" | "check" if names_output(words) => {
+            Some("the result goes to standard output: >FILE writes it to a file")
+        }
+        "run" | "load" | "verify" | "dump" if names_server(words) => {
+            Some("--remote takes no address: socat connects it to a socket, see --help")
+        }
+        _ => None,
+    }
+}
+
+// Returns whether these arguments name an output.
+fn names_output(words: &[&str]) -> bool {
+    words
+        .iter()
+        .any(|word| *word == "-o" || word.starts_with("--out"))
+}
+
+// Returns whether these arguments name the address of a server.
+fn names_server(words: &[&str]) -> bool {
+    words.iter().any(|word| word.starts_with("--remote="))
+        || words
+            .windows(2)
+            .any(|pair| pair[0] == "--remote" && pair[1].contains(':'))
 }
 
 impl UsageText<'_> {
+    // Displays what follows the first line.
+    fn more<W: fmt::Write>(&self, f: &mut Formatter<W>) -> fmt::Result {
+        if let Some(commands) = &self.commands {
+            writeln!(f, "{}", commands.as_str())?;
+        }
+        match self.tip {
+            Some(tip) => writeln!(f, "\n{TIP}{tip}"),
+            None => Ok(()),
+        }
+    }
+
     // Displays a line.
     fn line<W: fmt::Write>(&self, f: &mut Formatter<W>, line: &str) -> fmt::Result {
-        match (&self.usage, line.strip_suffix(NO_DIGIT)) {
-            (Some(usage), _) if line == BARE_USAGE => writeln!(f, "{}", Escaped(usage.as_str())),
-            (_, Some(start)) => writeln!(f, "{}it is no decimal number", Escaped(start)),
-            _ => writeln!(f, "{}", Escaped(line)),
+        if let Some(usage) = &self.usage
+            && line == BARE_USAGE
+        {
+            return writeln!(f, "{}", Escaped(usage.as_str()));
         }
+        for (end, said) in [
+            (NO_DIGIT, "it is no decimal number"),
+            (TOO_LARGE, "it is too large"),
+            (TOO_SMALL, "it is too small"),
+        ] {
+            if let Some(start) = line.strip_suffix(end) {
+                return writeln!(f, "{}{said}", Escaped(start));
+            }
+        }
+        writeln!(f, "{}", Escaped(line))
     }
 }
 
 impl Display for UsageText<'_> {
     fn fmt<W: fmt::Write>(&self, f: &mut Formatter<W>) -> fmt::Result {
-        let mut is_first = true;
+        let (mut is_first, mut is_tip) = (true, false);
         let text = self.text.strip_suffix('\n').unwrap_or(self.text);
         for line in text.split('\n') {
+            // A tip of `clap`, and the empty line behind it.
+            let was_tip = is_tip;
+            is_tip = self.tip.is_some() && line.starts_with(TIP);
+            if is_tip || was_tip && line.is_empty() {
+                continue;
+            }
             self.line(f, line)?;
-            if is_first && let Some(commands) = &self.commands {
-                writeln!(f, "{}", commands.as_str())?;
+            if is_first {
+                self.more(f)?;
             }
             is_first = false;
         }
@@ -68,7 +135,8 @@ pub(crate) fn tell_usage<E: Write>(
         let _ = writeln!(errors, "{}", Escaped(text));
         return FAULT;
     }
-    let is_unknown = matches!(error.kind(), ErrorKind::InvalidSubcommand);
+    let tip = tip_for(words);
+    let is_unknown = matches!(error.kind(), ErrorKind::InvalidSubcommand) && tip.is_none();
     let commands = if is_unknown && !text.contains("tip:") {
         commands_line(alloc)
     } else {
@@ -78,6 +146,7 @@ pub(crate) fn tell_usage<E: Write>(
         text,
         usage: usage_line(alloc, words),
         commands,
+        tip,
     };
     let _ = write!(errors, "{said}");
     FAULT

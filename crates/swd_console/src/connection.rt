@@ -38,7 +38,7 @@ pub fn gone_status<E: Write>(errors: &mut E, fault: Fault, streams: &[Stream<'_>
         Fault::NoLevel(byte) => {
             let _ = writeln!(
                 errors,
-                "swd: the other end sent byte {byte}, which is no level: these are 0 and 1"
+                "swd: the other end sent byte {byte}, which is no level, 0 or 1: is it a server of remote_bitbang?"
             );
             FAULT
         }

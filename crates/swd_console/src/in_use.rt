@@ -4,7 +4,7 @@ ghost use Rattle.swd_console.specs.Roles.{MayReadFile, MayReadName, MayWriteFile
 
 use crate::machine::Console;
 use crate::open_files::{Files, Identity, Opened};
-use crate::report::cannot_open;
+use crate::report::{cannot_open, cannot_open_memory};
 use crate::watched::Watched;
 use std::io;
 use std::io::{ErrorKind, Write};
@@ -73,12 +73,17 @@ fn known(stream: io::Result<Option<Identity>>, why: &str) -> io::Result<Option<I
     }
 }
 
+/// Returns the error for `-`, which isn't the name of a file.
+pub fn unnamed_file() -> io::Error {
+    refusal("it has to be a file; one of that name is ./-")
+}
+
 // Refuses `-`, which isn't the name of a file.
 fn named_file(name: &str) -> io::Result<()>
     ensures { OnOk result (name.now ≢ codes "-") }
 {
     if name == "-" {
-        return Err(refusal("it has to be a file"));
+        return Err(unnamed_file());
     }
     Ok(())
 }
@@ -129,7 +134,10 @@ impl InUse {
                 }
                 Ok(opened)
             }
-            Err(why) => Err(cannot_open(console.errors, name, &why)),
+            Err(why) => Err(match role {
+                ReadRole::Memory => cannot_open_memory(console.errors, name, &why),
+                _ => cannot_open(console.errors, name, &why),
+            }),
         }
     }
 
@@ -158,9 +166,8 @@ impl InUse {
     {
         let file = Some(identity);
         match role {
-            ReadRole::Plan if file == self.script || file == self.memory => {
-                Err(refusal("it is read already"))
-            }
+            ReadRole::Plan if file == self.script => Err(refusal("it is the script")),
+            ReadRole::Plan if file == self.memory => Err(refusal("it is the memory")),
             ReadRole::Image if file == self.memory => Err(refusal("it is the memory")),
             ReadRole::Image if file == self.plan => Err(refusal("it is the plan")),
             _ => Ok(()),
@@ -178,7 +185,7 @@ impl InUse {
         match (role, self.streams) {
             (ReadRole::Plan | ReadRole::Image, StreamsInUse::Both) => {
                 if file == self.input(files)? {
-                    return Err(refusal("it is read already"));
+                    return Err(refusal("it is standard input"));
                 }
             }
             (ReadRole::Memory, StreamsInUse::Both) => {

@@ -5,7 +5,9 @@
 mod clock;
 mod connection;
 mod destination;
+mod first_clocks;
 mod in_use;
+mod list_reason;
 mod machine;
 mod memory_file;
 mod noted;
@@ -19,7 +21,11 @@ mod watched;
 pub use clock::Clock;
 pub use connection::{Untold, gone_status, line_streams};
 pub use destination::Destination;
-pub use in_use::{InUse, ReadRole, StreamsInUse, WriteRole, cut_off, cut_off_named, named_file_of};
+pub use first_clocks::SentClock;
+pub use in_use::{
+    InUse, ReadRole, StreamsInUse, WriteRole, cut_off, cut_off_named, named_file_of, unnamed_file,
+};
+pub use list_reason::list_line_status;
 pub use machine::Console;
 pub use memory_file::{HeldMemory, MemoryFile, read_target_files, write_back};
 pub use noted::{Seen, SeenLine, TrackedReader};

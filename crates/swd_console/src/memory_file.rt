@@ -14,14 +14,29 @@ use crate::report::{FAULT, cannot_open, cannot_use};
 use crate::streams::{Stream, tell_failure, tell_failure_or};
 use crate::watched::{KeepsError, Watched};
 use std::alloc::Allocator;
-use std::io;
+use std::fmt::{Display, Formatter};
 use std::io::{Read, Write};
+use std::{fmt, io};
 use swd_image_ends::{FileFault, memory_bytes, read_file};
 use swd_io::{Unread, send};
 use swd_port::Mark;
 use swd_script::read_plan;
 use swd_target::Memory;
 use swd_words::MemoryLine;
+
+// The length of a file that is no memory: a memory has whole words.
+#[derive(Drop)]
+struct OddLength(usize);
+
+impl Display for OddLength {
+    fn fmt<W: fmt::Write>(&self, f: &mut Formatter<W>) -> fmt::Result {
+        let length = self.0;
+        write!(
+            f,
+            "its length, {length}, is no multiple of 4: truncate -s %4 FILE appends zeros"
+        )
+    }
+}
 
 /// The bytes of a memory, and the marks of its plan.
 #[derive(Drop)]
@@ -87,7 +102,8 @@ fn read_memory<R: Read + KeepsError, A: Allocator + Copy, F, C, E: Write>(
     let bytes = match read_file(console.alloc, reader, most) {
         Ok(bytes) => bytes,
         Err(Unread::Consumer(FileFault::TooLong)) => {
-            return Err(cannot_use(console.errors, name, &"the memory extends past ffffffff"));
+            let why = "the memory extends past ffffffff: see --base";
+            return Err(cannot_use(console.errors, name, &why));
         }
         Err(unread) => {
             if tell_failure(console.errors, [Stream::read(name, reader)].as_slice()) {
@@ -97,8 +113,7 @@ fn read_memory<R: Read + KeepsError, A: Allocator + Copy, F, C, E: Write>(
         }
     };
     if bytes.len() % 4 != 0 {
-        let why = "its length is no multiple of 4, and a memory has whole words";
-        return Err(cannot_use(console.errors, name, &why));
+        return Err(cannot_use(console.errors, name, &OddLength(bytes.len())));
     }
     Ok(bytes)
 }

@@ -91,6 +91,11 @@ impl SeenLine {
         self.odd
     }
 
+    /// Returns whether a carriage return ends it, and a line feed follows.
+    pub fn is_returned(&self) -> bool {
+        self.is_returned
+    }
+
     /// Returns the beginnings of its words, with a blank between two, or nothing if it isn't text.
     pub fn text(&self) -> &str {
         str::from_utf8(self.words.as_slice()).unwrap_or("")
@@ -195,6 +200,11 @@ impl<'a, R> TrackedReader<'a, R> {
 }
 
 impl<'a, R: KeepsError> TrackedReader<'a, R> {
+    /// Returns the name of the text.
+    pub fn name(&self) -> &'a str {
+        self.name
+    }
+
     /// Returns the stream that is read.
     pub fn stream(&self) -> Stream<'a> {
         Stream::read(self.name, self)

@@ -22,8 +22,8 @@ const COMMANDS: [&str; 9] = [
     "next",
 ];
 
-// Returns the first word of a line.
-fn first_of(text: &str) -> &str {
+/// Returns the first word of a line.
+pub(crate) fn first_of(text: &str) -> &str {
     text.split_ascii_whitespace().next().unwrap_or("")
 }
 
@@ -106,8 +106,8 @@ fn range<W: fmt::Write>(f: &mut Formatter<W>, form: &str, text: &str) -> fmt::Re
     }
 }
 
-// Displays what is wrong with a byte that no line may have.
-fn odd<W: fmt::Write>(f: &mut Formatter<W>, byte: u8) -> fmt::Result {
+/// Displays what is wrong with a byte that no line may have.
+pub(crate) fn odd<W: fmt::Write>(f: &mut Formatter<W>, byte: u8) -> fmt::Result {
     match byte {
         0xef => f.write_str("a byte that isn't ASCII, as of a byte order mark"),
         b'\r' => f.write_str("a carriage return that no line feed follows"),

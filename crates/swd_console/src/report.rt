@@ -4,7 +4,7 @@ ghost use Rattle.swd_console.specs.Statuses.{command_run_failed, command_status_
 ghost use Rattle.swd_console.specs.Statuses.{command_status_of_run};
 
 use std::fmt::{Display, Formatter};
-use std::io::Write;
+use std::io::{ErrorKind, Write};
 use std::{fmt, io};
 use swd_host::End;
 use swd_port::Answer;
@@ -56,6 +56,21 @@ pub fn cannot_open<E: Write>(errors: &mut E, name: &str, why: &io::Error) -> u8
     ensures { result ≡ 2 }
 {
     let _ = writeln!(errors, "swd: cannot open {}: {why}", Escaped(name));
+    FAULT
+}
+
+/// Prints that the file of a memory can't be opened, why, and how to make one that isn't there. Returns the status 2.
+pub(crate) fn cannot_open_memory<E: Write>(errors: &mut E, name: &str, why: &io::Error) -> u8
+    ensures { result ≡ 2 }
+{
+    if why.kind() != ErrorKind::NotFound {
+        return cannot_open(errors, name, why);
+    }
+    let _ = writeln!(
+        errors,
+        "swd: cannot open {}: {why}; for a memory of 64 KiB of zeros: head -c 64K /dev/zero >FILE",
+        Escaped(name)
+    );
     FAULT
 }
 

@@ -1,5 +1,6 @@
 //! What passed through a stream, as far as a line on standard error can name it.
 
+use crate::first_clocks::{FirstClocks, FirstLevels, SentClock};
 use arrayvec::ArrayVec;
 use swd_bits::{Scan, Sign};
 
@@ -60,12 +61,15 @@ impl Found {
     }
 }
 
-/// The first bytes that were read, which bits were among all of them, and how many lines of stray bits were written.
+/// The first bytes that were read, which bits were among all of them, how many lines of stray bits were written, and
+/// the first levels and clocks of a connection.
 #[derive(Drop)]
 pub struct Sample {
     first: ArrayVec<u8, FIRST>,
     found: Found,
     stray: u64,
+    levels: FirstLevels,
+    clocks: FirstClocks,
 }
 
 impl Sample {
@@ -75,6 +79,8 @@ impl Sample {
             first: ArrayVec::new(),
             found: Found::new(),
             stray: 0,
+            levels: FirstLevels::new(),
+            clocks: FirstClocks::new(),
         }
     }
 
@@ -82,6 +88,7 @@ impl Sample {
     pub(crate) fn note_read(&mut self, bytes: &[u8]) {
         let more = self.first.remaining_capacity().min(bytes.len());
         let _ = self.first.try_extend_from_slice(&bytes[..more]);
+        self.levels.pass(bytes);
         self.found.look(bytes);
         self.found.other = self.found.other || bytes.is_empty();
     }
@@ -91,11 +98,22 @@ impl Sample {
         if stray_in(&bytes[..bytes.len().min(LOOKED_AT)]) > 0 {
             self.stray = self.stray.saturating_add(stray_in(bytes));
         }
+        self.clocks.pass(bytes);
     }
 
     /// Returns the first bytes that were read.
     pub fn first(&self) -> &[u8] {
         self.first.as_slice()
+    }
+
+    /// Returns the level at this place, if this is a connection and it is one of the first.
+    pub fn level(&self, place: usize) -> Option<bool> {
+        self.levels.level(place)
+    }
+
+    /// Returns the clock at this place, if this is a connection and it is one of the first.
+    pub fn clock(&self, place: usize) -> Option<SentClock> {
+        self.clocks.clock(place)
     }
 
     /// Returns whether a bit was read, if this is the text of a trace.

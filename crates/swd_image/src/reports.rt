@@ -27,7 +27,8 @@ pub trait CallReports {
     ///
     /// # Errors
     ///
-    /// - `Memory`: out of memory for its answers. Nothing was sent.
+    /// - `Memory`: out of memory. Nothing was sent but calls of its first accesses, if any, each of which was answered
+    ///   without a bus error.
     /// - `Report`: the writer failed or took no bytes. The call went on to its end.
     fn make_call<W: Wire, A: Allocator + Copy>(
         &mut self,

@@ -6,7 +6,7 @@ ghost use Rattle.swd_image_commands.specs.Images.{command_status_verified};
 
 use std::alloc::Allocator;
 use std::io::Write;
-use swd_console::{DONE, STOPPED, Stream, engine_status, gone_status, tell_failure_or};
+use swd_console::{DONE, STOPPED, Stream, engine_status, gone_status, tell, tell_failure_or};
 use swd_image::{ByteDifference, ImageFault};
 use swd_image_files::Image;
 use swd_remote::Fault;
@@ -107,7 +107,11 @@ fn fault_status<E: Write>(
     ensures { result ≡ command_status_of_fault fault }
 {
     match fault {
-        ImageFault::Range | ImageFault::Memory => engine_status(errors, Err(fault)),
+        ImageFault::Range => tell(
+            errors,
+            "BYTES from ADDR on extend past ffffffff: take fewer, or a lower ADDR",
+        ),
+        ImageFault::Memory => engine_status(errors, Err(fault)),
         ImageFault::Report => tell_failure_or(errors, streams, "write failed"),
         ImageFault::Stopped(_) | ImageFault::BusFault(_) => match gone {
             Some(gone) => gone_status(errors, gone, streams),

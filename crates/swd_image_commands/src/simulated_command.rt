@@ -16,10 +16,10 @@ use crate::result::{loaded_status, reached, verified_status};
 use std::alloc::Allocator;
 use std::io::Write;
 use swd_console::{
-    Console, Files, HeldMemory, InUse, MemoryFile, Stream, StreamsInUse, WriteRole, cannot_use,
-    read_target_files, write_back,
+    Console, Escaped, Files, HeldMemory, InUse, MemoryFile, Stream, StreamsInUse, WriteRole,
+    cannot_use, read_target_files, write_back,
 };
-use swd_image::dump;
+use swd_image::{ImageFault, dump};
 use swd_image_ends::{load_pieces, simulated_target, verify_pieces};
 use swd_image_files::Image;
 use swd_target::{Bench, Memory};
@@ -93,6 +93,25 @@ fn target_of<A: Allocator + Copy, F, C, E: Write>(
     }
 }
 
+// Prints that the memory doesn't have the word of a bus error, if it doesn't, and where its words begin.
+fn tell_outside<V, A: Allocator, E: Write>(
+    errors: &mut E,
+    image: &ImageLine,
+    answer: &Result<V, ImageFault>,
+    after: &Memory<A>,
+) {
+    if let Err(ImageFault::BusFault(at)) = answer
+        && let Some(memory) = &image.memory
+        && after.word(*at - *at % 4).is_none()
+    {
+        let (name, base) = (Escaped(memory.file.as_str()), memory.base);
+        let _ = writeln!(
+            errors,
+            "swd: {name} has no word at {at:08x}: its words begin at {base:08x}, see --base"
+        );
+    }
+}
+
 // Loads the file's pieces, and writes the memory back.
 fn simulate_load<A: Allocator + Copy, F: Files, C, E: Write>(
     image: &ImageLine,
@@ -153,6 +172,7 @@ fn load_over<A: Allocator + Copy, F: Files, C, E: Write>(
     let answer = load_pieces(console.alloc, &mut bench, whole, limits, &mut report);
     let streams = [Stream::record(&image.report, &report)];
     drop(report);
+    tell_outside(console.errors, image, &answer, bench.memory());
     match write_back(bench.memory(), &mut back, console) {
         Ok(()) => loaded_status(
             console.errors,
@@ -213,6 +233,7 @@ fn verify_over<M: Write + Drop, A: Allocator + Copy, F, C, E: Write>(
     let answer = verify_pieces(console.alloc, &mut bench, whole, limits, &mut report);
     let streams = [Stream::record(&image.report, &report)];
     drop(report);
+    tell_outside(console.errors, image, &answer, bench.memory());
     verified_status(
         console.errors,
         answer,
@@ -285,6 +306,7 @@ fn dump_over<A: Allocator + Copy, F: Files, C, E: Write>(
     );
     let streams = [Stream::record(&image.report, &report)];
     drop(report);
+    tell_outside(console.errors, image, &answer, bench.memory());
     match reached(console.errors, answer, None, streams.as_slice()) {
         Ok(bytes) => write_image_file(image, bytes.as_slice(), file, console),
         Err(status) => status,

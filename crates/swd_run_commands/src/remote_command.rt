@@ -17,6 +17,7 @@ use swd_console::{
     name_or_nothing, run_status, script_status, tell, tell_failure,
 };
 use swd_ends::{Line, RemoteFault, run_remote, run_remote_script};
+use swd_host::End;
 use swd_port::Story;
 use swd_remote::RemoteStreams;
 use swd_run::{Finished, Limits, Records};
@@ -312,6 +313,15 @@ fn remote_streams<'a, T: KeepsError, S: KeepsError>(
     ]
 }
 
+// Prints how a run ended that ended early.
+fn tell_early<E: Write>(errors: &mut E, answer: &Result<Finished, RemoteFault>) {
+    if let Ok(finished) = answer
+        && finished.ended != End::All
+    {
+        let _ = writeln!(errors, "swd: the run ended early: {}", finished.ended);
+    }
+}
+
 // Returns the status of a run over a line: 1 if a report was made but the other end is gone, else the run's status.
 // `streams` are those beside the connection.
 fn reached_status<R: KeepsError, W: KeepsError, E: Write>(
@@ -331,6 +341,9 @@ fn reached_status<R: KeepsError, W: KeepsError, E: Write>(
         return script_status(errors, fault, script);
     }
     let reached = answer.is_ok();
+    if line.fault.is_none() {
+        tell_early(errors, &answer);
+    }
     let status = run_status(errors, answer, run.strict);
     match line.fault {
         Some(fault) if reached => gone_status(errors, fault, line_streams(line).as_slice()),

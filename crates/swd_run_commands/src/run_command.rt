@@ -71,7 +71,7 @@ fn run_standard_input<
     if run.remote {
         return tell(
             console.errors,
-            "SCRIPT is a file: standard input is the target's",
+            "SCRIPT has to be a file: standard input is the target's",
         );
     }
     let mut script = TrackedReader::new(INPUT, input);

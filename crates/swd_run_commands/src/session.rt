@@ -108,10 +108,20 @@ pub(crate) fn served_status<E: Write>(
 fn bad_status<E: Write>(errors: &mut E, place: u64, byte: u8) -> u8
     ensures { result ≡ 2 }
 {
-    let what = match byte {
-        b'0'..=b'7' | b'R' => "a character of JTAG: set the debugger to serial wire",
-        _ => "bad character",
+    let _ = match byte {
+        b'0'..=b'7' | b'R' => writeln!(
+            errors,
+            "swd: byte {place}: a character of JTAG: set the debugger to serial wire"
+        ),
+        _ if byte.is_ascii_graphic() => writeln!(
+            errors,
+            "swd: byte {place}: bad character '{}': is it a client of remote_bitbang?",
+            char::from(byte)
+        ),
+        _ => writeln!(
+            errors,
+            "swd: byte {place}: bad character {byte:02x}: is it a client of remote_bitbang?"
+        ),
     };
-    let _ = writeln!(errors, "swd: byte {place}: {what}");
     FAULT
 }

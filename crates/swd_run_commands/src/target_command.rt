@@ -8,11 +8,14 @@ use crate::session::{SessionFiles, are_complete, open_session, served_status, se
 use std::alloc::Allocator;
 use std::io::{Read, Write};
 use swd_console::{
-    Console, FAULT, Files, InUse, KeepsError, ReadRole, StreamsInUse, TrackedReader, Watched, tell,
-    tell_failure, texts_status,
+    Console, FAULT, Files, InUse, KeepsError, ReadRole, StreamsInUse, TrackedReader, Watched,
+    cannot_use, tell, tell_failure, texts_status,
 };
 use swd_ends::{TargetFault, read_target, serve_logged};
 use swd_words::{ScriptLine, ServedMemory, TargetLine};
+
+// What is wrong with a script that has more than the memory of a target.
+const ACCESSES: &str = "a target's script has the lines memory and room alone";
 
 /// Serves a host at a simulated target. Returns the status: 0 or 2.
 pub fn perform_target<
@@ -141,6 +144,6 @@ fn target_status<S: KeepsError, P: KeepsError, E: Write>(
     match fault {
         TargetFault::Texts(fault) => texts_status(errors, fault, &script.seen, &plan.seen),
         TargetFault::Memory => tell(errors, "no memory"),
-        TargetFault::Accesses => tell(errors, "a target's script has no accesses and no next"),
+        TargetFault::Accesses => cannot_use(errors, script.name(), &ACCESSES),
     }
 }

@@ -54,7 +54,10 @@ fn decode(alloc: Global) -> Result<Vec<String>, Fail> {
 fn arguments_that_are_not_read_are_a_fault(rt: HostRuntime) {
     for (kind, line) in [
         (ErrorKind::OutOfMemory, b"swd: no memory\n".as_slice()),
-        (ErrorKind::InvalidData, b"swd: a word is not UTF-8\n"),
+        (
+            ErrorKind::InvalidData,
+            b"swd: an argument is not UTF-8: rename the file, or link to it\n",
+        ),
     ] {
         let ran = ran_on(rt.alloc(), rt.alloc(), Err(io::Error::from(kind)));
         expect_eq(&rt, &ran.errors.as_slice(), &line);

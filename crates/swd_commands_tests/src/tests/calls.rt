@@ -275,7 +275,7 @@ const RUNS: [Call; 16] = [
     ),
 ];
 
-const FAULTS: [Call; 16] = [
+const FAULTS: [Call; 21] = [
     (
         "the script is opened before the plan",
         &["swd", "run", "nope", "--plan", "none"],
@@ -314,7 +314,7 @@ const FAULTS: [Call; 16] = [
         b"10x",
         2,
         b"",
-        b"swd: trace byte 2: bad character\n",
+        b"swd: trace byte 2: bad character 'x': a trace has 0, 1, blanks and comments\n",
     ),
     (
         "decode: a CSV export",
@@ -363,7 +363,7 @@ const FAULTS: [Call; 16] = [
         b"1",
         2,
         b"",
-        b"swd: not one transaction\n",
+        b"swd: standard input: not one transaction: it has other bits too, or not all; swd decode lists any trace\n",
     ),
     (
         "decode: a bad character",
@@ -379,7 +379,49 @@ const FAULTS: [Call; 16] = [
         b"idle 01\n",
         2,
         b"",
-        b"swd: list line 1: bad line\n",
+        b"swd: list line 1: bad line: 'idle 01' isn't exactly idle N, with at most 2^64 - 1 bits in all lines: \
+            see swd --help\n",
+    ),
+    (
+        "encode: a comment",
+        &["swd", "encode"],
+        b"idle 8\n# a comment\n",
+        2,
+        b"",
+        b"swd: list line 2: bad line: there is no item: a listing has one on each line\n",
+    ),
+    (
+        "encode: an empty line",
+        &["swd", "encode"],
+        b"idle 8\n\nidle 8\n",
+        2,
+        b"",
+        b"swd: list line 2: bad line: there is no item: a listing has one on each line\n",
+    ),
+    (
+        "encode: a transaction of no register",
+        &["swd", "encode"],
+        b"idle 8\ndp 2 read ok 2ba01477\n",
+        2,
+        b"",
+        b"swd: list line 2: bad line: 'dp 2 read ok 2ba01477' isn't exactly dp ADDR read RESULT or \
+            dp ADDR write RESULT: see swd --help\n",
+    ),
+    (
+        "encode: a carriage return at a line's end",
+        &["swd", "encode"],
+        b"idle 8\r\n",
+        2,
+        b"",
+        b"swd: list line 1: bad line: it ends with a carriage return; tr -d '\\r' drops these\n",
+    ),
+    (
+        "encode: a byte that is no text",
+        &["swd", "encode"],
+        b"idle\x008\n",
+        2,
+        b"",
+        b"swd: list line 1: bad line: byte 00 is neither printable ASCII nor a space or a tab\n",
     ),
     (
         "encode: a list that is not normal",
@@ -387,7 +429,8 @@ const FAULTS: [Call; 16] = [
         b"idle 1\nidle 1\n",
         2,
         b"",
-        b"swd: list line 1: not normal\n",
+        b"swd: list line 1: not normal: among the bits of the list those of this item are read otherwise, \
+            as two lines idle are one\n",
     ),
     (
         "a file that isn't there",
@@ -430,7 +473,7 @@ const TARGETS: [Call; 12] = [
         b"",
         2,
         b"",
-        b"swd: a target's script has no accesses and no next\n",
+        b"swd: script: a target's script has the lines memory and room alone\n",
     ),
     (
         "a target's script waits for a word",
@@ -438,7 +481,7 @@ const TARGETS: [Call; 12] = [
         b"",
         2,
         b"",
-        b"swd: a target's script has no accesses and no next\n",
+        b"swd: awaiting: a target's script has the lines memory and room alone\n",
     ),
     (
         "a target's script is standard input",
@@ -446,7 +489,7 @@ const TARGETS: [Call; 12] = [
         b"",
         2,
         b"",
-        b"swd: SCRIPT is a file: standard input is the debugger's\n",
+        b"swd: SCRIPT has to be a file: standard input is the debugger's\n",
     ),
     (
         "a target's log is its trace",
@@ -473,7 +516,7 @@ const TARGETS: [Call; 12] = [
         b"Q",
         2,
         b"",
-        b"swd: cannot open input: it is read already\n",
+        b"swd: cannot open input: it is standard input\n",
     ),
     (
         "a target's plan isn't there",
@@ -489,7 +532,7 @@ const TARGETS: [Call; 12] = [
         b"dx",
         2,
         b"",
-        b"swd: byte 1: bad character\n",
+        b"swd: byte 1: bad character 'x': is it a client of remote_bitbang?\n",
     ),
     (
         "a character of JTAG",

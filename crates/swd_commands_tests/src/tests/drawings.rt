@@ -31,7 +31,7 @@ const ROWS: [Row; 10] = [
         &["swd", "draw", "--items", "-2"],
         b"",
         b"",
-        b"error: the value of '--items <N>' is not in 1..=1000",
+        b"error: invalid value '-2' for '--items <N>': it is not in 1..=1000",
     ),
     (
         &["swd", "draw"],

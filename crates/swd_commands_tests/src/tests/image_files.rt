@@ -124,19 +124,19 @@ fn an_invalid_image_file_is_named_with_its_line(rt: HostRuntime) {
         ),
         (
             &["swd", "load", "0", "two.hex", "--remote", "--format", "ELF"],
-            b"error: the value of '--format <FORMAT>' is not bin, hex, srec or elf\n",
+            b"error: invalid value 'ELF' for '--format <FORMAT>': it is not bin, hex, srec or elf\n",
         ),
         (
             &[
                 "swd", "verify", "0", "two.hex", "--remote", "--format", "s19",
             ],
-            b"error: the value of '--format <FORMAT>' is not bin, hex, srec or elf\n",
+            b"error: invalid value 's19' for '--format <FORMAT>': it is not bin, hex, srec or elf\n",
         ),
         (
             &[
                 "swd", "dump", "0", "1", "traced", "--remote", "--format", "elf",
             ],
-            b"error: the value of '--format <FORMAT>' is not bin, hex or srec\n",
+            b"error: invalid value 'elf' for '--format <FORMAT>': it is not bin, hex or srec\n",
         ),
     ];
     for (words, errors) in rows {

@@ -53,7 +53,7 @@ fn a_target_that_goes_away_ends_each_command(rt: HostRuntime) {
         (b"10", b"swd: the other end went away\n", b"dcf"),
         (
             b"x00",
-            b"swd: the other end sent byte 120, which is no level: these are 0 and 1\n",
+            b"swd: the other end sent byte 120, which is no level, 0 or 1: is it a server of remote_bitbang?\n",
             b"dcf",
         ),
         (b"111", LOST_LINES, b"dcfQ"),
@@ -82,7 +82,7 @@ fn a_file_that_is_refused_leaves_the_line_unused(rt: HostRuntime) {
         ),
         (
             &["swd", "verify", "0", "input", "--remote"],
-            b"swd: cannot open input: it is read already\n",
+            b"swd: cannot open input: it is standard input\n",
         ),
         (
             &["swd", "load", "fffffffc", "image", "--remote"],
@@ -90,15 +90,15 @@ fn a_file_that_is_refused_leaves_the_line_unused(rt: HostRuntime) {
         ),
         (
             &["swd", "load", "0", "-", "--remote"],
-            b"swd: FILE is a file: standard input is the target's\n",
+            b"swd: FILE has to be a file: standard input is the target's\n",
         ),
         (
             &["swd", "verify", "0", "-", "--remote"],
-            b"swd: FILE is a file: standard input is the target's\n",
+            b"swd: FILE has to be a file: standard input is the target's\n",
         ),
         (
             &["swd", "dump", "0", "1", "-", "--remote"],
-            b"swd: FILE is a file: standard input is the target's\n",
+            b"swd: FILE has to be a file: standard input is the target's\n",
         ),
         (
             &["swd", "dump", "0", "1", "input", "--remote"],
@@ -118,7 +118,7 @@ fn a_file_that_is_refused_leaves_the_line_unused(rt: HostRuntime) {
         ),
         (
             &["swd", "load", "123456789", "image", "--remote"],
-            b"error: ADDR is not 1 to 8 hexadecimal digits\n",
+            b"error: invalid value '123456789' for '<ADDR>': it is not 1 to 8 hexadecimal digits\n",
         ),
     ];
     for (words, errors) in rows {
@@ -134,7 +134,7 @@ fn a_file_that_is_refused_leaves_the_line_unused(rt: HostRuntime) {
     expect_eq(
         &rt,
         &ran.errors.as_slice(),
-        &b"swd: the image extends past ffffffff\n".as_slice(),
+        &b"swd: BYTES from ADDR on extend past ffffffff: take fewer, or a lower ADDR\n".as_slice(),
     );
     expect_eq(&rt, &ran.output.as_slice(), &b"OQ".as_slice());
     expect_eq(&rt, &ran.cuts, &0);
@@ -172,7 +172,7 @@ fn numbers_of_images_have_their_forms(rt: HostRuntime) -> Result<(), Fail> {
         ("0", Some(0)),
         ("4294967295", Some(4_294_967_295)),
         ("4294967296", None),
-        ("0x10", None),
+        ("0x10", Some(16)),
         ("", None),
     ] {
         let words = ["swd", "dump", "8", text, "image", "--remote"];

@@ -269,7 +269,11 @@ fn each_end_of_a_session_leaves_the_memory(rt: HostRuntime) {
     let rows: [(&[u8], &[u8], u8); 3] = [
         (b"Q", b"", 0),
         (b"", b"", 0),
-        (b"x", b"swd: byte 0: bad character\n", 2),
+        (
+            b"x",
+            b"swd: byte 0: bad character 'x': is it a client of remote_bitbang?\n",
+            2,
+        ),
     ];
     for (session, line, status) in rows {
         let words = ["swd", "target", "--memory", "ram"];
@@ -293,12 +297,12 @@ fn a_file_that_cannot_be_used_is_refused(rt: HostRuntime) {
         (
             &["swd", "target", "--memory", "ram"],
             b"abc",
-            b"swd: ram: its length is no multiple of 4, and a memory has whole words\n",
+            b"swd: ram: its length, 3, is no multiple of 4: truncate -s %4 FILE appends zeros\n",
         ),
         (
             &["swd", "target", "--memory", "ram", "--base", "fffffffc"],
             b"abcdefgh",
-            b"swd: ram: the memory extends past ffffffff\n",
+            b"swd: ram: the memory extends past ffffffff: see --base\n",
         ),
         (
             &["swd", "target", "--memory", "broken"],
@@ -308,7 +312,8 @@ fn a_file_that_cannot_be_used_is_refused(rt: HostRuntime) {
         (
             &["swd", "target", "--memory", "nothing"],
             b"abcd",
-            b"swd: cannot open nothing: entity not found\n",
+            b"swd: cannot open nothing: entity not found; for a memory of 64 KiB of zeros: \
+                head -c 64K /dev/zero >FILE\n",
         ),
         (
             &["swd", "target", "--memory", "locked"],
@@ -323,7 +328,7 @@ fn a_file_that_cannot_be_used_is_refused(rt: HostRuntime) {
         (
             &["swd", "target", "--memory", "-"],
             b"abcd",
-            b"swd: cannot open -: it has to be a file\n",
+            b"swd: cannot open -: it has to be a file; one of that name is ./-\n",
         ),
         (
             &["swd", "target", "--memory", "input"],
@@ -343,12 +348,12 @@ fn a_file_that_cannot_be_used_is_refused(rt: HostRuntime) {
         (
             &["swd", "target", "--memory", "ram", "--plan", "ram-again"],
             b"abcd",
-            b"swd: cannot open ram-again: it is read already\n",
+            b"swd: cannot open ram-again: it is the memory\n",
         ),
         (
             &["swd", "target", "--memory", "ram", "--plan", "input"],
             b"abcd",
-            b"swd: cannot open input: it is read already\n",
+            b"swd: cannot open input: it is standard input\n",
         ),
         (
             &["swd", "target", "--memory", "ram", "--plan", "wrong"],
@@ -397,7 +402,7 @@ fn a_file_that_cannot_be_used_is_refused(rt: HostRuntime) {
         (
             &["swd", "target", "--memory", "ram", "--log", "-"],
             b"abcd",
-            b"swd: cannot open -: it has to be a file\n",
+            b"swd: cannot open -: it has to be a file; one of that name is ./-\n",
         ),
     ];
     for (words, ram, line) in rows {

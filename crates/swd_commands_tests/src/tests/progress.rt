@@ -289,8 +289,8 @@ fn a_remote_run_says_how_far_it_is(rt: HostRuntime) {
             "traced",
             b"111",
             1,
-            b"swd: 0 of 4 accesses, 0 a second\nswd: no reply to the first request, SWDIO read 1: \
-              is it driven, and the target connected and powered?\n",
+            b"swd: 0 of 4 accesses, 0 a second\nswd: the run ended early: lost\n\
+              swd: no reply to the first request, SWDIO read 1: is it driven, and the target connected and powered?\n",
             b"dcfQ",
         ),
         (

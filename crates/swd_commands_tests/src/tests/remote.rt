@@ -1,14 +1,12 @@
 //! A run at a target behind the standard streams: what words make of it.
 use super::expect::{expect_eq, expect_eq_at};
 use super::run_on;
+use std::test::Fail;
 
 // The report of a run that was lost before its first access.
 const LOST: &[u8] = b"end lost 0 begun 0\n";
 
-/// The line where the target gave no reply, and those of an image's command.
-pub(super) const NO_REPLY: &[u8] = b"swd: no reply to the first request, SWDIO read 1: \
-    is it driven, and the target connected and powered?\n";
-
+/// The lines where the target gave no reply.
 pub(super) const LOST_LINES: &[u8] = b"swd: the run ended early: lost\n\
     swd: no reply to the first request, SWDIO read 1: \
     is it driven, and the target connected and powered?\n";
@@ -23,7 +21,7 @@ fn a_target_that_goes_away_takes_one_line(rt: HostRuntime) {
         (b"10", b"swd: the other end went away\n"),
         (
             b"x00",
-            b"swd: the other end sent byte 120, which is no level: these are 0 and 1\n",
+            b"swd: the other end sent byte 120, which is no level, 0 or 1: is it a server of remote_bitbang?\n",
         ),
         (b"1001110111000101", b"swd: the other end went away\n"),
     ];
@@ -42,22 +40,96 @@ fn a_target_that_goes_away_takes_one_line(rt: HostRuntime) {
 fn a_lost_acknowledgement_is_no_fault_of_the_line(rt: HostRuntime) {
     // A target that isn't there drives nothing: each level is the same. Three levels that differ are from something.
     let rows: [(&[u8], &[u8]); 4] = [
-        (b"111", NO_REPLY),
+        (b"111", LOST_LINES),
         (
             b"000",
-            b"swd: no reply to the first request, SWDIO read 0: is it driven,",
+            b"swd: the run ended early: lost\n\
+                swd: no reply to the first request, SWDIO read 0: is it driven, and the target connected and \
+                powered?\n",
         ),
-        (b"101", b""),
-        (b"110", b""),
+        (
+            b"101",
+            b"swd: the run ended early: lost\n\
+                swd: DPIDR was not read: the last answer was no acknowledgement, but the three bits 5\n",
+        ),
+        (
+            b"110",
+            b"swd: the run ended early: lost\n\
+                swd: DPIDR was not read: the last answer was no acknowledgement, but the three bits 3\n",
+        ),
     ];
     for (levels, said) in rows {
         let ran = run_on(rt.alloc(), WORDS.as_slice(), levels);
-        assert!(rt; ran.errors.starts_with(said), "at {levels:?}");
-        expect_eq_at(&rt, &levels, &ran.errors.is_empty(), &said.is_empty());
+        expect_eq_at(&rt, &levels, &ran.errors.as_slice(), &said);
         expect_eq(&rt, &ran.status, &1);
         expect_eq(&rt, &ran.traced, &LOST.len());
         assert!(rt; ran.output.ends_with(b"dcfQ"));
     }
+}
+
+// The levels of an opening. Bits are in time order: the acknowledgement OK is 100, and a word's first bit the least
+// significant one. DPIDR is 2ba01477, and CTRL/STAT 0 before power is requested; then the two requests are set, and no
+// acknowledgement, or all four.
+const IDENTIFIED: &[u8] = b"100111011100010100000000101110101000";
+
+const NO_FLAGS: &[u8] = b"100000000000000000000000000000000000";
+
+const OK: &[u8] = b"100";
+
+const REQUESTED: &[u8] = b"100000000000000000000000000000010100";
+
+const POWERED: &[u8] = b"100000000000000000000000000000011110";
+
+// A session that ends before the target is open says how far it came.
+#[test]
+fn a_session_says_how_far_it_came(rt: HostRuntime) -> Result<(), Fail> {
+    let rows: [(&[&[u8]], &[u8]); 6] = [
+        (
+            &[IDENTIFIED],
+            b"swd: the other end went away\n\
+                swd: DPIDR was read, 2ba01477; power was not requested yet: the last answer was OK\n",
+        ),
+        (
+            &[IDENTIFIED, b"111"],
+            b"swd: the run ended early: lost\n\
+                swd: DPIDR was read, 2ba01477; power was not requested yet: the last answer was no acknowledgement, \
+                but the three bits 7\n",
+        ),
+        (
+            &[IDENTIFIED, OK, NO_FLAGS, OK, OK],
+            b"swd: the other end went away\n\
+                swd: DPIDR was read, 2ba01477; power was requested: the last answer was OK\n",
+        ),
+        (
+            &[IDENTIFIED, OK, NO_FLAGS, OK, OK, REQUESTED],
+            b"swd: the run ended early: tries\n\
+                swd: DPIDR was read, 2ba01477; power was requested and is not acknowledged: CTRL/STAT is 50000000\n",
+        ),
+        (
+            &[IDENTIFIED, OK, NO_FLAGS, OK, OK, POWERED, b"111"],
+            b"swd: the run ended early: lost\n\
+                swd: DPIDR was read, 2ba01477; power is acknowledged; no access port answered: the last answer was \
+                no acknowledgement, but the three bits 7\n",
+        ),
+        // Once an access port answered, the report says the rest.
+        (
+            &[IDENTIFIED, OK, NO_FLAGS, OK, OK, POWERED, OK, b"111"],
+            b"swd: the run ended early: lost\n",
+        ),
+    ];
+    for (levels, said) in rows {
+        let mut input = Vec::new(rt.alloc());
+        for piece in levels {
+            input.extend_from_slice(piece)?;
+        }
+        let words = [
+            "swd", "run", "script", "--remote", "--report", "traced", "--tries", "0",
+        ];
+        let ran = run_on(rt.alloc(), words.as_slice(), input.as_slice());
+        expect_eq_at(&rt, &levels.len(), &ran.errors.as_slice(), &said);
+        expect_eq_at(&rt, &levels.len(), &ran.status, &1);
+    }
+    Ok(())
 }
 
 #[test]
@@ -70,7 +142,9 @@ fn its_trace_goes_to_a_file_of_its_own(rt: HostRuntime) {
     expect_eq(
         &rt,
         &ran.errors.as_slice(),
-        &b"swd: the other end went away\n".as_slice(),
+        &b"swd: the other end went away\n\
+            swd: DPIDR was not read: the last answer was no acknowledgement, but the three bits 7\n"
+            .as_slice(),
     );
     expect_eq(&rt, &ran.status, &1);
     expect_eq(&rt, &ran.cuts, &2);

@@ -329,19 +329,22 @@ fn a_memory_begins_at_its_base(rt: HostRuntime) {
                 "swd", "load", "20000000", "image", "--memory", "ram", "--base", "8000000",
             ],
             b"abcdefgh",
-            b"swd: bus error at 20000004\n",
+            b"swd: ram has no word at 20000004: its words begin at 08000000, see --base\n\
+                swd: bus error at 20000004\n",
             1,
         ),
         (
             &["swd", "load", "20000005", "image", "--memory", "ram"],
             b"abcdefgh",
-            b"swd: bus error at 20000008\n",
+            b"swd: ram has no word at 20000008: its words begin at 20000000, see --base\n\
+                swd: bus error at 20000008\n",
             1,
         ),
         (
             &["swd", "load", "1ffffffe", "image", "--memory", "ram"],
             b"abcdefgh",
-            b"swd: bus error at 1ffffffc\n",
+            b"swd: ram has no word at 1ffffffc: its words begin at 20000000, see --base\n\
+                swd: bus error at 1ffffffc\n",
             1,
         ),
     ];
@@ -354,7 +357,9 @@ fn a_memory_begins_at_its_base(rt: HostRuntime) {
     }
     let words = ["swd", "load", "20000000", "image", "--memory", "ram"];
     let ran = run_at(rt.alloc(), words.as_slice(), b"", b"1234", b"");
-    let errors = b"swd: bus error at 20000000\n".as_slice();
+    let errors = b"swd: ram has no word at 20000000: its words begin at 20000000, see --base\n\
+        swd: bus error at 20000000\n"
+        .as_slice();
     expect_eq(&rt, &ran.errors.as_slice(), &errors);
     expect_eq(&rt, &ran.status, &1);
 }
@@ -484,7 +489,8 @@ fn a_verification_and_a_dump_only_read(rt: HostRuntime) {
             "20000007",
             "image",
             b"hi",
-            b"swd: bus error at 20000008\n",
+            b"swd: locked has no word at 20000008: its words begin at 20000000, see --base\n\
+                swd: bus error at 20000008\n",
             1,
         ),
         (
@@ -530,7 +536,15 @@ fn a_verification_and_a_dump_only_read(rt: HostRuntime) {
             1,
             0,
         ),
-        ("20000006", "3", b"", b"swd: bus error at 20000008\n", 0, 1),
+        (
+            "20000006",
+            "3",
+            b"",
+            b"swd: locked has no word at 20000008: its words begin at 20000000, see --base\n\
+                swd: bus error at 20000008\n",
+            0,
+            1,
+        ),
     ];
     for (addr, count, dumped, errors, cuts, status) in rows {
         let words = ["swd", "dump", addr, count, "to", "--memory", "locked"];
@@ -550,12 +564,13 @@ fn a_file_that_is_refused_changes_nothing(rt: HostRuntime) {
         (
             &["swd", "load", "0", "image", "--memory", "nowhere"],
             b"abcd",
-            b"swd: cannot open nowhere: entity not found\n",
+            b"swd: cannot open nowhere: entity not found; for a memory of 64 KiB of zeros: \
+                head -c 64K /dev/zero >FILE\n",
         ),
         (
             &["swd", "load", "0", "image", "--memory", "-"],
             b"abcd",
-            b"swd: cannot open -: it has to be a file\n",
+            b"swd: cannot open -: it has to be a file; one of that name is ./-\n",
         ),
         (
             &["swd", "verify", "0", "image", "--memory", "broken"],
@@ -565,14 +580,14 @@ fn a_file_that_is_refused_changes_nothing(rt: HostRuntime) {
         (
             &["swd", "load", "0", "image", "--memory", "ram"],
             b"abcde",
-            b"swd: ram: its length is no multiple of 4, and a memory has whole words\n",
+            b"swd: ram: its length, 5, is no multiple of 4: truncate -s %4 FILE appends zeros\n",
         ),
         (
             &[
                 "swd", "dump", "0", "1", "to", "--memory", "ram", "--base", "fffffffc",
             ],
             b"abcdefgh",
-            b"swd: ram: the memory extends past ffffffff\n",
+            b"swd: ram: the memory extends past ffffffff: see --base\n",
         ),
         (
             &["swd", "load", "0", "ram-again", "--memory", "ram"],
@@ -630,7 +645,7 @@ fn a_file_that_is_refused_changes_nothing(rt: HostRuntime) {
                 "ram-again",
             ],
             b"abcd",
-            b"swd: cannot open ram-again: it is read already\n",
+            b"swd: cannot open ram-again: it is the memory\n",
         ),
         (
             &[
@@ -676,7 +691,7 @@ fn a_file_that_is_refused_changes_nothing(rt: HostRuntime) {
         (
             &["swd", "load", "0", "-", "--memory", "ram"],
             b"abcd",
-            b"swd: FILE has to be a file\n",
+            b"swd: cannot open -: it has to be a file; one of that name is ./-\n",
         ),
         (
             &["swd", "load", "0", "image.hex", "--memory", "ram"],

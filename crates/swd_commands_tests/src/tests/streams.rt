@@ -1,6 +1,6 @@
 //! Streams that fail: the line on standard error, and the status.
 use super::expect::{expect_at, expect_eq, expect_eq_at};
-use super::remote::NO_REPLY;
+use super::remote::LOST_LINES;
 use super::{DPIDR_LINE, DPIDR_READ, REPORT, SCRIPT, Shelf, Still, run_on, target};
 use std::alloc::Global;
 use std::cell::Cell;
@@ -227,7 +227,7 @@ fn help_that_is_interrupted_goes_on(rt: HostRuntime) {
 fn an_output_that_is_not_used_does_not_fail(rt: HostRuntime) {
     let rows: [(&[&str], &[u8], &[u8]); 4] = [
         (&["swd", "two"], b"", b"error: "),
-        (&["swd", "encode"], b"x\n", b"swd: list line 1: bad line\n"),
+        (&["swd", "encode"], b"x\n", b"swd: list line 1: bad line: "),
         (&["swd", "run", "-"], b"x\n", b"swd: script line 1: word: "),
         (
             &["swd", "run", "missing"],
@@ -451,7 +451,7 @@ fn a_remote_run_names_the_file_that_fails(rt: HostRuntime) {
                 "--accesses",
                 "full",
             ],
-            NO_REPLY,
+            LOST_LINES,
         ),
     ];
     for (words, line) in rows {
@@ -461,7 +461,7 @@ fn a_remote_run_names_the_file_that_fails(rt: HostRuntime) {
             &rt,
             &words,
             &ran.status,
-            &if line == NO_REPLY { 1 } else { 2 },
+            &if line == LOST_LINES { 1 } else { 2 },
         );
         expect_at(&rt, &words, ran.output.ends_with(b"dcfQ"));
     }
@@ -531,14 +531,14 @@ const INPUTS: [Row; 12] = [
         &["swd", "one"],
         b"10x",
         b"",
-        b"swd: trace byte 2: bad character\n",
+        b"swd: trace byte 2: bad character 'x': a trace has 0, 1, blanks and comments\n",
         2,
     ),
     (
         &["swd", "encode"],
         b"x\n",
         b"",
-        b"swd: list line 1: bad line\n",
+        b"swd: list line 1: bad line: 'x' is no item; these begin with dp, ap, reset, switch, idle, junk and cut\n",
         2,
     ),
     // The other end's.

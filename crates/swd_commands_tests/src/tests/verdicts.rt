@@ -140,9 +140,6 @@ fn a_verdict_is_one_line_with_its_status(rt: HostRuntime) -> Result<(), Fail> {
 // The arguments, a trace, the beginning of what is said on standard error.
 type Refused<'a> = (&'a [&'a str], &'a [u8], &'a [u8]);
 
-const BAD_PLAIN: &[u8] =
-    b"error: the values of '--plain <BASE> <WORDS>' are not a multiple of 4 and a number of words up to ffffffff\n";
-
 const REFUSED: [Refused; 13] = [
     (
         &["swd", "check", "--made", "--rest"],
@@ -152,28 +149,34 @@ const REFUSED: [Refused; 13] = [
     (
         &["swd", "check", "--plain", "20000001", "1"],
         b"",
-        BAD_PLAIN,
+        b"error: invalid value '20000001' for '--plain <BASE> <WORDS>': it is not 1 to 8 hexadecimal digits of a \
+            multiple of 4\n",
     ),
     (
         &["swd", "check", "--plain", "20000000", "0"],
         b"",
-        BAD_PLAIN,
+        b"error: invalid value '0' for '--plain <BASE> <WORDS>': it is not a number of words, at least 1 and none \
+            past ffffffff\n",
     ),
     (
         &["swd", "check", "--plain", "fffffffc", "2"],
         b"",
-        BAD_PLAIN,
+        b"error: invalid value '2' for '--plain <BASE> <WORDS>': it is not a number of words, ",
     ),
-    (&["swd", "check", "--plain", "x", "1"], b"", BAD_PLAIN),
+    (
+        &["swd", "check", "--plain", "x", "1"],
+        b"",
+        b"error: invalid value 'x' for '--plain <BASE> <WORDS>': it is not 1 to 8 ",
+    ),
     (
         &["swd", "check", "--plain", "20000000", "f"],
         b"",
-        BAD_PLAIN,
+        b"error: invalid value 'f' for '--plain <BASE> <WORDS>': it is not a number of words, ",
     ),
     (
         &["swd", "check", "--plain", "0", "1", "--plain", "2", "1"],
         b"",
-        BAD_PLAIN,
+        b"error: invalid value '2' for '--plain <BASE> <WORDS>': it is not 1 to 8 ",
     ),
     (
         &["swd", "check", "--plain", "20000000"],

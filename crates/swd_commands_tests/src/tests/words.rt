@@ -1,8 +1,8 @@
 //! What words ask for, and what is said of words that ask for nothing.
-use super::expect::expect_eq;
+use super::expect::{expect_eq, expect_eq_at};
 use std::alloc::Global;
 use std::test::Fail;
-use swd_words::{CommandLine, DecodeLine, LineFault, line};
+use swd_words::{CommandLine, DecodeLine, ImageAction, LineFault, line};
 
 // What `clap` says of the words: its help, or what is wrong with them.
 fn said_of(alloc: Global, words: &[&str]) -> Result<String, Fail> {
@@ -148,6 +148,53 @@ fn words_with_a_file(rt: HostRuntime) -> Result<(), Fail> {
         expect_eq(&rt, &name.as_str(), &"a");
     }
     Ok(())
+}
+
+// The number of bytes of a dump.
+fn count_in(alloc: Global, word: &str) -> Option<u32> {
+    let words = ["swd", "dump", "0", word, "file", "--remote"];
+    match line(alloc, words.as_slice()) {
+        Ok(CommandLine::Image(image)) => match image.action {
+            ImageAction::Dump(count) => Some(count),
+            _ => None,
+        },
+        _ => None,
+    }
+}
+
+// A number of bytes is decimal, with k or M or without, or hexadecimal behind 0x, and below 2^32.
+#[test]
+fn numbers_of_bytes(rt: HostRuntime) {
+    for (word, count) in [
+        ("0", Some(0)),
+        ("65536", Some(65_536)),
+        ("4294967295", Some(4_294_967_295)),
+        ("4294967296", None),
+        ("64k", Some(65_536)),
+        ("0k", Some(0)),
+        ("4194303k", Some(4_294_966_272)),
+        ("4194304k", None),
+        ("1M", Some(1_048_576)),
+        ("4095M", Some(4_293_918_720)),
+        ("4096M", None),
+        ("0x100", Some(256)),
+        ("0XFfff", Some(65_535)),
+        ("0xffffffff", Some(4_294_967_295)),
+        ("0x100000000", None),
+        ("0x", None),
+        ("0x1k", None),
+        ("100", Some(100)),
+        ("ff", None),
+        ("64K", None),
+        ("1m", None),
+        ("1.5k", None),
+        ("k", None),
+        ("", None),
+        ("1kk", None),
+        ("1 k", None),
+    ] {
+        expect_eq_at(&rt, &word, &count_in(rt.alloc(), word), &count);
+    }
 }
 
 fn resumes_in(alloc: Global, words: &[&str]) -> Option<u32> {

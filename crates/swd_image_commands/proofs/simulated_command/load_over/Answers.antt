@@ -34,7 +34,7 @@ returns-in-Ok g c =
           })
           c.args.back.memory.now.base c.args.back.count c.loaded_status.result old new wrote
           (subst (λ m. CommandWritesBack m c.args.back.memory.now.base c.args.back.count wrote old new)
-          (sym (ap plain_of c.memory.ensures)) c.write_back.ensures)
+          (sym (ap plain_of c.memory-2.ensures)) c.write_back.ensures)
           (subst (λ w. IsSimulatedCommandStatus (command_status_of_image command_status_loaded None loaded.result) w
           c.loaded_status.result) (sym c.in-Ok.is) c.loaded_status.ensures),
     )
@@ -59,7 +59,7 @@ returns g c =
           })
           c.args.back.memory.now.base c.args.back.count c.in-Err.status old new wrote
           (subst (λ m. CommandWritesBack m c.args.back.memory.now.base c.args.back.count wrote old new)
-          (sym (ap plain_of c.memory.ensures)) c.write_back.ensures)
+          (sym (ap plain_of c.memory-2.ensures)) c.write_back.ensures)
           (subst (λ w. IsSimulatedCommandStatus (command_status_of_image command_status_loaded None loaded.result) w
           c.in-Err.status) (sym c.in-Err.is) refl),
     )

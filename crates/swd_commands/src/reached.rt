@@ -1,0 +1,166 @@
+//! How far a session at a remote target came in opening it, by what went over the connection.
+
+use std::fmt;
+use std::fmt::{Display, Formatter};
+use swd_bits::{Reg4, Request, Tx, TxEnd};
+use swd_console::{KeepsError, Sample, SentClock};
+use swd_port::CtrlStat;
+use swd_trace::{Decoder, Item};
+
+/// What a session reached, as far as its first clocks show it.
+#[derive(Clone, Copy)]
+pub(crate) struct Reached {
+    // The last word of DPIDR, and of CTRL/STAT, that was read with right parity.
+    dpidr: Option<u32>,
+    status: Option<u32>,
+    // Whether a request for debug power was written, and whether an access port answered OK.
+    asked: bool,
+    is_open: bool,
+    // What ended the last transaction.
+    last: Option<TxEnd>,
+}
+
+impl Reached {
+    /// Nothing yet.
+    fn new() -> Reached {
+        Reached {
+            dpidr: None,
+            status: None,
+            asked: false,
+            is_open: false,
+            last: None,
+        }
+    }
+
+    /// Returns what a session reached, by what was sent and what was read.
+    pub(crate) fn of<R: KeepsError, W: KeepsError>(read: &R, sent: &W) -> Reached {
+        Reached::over(read.sample(), sent.sample())
+    }
+
+    // Returns what was reached in the first clocks of a connection, as far as their levels came.
+    fn over(read: &Sample, sent: &Sample) -> Reached {
+        let mut reached = Reached::new();
+        let mut decoder = Decoder::new();
+        let mut levels = 0usize;
+        for place in 0..usize::MAX {
+            let bit = match sent.clock(place) {
+                Some(SentClock::Driven(level)) => Some(level),
+                // In a turnaround it is any, and in a line reset one.
+                Some(SentClock::Released) => Some(true),
+                Some(SentClock::Sampled) => {
+                    let level = read.level(levels);
+                    levels = levels.saturating_add(1);
+                    level
+                }
+                None => None,
+            };
+            let Some(bit) = bit else {
+                break;
+            };
+            if decoder.fed() == u64::MAX {
+                break;
+            }
+            for item in decoder.feed(bit).as_slice() {
+                reached.pass(item);
+            }
+        }
+        for item in decoder.finish().as_slice() {
+            reached.pass(item);
+        }
+        reached
+    }
+
+    // Passes the next item.
+    fn pass(&mut self, item: &Item) {
+        if let Item::Tx(Tx { request, result }) = item {
+            self.last = Some(*result);
+            if let TxEnd::Moved { word, parity_ok } = result {
+                self.moved(*request, *word, *parity_ok);
+            }
+        }
+    }
+
+    // Passes the word of a transaction.
+    fn moved(&mut self, request: Request, word: u32, parity_ok: bool) {
+        match (request.ap, request.read, request.addr) {
+            (true, _, _) => self.is_open = true,
+            (false, true, Reg4::R0) if parity_ok => self.dpidr = Some(word),
+            (false, true, Reg4::R4) if parity_ok => self.status = Some(word),
+            (false, false, Reg4::R4) => {
+                self.asked = has(word, CtrlStat::CDBGPWRUPREQ);
+                self.status = None;
+            }
+            _ => {}
+        }
+    }
+
+    /// Returns whether an access port answered: the target was opened.
+    pub(crate) fn is_open(&self) -> bool {
+        self.is_open
+    }
+
+    /// Returns whether a request was answered in any way.
+    pub(crate) fn is_answered(&self) -> bool {
+        self.last.is_some()
+    }
+}
+
+// Returns whether a word of CTRL/STAT has a flag.
+fn has(word: u32, flag: CtrlStat) -> bool {
+    word & flag.bits() != 0
+}
+
+// What was the last answer.
+#[derive(Clone, Copy)]
+struct LastAnswer(Option<TxEnd>);
+
+impl Display for LastAnswer {
+    fn fmt<W: fmt::Write>(&self, f: &mut Formatter<W>) -> fmt::Result {
+        match self.0 {
+            Some(TxEnd::NoAck(bits)) => write!(f, "no acknowledgement, but the three bits {bits}"),
+            Some(TxEnd::Wait) => f.write_str("WAIT"),
+            Some(TxEnd::Fault) => f.write_str("FAULT"),
+            Some(
+                TxEnd::Moved {
+                    parity_ok: false,
+                    ..
+                },
+            ) => f.write_str("a word with wrong parity"),
+            Some(
+                TxEnd::Moved {
+                    parity_ok: true,
+                    ..
+                },
+            ) => f.write_str("OK"),
+            None => f.write_str("none"),
+        }
+    }
+}
+
+impl Display for Reached {
+    fn fmt<W: fmt::Write>(&self, f: &mut Formatter<W>) -> fmt::Result {
+        let last = LastAnswer(self.last);
+        let Some(dpidr) = self.dpidr else {
+            return write!(f, "DPIDR was not read: the last answer was {last}");
+        };
+        write!(f, "DPIDR was read, {dpidr:08x}; ")?;
+        match self.status {
+            _ if !self.asked => write!(
+                f,
+                "power was not requested yet: the last answer was {last}"
+            ),
+            Some(status)
+                if has(status, CtrlStat::CDBGPWRUPACK) && has(status, CtrlStat::CSYSPWRUPACK) => {
+                write!(
+                    f,
+                    "power is acknowledged; no access port answered: the last answer was {last}"
+                )
+            }
+            Some(status) => write!(
+                f,
+                "power was requested and is not acknowledged: CTRL/STAT is {status:08x}"
+            ),
+            None => write!(f, "power was requested: the last answer was {last}"),
+        }
+    }
+}
