@@ -7,14 +7,14 @@ _swd() {
     if ((COMP_CWORD == 1)); then
         case $word in
         -*) words='--help --version -h -V' ;;
-        *) words='one decode encode run target draw check load verify dump help' ;;
+        *) words='one decode encode run target draw check info load verify dump help' ;;
         esac
         COMPREPLY=($(compgen -W "$words" -- "$word"))
         return
     fi
     case ${COMP_WORDS[1]} in
     help)
-        ((COMP_CWORD > 2)) || COMPREPLY=($(compgen -W 'one decode encode run target draw check load verify dump help' -- "$word"))
+        ((COMP_CWORD > 2)) || COMPREPLY=($(compgen -W 'one decode encode run target draw check info load verify dump help' -- "$word"))
         return
         ;;
     one)
@@ -27,7 +27,7 @@ _swd() {
         words='--help -h'
         ;;
     run)
-        words='--plan --tries --resume --trace --accesses --strict --remote --report --progress --help -h'
+        words='--plan --tries --resume --trace --accesses --strict --remote --line --report --progress --help -h'
         ;;
     target)
         words='--memory --base --plan --log --trace --idr --help -h'
@@ -38,16 +38,19 @@ _swd() {
     check)
         words='--made --rest --clean --plain --exact-registers --resync --overrun --help -h'
         ;;
+    info)
+        words='--remote --line --tries --help -h'
+        ;;
     load)
-        words='--format --tries --resume --report --remote --memory --base --plan --help -h'
+        words='--format --tries --resume --report --progress --remote --line --memory --base --plan --help -h'
         formats='bin hex srec elf'
         ;;
     verify)
-        words='--format --tries --resume --report --remote --memory --base --plan --help -h'
+        words='--format --tries --resume --report --progress --remote --line --memory --base --plan --help -h'
         formats='bin hex srec elf'
         ;;
     dump)
-        words='--format --tries --resume --report --remote --memory --base --plan --help -h'
+        words='--format --tries --resume --report --progress --remote --line --memory --base --plan --help -h'
         formats='bin hex srec'
         ;;
     esac
@@ -57,7 +60,7 @@ _swd() {
         ;;
     esac
     case $before in
-    --accesses | --log | --memory | --plan | --report | --trace)
+    --accesses | --line | --log | --memory | --plan | --report | --trace)
         mapfile -t COMPREPLY < <(compgen -f -- "$word")
         return
         ;;

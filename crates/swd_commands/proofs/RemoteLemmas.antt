@@ -1,7 +1,8 @@
 -- A command that speaks to a target and doesn't begin.
 use Rattle.std.proofs.Common.{◌≡◌, ℕ, List, Option, true, subst, sym}
 use Rattle.swd_words.specs.declared.command.CommandLine.{CommandLine}
-use Rattle.swd_words.specs.declared.command.CommandLine.TheVariants.{One, Decode, Draw, Check, Encode, Run, Target, Image}
+use Rattle.swd_words.specs.declared.command.CommandLine.TheVariants.{One, Decode, Draw, Check, Encode, Run, Target}
+use Rattle.swd_words.specs.declared.command.CommandLine.TheVariants.{Image, Info}
 use Rattle.swd_console.specs.Statuses.{CommandNotOpened}
 use Rattle.swd_run_commands.specs.Runs.{PerformsRunCommandWhere}
 use Rattle.swd_commands.specs.Inputs.{is_remote_command}
@@ -19,3 +20,4 @@ remote_command_ends (Run run) status text left old new h refused =
     subst (λ remote. PerformsRunCommandWhere remote run status text old new) (sym h) refused
 remote_command_ends (Target target) status text left old new h refused = refused
 remote_command_ends (Image image) status text left old new h refused = refused
+remote_command_ends (Info info) status text left old new h refused = refused

@@ -1,12 +1,12 @@
 -- What a command reads.
-use Rattle.std.specs.Prelude.{ℕ, ◌≡◌, ◌⊎◌, Bool, false, List, Option, Some, None, codes, is_none}
+use Rattle.std.specs.Prelude.{ℕ, ◌≡◌, ◌⊎◌, Bool, false, true, List, [], Option, Some, None, codes, is_none}
 use Rattle.std.specs.Option.{option_map}
 use Rattle.std.specs.String.{string_bytes}
 use Rattle.swd_words.specs.declared.command.CommandLine.{CommandLine}
 use Rattle.swd_words.specs.declared.command.ServedMemory.{ServedMemory}
 use Rattle.swd_words.specs.declared.command.ServedMemory.TheVariants.{Script, File}
 use Rattle.swd_words.specs.declared.command.CommandLine.TheVariants.{One, Decode, Draw, Check, Encode, Run, Target}
-use Rattle.swd_words.specs.declared.command.CommandLine.TheVariants.{Image}
+use Rattle.swd_words.specs.declared.command.CommandLine.TheVariants.{Image, Info}
 
 -- the file of a served memory: its script, or its bytes
 abbrev pub command_served_file : ServedMemory → List ℕ
@@ -23,6 +23,8 @@ command_named_file (Encode file) = option_map string_bytes file
 command_named_file (Run run) = Some (string_bytes run.script)
 command_named_file (Target target) = Some (command_served_file target.memory)
 command_named_file (Image image) = Some (string_bytes image.file)
+-- none, but it doesn't read standard input as a file either
+command_named_file (Info info) = Some []
 
 -- standard input is read: no file is named, or `-` is
 abbrev pub IsStandardInput : Option (List ℕ) → Type 0
@@ -35,4 +37,5 @@ CommandReadsStdin line = IsStandardInput (command_named_file line)
 abbrev pub is_remote_command : CommandLine → Bool
 is_remote_command (Run run) = run.remote
 is_remote_command (Image image) = is_none image.memory
+is_remote_command (Info info) = true
 is_remote_command _ = false

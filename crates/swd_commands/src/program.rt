@@ -1,5 +1,5 @@
 //! Carries out the program's arguments.
-ghost use Rattle.std.specs.Prelude.{◌≡◌, ◌⊎◌, codes};
+ghost use Rattle.std.specs.Prelude.{◌≡◌, ◌≢◌, ◌⊎◌, IfSome, codes};
 ghost use Rattle.std.specs.String.{string_bytes};
 ghost use Rattle.swd_console.specs.Statuses.{CommandNotOpened};
 ghost use Rattle.swd_console.specs.Streams.{CommandEndsOver};
@@ -13,11 +13,11 @@ use clap::Error;
 use std::alloc::Global;
 use std::io::{Read, Write};
 use swd_console::{
-    Clock, Console, DONE, FAULT, Files, KeepsError, STOPPED, Stream, Untold, Watched, cannot_open,
-    named_file_of, status_after, tell, tell_failure, unnamed_file,
+    Clock, Console, DONE, FAULT, Files, KeepsError, LineFiles, STOPPED, Stream, Untold, Watched,
+    cannot_open, line_ends, named_file_of, status_after, tell, tell_failure, unnamed_file,
 };
 use swd_image_commands::perform_image;
-use swd_run_commands::{perform_run, perform_target};
+use swd_run_commands::{perform_info, perform_run, perform_target};
 use swd_words::{CommandLine, ImageLine, LineFault, ServedMemory, TargetLine, line};
 
 /// Carries out the arguments, the program's name first, and returns the status. Standard output gets the requested
@@ -100,8 +100,67 @@ fn is_remote(line: &CommandLine) -> bool
     match line {
         CommandLine::Run(run) => run.remote,
         CommandLine::Image(image) => image.memory.is_none(),
+        CommandLine::Info(_) => true,
         _ => false,
     }
+}
+
+// Returns the files that lead to the target of a command in place of the standard streams, if it names them, unless it
+// is to read standard input.
+fn line_files(line: &CommandLine) -> Option<&str>
+    ensures { IfSome result (λ _. CommandReadsStdin line.now → ⊥) }
+{
+    match line {
+        CommandLine::Run(run) => files_beside(&run.line, run.script.as_str()),
+        CommandLine::Image(image) => files_beside(&image.line, image.file.as_str()),
+        CommandLine::Info(info) => files_beside(&info.line, ""),
+        _ => None,
+    }
+}
+
+// Returns these files, if they are named, unless the other name is that of standard input.
+fn files_beside<'a>(files: &'a Option<String>, name: &str) -> Option<&'a str>
+    ensures { IfSome result (λ _. name.now ≢ codes "-") }
+{
+    let Some(files) = files else {
+        return None;
+    };
+    match named_file_of(name) {
+        Some(_) => Some(files.as_str()),
+        None => None,
+    }
+}
+
+// Performs a command at the target to which these files lead. If it wasn't opened, prints how far the session came.
+fn carry_out_over<F: Files, C: Clock, E: Write>(
+    line: &CommandLine,
+    files: &str,
+    console: &mut Console<'_, Global, F, C, E>,
+) -> u8 {
+    let (from, to) = line_ends(files);
+    let input = match console.files.open_line_in(from) {
+        Ok(opened) => opened,
+        Err(why) => return cannot_open(console.errors, from, &why),
+    };
+    let output = match console.files.open_line_out(to) {
+        Ok(opened) => opened,
+        Err(why) => return cannot_open(console.errors, to, &why),
+    };
+    let files = LineFiles {
+        files: console.files,
+        input: input.identity,
+        output: output.identity,
+    };
+    let mut console = Console {
+        alloc: console.alloc,
+        files: &files,
+        clock: console.clock,
+        errors: &mut *console.errors,
+    };
+    let (mut input, mut output) = (Watched::line(input.file), Watched::line(output.file));
+    let status = perform(line, &mut input, &mut output, &mut console);
+    tell_session(console.errors, line, status, &input, &output);
+    status
 }
 
 // Performs the command. In a terminal none speaks to a target: its characters would fill the screen. If a target wasn't
@@ -116,24 +175,40 @@ fn carry_out<I: Read + KeepsError, O: Write + KeepsError, F: Files, C: Clock, E:
         (λ status. PerformsCommand line.now status (I.remaining input.old) (I.remaining input.new)
         (O.contents output.old) (O.contents output.new)) result }
 {
+    if let Some(files) = line_files(line) {
+        return carry_out_over(line, files, console);
+    }
     if is_remote(line) && console.files.shows_output() {
         return status_after(output.kept_error(), tell(console.errors, SHOWN));
     }
     let status = perform(line, input, output, console);
-    if is_remote(line) && status == STOPPED {
-        tell_reached(console.errors, input, output);
+    if is_remote(line) {
+        tell_session(console.errors, line, status, input, output);
     }
     status
 }
 
-// Prints how far a session came that ended before the target was open: one line, unless the target sent nothing.
-fn tell_reached<I: KeepsError, O: KeepsError, E: Write>(errors: &mut E, input: &I, output: &O) {
+// Prints how far a session came that ended before the target was open: one line, unless the target sent nothing. Of an
+// info it prints what was read in any case.
+fn tell_session<I: KeepsError, O: KeepsError, E: Write>(
+    errors: &mut E,
+    line: &CommandLine,
+    status: u8,
+    input: &I,
+    output: &O,
+) {
+    let is_info = matches!(line, CommandLine::Info(_));
+    if status == FAULT || status == DONE && !is_info {
+        return;
+    }
     if let Some(level) = input.sample().only_bit() {
         tell_no_reply(errors, level);
         return;
     }
     let reached = Reached::of(input, output);
-    if reached.is_answered() && !reached.is_open() {
+    if is_info {
+        let _ = write!(errors, "{}", reached.info());
+    } else if reached.is_answered() && !reached.is_open() {
         let _ = writeln!(errors, "swd: {reached}");
     }
 }
@@ -182,6 +257,12 @@ fn perform<I: Read + KeepsError, O: Write + KeepsError, F: Files, C: Clock, E: W
         CommandLine::Run(run) => perform_run(run, input, output, console),
         CommandLine::Target(target) => carry_out_target(target, input, output, console),
         CommandLine::Image(image) => carry_out_image(image, input, output, console),
+        CommandLine::Info(info) => {
+            let (status, _) = perform_info::<Untold, _, _, _, _, _, _>(
+                info, input, output, console,
+            );
+            status
+        }
     }
 }
 
@@ -214,7 +295,7 @@ fn carry_out_target<I: Read + KeepsError, O: Write + KeepsError, F: Files, C, E:
 }
 
 // Performs a command over an image, which is in a file.
-fn carry_out_image<I: Read + KeepsError, O: Write + KeepsError, F: Files, C, E: Write>(
+fn carry_out_image<I: Read + KeepsError, O: Write + KeepsError, F: Files, C: Clock, E: Write>(
     image: &ImageLine,
     input: &mut I,
     output: &mut O,
@@ -232,7 +313,7 @@ fn carry_out_image<I: Read + KeepsError, O: Write + KeepsError, F: Files, C, E: 
         Some(_) => cannot_open(console.errors, "-", &unnamed_file()),
         None => tell(
             console.errors,
-            "FILE has to be a file: standard input is the target's",
+            "with --remote FILE has to be a file, not standard input",
         ),
     };
     status_after(output.kept_error(), status)

@@ -71,7 +71,7 @@ fn run_standard_input<
     if run.remote {
         return tell(
             console.errors,
-            "SCRIPT has to be a file: standard input is the target's",
+            "with --remote SCRIPT has to be a file, not standard input",
         );
     }
     let mut script = TrackedReader::new(INPUT, input);

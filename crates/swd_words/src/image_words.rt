@@ -12,7 +12,8 @@ use crate::command::{ImageAction, ImageLine, LineFault};
 use crate::format_words::{READ_FORMATS, WRITTEN_FORMATS, format_arg, format_form, formats_in};
 use crate::memory_words::{target_in, with_target_options};
 use crate::words::{
-    invalid, numbers_in, owned, report_arg, resume_arg, tries_arg, unknown, with_arg, with_sub,
+    invalid, is_asked_for, numbers_in, owned, progress_arg, refused, report_arg, resume_arg,
+    tries_arg, unknown, why_unpaced, with_arg, with_sub,
 };
 use clap::error::ErrorKind;
 use clap::{Arg, ArgMatches, Command};
@@ -46,6 +47,7 @@ are read first, so that their other bytes keep their values.
 With --remote the standard streams connect to a server of OpenOCD's
 remote_bitbang protocol for SWD, such as swd target. For a server on a socket:
   socat TCP:localhost:4711,nodelay EXEC:'swd load ADDR FILE --remote'
+--line is as for swd run.
 
 With --memory the target is simulated. The memory's FILE has its bytes from
 --base on, a multiple of 4 of them, the byte at the lowest address first. A load
@@ -58,6 +60,9 @@ the partial words, and then up to 65,536 writes in a call. FILE is overwritten,
 and written while the load goes on. So after a load with --remote that was
 killed it shows which words were certainly written; with --memory none were.
 With - it is appended to standard error.
+
+--progress is as for swd run, but counts the words that are written:
+  swd: 12288 of 16384 words, 4096 a second
 
 A line on standard error has the result, or the first error of FILE:
   swd: loaded 65536 bytes at 20000000
@@ -75,7 +80,8 @@ FILE and ADDR are as for swd load, and so are --remote and --memory, whose FILE
 is only read. The pieces of FILE are read and compared in its order,
 up to the first one that differs.
 
---report FILE is as for swd load. A call has up to 65,536 reads.
+--report FILE is as for swd load. A call has up to 65,536 reads. --progress
+counts the words that are read.
 
 A line on standard error has the result, or the first byte that differs:
   swd: verified 65536 bytes at 20000000
@@ -91,9 +97,9 @@ const DUMP_AFTER: &str = "\
 BYTES is 1 to 10 decimal digits, which k (1024 bytes) or M (1048576 bytes) may
 follow, or 1 to 8 hexadecimal digits after 0x. ADDR is 1 to 8 hexadecimal
 digits, after an optional 0x. --remote and --memory are as for swd load; the
-memory's FILE is only read. --report is as for swd verify. FILE is hex, srec or
-bin by its name, as for swd load, or by --format. In a hex or srec file the
-addresses are the target's.
+memory's FILE is only read. --report and --progress are as for swd verify. FILE
+is hex, srec or bin by its name, as for swd load, or by --format. In a hex or
+srec file the addresses are the target's.
 
 FILE is replaced once all bytes are read, by a new file beside it that gets its
 name. At an error it is unchanged, or isn't created. A line on standard error
@@ -149,7 +155,8 @@ fn with_options<'a>(
     let resume = with_arg(tries, resume_arg(alloc))?;
     let help = "Write the report of the calls to FILE, - is stderr";
     let report = with_arg(resume, report_arg(alloc, help))?;
-    with_target_options(alloc, report)
+    let progress = with_arg(report, progress_arg(alloc))?;
+    with_target_options(alloc, progress)
 }
 
 // Returns the command `load` or `verify`.
@@ -313,6 +320,13 @@ pub(crate) fn image_line(
     let Ok(report) = owned(alloc, matches.get_str("report")) else {
         return Err(LineFault::Memory);
     };
+    let progress = is_asked_for(matches.get_str("progress"));
+    if let Some(why) = why_unpaced(progress, &report) {
+        return Err(refused(alloc, ErrorKind::ArgumentConflict, why));
+    }
+    let Ok(line) = owned(alloc, matches.get_str("line")) else {
+        return Err(LineFault::Memory);
+    };
     let memory = target_in(alloc, matches)?;
     let word = matches.get_str("format");
     let Some(formats) = formats_in(action, word, file.as_str()) else {
@@ -327,6 +341,8 @@ pub(crate) fn image_line(
         tries: numbers.0,
         resumes: numbers.1,
         report,
+        progress,
+        line,
         memory,
     })
 }

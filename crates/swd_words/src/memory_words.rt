@@ -8,7 +8,10 @@ ghost use Rattle.swd_words.specs.Commands.{base_rule, memory_rule, with_target_a
 ghost use Rattle.swd_words.specs.Commands.{IsBaseArgument, AreMemoryArguments, IsTargetArgument};
 
 use crate::command::{LineFault, MemoryLine};
-use crate::words::{invalid, is_asked_for, owned, plan_arg, refused, remote_arg, with_arg};
+use crate::words::{
+    LINE_WITH_REMOTE, invalid, is_asked_for, line_arg, owned, plan_arg, refused, remote_arg,
+    with_arg,
+};
 use clap::error::ErrorKind;
 use clap::{Arg, ArgMatches, Command};
 use std::alloc::{AllocError, Global};
@@ -57,8 +60,9 @@ pub(crate) fn with_target_options<'a>(
     ensures local { IfOk result (λ c. (out-Command c).has_globals ≡ false) }
 {
     let remote = with_arg(command, remote_arg(alloc))?;
+    let line = with_arg(remote, line_arg(alloc))?;
     let help = "The target is simulated; FILE has its memory";
-    let memory = with_arg(remote, memory_arg(alloc, help))?;
+    let memory = with_arg(line, memory_arg(alloc, help))?;
     let base = with_arg(memory, base_arg(alloc))?;
     with_arg(base, plan_arg(alloc))
 }
@@ -119,6 +123,9 @@ pub(crate) fn target_in(
     ensures { IfOk result (λ memory. IsTargetArgument memory (rows_of (found_of matches.now))) }
 {
     if !is_asked_for(matches.get_str("remote")) {
+        if !is_missing(matches.get_str("line")) {
+            return Err(refused(alloc, ErrorKind::ArgumentConflict, LINE_WITH_REMOTE));
+        }
         return match memory_line(alloc, matches, NO_TARGET) {
             Ok(memory) => Ok(Some(memory)),
             Err(fault) => Err(fault),

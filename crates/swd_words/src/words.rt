@@ -7,6 +7,7 @@ ghost use Rattle.clap.specs.Words.{fault_of, first_of, kind_of, with_rule, with_
 ghost use Rattle.clap.specs.declared.builder.command.Command.TheViews.{out-Command};
 ghost use Rattle.swd_words.specs.Commands.{file_rule, plan_rule, resume_rule, script_rule, strict_rule, trace_rule};
 ghost use Rattle.swd_words.specs.Commands.{accesses_file_rule, tries_rule, progress_rule, remote_rule, report_rule};
+ghost use Rattle.swd_words.specs.Commands.{line_rule};
 ghost use Rattle.swd_words.specs.Commands.{run_here_args_app, bare_args_app, script_args_app, file_args_app};
 ghost use Rattle.swd_words.specs.Commands.{run_args_app, swd_app, IsResumeArgument, IsTriesArgument, IsLineOfArguments};
 ghost use Rattle.swd_words.specs.Commands.{IsArgumentsErrorKind, AreRunArguments, IsArgumentsRefusal};
@@ -16,6 +17,7 @@ use crate::command::{CommandLine, LineFault, RunLine};
 use crate::decode_words::{decode_command, decode_line};
 use crate::draw_words::{ITEMS_OPTION, ITEMS_RANGE, draw_command, draw_line};
 use crate::image_words::{image_line, with_images};
+use crate::info_words::{info_command, info_line};
 use crate::target_words::{target_command, target_line};
 use clap::error::ErrorKind;
 use clap::{Arg, ArgAction, ArgMatches, Command, Error, value_parser};
@@ -74,6 +76,10 @@ that --report names, which is overwritten; with - it is appended to standard
 error. SCRIPT must be a file. There is no plan, and the script's memory and room
 are ignored. For a server on a socket:
   socat TCP:localhost:4711,nodelay EXEC:'swd run SCRIPT --remote --report FILE'
+With --line IN,OUT these files take the place of the standard streams, such as
+two fifos; with --line DEVICE one file of both, such as a serial device that
+stty set raw. Each is opened for reading and writing, so opening one waits for
+no other end. If the server goes away the run waits until a signal ends it.
 
 A script has one command per line; # begins a comment. BASE, ADDR, VALUE and
 MASK are 1 to 8 hexadecimal digits, which may follow 0x, and addresses multiples
@@ -168,6 +174,9 @@ pub(crate) const RESUME_OPTION: &str = "--resume <N>";
 
 pub(crate) const NUMBER_RANGE: &str = "it is not in 0..=1000";
 
+/// The error of a line without a remote target.
+pub(crate) const LINE_WITH_REMOTE: &str = "--line FILES goes with --remote";
+
 // Returns a value as an owned string.
 pub(crate) fn owned(alloc: Global, text: Option<&str>) -> Result<Option<String>, AllocError>
     ensures { IfOk result (λ o. option_map string_bytes o ≡ option_map (λ s. s.now) text.entry) }
@@ -251,6 +260,17 @@ pub(crate) fn remote_arg<'a>(alloc: Global) -> Arg<'a>
         .help("The target is a remote_bitbang server on the streams")
 }
 
+/// Returns the option for the files of the line to a remote target.
+pub(crate) fn line_arg<'a>(alloc: Global) -> Arg<'a>
+    ensures rule { rule_of result ≡ line_rule }
+    ensures local { result.global ≡ false }
+{
+    Arg::new(alloc, "line")
+        .long("line")
+        .value_name("FILES")
+        .help("With --remote: IN,OUT lead to it, or one file does both")
+}
+
 /// Returns the option for the report's file.
 pub(crate) fn report_arg<'a>(alloc: Global, help: &'a str) -> Arg<'a>
     ensures rule { rule_of result ≡ report_rule }
@@ -262,8 +282,8 @@ pub(crate) fn report_arg<'a>(alloc: Global, help: &'a str) -> Arg<'a>
         .help(help)
 }
 
-// Returns the flag for the lines on standard error that say how far the run is.
-fn progress_arg<'a>(alloc: Global) -> Arg<'a>
+/// Returns the flag for the lines on standard error that say how far the run is.
+pub(crate) fn progress_arg<'a>(alloc: Global) -> Arg<'a>
     ensures rule { rule_of result ≡ progress_rule }
     ensures local { result.global ≡ false }
 {
@@ -361,8 +381,9 @@ fn run_command<'a>(alloc: Global) -> Result<Command<'a>, AllocError>
 {
     let here = run_here(alloc)?;
     let remote = with_arg(here, remote_arg(alloc))?;
+    let line = with_arg(remote, line_arg(alloc))?;
     let help = "With --remote: write the report to FILE, - is stderr";
-    let report = with_arg(remote, report_arg(alloc, help))?;
+    let report = with_arg(line, report_arg(alloc, help))?;
     with_arg(report, progress_arg(alloc))
 }
 
@@ -391,7 +412,8 @@ pub(crate) fn swd_command<'a>(alloc: Global) -> Result<Command<'a>, AllocError>
     let target = with_sub(run, target_command(alloc)?)?;
     let draw = with_sub(target, draw_command(alloc)?)?;
     let check = with_sub(draw, check_command(alloc)?)?;
-    with_images(alloc, check)
+    let info = with_sub(check, info_command(alloc)?)?;
+    with_images(alloc, info)
 }
 
 // Returns the error of arguments that `clap` accepted and that aren't allowed.
@@ -466,7 +488,7 @@ fn negative_or<'a>(
 fn negative_in<'a>(words: &[&'a str]) -> Option<Negative<'a>> {
     let name = words.get(1)?;
     match *name {
-        "run" | "load" | "verify" | "dump" => {
+        "run" | "info" | "load" | "verify" | "dump" => {
             let resume = negative_or(words, "--resume", RESUME_OPTION, NUMBER_RANGE, None);
             negative_or(words, "--tries", TRIES_OPTION, NUMBER_RANGE, resume)
         }
@@ -572,6 +594,9 @@ fn run_line(alloc: Global, matches: &ArgMatches<'_>) -> Result<RunLine, LineFaul
     let Ok(report) = owned(alloc, matches.get_str("report")) else {
         return Err(LineFault::Memory);
     };
+    let Ok(line) = owned(alloc, matches.get_str("line")) else {
+        return Err(LineFault::Memory);
+    };
     let numbers = numbers_in(alloc, matches)?;
     Ok(RunLine {
         script,
@@ -582,6 +607,7 @@ fn run_line(alloc: Global, matches: &ArgMatches<'_>) -> Result<RunLine, LineFaul
         accesses,
         strict: is_asked_for(matches.get_str("strict")),
         remote: is_asked_for(matches.get_str("remote")),
+        line,
         report,
         progress: is_asked_for(matches.get_str("progress")),
     })
@@ -605,12 +631,22 @@ fn matched_line(alloc: Global, matches: &ArgMatches<'_>) -> Result<RunLine, Line
 fn why_unmatched(run: &RunLine) -> Option<&'static str> {
     if run.remote != run.report.is_some() {
         Some("--remote and --report FILE go together")
+    } else if !run.remote && run.line.is_some() {
+        Some(LINE_WITH_REMOTE)
     } else if run.remote && run.plan.is_some() {
         Some("with --remote there is no --plan")
-    } else if run.progress && run.report.as_ref().is_some_and(|name| name.as_str() == "-") {
-        Some("with --report - there is no --progress")
     } else {
-        None
+        why_unpaced(run.progress, &run.report)
+    }
+}
+
+/// Returns why a command can't say how far it is, if it can't: its report goes to standard error, too.
+pub(crate) fn why_unpaced(progress: bool, report: &Option<String>) -> Option<&'static str> {
+    match report {
+        Some(name) if progress && name.as_str() == "-" => {
+            Some("with --report - there is no --progress")
+        }
+        _ => None,
     }
 }
 
@@ -645,6 +681,10 @@ fn line_of(alloc: Global, matches: &ArgMatches<'_>) -> Result<CommandLine, LineF
         },
         "target" => match target_line(alloc, rest) {
             Ok(target) => Ok(CommandLine::Target(target)),
+            Err(fault) => Err(fault),
+        },
+        "info" => match info_line(alloc, rest) {
+            Ok(info) => Ok(CommandLine::Info(info)),
             Err(fault) => Err(fault),
         },
         _ => match image_line(alloc, name, rest) {

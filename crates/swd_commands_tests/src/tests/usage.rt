@@ -87,7 +87,7 @@ const ROWS: [(&[&str], &[u8]); 23] = [
     (
         &["swd", "rnu"],
         b"error: unrecognized subcommand 'rnu'\n\
-          \x20 [subcommands: one, decode, encode, run, target, draw, check, load, verify, dump, help]\n\n\
+          \x20 [subcommands: one, decode, encode, run, target, draw, check, info, load, verify, dump, help]\n\n\
           Usage: swd <COMMAND>\n\nFor more information, try '--help'.\n",
     ),
     (

@@ -20,9 +20,9 @@ returns c =
     (c.get_str.ensures ∙ first_value-rows (found_of c.args.matches.now) (codes "remote")) c.is_asked_for.ensures in (
       asks.0 c.if-not-is_asked_for.false,
       sym (c.get_str-2.ensures ∙ first_value-rows (found_of c.args.matches.now) (codes "memory"))
-          ∙ c.is_missing.ensures c.if-not-is_missing.false,
-      sym (c.get_str-3.ensures ∙ first_value-rows (found_of c.args.matches.now) (codes "base"))
           ∙ c.is_missing-2.ensures c.if-not-is_missing-2.false,
-      sym (c.get_str-4.ensures ∙ first_value-rows (found_of c.args.matches.now) (codes "plan"))
+      sym (c.get_str-3.ensures ∙ first_value-rows (found_of c.args.matches.now) (codes "base"))
           ∙ c.is_missing-3.ensures c.if-not-is_missing-3.false,
+      sym (c.get_str-4.ensures ∙ first_value-rows (found_of c.args.matches.now) (codes "plan"))
+          ∙ c.is_missing-4.ensures c.if-not-is_missing-4.false,
     )
