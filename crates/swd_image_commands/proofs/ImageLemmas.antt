@@ -13,11 +13,12 @@ use Rattle.swd_image.specs.Dumps.{Dumps}
 use Rattle.swd_image.proofs.DumpLemmas.{dump_bytes_length}
 use Rattle.swd_image_files.specs.declared.format.Format.{Format}
 use Rattle.swd_image_files.specs.Texts.{image_file_of_piece}
-use Rattle.swd_image_ends.specs.Came.{DumpCame, image_story_wire}
+use Rattle.swd_image_ends.specs.Came.{DumpCame}
 use Rattle.swd_words.specs.declared.command.ImageLine.{ImageLine}
 use Rattle.swd_console.specs.Connections.{CommandWentOver}
 use Rattle.swd_image_commands.specs.Images.{IsCommandDumped, IsCommandWritten, PerformsDump, command_limits}
 use Rattle.swd_image_commands.specs.Images.{command_result_reached}
+use Rattle.swd_run.specs.Wires.{run_story_wire}
 
 -- a result with its bytes as a list
 abbrev pub dump_command_as_list : {V : Type 0} → (V → List ℕ) → Result V ImageFault → Result (List ℕ) ImageFault
@@ -69,7 +70,7 @@ dump_command_stopped list format addr _ (Err fault) error is = cc
 pub dump_command_performed : {V R W : Type 0} (list : V → List ℕ) (story : ℕ → Port) (image : ImageLine)
     (limits : Limits) (count : ℕ) (answer : Result V ImageFault) (before after : Option (Option (List ℕ)))
     (calls : List Call) → limits ≡ command_limits image → is_some before ≡ is_some image.report
-    → DumpCame (image_story_wire story) limits image.addr count answer list [] calls before after
+    → DumpCame (run_story_wire story) limits image.addr count answer list [] calls before after
     → (remaining : R → Option (List ℕ)) (contents : W → Option (List ℕ)) (sent left : Option (List ℕ))
     (line : RemoteStreams R W) → CommandWentOver remaining contents sent left line calls → (status : ℕ)
     → IsCommandDumped image.format image.addr
@@ -82,9 +83,9 @@ dump_command_performed list story image limits count answer before after calls s
       after,
       named,
       calls,
-      subst (λ own. DumpCame (image_story_wire story) own image.addr count (dump_command_as_list list answer)
+      subst (λ own. DumpCame (run_story_wire story) own image.addr count (dump_command_as_list list answer)
           (λ bytes. bytes) [] calls before after) same
-          (dump_command_came_list list (image_story_wire story) limits image.addr count answer [] calls before after
+          (dump_command_came_list list (run_story_wire story) limits image.addr count answer [] calls before after
           came),
       over,
       dumped,

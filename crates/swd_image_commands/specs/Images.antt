@@ -15,11 +15,12 @@ use Rattle.swd_image_files.specs.declared.format.Format.{Format}
 use Rattle.swd_image_files.specs.Files.{IsImageOrElf}
 use Rattle.swd_image_files.specs.Images.{ImageFileBytes, ImageFileContents, image_file_pieces}
 use Rattle.swd_image_files.specs.Texts.{image_file_of_piece}
-use Rattle.swd_image_ends.specs.Came.{DumpCame, LoadCame, VerifyCame, image_story_wire}
+use Rattle.swd_image_ends.specs.Came.{DumpCame, LoadCame, VerifyCame}
 use Rattle.swd_words.specs.declared.command.ImageAction.{ImageAction}
 use Rattle.swd_words.specs.declared.command.ImageAction.TheVariants.{Load, Verify, Dump}
 use Rattle.swd_words.specs.declared.command.ImageLine.{ImageLine}
 use Rattle.swd_console.specs.Connections.{CommandWentOver}
+use Rattle.swd_run.specs.Wires.{run_story_wire}
 
 -- what each call may meet
 abbrev pub command_limits : ImageLine → Limits
@@ -93,7 +94,7 @@ module _ {R W : Type 0} (story : ℕ → Port) (image : ImageLine) (status : ℕ
       × (before : Option (Option (List ℕ))) × (after : Option (Option (List ℕ)))
       × (is_some before ≡ is_some image.report)
       × (calls : List Call)
-      × LoadCame (image_story_wire story) (command_limits image) pieces answer [] calls before after
+      × LoadCame (run_story_wire story) (command_limits image) pieces answer [] calls before after
       × CommandWentOver remaining contents sent left line calls
       × (status ≡ command_status_of_image command_status_loaded line.fault answer))
 
@@ -106,7 +107,7 @@ module _ {R W : Type 0} (story : ℕ → Port) (image : ImageLine) (status : ℕ
       × (before : Option (Option (List ℕ))) × (after : Option (Option (List ℕ)))
       × (is_some before ≡ is_some image.report)
       × (calls : List Call)
-      × VerifyCame (image_story_wire story) (command_limits image) pieces answer [] calls before after
+      × VerifyCame (run_story_wire story) (command_limits image) pieces answer [] calls before after
       × CommandWentOver remaining contents sent left line calls
       × (status ≡ command_status_of_image command_status_verified line.fault answer))
 
@@ -118,7 +119,7 @@ module _ {R W : Type 0} (story : ℕ → Port) (image : ImageLine) (status : ℕ
       × (before : Option (Option (List ℕ))) × (after : Option (Option (List ℕ)))
       × (is_some before ≡ is_some image.report)
       × (calls : List Call)
-      × DumpCame (image_story_wire story) (command_limits image) image.addr count answer (λ bytes. bytes) [] calls
+      × DumpCame (run_story_wire story) (command_limits image) image.addr count answer (λ bytes. bytes) [] calls
       before after
       × CommandWentOver remaining contents sent left line calls
       × IsCommandDumped image.format image.addr (command_result_reached line.fault answer) status)

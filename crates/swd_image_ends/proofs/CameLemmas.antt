@@ -11,12 +11,13 @@ use Rattle.swd_image_files.specs.Images.{ImageFileBytes}
 use Rattle.swd_image_ends.specs.Came.{DumpCame, LoadCame, VerifyCame}
 use Rattle.swd_image_ends.specs.PieceReports.{pieces_verify_list}
 use Rattle.swd_image_ends.specs.Pieces.{LoadFailsAt, LoadsAll, LoadsEach, VerifiesAll, VerifiesEach, VerifyFailsAt}
-use Rattle.swd_image_ends.proofs.WireLemmas.{dump_fails_by, dumps_by, image_wire_under, load_fails_by, loads_by}
+use Rattle.swd_image_ends.proofs.WireLemmas.{dump_fails_by, dumps_by, load_fails_by, loads_by}
 use Rattle.swd_image_ends.proofs.WireLemmas.{reports_by, verifies_by}
+use Rattle.swd_run.specs.Wires.{run_wire_by}
 
 module _ {W V : Type 0} (by : W → V) (wire : Ghosts V) (limits : Limits) where
   each_by : (pieces : List ImageFileBytes) (s u : W)
-      → LoadsEach (image_wire_under by wire) limits pieces s u
+      → LoadsEach (run_wire_by by wire) limits pieces s u
       → LoadsEach wire limits pieces (by s) (by u)
   each_by [] s u h = ap by h
   each_by (piece ∷ rest) s u h = (
@@ -26,12 +27,12 @@ module _ {W V : Type 0} (by : W → V) (wire : Ghosts V) (limits : Limits) where
   )
 
   all_by : (pieces : List ImageFileBytes) (s u : W)
-      → LoadsAll (image_wire_under by wire) limits pieces s u
+      → LoadsAll (run_wire_by by wire) limits pieces s u
       → LoadsAll wire limits pieces (by s) (by u)
   all_by pieces s u h = record { each = each_by pieces s u h.each; memory = h.memory }
 
   fails_at_by : (pieces : List ImageFileBytes) (s u : W) (fault : ImageFault)
-      → LoadFailsAt (image_wire_under by wire) limits pieces s u fault
+      → LoadFailsAt (run_wire_by by wire) limits pieces s u fault
       → LoadFailsAt wire limits pieces (by s) (by u) fault
   fails_at_by [] s u fault h = h
   fails_at_by (piece ∷ rest) s u fault (inl here) =
@@ -43,7 +44,7 @@ module _ {W V : Type 0} (by : W → V) (wire : Ghosts V) (limits : Limits) where
   )
 
   each_verified_by : (pieces : List ImageFileBytes) (difference : Option ByteDifference) (s u : W)
-      → VerifiesEach (image_wire_under by wire) limits pieces difference s u
+      → VerifiesEach (run_wire_by by wire) limits pieces difference s u
       → VerifiesEach wire limits pieces difference (by s) (by u)
   each_verified_by [] difference s u h = (h.0, ap by h.1)
   each_verified_by (piece ∷ rest) difference s u (inl here) = inl (
@@ -58,7 +59,7 @@ module _ {W V : Type 0} (by : W → V) (wire : Ghosts V) (limits : Limits) where
   )
 
   all_verified_by : (pieces : List ImageFileBytes) (difference : Option ByteDifference) (s u : W)
-      → VerifiesAll (image_wire_under by wire) limits pieces difference s u
+      → VerifiesAll (run_wire_by by wire) limits pieces difference s u
       → VerifiesAll wire limits pieces difference (by s) (by u)
   all_verified_by pieces difference s u h = record {
     each = each_verified_by pieces difference s u h.each;
@@ -66,7 +67,7 @@ module _ {W V : Type 0} (by : W → V) (wire : Ghosts V) (limits : Limits) where
   }
 
   verify_fails_at_by : (pieces : List ImageFileBytes) (s u : W) (fault : ImageFault)
-      → VerifyFailsAt (image_wire_under by wire) limits pieces s u fault
+      → VerifyFailsAt (run_wire_by by wire) limits pieces s u fault
       → VerifyFailsAt wire limits pieces (by s) (by u) fault
   verify_fails_at_by [] s u fault h = h
   verify_fails_at_by (piece ∷ rest) s u fault (inl here) =
@@ -79,7 +80,7 @@ module _ {W V : Type 0} (by : W → V) (wire : Ghosts V) (limits : Limits) where
 
   -- a load does
   pub load_came_by : (pieces : List ImageFileBytes) (answer : Result (Unit {0}) ImageFault) (s t : W)
-      (a b : Option (Option (List ℕ))) → LoadCame (image_wire_under by wire) limits pieces answer s t a b
+      (a b : Option (Option (List ℕ))) → LoadCame (run_wire_by by wire) limits pieces answer s t a b
       → LoadCame wire limits pieces answer (by s) (by t) a b
   load_came_by pieces answer s t a b came = record {
     loads = on_ok_weaker answer (all_by pieces s t) came.loads;
@@ -93,7 +94,7 @@ module _ {W V : Type 0} (by : W → V) (wire : Ghosts V) (limits : Limits) where
 
   -- a verification does
   pub verify_came_by : (pieces : List ImageFileBytes) (answer : Result (Option ByteDifference) ImageFault) (s t : W)
-      (a b : Option (Option (List ℕ))) → VerifyCame (image_wire_under by wire) limits pieces answer s t a b
+      (a b : Option (Option (List ℕ))) → VerifyCame (run_wire_by by wire) limits pieces answer s t a b
       → VerifyCame wire limits pieces answer (by s) (by t) a b
   verify_came_by pieces answer s t a b came = record {
     verifies = IfOk-weaker answer _ _ (λ difference. all_verified_by pieces difference s t) came.verifies;
@@ -110,7 +111,7 @@ module _ {W V : Type 0} (by : W → V) (wire : Ghosts V) (limits : Limits) where
 
   -- a dump does
   pub dump_came_by : {X : Type 0} (addr count : ℕ) (answer : Result X ImageFault) (list : X → List ℕ) (s t : W)
-      (a b : Option (Option (List ℕ))) → DumpCame (image_wire_under by wire) limits addr count answer list s t a b
+      (a b : Option (Option (List ℕ))) → DumpCame (run_wire_by by wire) limits addr count answer list s t a b
       → DumpCame wire limits addr count answer list (by s) (by t) a b
   dump_came_by addr count answer list s t a b came = record {
     dumps = IfOk-weaker answer _ _ (λ bytes. dumps_by by wire limits addr count (list bytes) s t) came.dumps;

@@ -19,19 +19,11 @@ use Rattle.swd_image.specs.Loads.{FailsLate, LoadFails, Loads}
 use Rattle.swd_image.specs.Reports.{Reported, ReportsTo, none as no_call, more as call_more}
 use Rattle.swd_image.specs.Sessions.{Call, Calls, Fails, FailsAs, FailsNext, MadeAll, ReadsAs}
 use Rattle.swd_image.specs.Sessions.{image_first_failed, none, more}
-
--- a wire, by what it is known by
-abbrev pub image_wire_under : {W V : Type 0} → (W → V) → Ghosts V → Ghosts W
-image_wire_under by wire = record {
-  port = λ w. wire.port (by w);
-  plan = λ w. wire.plan (by w);
-  lawful = λ w. wire.lawful (by w);
-  notes = λ noted w. wire.notes noted (by w);
-}
+use Rattle.swd_run.specs.Wires.{run_wire_by}
 
 module _ {W V : Type 0} (by : W → V) (wire : Ghosts V) (limits : Limits) where
   abbrev call_by : (batch : ScriptListed) (s : W) (run : ScriptRun) (t : W)
-      → Call (image_wire_under by wire) limits batch s run t
+      → Call (run_wire_by by wire) limits batch s run t
       → Call wire limits batch (by s) run (by t)
   call_by batch s run t call = record {
     fits = call.fits;
@@ -39,7 +31,7 @@ module _ {W V : Type 0} (by : W → V) (wire : Ghosts V) (limits : Limits) where
   }
 
   calls_by : (s : W) (list : List Access) (answers : List Answer) (t : W)
-      → Calls (image_wire_under by wire) limits s list answers t
+      → Calls (run_wire_by by wire) limits s list answers t
       → Calls wire limits (by s) list answers (by t)
   calls_by s list answers t none = none
   calls_by s list answers t
@@ -47,7 +39,7 @@ module _ {W V : Type 0} (by : W → V) (wire : Ghosts V) (limits : Limits) where
       more (calls_by s before earlier u prior) (call_by batch u run v call) all done
 
   abbrev reads_by : (list : List Access) (words : List ℕ) (s t : W)
-      → ReadsAs (image_wire_under by wire) limits list words s t
+      → ReadsAs (run_wire_by by wire) limits list words s t
       → ReadsAs wire limits list words (by s) (by t)
   reads_by list words s t reads = record {
     answers = reads.answers;
@@ -56,14 +48,14 @@ module _ {W V : Type 0} (by : W → V) (wire : Ghosts V) (limits : Limits) where
   }
 
   abbrev made_by : (list : List Access) (s t : W)
-      → MadeAll (image_wire_under by wire) limits list s t
+      → MadeAll (run_wire_by by wire) limits list s t
       → MadeAll wire limits list (by s) (by t)
   made_by list s t made = record {
     answers = made.answers;
     calls = calls_by s list made.answers t made.calls;
   }
 
-  next_by : (list : List Access) (s t : W) → FailsNext (image_wire_under by wire) limits list s t
+  next_by : (list : List Access) (s t : W) → FailsNext (run_wire_by by wire) limits list s t
       → FailsNext wire limits list (by s) (by t)
   next_by list s t fails = record {
     before = fails.before;
@@ -74,7 +66,7 @@ module _ {W V : Type 0} (by : W → V) (wire : Ghosts V) (limits : Limits) where
   }
 
   abbrev fails_by : (list : List Access) (s t : W) (P : ScriptListed → ScriptRun → Type 0)
-      → Fails (image_wire_under by wire) limits list s t P
+      → Fails (run_wire_by by wire) limits list s t P
       → Fails wire limits list (by s) (by t) P
   fails_by list s t P fails = record {
     before = fails.before;
@@ -90,7 +82,7 @@ module _ {W V : Type 0} (by : W → V) (wire : Ghosts V) (limits : Limits) where
   }
 
   fails_as_by : (list : List Access) (s t : W) (fault : ImageFault)
-      → FailsAs (image_wire_under by wire) limits list s t fault
+      → FailsAs (run_wire_by by wire) limits list s t fault
       → FailsAs wire limits list (by s) (by t) fault
   fails_as_by list s t Range fails = fails
   fails_as_by list s t Memory fails = next_by list s t fails
@@ -104,7 +96,7 @@ module _ {W V : Type 0} (by : W → V) (wire : Ghosts V) (limits : Limits) where
 
   -- a load is
   pub loads_by : (addr : ℕ) (bytes : List ℕ) (s t : W)
-      → Loads (image_wire_under by wire) limits addr bytes s t
+      → Loads (run_wire_by by wire) limits addr bytes s t
       → Loads wire limits addr bytes (by s) (by t)
   loads_by addr bytes s t loads = record {
     fits = loads.fits;
@@ -117,7 +109,7 @@ module _ {W V : Type 0} (by : W → V) (wire : Ghosts V) (limits : Limits) where
   }
 
   late_by : (addr : ℕ) (bytes : List ℕ) (s t : W) (fault : ImageFault)
-      → FailsLate (image_wire_under by wire) limits addr bytes s t fault
+      → FailsLate (run_wire_by by wire) limits addr bytes s t fault
       → FailsLate wire limits addr bytes (by s) (by t) fault
   late_by addr bytes s t fault fails = record {
     head = fails.head;
@@ -128,8 +120,8 @@ module _ {W V : Type 0} (by : W → V) (wire : Ghosts V) (limits : Limits) where
   }
 
   late_or : (addr : ℕ) (bytes : List ℕ) (s t : W) (fault : ImageFault)
-      → FailsAs (image_wire_under by wire) limits (image_edge_list addr (length bytes)) s t fault
-      ⊎ FailsLate (image_wire_under by wire) limits addr bytes s t fault
+      → FailsAs (run_wire_by by wire) limits (image_edge_list addr (length bytes)) s t fault
+      ⊎ FailsLate (run_wire_by by wire) limits addr bytes s t fault
       → FailsAs wire limits (image_edge_list addr (length bytes)) (by s) (by t) fault
       ⊎ FailsLate wire limits addr bytes (by s) (by t) fault
   late_or addr bytes s t fault (inl early) =
@@ -138,7 +130,7 @@ module _ {W V : Type 0} (by : W → V) (wire : Ghosts V) (limits : Limits) where
 
   -- and so is its error
   pub load_fails_by : (addr : ℕ) (bytes : List ℕ) (s t : W) (fault : ImageFault)
-      → LoadFails (image_wire_under by wire) limits addr bytes s t fault
+      → LoadFails (run_wire_by by wire) limits addr bytes s t fault
       → LoadFails wire limits addr bytes (by s) (by t) fault
   load_fails_by addr bytes s t Range fails = (fails.0, ap by fails.1)
   load_fails_by addr bytes s t Memory fails = (fails.0, late_or addr bytes s t Memory fails.1)
@@ -148,7 +140,7 @@ module _ {W V : Type 0} (by : W → V) (wire : Ghosts V) (limits : Limits) where
 
   -- a dump is
   pub dumps_by : (addr count : ℕ) (bytes : List ℕ) (s t : W)
-      → Dumps (image_wire_under by wire) limits addr count bytes s t
+      → Dumps (run_wire_by by wire) limits addr count bytes s t
       → Dumps wire limits addr count bytes (by s) (by t)
   dumps_by addr count bytes s t dumps = record {
     fits = dumps.fits;
@@ -163,7 +155,7 @@ module _ {W V : Type 0} (by : W → V) (wire : Ghosts V) (limits : Limits) where
 
   -- and so is its error
   pub dump_fails_by : (addr count : ℕ) (s t : W) (fault : ImageFault)
-      → DumpFails (image_wire_under by wire) limits addr count s t fault
+      → DumpFails (run_wire_by by wire) limits addr count s t fault
       → DumpFails wire limits addr count (by s) (by t) fault
   dump_fails_by addr count s t Range fails = (fails.0, ap by fails.1)
   dump_fails_by addr count s t Memory fails =
@@ -177,7 +169,7 @@ module _ {W V : Type 0} (by : W → V) (wire : Ghosts V) (limits : Limits) where
 
   -- a verification is
   pub verifies_by : (addr : ℕ) (bytes : List ℕ) (difference : Option ByteDifference) (s t : W)
-      → VerifiesImage (image_wire_under by wire) limits addr bytes difference s
+      → VerifiesImage (run_wire_by by wire) limits addr bytes difference s
       t → VerifiesImage wire limits addr bytes difference (by s) (by t)
   verifies_by addr bytes difference s t verifies = record {
     found = verifies.found;
@@ -187,7 +179,7 @@ module _ {W V : Type 0} (by : W → V) (wire : Ghosts V) (limits : Limits) where
   }
 
   reported_by : (s : W) (ended : End) (list : List Access) (text : List ℕ) (t : W)
-      → Reported (image_wire_under by wire) limits s ended list text t
+      → Reported (run_wire_by by wire) limits s ended list text t
       → Reported wire limits (by s) ended list text (by t)
   reported_by s ended list text t no_call = no_call
   reported_by s ended list text t
@@ -196,7 +188,7 @@ module _ {W V : Type 0} (by : W → V) (wire : Ghosts V) (limits : Limits) where
 
   -- what a writer gets of calls is
   pub reports_by : (list : List Access) (fault : Option ImageFault) (s t : W) (a b : Option (Option (List ℕ)))
-      → ReportsTo (image_wire_under by wire) limits list fault s t a b
+      → ReportsTo (run_wire_by by wire) limits list fault s t a b
       → ReportsTo wire limits list fault (by s) (by t) a b
   reports_by list fault s t None b h = h
   reports_by list fault s t (Some start) b h = (

@@ -1,12 +1,8 @@
--- What a load, a verification and a dump state of the calls that were made of a wire: over any wire, at a target of
--- which nothing is proved, and at a simulated one.
-use Rattle.std.specs.Prelude.{ℕ, ◌≡◌, List, [], Option, Result, OnOk, IfOk, IfErr}
-use Rattle.swd_port.specs.declared.call.Call.{Call}
+-- What a load, a verification and a dump state of the calls that were made of a wire.
+use Rattle.std.specs.Prelude.{ℕ, List, Option, Result, OnOk, IfOk, IfErr}
 use Rattle.swd_port.specs.declared.wire.Wire.{Ghosts}
 use Rattle.swd_port.specs.Bus.{bus_of}
 use Rattle.swd_port.specs.PlainMemory.{PlainMemory}
-use Rattle.swd_port.specs.Port.{Port}
-use Rattle.swd_port.specs.Stories.{port_at, FitsStory}
 use Rattle.swd_target.specs.declared.bench.Bench.{Bench}
 use Rattle.swd_target.specs.Benches.{bench_plan, bench_port}
 use Rattle.swd_run.specs.declared.limits.Limits.{Limits}
@@ -17,16 +13,6 @@ use Rattle.swd_image.specs.Reports.{DumpReports, image_fault_of}
 use Rattle.swd_image_files.specs.Images.{ImageFileBytes}
 use Rattle.swd_image_ends.specs.PieceReports.{LoadsReported, VerifiesReported}
 use Rattle.swd_image_ends.specs.Pieces.{LoadFailsAt, LoadsAll, VerifiesAll, VerifyFailsAt}
-
--- A wire to a target of which nothing is proved, by the calls that were made of it, the last one first. It is lawful if
--- they are consistent with the story.
-abbrev pub image_story_wire : (ℕ → Port) → Ghosts (List Call)
-image_story_wire story = record {
-  port = port_at story;
-  plan = λ calls. [];
-  lawful = FitsStory story;
-  notes = λ noted calls. calls ≡ noted;
-}
 
 -- a simulated target with a plain memory, which is always lawful
 abbrev pub image_bench_wire : (A : Type 0) → Ghosts (Bench PlainMemory A)

@@ -1,7 +1,8 @@
 //! The jobs of an image, for [`over_line`](swd_remote::over_line).
 ghost use Rattle.std.specs.Prelude.{[]};
-ghost use Rattle.swd_image_ends.specs.Came.{DumpCame, LoadCame, VerifyCame, image_story_wire};
+ghost use Rattle.swd_image_ends.specs.Came.{DumpCame, LoadCame, VerifyCame};
 ghost use Rattle.swd_image_ends.specs.Pieces.{pieces_to_load};
+ghost use Rattle.swd_run.specs.Wires.{run_story_wire};
 
 use crate::pieces::{load_pieces, verify_pieces};
 use std::alloc::Allocator;
@@ -26,7 +27,7 @@ pub struct LoadJob<'a, S, A: Allocator> {
 impl<'a, S: CallReports, A: Allocator + Copy> LineJob for LoadJob<'a, S, A> {
     type Answer = Result<(), ImageFault>;
 
-    ghost came = { λ story old new answer calls. LoadCame (image_story_wire story) old.limits
+    ghost came = { λ story old new answer calls. LoadCame (run_story_wire story) old.limits
         (pieces_to_load old.image.now) answer [] calls (S.held old.report) (S.held new.report) };
 
     fn perform<T: Transport, P: Story>(
@@ -53,7 +54,7 @@ pub struct VerifyJob<'a, S, A: Allocator> {
 impl<'a, S: CallReports, A: Allocator + Copy> LineJob for VerifyJob<'a, S, A> {
     type Answer = Result<Option<ByteDifference>, ImageFault>;
 
-    ghost came = { λ story old new answer calls. VerifyCame (image_story_wire story) old.limits
+    ghost came = { λ story old new answer calls. VerifyCame (run_story_wire story) old.limits
         (pieces_to_load old.image.now) answer [] calls (S.held old.report) (S.held new.report) };
 
     fn perform<T: Transport, P: Story>(
@@ -82,7 +83,7 @@ pub struct DumpJob<S, A: Allocator> {
 impl<S: CallReports, A: Allocator + Copy> LineJob for DumpJob<S, A> {
     type Answer = Result<Vec<u8, A>, ImageFault>;
 
-    ghost came = { λ story old new answer calls. DumpCame (image_story_wire story) old.limits old.addr old.count
+    ghost came = { λ story old new answer calls. DumpCame (run_story_wire story) old.limits old.addr old.count
         answer (λ bytes. bytes.items) [] calls (S.held old.report) (S.held new.report) };
 
     fn perform<T: Transport, P: Story>(

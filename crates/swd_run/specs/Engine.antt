@@ -142,7 +142,8 @@ pub record StopsInLastReport (written : ℕ) (old new : Option (List ℕ)) (batc
   pub stopped : OutputStopped written old new (session_text batches made)
   pub past : length (session_text batches earlier) ≤ stopped.sent
 
--- THE RESULT What a result states about the batches, about the contents of the report's writer before and after, and
+-- THE RESULT
+-- What a result states about the batches, about the contents of the report's writer before and after, and
 -- about those of the other files. `Came` is what ran, and `made` gives the runs of its batches. `IsWhole` and `IsPart`
 -- say which items are its complete or truncated trace. `Short` is what ran if memory ran out, `made_before` gives those
 -- of the batches before the one without memory, and `IsBegun` says which items are its trace so far. If a report

@@ -38,7 +38,7 @@ script_calls_in_all stops told = record told { requests = script_requests_before
 -- THE CALLS A call over a wire from s to t, and the calls of `resume` after it, each after a lost acknowledgement.
 -- `opened` says that the target was open at s; else the call opens it. The other arguments are the places where it was
 -- resumed, and the report of the last call. Whatever came back, `ScriptCallCloses` or `ResumeCloses` holds of each
--- call, and the calls made of the wire meanwhile are those that its report tells. Where the wire is lawful, the theorem
+-- call, and the calls made of the wire meanwhile are those that its report describes. Where the wire is lawful, the theorem
 -- of the host holds too.
 pub data ScriptCallsFrom {W : Type 0} (wire : Ghosts W) (opened : Bool) (limit : ℕ) (list : List Access) (tries : ℕ)
     (s : W) : List Stop → HostReport → W → Type 0 where
@@ -58,7 +58,7 @@ pub data ScriptCallsFrom {W : Type 0} (wire : Ghosts W) (opened : Bool) (limit :
 abbrev pub ScriptCalls : {W : Type 0} → Ghosts W → ℕ → List Access → ℕ → W → List Stop → HostReport → W → Type 0
 ScriptCalls wire limit list tries s stops told t = ScriptCallsFrom wire false limit list tries s stops told t
 
--- These calls, the last one first, are those of a run over a list and of each `resume` after it, as their reports tell:
+-- These calls, the last one first, are those of a run over a list and of each `resume` after it, as their reports describe:
 -- the requests that each counts, and the data phases of the accesses that it answers or leaves begun. The other
 -- arguments are the places where it was resumed, and the report of the last call.
 pub data ScriptReportsCalls (list : List Access) : List Stop → HostReport → List Call → Type 0 where
@@ -68,7 +68,8 @@ pub data ScriptReportsCalls (list : List Access) : List Stop → HostReport → 
       → ScriptReportsCalls list stops earlier before → ResumeReportsCalls list earlier told calls
       → ScriptReportsCalls list (stops ++ script_stop_of earlier ∷ []) told (calls ++ before)
 
--- WHAT THEY REPORT One call of a run over n accesses. The calls before it gave `from` answers, and left `left` accesses
+-- WHAT THEY REPORT
+-- One call of a run over n accesses. The calls before it gave `from` answers, and left `left` accesses
 -- begun. After it there are `answered` answers in all, and `begun` accesses begun. It sent `requests` requests: before
 -- its list at least `opening`, and with so many accesses at most what `most` gives.
 pub record IsScriptCall (opening : ℕ) (most : ℕ → ℕ) (limit n from left answered begun requests : ℕ) (ended : End) :

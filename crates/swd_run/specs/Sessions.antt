@@ -63,7 +63,7 @@ pub data RunsBatches {W : Type 0} (wire : Ghosts W) (opened : Bool)
       → RunsBatchFrom wire (script_is_open opened runs) (most batch) tries resumes batch t run u
       → RunsBatches wire opened most tries resumes s (batches ++ batch ∷ []) (runs ++ run ∷ []) u
 
--- These calls, the last one first, are those that the reports of successive runs tell.
+-- These calls, the last one first, are those that the reports of successive runs describe.
 pub data ScriptRunsReportCalls : List ScriptListed → List ScriptRun → List Call → Type 0 where
   no_run : ScriptRunsReportCalls [] [] []
   one_run : {batches : List ScriptListed} {runs : List ScriptRun} {before calls : List Call} (batch : ScriptListed)

@@ -3,13 +3,13 @@ use Rattle.std.specs.Prelude.{◌^◌}
 use Rattle.swd_run.specs.Records.{run_file_held}
 use Rattle.swd_run.proofs.EngineLemmas.{run_file_is_some}
 use Rattle.swd_image_files.specs.Texts.{image_file_of_piece}
-use Rattle.swd_image_ends.specs.Came.{image_story_wire}
 use Rattle.swd_console.specs.Destinations.{console_report_contents}
 use Rattle.swd_console.specs.Streams.{stream_watched}
 use Rattle.swd_image_commands.specs.Images.{IsCommandWritten}
 use Rattle.swd_image_commands.proofs.ImageLemmas.{dump_command_done, dump_command_fits, dump_command_performed}
 use Rattle.swd_image_commands.proofs.ImageLemmas.{dump_command_stopped}
 use Rattle.swd_image_commands.proofs.image_command.perform_dump.Goals as goal
+use Rattle.swd_run.specs.Wires.{run_story_wire}
 
 pub write_image_file-status-requires : goal.write_image_file-status-requires
 write_image_file-status-requires g c =
@@ -18,7 +18,7 @@ write_image_file-status-requires g c =
     let answer = c.over_line-answer.result.0 in
     let line = c.over_line-answer.result.1 in
     subst (λ l. image.addr + length l ≤ 2 ^ 32) (sym c.as_slice-in-Ok-reached.ensures.value)
-    (dump_command_fits (λ v. v.items) (image_story_wire g.P.Story.at) c.limits_of.result image.addr c.args.count
+    (dump_command_fits (λ v. v.items) (run_story_wire g.P.Story.at) c.limits_of.result image.addr c.args.count
     line.fault answer c.in-Ok-reached.bytes [] calls c.in-Ok-reached.ensures came.dumps)
 
 pub returns-in-Ok-reached : goal.returns-in-Ok-reached

@@ -1,11 +1,12 @@
 use Rattle.std.proofs.Common.{◌∙◌, [], inr, subst}
 use Rattle.swd_run.specs.Records.{run_file_held}
 use Rattle.swd_run.proofs.EngineLemmas.{run_file_is_some}
-use Rattle.swd_image_ends.specs.Came.{LoadCame, image_story_wire}
+use Rattle.swd_image_ends.specs.Came.{LoadCame}
 use Rattle.swd_image_ends.specs.Pieces.{pieces_to_load}
 use Rattle.swd_console.specs.Destinations.{console_report_contents}
 use Rattle.swd_console.specs.Streams.{stream_watched}
 use Rattle.swd_image_commands.proofs.image_command.perform_load.Goals as goal
+use Rattle.swd_run.specs.Wires.{run_story_wire}
 
 pub returns : goal.returns
 returns g c =
@@ -22,7 +23,7 @@ returns g c =
       after,
       run_file_is_some bytes c.report_writer.result ∙ c.report_writer.ensures ∙ c.in-Ok-open_report.ensures.named,
       calls,
-      subst (λ limits. LoadCame (image_story_wire g.P.Story.at) limits pieces answer [] calls before after)
+      subst (λ limits. LoadCame (run_story_wire g.P.Story.at) limits pieces answer [] calls before after)
           c.limits_of.ensures came,
       over,
       c.loaded_status-status.ensures,
