@@ -4,7 +4,7 @@ use Rattle.std.proofs.Common.{◌∷◌, ◌++◌, length, map, take, Option, re
 use Rattle.std.proofs.Common.{append_assoc, arith, inl}
 use Rattle.std.proofs.Math.Seq.{take-append_seam}
 use Rattle.std.proofs.lemmas.List.{length-append, append-nil, map-append}
-use Rattle.swd_io.specs.Blocks.{BlockBufferSends}
+use Rattle.swd_io.specs.Blocks.{BlockBufferSends, BlockQueues}
 use Rattle.swd_io.specs.declared.block.Block.{Block}
 use Rattle.swd_bits.specs.Bits.{low_bits}
 use Rattle.swd_bits.proofs.BitsLemmas.{length-low_bits}
@@ -19,7 +19,7 @@ use Rattle.swd_trace.proofs.DecidedLemmas.{decided_items_are_longest}
 use Rattle.swd_trace.specs.Texts.{item_line, listing}
 use Rattle.swd_trace.specs.Held.{decoder_rest, decoder_fed, idle_items}
 use Rattle.swd_trace.proofs.NumberLemmas.{decoder_bits_mod, decoder_bits_parted}
-use Rattle.swd_text.specs.Listers.{DecodeTextLists, ListerHasTaken}
+use Rattle.swd_text.specs.Listers.{DecodeTextLists, ListerHasTaken, ListerPuts}
 use Rattle.swd_text.specs.Outputs.{OutputStart}
 use Rattle.swd_text.specs.declared.lister.Lister.{Lister}
 
@@ -57,23 +57,6 @@ decode_text_listing_more [] item = append-nil (item_line item ++ 10 ∷ [])
 decode_text_listing_more (i ∷ items) item =
     ap (λ x. (item_line i ++ 10 ∷ []) ++ x) (decode_text_listing_more items item)
     ∙ sym (append_assoc (item_line i ++ 10 ∷ []) (listing items) (item_line item ++ 10 ∷ []))
-
--- one more item is returned, and its line is queued
-pub decode_text_lists_item : {W : Type 0} (contents : W → Option (List ℕ)) (start : Option (List ℕ))
-    (before after : Decoder) (old new : Block W) (bits : List Bool) (items : List Item) (item : Item) →
-    ((more : List Bool) → decoder_rest before more ≡ item ∷ decoder_rest after more)
-    → decoder_fed after ≡ decoder_fed before → ((all : List ℕ) → BlockBufferSends contents start old all
-    → BlockBufferSends contents start new (all ++ (item_line item ++ 10 ∷ []))) →
-    DecodeTextLists contents start before old bits items
-    → DecodeTextLists contents start after new bits (items ++ item ∷ [])
-decode_text_lists_item contents start before after old new bits items item law fed sends h = record {
-  law = λ more. append_assoc items (item ∷ []) (decoder_rest after more) ∙ ap (λ x. items ++ x) (sym (law more)) ∙ h.law
-      more;
-  count = fed ∙ h.count;
-  counted = h.counted;
-  sends = subst (λ all. BlockBufferSends contents start new all) (sym (decode_text_listing_more items item))
-      (sends (listing items) h.sends);
-}
 
 -- more bits are taken
 pub decode_text_takes_bits : {W : Type 0} (contents : W → Option (List ℕ)) (start : Option (List ℕ))
@@ -162,17 +145,52 @@ decode_text_junk_split k n v h =
     ∙ ap listing (map-append Junk (low_bits k v) (low_bits (n - k) (v / 2 ^ k)))
     ∙ decode_text_listing_append (map Junk (low_bits k v)) (map Junk (low_bits (n - k) (v / 2 ^ k)))
 
--- more items are returned, and their lines are queued
-pub decode_text_lists_items : {W : Type 0} (contents : W → Option (List ℕ)) (start : Option (List ℕ))
-    (before after : Decoder) (old new : Block W) (bits : List Bool) (items next : List Item) →
-    ((more : List Bool) → decoder_rest before more ≡ next ++ decoder_rest after more)
-    → decoder_fed after ≡ decoder_fed before → ((all : List ℕ) → BlockBufferSends contents start old all
-    → BlockBufferSends contents start new (all ++ listing next)) →
-    DecodeTextLists contents start before old bits items → DecodeTextLists contents start after new bits (items ++ next)
-decode_text_lists_items contents start before after old new bits items next law fed sends h = record {
-  law = λ more. append_assoc items next (decoder_rest after more) ∙ ap (λ x. items ++ x) (sym (law more)) ∙ h.law more;
-  count = fed ∙ h.count;
-  counted = h.counted;
-  sends = subst (λ all. BlockBufferSends contents start new all) (sym (decode_text_listing_append items next))
-      (sends (listing items) h.sends);
+-- nothing is due
+pub lister_puts_nothing : {W : Type 0} (contents : W → Option (List ℕ)) (decoder : Decoder) (block : Block W)
+    → ListerPuts contents decoder decoder block block
+lister_puts_nothing contents decoder block = record {
+  lists = λ start bits items h. (items, h);
+  fed = refl;
+  same = refl;
 }
+
+-- what is due then, too
+pub lister_puts_join : {W : Type 0} (contents : W → Option (List ℕ)) (d e f : Decoder) (a b c : Block W)
+    → ListerPuts contents d e a b → ListerPuts contents e f b c → ListerPuts contents d f a c
+lister_puts_join contents d e f a b c first then = record {
+  lists = λ start bits items h. let m = first.lists start bits items h in then.lists start bits m.0 m.1;
+  fed = then.fed ∙ first.fed;
+  same = then.same ∙ first.same;
+}
+
+-- items are returned, and their lines are queued
+pub lister_puts_items : {W : Type 0} (contents : W → Option (List ℕ)) (old new : Decoder) (before after : Block W)
+    (next : List Item) → ((more : List Bool) → decoder_rest old more ≡ next ++ decoder_rest new more)
+    → decoder_fed new ≡ decoder_fed old → BlockQueues contents (listing next) before after
+    → after.writer.ghost_name ≡ before.writer.ghost_name → ListerPuts contents old new before after
+lister_puts_items contents old new before after next law fed sends same = record {
+  lists = λ start bits items h. (
+    items ++ next,
+    record {
+      law = λ more. append_assoc items next (decoder_rest new more) ∙ ap (λ x. items ++ x) (sym (law more))
+          ∙ h.law more;
+      count = fed ∙ h.count;
+      counted = h.counted;
+      sends = subst (λ all. BlockBufferSends contents start after all) (sym (decode_text_listing_append items next))
+          (sends start (listing items) h.sends);
+    },
+  );
+  fed = fed;
+  same = same;
+}
+
+-- one more item is returned, and its line is queued
+pub lister_puts_item : {W : Type 0} (contents : W → Option (List ℕ)) (old now new : Decoder) (first before after : Block W)
+    (item : Item) → ListerPuts contents old now first before
+    → ((more : List Bool) → decoder_rest now more ≡ item ∷ decoder_rest new more) → decoder_fed new ≡ decoder_fed now
+    → BlockQueues contents (item_line item ++ 10 ∷ []) before after
+    → after.writer.ghost_name ≡ before.writer.ghost_name → ListerPuts contents old new first after
+lister_puts_item contents old now new first before after item h law fed sends same =
+    lister_puts_join contents old now new first before after h
+    (lister_puts_items contents now new before after (item ∷ []) law fed
+    (subst (λ x. BlockQueues contents x before after) (sym (append-nil (item_line item ++ 10 ∷ []))) sends) same)

@@ -12,7 +12,7 @@ ghost use Rattle.swd_bits.specs.Transactions.{SpellsTx};
 ghost use Rattle.swd_bits.specs.declared.tx.Tx.{Tx};
 ghost use Rattle.swd_trace.specs.Held.{decoder_fed, decoder_rest, idle_items, IsDecoderSettled};
 ghost use Rattle.swd_trace.specs.Decided.{DecidesNoItem};
-ghost use Rattle.swd_text.specs.Listers.{DecodeTextLists, ListerHasTaken, ListerStops};
+ghost use Rattle.swd_text.specs.Listers.{DecodeTextLists, ListerHasTaken, ListerPuts, ListerStops, ListerTakes};
 ghost use Rattle.swd_text.specs.Sinks.{LeadsSinkOn, LeadsSinkToStop, sink_takes_nothing, sink_leads_join};
 
 use crate::reader::BitSink;
@@ -175,11 +175,7 @@ impl Lister {
     // Also queues the lines of the transactions that are due before any other item.
     #[inline(always)]
     fn put_txs<W: Write>(&mut self, block: &mut Block<'_, W>)
-        ensures lists { (start : Option (List ℕ)) (bits : List Bool) (items : List Item)
-            → DecodeTextLists W.contents start self.old.decoder block.old bits items
-            → (more : List Item) × DecodeTextLists W.contents start self.new.decoder block.new bits more }
-        ensures fed { decoder_fed self.new.decoder ≡ decoder_fed self.old.decoder }
-        ensures writer { block.new.writer.ghost_name ≡ block.old.writer.ghost_name }
+        ensures { ListerPuts W.contents self.old.decoder self.new.decoder block.old block.new }
     {
         while let Some(spelled) = self.decoder.due_tx() {
             put_held_tx(block, spelled);
@@ -189,11 +185,7 @@ impl Lister {
     // Also queues the lines of the junk bits that are due.
     #[inline(always)]
     fn put_lost<W: Write>(&mut self, block: &mut Block<'_, W>)
-        ensures lists { (start : Option (List ℕ)) (bits : List Bool) (items : List Item)
-            → DecodeTextLists W.contents start self.old.decoder block.old bits items
-            → (more : List Item) × DecodeTextLists W.contents start self.new.decoder block.new bits more }
-        ensures fed { decoder_fed self.new.decoder ≡ decoder_fed self.old.decoder }
-        ensures writer { block.new.writer.ghost_name ≡ block.old.writer.ghost_name }
+        ensures { ListerPuts W.contents self.old.decoder self.new.decoder block.old block.new }
     {
         if let Some(junk) = self.decoder.due_junk() {
             put_junk(block, junk);
@@ -202,13 +194,9 @@ impl Lister {
 
     // Also queues the lines of the items that are due.
     fn put_due<W: Write>(&mut self, block: &mut Block<'_, W>)
-        ensures lists { (start : Option (List ℕ)) (bits : List Bool) (items : List Item)
-            → DecodeTextLists W.contents start self.old.decoder block.old bits items
-            → (more : List Item) × DecodeTextLists W.contents start self.new.decoder block.new bits more }
+        ensures puts { ListerPuts W.contents self.old.decoder self.new.decoder block.old block.new }
         ensures settled { IsDecoderSettled self.new.decoder }
         ensures undecided { DecidesNoItem (decoder_rest self.new.decoder) }
-        ensures fed { decoder_fed self.new.decoder ≡ decoder_fed self.old.decoder }
-        ensures writer { block.new.writer.ghost_name ≡ block.old.writer.ghost_name }
     {
         self.put_txs(block);
         self.put_lost(block);
@@ -226,13 +214,7 @@ impl Lister {
         requires within { count ≤ 64 }
         requires room { decoder_fed self.old.decoder + count < 2 ^ 64 }
         ensures most { result ≤ count }
-        ensures lists { (start : Option (List ℕ)) (before : List Bool) (items : List Item)
-            → DecodeTextLists W.contents start self.old.decoder block.old before items
-            → (more : List Item)
-            × DecodeTextLists W.contents start self.new.decoder block.new (before ++ low_bits result bits) more }
-        ensures settled { IsDecoderSettled self.new.decoder }
-        ensures fed { decoder_fed self.new.decoder ≡ decoder_fed self.old.decoder + result }
-        ensures writer { block.new.writer.ghost_name ≡ block.old.writer.ghost_name }
+        ensures takes { ListerTakes W.contents result bits self.old.decoder self.new.decoder block.old block.new }
     {
         if let Some(found) = self.decoder.take_tx(bits, count) {
             put_found(block, &mut self.line, found);
@@ -249,13 +231,7 @@ impl Lister {
         requires within { count ≤ 64 }
         requires room { decoder_fed self.old.decoder + count < 2 ^ 64 }
         ensures most { result ≤ count }
-        ensures lists { (start : Option (List ℕ)) (before : List Bool) (items : List Item)
-            → DecodeTextLists W.contents start self.old.decoder block.old before items
-            → (more : List Item)
-            × DecodeTextLists W.contents start self.new.decoder block.new (before ++ low_bits result bits) more }
-        ensures settled { IsDecoderSettled self.new.decoder }
-        ensures fed { decoder_fed self.new.decoder ≡ decoder_fed self.old.decoder + result }
-        ensures writer { block.new.writer.ghost_name ≡ block.old.writer.ghost_name }
+        ensures takes { ListerTakes W.contents result bits self.old.decoder self.new.decoder block.old block.new }
     {
         let taken = self.decoder.take_bits(bits, count);
         self.put_due(block);

@@ -1,16 +1,13 @@
-use Rattle.std.proofs.Common.{[], ◌∷◌, ◌++◌, ◌∙◌}
-use Rattle.swd_text.proofs.ListerLemmas.{decode_text_lists_item}
+use Rattle.swd_text.proofs.ListerLemmas.{lister_puts_item, lister_puts_join}
 use Rattle.swd_text.proofs.lister.Lister.put_due.Goals as goal
+
+pub loop-item-init : goal.loop-item-init
+loop-item-init g c = record {
+  puts = lister_puts_join g.W.Write.contents _ _ _ _ _ _ c.put_txs.ensures c.put_lost.ensures;
+}
 
 pub loop-item-preserved : goal.loop-item-preserved
 loop-item-preserved g c = record {
-  lists = λ start bits items h.
-      let i = c.loop-item.invariant.lists start bits items h in (
-        i.0 ++ c.in-Some.item ∷ [],
-        decode_text_lists_item g.W.Write.contents start c.loop-item.self.decoder c.due.new.self c.loop-item.block
-            c.put_line.new.block bits i.0 c.in-Some.item
-            c.in-Some.ensures.item c.in-Some.ensures.fed (λ all s. c.put_line.ensures.sends start all s) i.1,
-      );
-  fed = c.due.ensures.fed ∙ c.loop-item.invariant.fed;
-  writer = c.put_line.ensures.writer ∙ c.loop-item.invariant.writer;
+  puts = lister_puts_item g.W.Write.contents _ _ _ _ _ _ c.in-Some.item c.loop-item.invariant.puts
+      c.in-Some.ensures.item c.in-Some.ensures.fed c.put_line.ensures.sends c.put_line.ensures.writer;
 }
