@@ -1,5 +1,5 @@
 -- What OK tells that was seen, and what a request does by what is known of SELECT.
-use Rattle.std.proofs.Common.{◌≡◌, ◌<◌, ◌^◌, ℕ, Bool, true, false, refl, sym, ap, subst, inl, inr, arith, ◌∙◌, ◌⊎◌}
+use Rattle.std.proofs.Common.{◌≡◌, ◌<◌, ◌^◌, ℕ, Bool, true, false, refl, sym, ap, subst, inl, inr, ◌∙◌, ◌⊎◌}
 use Rattle.std.specs.Prelude.{Option, Some, None, IfSome, unwrap_or, ◌||◌, ◌&&◌, ◌==◌, if◌then◌else◌, not as no}
 use Rattle.swd_bits.specs.declared.request.Request.{Request}
 use Rattle.swd_bits.specs.declared.request.Reg4.{Reg4}
@@ -15,7 +15,7 @@ use Rattle.swd_port.specs.Port.{Port, Target, port_register, port_dp_register, p
 use Rattle.swd_port.specs.Port.{port_other_ap_register, port_selects_mem_ap}
 use Rattle.swd_port.specs.Choices.{Choice, port_flip_of}
 use Rattle.swd_port.specs.Answers.{is_exempt_register, port_may_wait, port_reply_under, PortSees, is_port_unpowered}
-use Rattle.swd_port.specs.Answers.{port_is_answered}
+use Rattle.swd_port.specs.Answers.{IsPortNoAck, port_ack_driven, port_is_answered}
 use Rattle.swd_port.specs.Asking.{PortAsksNow, port_reply, port_answer, port_after_okay, port_value_in}
 use Rattle.swd_port.specs.Asking.{port_phase_after, port_has_power, IsPortWordRead}
 use Rattle.swd_port.proofs.RequestLaws.{PortReplied, port_replied}
@@ -31,19 +31,27 @@ use Rattle.swd_observer.specs.Observing.{observed_kind_mem, observed_kind_maybe,
 use Rattle.swd_observer.specs.Observing.{is_observed_data_register, is_observed_posted_read, is_observed_rc}
 use Rattle.swd_observer.specs.Observing.{is_other_bank_observed}
 
+-- the acknowledgement by its number
+abbrev pub observed_reply_of : ℕ → Reply
+observed_reply_of seen = if seen == 1 then Okay else if seen == 2 then Waits else if seen == 4 then Faults else Silent
+
+driven : (reply : Reply) (seen : ℕ) → seen ≡ port_ack_driven reply → reply ≡ observed_reply_of seen
+driven Okay seen e = ap observed_reply_of (sym e)
+driven Waits seen e = ap observed_reply_of (sym e)
+driven Faults seen e = ap observed_reply_of (sym e)
+driven Silent seen e = ap observed_reply_of (sym e)
+
+-- an acknowledgement that the host sees is the one that the target answered
+pub observed_reply_seen : (mark : Mark) (reply : Reply) (seen : ℕ) → PortSees mark reply seen
+    → (IsPortNoAck seen → ⊥) → reply ≡ observed_reply_of seen
+observed_reply_seen Deaf reply seen h some = absurd (some h)
+observed_reply_seen (Mute place) reply seen h some = absurd (some h)
+observed_reply_seen Clean reply seen h some = driven reply seen h
+observed_reply_seen Wait reply seen h some = driven reply seen h
+observed_reply_seen (Flip place) reply seen h some = driven reply seen h
+
 seen_okay : (mark : Mark) (reply : Reply) → PortSees mark reply 1 → reply ≡ Okay
-seen_okay Deaf reply h = absurd (let e : true ≡ false = h.not_okay in cc)
-seen_okay (Mute place) reply h = absurd (let e : true ≡ false = h.not_okay in cc)
-seen_okay mark Okay h = refl
-seen_okay Clean Waits h = absurd (omega arith)
-seen_okay Clean Faults h = absurd (omega arith)
-seen_okay Clean Silent h = absurd (omega arith)
-seen_okay Wait Waits h = absurd (omega arith)
-seen_okay Wait Faults h = absurd (omega arith)
-seen_okay Wait Silent h = absurd (omega arith)
-seen_okay (Flip place) Waits h = absurd (omega arith)
-seen_okay (Flip place) Faults h = absurd (omega arith)
-seen_okay (Flip place) Silent h = absurd (omega arith)
+seen_okay mark reply h = observed_reply_seen mark reply 1 h (λ none. let e : true ≡ false = none.not_okay in cc)
 
 waited : (b : Bool) (a : Reply) → (if b then Waits else a) ≡ Okay → a ≡ Okay
 waited true a e = absurd (cc)
@@ -277,71 +285,67 @@ is_observed_reading Reads = true
 is_observed_reading MayRead = true
 is_observed_reading k = false
 
-read_if : (m d : Bool) (addr : Reg4)
-    → is_observed_writing (if m then observed_kind_mem true addr else if d then Elsewhere true else Other) ≡ false
-read_if true d R0 = refl
-read_if true d R4 = refl
-read_if true d R8 = refl
-read_if true d RC = refl
-read_if false true addr = refl
-read_if false false addr = refl
+-- the request is taken for one of the other direction, or for one that may be
+abbrev is_observed_against : Bool → RequestEffect → Bool
+is_observed_against true k = is_observed_writing k
+is_observed_against false k = is_observed_reading k
 
-read_none : (addr : Reg4) → is_observed_writing (observed_kind_maybe (observed_kind_mem true addr)) ≡ false
-read_none R0 = refl
-read_none R4 = refl
-read_none R8 = refl
-read_none RC = refl
+along_mem : (read : Bool) (addr : Reg4) → is_observed_against read (observed_kind_mem read addr) ≡ false
+along_mem true R0 = refl
+along_mem true R4 = refl
+along_mem true R8 = refl
+along_mem true RC = refl
+along_mem false R0 = refl
+along_mem false R4 = refl
+along_mem false R8 = refl
+along_mem false RC = refl
 
-read_dp : (addr : Reg4) → is_observed_writing (observed_kind_dp true addr) ≡ false
-read_dp R0 = refl
-read_dp R4 = refl
-read_dp R8 = refl
-read_dp RC = refl
+along_maybe : (read : Bool) (addr : Reg4)
+    → is_observed_against read (observed_kind_maybe (observed_kind_mem read addr)) ≡ false
+along_maybe true R0 = refl
+along_maybe true R4 = refl
+along_maybe true R8 = refl
+along_maybe true RC = refl
+along_maybe false R0 = refl
+along_maybe false R4 = refl
+along_maybe false R8 = refl
+along_maybe false RC = refl
 
-reads_by : (ap : Bool) (known : Option Select) (read : Bool) (addr : Reg4) → read ≡ true
-    → is_observed_writing (if ap then observed_kind_ap known read addr else observed_kind_dp read addr) ≡ false
-reads_by true None true addr e = read_none addr
-reads_by true (Some s) true addr e = read_if (port_selects_mem_ap s) (is_observed_data_register s addr) addr
-reads_by false known true addr e = read_dp addr
-reads_by ap known false addr e = absurd (cc)
+along_dp : (read : Bool) (addr : Reg4) → is_observed_against read (observed_kind_dp read addr) ≡ false
+along_dp true R0 = refl
+along_dp true R4 = refl
+along_dp true R8 = refl
+along_dp true RC = refl
+along_dp false R0 = refl
+along_dp false R4 = refl
+along_dp false R8 = refl
+along_dp false RC = refl
+
+along_if : (m d read : Bool) (addr : Reg4) → is_observed_against read
+    (if m then observed_kind_mem read addr else if d then Elsewhere read else Other) ≡ false
+along_if true d read addr = along_mem read addr
+along_if false true true addr = refl
+along_if false true false addr = refl
+along_if false false true addr = refl
+along_if false false false addr = refl
+
+along : (ap : Bool) (known : Option Select) (read : Bool) (addr : Reg4) → is_observed_against read
+    (if ap then observed_kind_ap known read addr else observed_kind_dp read addr) ≡ false
+along true None read addr = along_maybe read addr
+along true (Some s) read addr = along_if (port_selects_mem_ap s) (is_observed_data_register s addr) read addr
+along false known read addr = along_dp read addr
 
 -- a read isn't taken for a write, nor for a possible one
 pub observed_reads_only : (known : Option Select) (q : Request) → q.read ≡ true
     → is_observed_writing (observed_kind known q) ≡ false
-observed_reads_only known q e = reads_by q.ap known q.read q.addr e
-
-write_if : (m d : Bool) (addr : Reg4)
-    → is_observed_reading (if m then observed_kind_mem false addr else if d then Elsewhere false else Other) ≡ false
-write_if true d R0 = refl
-write_if true d R4 = refl
-write_if true d R8 = refl
-write_if true d RC = refl
-write_if false true addr = refl
-write_if false false addr = refl
-
-write_none : (addr : Reg4) → is_observed_reading (observed_kind_maybe (observed_kind_mem false addr)) ≡ false
-write_none R0 = refl
-write_none R4 = refl
-write_none R8 = refl
-write_none RC = refl
-
-write_dp : (addr : Reg4) → is_observed_reading (observed_kind_dp false addr) ≡ false
-write_dp R0 = refl
-write_dp R4 = refl
-write_dp R8 = refl
-write_dp RC = refl
-
-writes_by : (ap : Bool) (known : Option Select) (read : Bool) (addr : Reg4) → read ≡ false
-    → is_observed_reading (if ap then observed_kind_ap known read addr else observed_kind_dp read addr) ≡ false
-writes_by true None false addr e = write_none addr
-writes_by true (Some s) false addr e = write_if (port_selects_mem_ap s) (is_observed_data_register s addr) addr
-writes_by false known false addr e = write_dp addr
-writes_by ap known true addr e = absurd (cc)
+observed_reads_only known q e =
+    subst (λ r. is_observed_against r (observed_kind known q) ≡ false) e (along q.ap known q.read q.addr)
 
 -- a write isn't taken for a read of DRW, nor for a possible one
 pub observed_writes_only : (known : Option Select) (q : Request) → q.read ≡ false
     → is_observed_reading (observed_kind known q) ≡ false
-observed_writes_only known q e = writes_by q.ap known q.read q.addr e
+observed_writes_only known q e =
+    subst (λ r. is_observed_against r (observed_kind known q) ≡ false) e (along q.ap known q.read q.addr)
 
 -- a request for a register of the access port is one of it
 ap_drw_read : (b read : Bool) (addr : Reg4) → port_dp_register read addr b ≡ DrwRead → ⊥

@@ -1,12 +1,11 @@
 -- WAIT and FAULT: nothing is told, and what is known stays known.
-use Rattle.std.proofs.Common.{◌≡◌, ℕ, Bool, true, false, List, refl, sym, ap, subst, arith}
+use Rattle.std.proofs.Common.{◌≡◌, ℕ, Bool, true, false, List, refl, sym, ap, subst}
 use Rattle.std.specs.Prelude.{Option, Some, None, ◌||◌}
 use Rattle.swd_bits.specs.declared.request.Request.{Request}
 use Rattle.swd_port.specs.declared.access.Transfer.{Transfer}
 use Rattle.swd_port.specs.declared.state.Reply.{Reply}
-use Rattle.swd_port.specs.declared.state.Reply.TheVariants.{Okay, Waits, Faults, Silent}
+use Rattle.swd_port.specs.declared.state.Reply.TheVariants.{Waits, Faults}
 use Rattle.swd_port.specs.declared.mark.Mark.{Mark}
-use Rattle.swd_port.specs.declared.mark.Mark.TheVariants.{Clean, Wait, Flip, Deaf, Mute}
 use Rattle.swd_port.specs.Port.{Port, Target, port_register}
 use Rattle.swd_port.specs.Choices.{Choice}
 use Rattle.swd_port.specs.Answers.{PortSees, is_port_unpowered}
@@ -18,37 +17,18 @@ use Rattle.swd_observer.specs.declared.observer.StartedTransfer.{StartedTransfer
 use Rattle.swd_observer.specs.Observing.{observer_arrival}
 use Rattle.swd_observer.specs.Knows.{ObservedCalm, ObservedFlying, owed, gone, failed, ObservedFlight, ObserverHolds}
 use Rattle.swd_observer.specs.Knows.{ObserverKnows, here, spoiled}
+use Rattle.swd_observer.proofs.AskLemmas.{observed_reply_seen}
 use Rattle.swd_observer.proofs.KnownLemmas.{observer_knows_stays}
 
 -- where the host sees WAIT the target answered WAIT
 pub observed_wait_reply : (mark : Mark) (reply : Reply) → PortSees mark reply 2 → reply ≡ Waits
-observed_wait_reply Deaf reply h = absurd (let e : true ≡ false = h.not_wait in cc)
-observed_wait_reply (Mute place) reply h = absurd (let e : true ≡ false = h.not_wait in cc)
-observed_wait_reply mark Waits h = refl
-observed_wait_reply Clean Okay h = absurd (omega arith)
-observed_wait_reply Clean Faults h = absurd (omega arith)
-observed_wait_reply Clean Silent h = absurd (omega arith)
-observed_wait_reply Wait Okay h = absurd (omega arith)
-observed_wait_reply Wait Faults h = absurd (omega arith)
-observed_wait_reply Wait Silent h = absurd (omega arith)
-observed_wait_reply (Flip place) Okay h = absurd (omega arith)
-observed_wait_reply (Flip place) Faults h = absurd (omega arith)
-observed_wait_reply (Flip place) Silent h = absurd (omega arith)
+observed_wait_reply mark reply h =
+    observed_reply_seen mark reply 2 h (λ none. let e : true ≡ false = none.not_wait in cc)
 
 -- where the host sees FAULT the target answered FAULT
 pub observed_fault_reply : (mark : Mark) (reply : Reply) → PortSees mark reply 4 → reply ≡ Faults
-observed_fault_reply Deaf reply h = absurd (let e : true ≡ false = h.not_fault in cc)
-observed_fault_reply (Mute place) reply h = absurd (let e : true ≡ false = h.not_fault in cc)
-observed_fault_reply mark Faults h = refl
-observed_fault_reply Clean Okay h = absurd (omega arith)
-observed_fault_reply Clean Waits h = absurd (omega arith)
-observed_fault_reply Clean Silent h = absurd (omega arith)
-observed_fault_reply Wait Okay h = absurd (omega arith)
-observed_fault_reply Wait Waits h = absurd (omega arith)
-observed_fault_reply Wait Silent h = absurd (omega arith)
-observed_fault_reply (Flip place) Okay h = absurd (omega arith)
-observed_fault_reply (Flip place) Waits h = absurd (omega arith)
-observed_fault_reply (Flip place) Silent h = absurd (omega arith)
+observed_fault_reply mark reply h =
+    observed_reply_seen mark reply 4 h (λ none. let e : true ≡ false = none.not_fault in cc)
 
 -- READOK, and STICKYERR where an access port had no power, which it had where a transfer was accepted
 abbrev refused : Bool → Bool → Target → Target
