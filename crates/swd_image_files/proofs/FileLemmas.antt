@@ -1,6 +1,6 @@
 -- What a line makes of a file.
 use Rattle.std.proofs.Common.{◌≡◌, ℕ, ◌+◌, List, ◌∷◌, [], Ok, Err, ap, refl, sym, ◌∙◌, Bool, true, false, length, take}
-use Rattle.std.proofs.Common.{drop, arith}
+use Rattle.std.proofs.Common.{drop, min, arith}
 use Rattle.std.proofs.lemmas.Bool.{ltb-true, ltb-false}
 use Rattle.std.specs.Prelude.{nat_lt}
 use Rattle.swd_image_files.specs.declared.fault.ImageFileFault.TheVariants.{Line}
@@ -52,8 +52,11 @@ pub image_file_lines_step : (more : Bool) (text : List ℕ) (len : ℕ) → more
 image_file_lines_step true text len m e = more_left (nat_lt len (length text)) text text len refl e
 image_file_lines_step false text len m e = absurd cc
 
--- no lines are left, whatever the rest
-pub image_file_no_lines_left : (more : Bool) (first second : List ℕ) → more ≡ false
-    → image_file_lines_left more first ≡ image_file_lines_left more second
-image_file_no_lines_left false first second m = refl
-image_file_no_lines_left true first second m = absurd cc
+-- the rest behind a line, if there is more
+pub image_file_lines_behind : (more : Bool) (text : List ℕ) (len at : ℕ) → more ≡ nat_lt len (length text)
+    → at ≡ min (length text) (len + 1)
+    → image_file_lines_left more (drop (len + 1) text) ≡ image_file_lines_left more (drop at text)
+image_file_lines_behind true text len at m e =
+    let some = ltb-true len (length text) (sym m) in
+    ap (λ n. image_file_lines (drop n text)) (omega (arith, e, some))
+image_file_lines_behind false text len at m e = refl

@@ -184,9 +184,7 @@ fn read_lines<A: Allocator + Copy>(
         }
         line = line.saturating_add(1);
         more = len < rest.len();
-        if more {
-            rest = behind(rest, len + 1);
-        }
+        rest = behind(rest, rest.len().min(len + 1));
     }
     Ok(reading)
 }
