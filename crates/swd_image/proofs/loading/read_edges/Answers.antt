@@ -2,6 +2,8 @@ use Rattle.std.proofs.Common.{◌≡◌, ◌∙◌, ◌++◌, [], ℕ, Bool, Lis
 use Rattle.std.proofs.lemmas.List.{append-nil}
 use Rattle.std.proofs.lemmas.Result.{err_from_is_err_and}
 use Rattle.swd_port.specs.declared.access.Access.{Access}
+use Rattle.swd_port.specs.declared.wire.Wire.{Ghosts}
+use Rattle.swd_run.specs.declared.limits.Limits.{Limits}
 use Rattle.swd_image.specs.Bytes.{image_word_of}
 use Rattle.swd_image.specs.Lists.{image_edge_list, image_last_word, image_needs_head, image_needs_tail, image_read_if}
 use Rattle.swd_image.specs.Lists.{image_word_if}
@@ -10,45 +12,35 @@ use Rattle.swd_image.proofs.CallLemmas.{fails_after, reads_append}
 use Rattle.swd_image.proofs.ReportLemmas.{to_after, to_front}
 use Rattle.swd_image.proofs.loading.read_edges.Goals as goal
 
+-- the read of an edge, by the word and the test that were computed
+edge_read : {W : Type 0} (wire : Ghosts W) (limits : Limits) (needed needs : Bool) (at addr word : ℕ) (s t : W)
+    → needed ≡ needs → at ≡ addr → ReadsAs wire limits (image_read_if needed at) (image_word_if needed word) s t
+    → ReadsAs wire limits (image_read_if needs addr) (image_word_if needs word) s t
+edge_read wire limits needed needs at addr word s t e f h =
+    subst (λ a. ReadsAs wire limits (image_read_if needs a) (image_word_if needs word) s t) f
+    (subst (λ b. ReadsAs wire limits (image_read_if b at) (image_word_if b word) s t) e h)
+
 pub returns-in_err-tail-clause-fault : goal.returns-in_err-tail-clause-fault
 returns-in_err-tail-clause-fault g c =
-    let s = c.args.wire.now in
     let r = c.read_word.new.wire in
     let u = c.read_word-2.new.wire in
-    let h = image_needs_head c.args.addr c.args.len in
     let t = image_needs_tail c.args.addr c.args.len in
-    let first = image_word_of c.args.addr in
     let last = image_last_word c.args.addr c.args.len in
-    let Reads = ReadsAs g.W.Wire c.args.limits in
     let Fails = FailsAs g.W.Wire c.args.limits in
-    let head = subst (λ a. Reads (image_read_if h a) (image_word_if h c.in_ok-head.head) s r) c.word_of.ensures
-    (subst (λ b. Reads (image_read_if b c.word_of.result) (image_word_if b c.in_ok-head.head) s r)
-    c.needs_head-first.ensures c.in_ok-head.ensures.read) in
+    let head = edge_read g.W.Wire _ _ _ _ _ _ _ _ c.needs_head-first.ensures c.word_of.ensures
+    c.in_ok-head.ensures.read in
     let p = err_from_is_err_and c.from_residual-in_err-tail.result c.from_residual-in_err-tail.ensures.1 in
-    rw (p.1, p.2) (fails_after g.W.Wire c.args.limits s r u
-    (image_read_if h first) (image_read_if t last) head.answers _ head.calls
+    rw (p.1, p.2) (fails_after g.W.Wire c.args.limits c.args.wire.now r u _
+    (image_read_if t last) head.answers _ head.calls
     (subst (λ a. Fails (image_read_if t a) r u c.in_err-tail.field-0.0) c.last_word.ensures
     (subst (λ b. Fails (image_read_if b c.last_word.result) r u c.in_err-tail.field-0.0) c.needs_tail-last.ensures
     c.in_err-tail.ensures.fault)))
 
 pub returns-clause-read : goal.returns-clause-read
 returns-clause-read g c =
-    let s = c.args.wire.now in
-    let r = c.read_word.new.wire in
-    let u = c.read_word-2.new.wire in
-    let h = image_needs_head c.args.addr c.args.len in
-    let t = image_needs_tail c.args.addr c.args.len in
-    let first = image_word_of c.args.addr in
-    let last = image_last_word c.args.addr c.args.len in
-    let Reads = ReadsAs g.W.Wire c.args.limits in
-    reads_append g.W.Wire c.args.limits s r u (image_read_if h first)
-    (image_read_if t last) (image_word_if h c.in_ok-head.head) (image_word_if t c.in_ok-tail.tail)
-    (subst (λ a. Reads (image_read_if h a) (image_word_if h c.in_ok-head.head) s r) c.word_of.ensures
-    (subst (λ b. Reads (image_read_if b c.word_of.result) (image_word_if b c.in_ok-head.head) s r)
-    c.needs_head-first.ensures c.in_ok-head.ensures.read))
-    (subst (λ a. Reads (image_read_if t a) (image_word_if t c.in_ok-tail.tail) r u) c.last_word.ensures
-    (subst (λ b. Reads (image_read_if b c.last_word.result) (image_word_if b c.in_ok-tail.tail) r u)
-    c.needs_tail-last.ensures c.in_ok-tail.ensures.read))
+    reads_append g.W.Wire c.args.limits c.args.wire.now c.read_word.new.wire c.read_word-2.new.wire _ _ _ _
+    (edge_read g.W.Wire _ _ _ _ _ _ _ _ c.needs_head-first.ensures c.word_of.ensures c.in_ok-head.ensures.read)
+    (edge_read g.W.Wire _ _ _ _ _ _ _ _ c.needs_tail-last.ensures c.last_word.ensures c.in_ok-tail.ensures.read)
 
 -- the reads of both edges, by the words and tests that were computed
 edges : (a b : ℕ) (m n : Bool) (c d : Bool) (x y : ℕ) → m ≡ c → n ≡ d → a ≡ x → b ≡ y

@@ -1,7 +1,8 @@
-use Rattle.std.proofs.Common.{◌≡◌, ◌∙◌, ◌+◌, ◌-◌, ◌*◌, ◌++◌, [], None, ap, arith, refl, subst, sym}
+use Rattle.std.proofs.Common.{◌≡◌, ◌≤◌, ◌∙◌, ℕ, ◌+◌, ◌-◌, ◌*◌, ◌++◌, [], None, ap, arith, refl, subst, sym}
 use Rattle.std.proofs.lemmas.List.{append-nil}
 use Rattle.std.proofs.lemmas.Result.{err_from_is_err_and}
 use Rattle.swd_script.specs.Laws.{IsScriptBatch}
+use Rattle.swd_script.specs.Scripts.{ScriptListed}
 use Rattle.swd_script.specs.Readers.{script_batch_listed}
 use Rattle.swd_image.specs.Reports.{ReportsTo}
 use Rattle.swd_image.specs.Lists.{image_loaded_word, image_writes}
@@ -30,72 +31,49 @@ run_call-requires-clause-batch g c =
     (image_writes_are_batch word (image.first + 4 * c.loop-done.done) c.min-many.result
     (omega (arith, c.requires.aligned)) (omega (arith, least)))
 
+-- all writes, by the batch that was made of the next ones
+by_batch : (word : ℕ → ℕ) (first done many count : ℕ) (batch : ScriptListed)
+    → batch ≡ record { accesses = image_writes word (first + 4 * done) many; block = None; expected = []; until = None }
+    → done + many ≤ count → image_writes word first count ≡ image_writes word first done
+    ++ (batch.accesses ++ image_writes word (first + 4 * done + 4 * many) (count - (done + many)))
+by_batch word first done many count batch e l =
+    image_writes_left word first done many count l
+    ∙ ap (λ b. image_writes word first done
+    ++ (b.accesses ++ image_writes word (first + 4 * done + 4 * many) (count - (done + many)))) (sym e)
+
 pub returns-in_err-run_call-clause-fault : goal.returns-in_err-run_call-clause-fault
 returns-in_err-run_call-clause-fault g c =
-    let image = c.args.image.now in
-    let word = image_loaded_word image.addr image.bytes.now image.edges.head image.edges.tail in
-    let done = c.loop-done.done in
-    let many = c.min-many.result in
-    let batch = script_batch_listed c.in_ok-batch.batch in
     let least = c.min-many.ensures in
-    let rest = image_writes word (image.first + 4 * done + 4 * many) (image.count - (done + many)) in
     let p = err_from_is_err_and c.from_residual-in_err-run_call.result c.from_residual-in_err-run_call.ensures.1 in
-    rw (p.1, p.2) (fails_in g.W.Wire c.args.limits c.args.wire.now
-    c.loop-done.wire c.run_call.new.wire (image_writes word image.first done) batch.accesses rest
-    (image_writes word image.first image.count) c.loop-done.invariant.made.answers _ c.loop-done.invariant.made.calls
-    c.in_err-run_call.ensures.fault
-    (image_writes_left word image.first done many image.count (omega (arith, least))
-    ∙ ap (λ b. image_writes word image.first done ++ (b.accesses ++ rest)) (sym c.in_ok-batch.ensures.batch)))
+    rw (p.1, p.2) (fails_in g.W.Wire c.args.limits c.args.wire.now c.loop-done.wire c.run_call.new.wire _ _ _ _
+    c.loop-done.invariant.made.answers _ c.loop-done.invariant.made.calls c.in_err-run_call.ensures.fault
+    (by_batch _ _ _ _ _ _ c.in_ok-batch.ensures.batch (omega (arith, least))))
 
 pub returns-in_err-batch-clause-fault : goal.returns-in_err-batch-clause-fault
 returns-in_err-batch-clause-fault g c =
-    let image = c.args.image.now in
-    let word = image_loaded_word image.addr image.bytes.now image.edges.head image.edges.tail in
-    let done = c.loop-done.done in
-    let many = c.min-many.result in
     let least = c.min-many.ensures in
-    let at = image.first + 4 * done in
     let p = err_from_is_err_and c.from_residual.result c.from_residual.ensures.1 in
-    rw (p.1, p.2, c.in_err-batch.ensures.fault) (stops_next g.W.Wire c.args.limits c.args.wire.now
-    c.loop-done.wire (image_writes word image.first done)
-    (image_writes word at many ++ image_writes word (at + 4 * many) (image.count - (done + many)))
-    (image_writes word image.first image.count) c.loop-done.invariant.made.answers c.loop-done.invariant.made.calls
-    (image_writes_left word image.first done many image.count (omega (arith, least))))
+    rw (p.1, p.2, c.in_err-batch.ensures.fault) (stops_next g.W.Wire c.args.limits c.args.wire.now c.loop-done.wire
+    _ _ _ c.loop-done.invariant.made.answers c.loop-done.invariant.made.calls
+    (image_writes_left _ c.args.image.now.first c.loop-done.done c.min-many.result c.args.image.now.count
+    (omega (arith, least))))
 
 pub returns-in_err-batch-clause-report : goal.returns-in_err-batch-clause-report
 returns-in_err-batch-clause-report g c =
-    let image = c.args.image.now in
-    let word = image_loaded_word image.addr image.bytes.now image.edges.head image.edges.tail in
-    let done = c.loop-done.done in
-    let many = c.min-many.result in
     let least = c.min-many.ensures in
-    let at = image.first + 4 * done in
     let p = err_from_is_err_and c.from_residual.result c.from_residual.ensures.1 in
     rw (p.1, p.2, c.in_err-batch.ensures.fault) (to_memory g.W.Wire c.args.limits c.args.wire.now c.loop-done.wire
-    (image_writes word image.first done)
-    (image_writes word at many ++ image_writes word (at + 4 * many) (image.count - (done + many)))
-    (image_writes word image.first image.count) (g.S.CallReports.held c.args.report.now)
-    (g.S.CallReports.held c.loop-done.report) c.loop-done.invariant.reported
-    (image_writes_left word image.first done many image.count (omega (arith, least))))
+    _ _ _ _ _ c.loop-done.invariant.reported
+    (image_writes_left _ c.args.image.now.first c.loop-done.done c.min-many.result c.args.image.now.count
+    (omega (arith, least))))
 
 pub returns-in_err-run_call-clause-report : goal.returns-in_err-run_call-clause-report
 returns-in_err-run_call-clause-report g c =
-    let image = c.args.image.now in
-    let word = image_loaded_word image.addr image.bytes.now image.edges.head image.edges.tail in
-    let done = c.loop-done.done in
-    let many = c.min-many.result in
-    let batch = script_batch_listed c.in_ok-batch.batch in
     let least = c.min-many.ensures in
-    let rest = image_writes word (image.first + 4 * done + 4 * many) (image.count - (done + many)) in
     let p = err_from_is_err_and c.from_residual-in_err-run_call.result c.from_residual-in_err-run_call.ensures.1 in
-    rw (p.1, p.2) (to_after g.W.Wire c.args.limits c.args.wire.now
-    c.loop-done.wire c.run_call.new.wire (image_writes word image.first done) batch.accesses rest
-    (image_writes word image.first image.count) _ (g.S.CallReports.held c.args.report.now)
-    (g.S.CallReports.held c.loop-done.report) (g.S.CallReports.held c.run_call.new.report)
+    rw (p.1, p.2) (to_after g.W.Wire c.args.limits c.args.wire.now c.loop-done.wire c.run_call.new.wire _ _ _ _ _ _ _ _
     c.loop-done.invariant.reported c.in_err-run_call.ensures.report
-    (image_writes_left word image.first done many image.count (omega (arith, least))
-    ∙ ap (λ b. image_writes word image.first done ++ (b.accesses ++ rest)) (sym c.in_ok-batch.ensures.batch))
-    (λ e. absurd cc))
+    (by_batch _ _ _ _ _ _ c.in_ok-batch.ensures.batch (omega (arith, least))) (λ e. absurd cc))
 
 pub returns-clause-report : goal.returns-clause-report
 returns-clause-report g c =
