@@ -1,5 +1,5 @@
 -- What a load, a verification and a dump state over wires, they state over all that the wires are known by.
-use Rattle.std.proofs.Common.{ℕ, List, [], ◌∷◌, Option, None, Some, Result, inl, inr, length, ap}
+use Rattle.std.proofs.Common.{◌≡◌, ℕ, List, [], ◌∷◌, Option, None, Some, Result, inl, inr, length, ap, subst}
 use Rattle.std.proofs.lemmas.Result.{IfErr-weaker, IfOk-weaker, on_ok_weaker}
 use Rattle.swd_port.specs.declared.wire.Wire.{Ghosts}
 use Rattle.swd_run.specs.declared.limits.Limits.{Limits}
@@ -78,43 +78,49 @@ module _ {W V : Type 0} (by : W → V) (wire : Ghosts V) (limits : Limits) where
     verify_fails_at_by rest later.0 u fault later.2,
   )
 
-  -- a load does
-  pub load_came_by : (pieces : List ImageFileBytes) (answer : Result (Unit {0}) ImageFault) (s t : W)
-      (a b : Option (Option (List ℕ))) → LoadCame (run_wire_by by wire) limits pieces answer s t a b
-      → LoadCame wire limits pieces answer (by s) (by t) a b
-  load_came_by pieces answer s t a b came = record {
-    loads = on_ok_weaker answer (all_by pieces s t) came.loads;
-    fault = IfErr-weaker answer _ _ (fails_at_by pieces s t) came.fault;
-    report = record {
-      list = came.report.list;
-      is = came.report.is;
-      reports = reports_by by wire limits came.report.list (image_fault_of answer) s t a b came.report.reports;
-    };
-  }
+  -- a load does, from what a wire is known by
+  pub load_came_by : (pieces : List ImageFileBytes) (answer : Result (Unit {0}) ImageFault) (s t : W) (known : V)
+      (a b : Option (Option (List ℕ))) → by s ≡ known
+      → LoadCame (run_wire_by by wire) limits pieces answer s t a b
+      → LoadCame wire limits pieces answer known (by t) a b
+  load_came_by pieces answer s t known a b is came =
+      subst (λ v. LoadCame wire limits pieces answer v (by t) a b) is (record {
+        loads = on_ok_weaker answer (all_by pieces s t) came.loads;
+        fault = IfErr-weaker answer _ _ (fails_at_by pieces s t) came.fault;
+        report = record {
+          list = came.report.list;
+          is = came.report.is;
+          reports = reports_by by wire limits came.report.list (image_fault_of answer) s t a b came.report.reports;
+        };
+      })
 
   -- a verification does
   pub verify_came_by : (pieces : List ImageFileBytes) (answer : Result (Option ByteDifference) ImageFault) (s t : W)
-      (a b : Option (Option (List ℕ))) → VerifyCame (run_wire_by by wire) limits pieces answer s t a b
-      → VerifyCame wire limits pieces answer (by s) (by t) a b
-  verify_came_by pieces answer s t a b came = record {
-    verifies = IfOk-weaker answer _ _ (λ difference. all_verified_by pieces difference s t) came.verifies;
-    fault = IfErr-weaker answer _ _ (verify_fails_at_by pieces s t) came.fault;
-    report = record {
-      front = came.report.front;
-      later = came.report.later;
-      split = came.report.split;
-      all = came.report.all;
-      reports = reports_by by wire limits (pieces_verify_list came.report.front) (image_fault_of answer) s t a b
-          came.report.reports;
-    };
-  }
+      (known : V) (a b : Option (Option (List ℕ))) → by s ≡ known
+      → VerifyCame (run_wire_by by wire) limits pieces answer s t a b
+      → VerifyCame wire limits pieces answer known (by t) a b
+  verify_came_by pieces answer s t known a b is came =
+      subst (λ v. VerifyCame wire limits pieces answer v (by t) a b) is (record {
+        verifies = IfOk-weaker answer _ _ (λ difference. all_verified_by pieces difference s t) came.verifies;
+        fault = IfErr-weaker answer _ _ (verify_fails_at_by pieces s t) came.fault;
+        report = record {
+          front = came.report.front;
+          later = came.report.later;
+          split = came.report.split;
+          all = came.report.all;
+          reports = reports_by by wire limits (pieces_verify_list came.report.front) (image_fault_of answer) s t a b
+              came.report.reports;
+        };
+      })
 
   -- a dump does
   pub dump_came_by : {X : Type 0} (addr count : ℕ) (answer : Result X ImageFault) (list : X → List ℕ) (s t : W)
-      (a b : Option (Option (List ℕ))) → DumpCame (run_wire_by by wire) limits addr count answer list s t a b
-      → DumpCame wire limits addr count answer list (by s) (by t) a b
-  dump_came_by addr count answer list s t a b came = record {
-    dumps = IfOk-weaker answer _ _ (λ bytes. dumps_by by wire limits addr count (list bytes) s t) came.dumps;
-    fault = IfErr-weaker answer _ _ (dump_fails_by by wire limits addr count s t) came.fault;
-    report = reports_by by wire limits (image_dump_list addr count) (image_fault_of answer) s t a b came.report;
-  }
+      (known : V) (a b : Option (Option (List ℕ))) → by s ≡ known
+      → DumpCame (run_wire_by by wire) limits addr count answer list s t a b
+      → DumpCame wire limits addr count answer list known (by t) a b
+  dump_came_by addr count answer list s t known a b is came =
+      subst (λ v. DumpCame wire limits addr count answer list v (by t) a b) is (record {
+        dumps = IfOk-weaker answer _ _ (λ bytes. dumps_by by wire limits addr count (list bytes) s t) came.dumps;
+        fault = IfErr-weaker answer _ _ (dump_fails_by by wire limits addr count s t) came.fault;
+        report = reports_by by wire limits (image_dump_list addr count) (image_fault_of answer) s t a b came.report;
+      })
