@@ -13,6 +13,9 @@ const STRAY: &[u8] = b"junk ";
 // How many bytes of each write are looked at.
 const LOOKED_AT: usize = 128;
 
+// How many lines of stray bits are enough: no more writes are looked at then, which would take longer than the listing.
+const ENOUGH: u64 = 1000;
+
 // Returns how many lines of stray bits these bytes have.
 fn stray_in(bytes: &[u8]) -> u64 {
     let mut count: u64 = 0;
@@ -93,9 +96,10 @@ impl Sample {
         self.found.other = self.found.other || bytes.is_empty();
     }
 
-    // Notes bytes that were written. All of them are looked at only where a line of a stray bit is among the first.
+    // Notes bytes that were written. All of them are looked at only where a line of a stray bit is among the first, and
+    // until enough were found.
     pub(crate) fn note_written(&mut self, bytes: &[u8]) {
-        if stray_in(&bytes[..bytes.len().min(LOOKED_AT)]) > 0 {
+        if self.stray < ENOUGH && stray_in(&bytes[..bytes.len().min(LOOKED_AT)]) > 0 {
             self.stray = self.stray.saturating_add(stray_in(bytes));
         }
         self.clocks.pass(bytes);
