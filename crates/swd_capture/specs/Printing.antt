@@ -71,11 +71,6 @@ abbrev pub capture_observer_of : Bool → TraceObserver
 capture_observer_of true = trace_observer_made
 capture_observer_of false = trace_observer_unknown
 
-abbrev pub capture_first_observer : Printed → TraceObserver
-capture_first_observer (Lines form) = trace_observer_unknown
-capture_first_observer Counts = trace_observer_unknown
-capture_first_observer (Accesses made) = capture_observer_of made
-
 -- the output for a part after others, which is due as soon as the part is decided
 abbrev pub capture_printed_entry : Printed → List Part → Part → List ℕ
 capture_printed_entry (Lines form) before part = capture_line_behind form (resync_items before) part

@@ -3,7 +3,6 @@
 #![tactic(auto)]
 
 mod access_line;
-mod bit_count;
 mod flags;
 mod junk_line;
 mod laws;

@@ -2,9 +2,8 @@
 ghost use Rattle.std.specs.Prelude.{◌≡◌, ◌+◌, ◌-◌, ◌<◌, ◌≤◌, ◌++◌, ◌∷◌, [], length};
 ghost use Rattle.arrayvec.specs.ArrayString.{array_string_len};
 ghost use Rattle.swd_bits.specs.Listing.{tx_line_address, tx_line_direction, tx_hex_digit, tx_line_outcome};
-ghost use Rattle.swd_capture.specs.Names.{capture_access_name, capture_ap_number, capture_ap_name, capture_bank_name};
-ghost use Rattle.swd_capture.specs.Names.{capture_dp_4_name, capture_banked_data_name, capture_dp_bank_name};
-ghost use Rattle.swd_capture.specs.Names.{capture_barrier_name, capture_dp_name, capture_identity_name};
+ghost use Rattle.swd_capture.specs.Names.{capture_ap_number, capture_ap_name, capture_bank_name};
+ghost use Rattle.swd_capture.specs.Names.{capture_dp_4_name, capture_dp_bank_name, capture_dp_name};
 ghost use Rattle.swd_capture.specs.Names.{capture_mem_ap_name, capture_register_name, capture_select_after};
 ghost use Rattle.swd_capture.specs.Names.{capture_select_by_tx, capture_writes_select};
 ghost use Rattle.swd_capture.specs.Printing.{capture_named_tx};
@@ -90,63 +89,26 @@ fn address_text(addr: Reg4) -> &'static str
     }
 }
 
-fn access_text(addr: Reg4) -> &'static str
-    ensures bytes { result.now ≡ capture_access_name addr }
-    ensures len { length result.now ≤ 10 }
-{
-    match addr {
-        Reg4::R0 => "csw ",
-        Reg4::R4 => "tar ",
-        Reg4::R8 => "tar_high ",
-        Reg4::RC => "drw ",
-    }
-}
-
-fn banked_data_text(addr: Reg4) -> &'static str
-    ensures bytes { result.now ≡ capture_banked_data_name addr }
-    ensures len { length result.now ≤ 10 }
-{
-    match addr {
-        Reg4::R0 => "bd0 ",
-        Reg4::R4 => "bd1 ",
-        Reg4::R8 => "bd2 ",
-        Reg4::RC => "bd3 ",
-    }
-}
-
-fn barrier_text(addr: Reg4) -> &'static str
-    ensures bytes { result.now ≡ capture_barrier_name addr }
-    ensures len { length result.now ≤ 10 }
-{
-    match addr {
-        Reg4::R0 => "mbt ",
-        _ => address_text(addr),
-    }
-}
-
-fn identity_text(addr: Reg4) -> &'static str
-    ensures bytes { result.now ≡ capture_identity_name addr }
-    ensures len { length result.now ≤ 10 }
-{
-    match addr {
-        Reg4::R0 => "base_high ",
-        Reg4::R4 => "cfg ",
-        Reg4::R8 => "base ",
-        Reg4::RC => "idr ",
-    }
-}
-
 // Returns the name of a MEM-AP register, by bank and address.
 fn mem_ap_text(number: u8, addr: Reg4) -> &'static str
     ensures bytes { result.now ≡ capture_mem_ap_name number addr }
     ensures len { length result.now ≤ 10 }
 {
-    match number {
-        0 => access_text(addr),
-        1 => banked_data_text(addr),
-        2 => barrier_text(addr),
-        15 => identity_text(addr),
-        _ => address_text(addr),
+    match (number, addr) {
+        (0, Reg4::R0) => "csw ",
+        (0, Reg4::R4) => "tar ",
+        (0, Reg4::R8) => "tar_high ",
+        (0, Reg4::RC) => "drw ",
+        (1, Reg4::R0) => "bd0 ",
+        (1, Reg4::R4) => "bd1 ",
+        (1, Reg4::R8) => "bd2 ",
+        (1, Reg4::RC) => "bd3 ",
+        (2, Reg4::R0) => "mbt ",
+        (15, Reg4::R0) => "base_high ",
+        (15, Reg4::R4) => "cfg ",
+        (15, Reg4::R8) => "base ",
+        (15, Reg4::RC) => "idr ",
+        (_, addr) => address_text(addr),
     }
 }
 

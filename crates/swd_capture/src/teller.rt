@@ -6,10 +6,8 @@ ghost use Rattle.swd_resync.specs.AsItems.{resync_part_items};
 ghost use Rattle.swd_trace.specs.Texts.{bits_of_items};
 ghost use Rattle.swd_capture.specs.declared.printed.Printed.{Printed};
 ghost use Rattle.swd_capture.specs.Names.{capture_select_from};
-ghost use Rattle.swd_capture.specs.Printing.{capture_first_observer, capture_line_if, capture_part_line};
-ghost use Rattle.swd_capture.specs.Printing.{capture_place_if};
+ghost use Rattle.swd_capture.specs.Printing.{capture_line_if, capture_observer_of, capture_part_line, capture_place_if};
 
-use crate::bit_count::bit_count;
 use crate::junk_line::Tens;
 use crate::names::{LONGEST_NAMED, push_named, selected_after};
 use crate::printed::{LineForm, Printed};
@@ -36,15 +34,27 @@ pub const MOST_JUNK: u8 = 8;
 /// allocates nothing.
 #[derive(Drop)]
 pub struct Teller {
-    printed: Printed,
+    telling: Telling,
+}
+
+// What a teller keeps, by what it prints.
+#[derive(Drop)]
+enum Telling {
+    Lines(PartLines),
+    Counts(Table),
+    Accesses(Watching),
+}
+
+// What the lines of parts depend on.
+#[derive(Drop)]
+struct PartLines {
+    form: LineForm,
     // The number of bits of the parts so far, at most 2^64 - 1.
     place: u64,
     // How the places of junk bits begin.
     tens: Tens,
     // What is known of SELECT.
     select: Option<Select>,
-    table: Table,
-    watching: Watching,
 }
 
 // Appends a place, if lines begin with it.
@@ -114,21 +124,88 @@ pub(crate) fn place_behind_part(place: u64, part: &Part) -> u64
     ensures { result ≡ min (place + length (bits_of_items (resync_part_items part.now))) (2 ^ 64 - 1) }
 {
     match part {
-        Part::Item(item) => place.saturating_add(bit_count(item)),
+        Part::Item(item) => place.saturating_add(item.bit_count()),
         Part::Phased(tx) => place
-            .saturating_add(bit_count(&Item::Tx(*tx)))
+            .saturating_add(Item::Tx(*tx).bit_count())
             .saturating_add(u64::from(PHASE_BITS)),
         Part::Skip(count) => place.saturating_add(*count),
     }
 }
 
 // Returns the observer before the first part.
-fn observer_of_printed(printed: Printed) -> TraceObserver
-    ensures { result ≡ capture_first_observer printed }
+fn observer_of(made: bool) -> TraceObserver
+    ensures { result ≡ capture_observer_of made }
 {
-    match printed {
-        Printed::Accesses { made: true } => TraceObserver::of_made(),
-        _ => TraceObserver::new(),
+    if made {
+        TraceObserver::of_made()
+    } else {
+        TraceObserver::new()
+    }
+}
+
+impl PartLines {
+    ghost use Rattle.swd_bits.specs.BitLists.{tx_bits_of};
+    ghost use Rattle.swd_capture.specs.Printing.{capture_junk_parts, capture_printed_entry, capture_printed_parts};
+    ghost use Rattle.swd_capture.specs.declared.printed.Printed.TheVariants.{Lines};
+    ghost use Rattle.swd_capture.specs.Tellers.{AreCaptureLinesAfter};
+
+    // Returns the state before the first part.
+    fn new(form: LineForm) -> PartLines
+        ensures form { result.form ≡ form }
+        ensures after { AreCaptureLinesAfter [] result }
+    {
+        PartLines {
+            form,
+            place: 0,
+            tens: Tens::new(),
+            select: None,
+        }
+    }
+
+    // Appends the lines of junk bits, and updates place and SELECT once.
+    fn tell_junk<const N: usize>(&mut self, junk: TxBits, text: &mut ArrayString<N>)
+        requires few { junk.len ≤ MOST_JUNK }
+        requires room { array_string_len text.old + LONGEST_ENTRY ≤ N }
+        ensures form { self.new.form ≡ self.old.form }
+        ensures after { (parts : List Part) → AreCaptureLinesAfter parts self.old
+            → AreCaptureLinesAfter (parts ++ capture_junk_parts (tx_bits_of junk)) self.new }
+        ensures bytes { (parts : List Part) → AreCaptureLinesAfter parts self.old
+            → (more : List ℕ) × (text.new.bytes ≡ text.old.bytes ++ more)
+            × (capture_printed_parts (Lines self.old.form) (parts ++ capture_junk_parts (tx_bits_of junk))
+            ≡ capture_printed_parts (Lines self.old.form) parts ++ more) }
+        ensures len { array_string_len text.new ≤ array_string_len text.old + LONGEST_ENTRY }
+    {
+        let mut place = self.place;
+        let mut bits = junk.bits;
+        let mut left = junk.len;
+        while left > 0 {
+            self.tens
+                .push_junk(self.form.places, place, bits % 2 == 1, text);
+            place = place.saturating_add(1);
+            bits /= 2;
+            left -= 1;
+        }
+        self.place = place;
+        // They count as bits that were skipped.
+        let skipped = Part::Skip(u64::from(junk.len));
+        self.select = selected_behind(self.select, &skipped);
+    }
+
+    // Appends the part's line, and updates place and SELECT.
+    fn tell<const N: usize>(&mut self, part: &Part, text: &mut ArrayString<N>)
+        requires { array_string_len text.old + LONGEST_ENTRY ≤ N }
+        ensures form { self.new.form ≡ self.old.form }
+        ensures after { (parts : List Part) → AreCaptureLinesAfter parts self.old
+            → AreCaptureLinesAfter (parts ++ part.now ∷ []) self.new }
+        ensures bytes { (parts : List Part) → AreCaptureLinesAfter parts self.old
+            → text.new.bytes ≡ text.old.bytes ++ capture_printed_entry (Lines self.old.form) parts part.now }
+        ensures len { array_string_len text.new ≤ array_string_len text.old + LONGEST_ENTRY }
+    {
+        push_place(text, self.form.places, self.place);
+        push_part_line(text, self.form.names, self.select, part);
+        text.push_str("\n");
+        self.place = place_behind_part(self.place, part);
+        self.select = selected_behind(self.select, part);
     }
 }
 
@@ -136,21 +213,18 @@ impl Teller {
     ghost use Rattle.swd_bits.specs.BitLists.{tx_bits_of};
     ghost use Rattle.swd_capture.specs.Printing.{capture_end_row_printed, capture_printed_entry, capture_junk_parts};
     ghost use Rattle.swd_capture.specs.Printing.{capture_row_count, capture_printed_parts};
-    ghost use Rattle.swd_capture.specs.declared.printed.Printed.TheVariants.{Lines};
     ghost use Rattle.swd_capture.specs.Tellers.{IsCaptureTellerAfter};
 
     /// Returns a teller that was given no parts.
     pub fn new(printed: Printed) -> Teller
         ensures { IsCaptureTellerAfter printed [] result }
     {
-        Teller {
-            printed,
-            place: 0,
-            tens: Tens::new(),
-            select: None,
-            table: Table::new(),
-            watching: Watching::new(observer_of_printed(printed)),
-        }
+        let telling = match printed {
+            Printed::Lines(form) => Telling::Lines(PartLines::new(form)),
+            Printed::Counts => Telling::Counts(Table::new()),
+            Printed::Accesses { made } => Telling::Accesses(Watching::new(observer_of(made))),
+        };
+        Teller { telling }
     }
 
     /// Takes the next part, and appends its output to `text`.
@@ -164,10 +238,10 @@ impl Teller {
             → text.new.bytes ≡ text.old.bytes ++ capture_printed_entry printed parts part.now }
         ensures len { array_string_len text.new ≤ array_string_len text.old + LONGEST_ENTRY }
     {
-        match self.printed {
-            Printed::Lines(form) => self.tell_line(form, part, text),
-            Printed::Counts => self.table.add(part),
-            Printed::Accesses { .. } => self.watching.watch(part, text),
+        match &mut self.telling {
+            Telling::Lines(lines) => lines.tell(part, text),
+            Telling::Counts(table) => table.add(part),
+            Telling::Accesses(watching) => watching.watch(part, text),
         }
     }
 
@@ -186,68 +260,17 @@ impl Teller {
             ≡ capture_printed_parts printed parts ++ more) }
         ensures len { array_string_len text.new ≤ array_string_len text.old + LONGEST_ENTRY }
     {
-        match self.printed {
-            Printed::Lines(form) => self.tell_junk_lines(form, junk, text),
-            Printed::Counts => self.table.add_junk(junk.len),
-            Printed::Accesses { .. } => {
+        match &mut self.telling {
+            Telling::Lines(lines) => lines.tell_junk(junk, text),
+            Telling::Counts(table) => table.add_junk(junk.len),
+            Telling::Accesses(watching) => {
                 if junk.len > 0 {
                     // After the first of them nothing is known of the target.
-                    self.watching.flush(text);
-                    self.watching.lose(u64::from(junk.len), text);
+                    watching.flush(text);
+                    watching.lose(u64::from(junk.len), text);
                 }
             }
         }
-    }
-
-    // Appends the lines of junk bits, and updates place and SELECT once.
-    fn tell_junk_lines<const N: usize>(
-        &mut self,
-        form: LineForm,
-        junk: TxBits,
-        text: &mut ArrayString<N>,
-    )
-        requires few { junk.len ≤ MOST_JUNK }
-        requires room { array_string_len text.old + LONGEST_ENTRY ≤ N }
-        ensures after { (parts : List Part) → IsCaptureTellerAfter (Lines form) parts self.old
-            → IsCaptureTellerAfter (Lines form) (parts ++ capture_junk_parts (tx_bits_of junk)) self.new }
-        ensures bytes { (parts : List Part) → IsCaptureTellerAfter (Lines form) parts self.old
-            → (more : List ℕ) × (text.new.bytes ≡ text.old.bytes ++ more)
-            × (capture_printed_parts (Lines form) (parts ++ capture_junk_parts (tx_bits_of junk))
-            ≡ capture_printed_parts (Lines form) parts ++ more) }
-        ensures len { array_string_len text.new ≤ array_string_len text.old + LONGEST_ENTRY }
-    {
-        let mut place = self.place;
-        let mut bits = junk.bits;
-        let mut left = junk.len;
-        while left > 0 {
-            self.tens.push_junk(form.places, place, bits % 2 == 1, text);
-            place = place.saturating_add(1);
-            bits /= 2;
-            left -= 1;
-        }
-        self.place = place;
-        // They count as bits that were skipped.
-        let skipped = Part::Skip(u64::from(junk.len));
-        self.select = selected_behind(self.select, &skipped);
-    }
-
-    // Appends the part's line, and updates place and SELECT.
-    fn tell_line<const N: usize>(&mut self, form: LineForm, part: &Part, text: &mut ArrayString<N>)
-        requires { array_string_len text.old + LONGEST_ENTRY ≤ N }
-        ensures printed { self.new.printed ≡ self.old.printed }
-        ensures place { self.new.place
-            ≡ min (self.old.place + length (bits_of_items (resync_part_items part.now))) (2 ^ 64 - 1) }
-        ensures select { self.new.select ≡ capture_select_from self.old.select
-            (resync_part_items part.now) }
-        ensures bytes { text.new.bytes ≡ text.old.bytes ++ (capture_place_if form.places self.old.place
-            ++ capture_part_line form.names self.old.select part.now ++ 10 ∷ []) }
-        ensures len { array_string_len text.new ≤ array_string_len text.old + LONGEST_ENTRY }
-    {
-        push_place(text, form.places, self.place);
-        push_part_line(text, form.names, self.select, part);
-        text.push_str("\n");
-        self.place = place_behind_part(self.place, part);
-        self.select = selected_behind(self.select, part);
     }
 
     /// Returns how many rows are printed at the end.
@@ -257,10 +280,10 @@ impl Teller {
             → result ≡ capture_row_count printed }
         ensures most { result ≤ ROWS }
     {
-        match self.printed {
-            Printed::Lines(_) => 0,
-            Printed::Counts => ROWS,
-            Printed::Accesses { .. } => 2,
+        match &self.telling {
+            Telling::Lines(_) => 0,
+            Telling::Counts(_) => ROWS,
+            Telling::Accesses(_) => 2,
         }
     }
 
@@ -273,14 +296,14 @@ impl Teller {
             → text.new.bytes ≡ text.old.bytes ++ capture_end_row_printed printed parts row }
         ensures len { array_string_len text.new ≤ array_string_len text.old + LONGEST_ENTRY }
     {
-        match self.printed {
-            Printed::Lines(_) => {}
-            Printed::Counts => self.table.push_row(row, text),
-            Printed::Accesses { .. } => {
+        match &self.telling {
+            Telling::Lines(_) => {}
+            Telling::Counts(table) => table.push_row(row, text),
+            Telling::Accesses(watching) => {
                 if row == 0 {
-                    self.watching.push_held(text);
+                    watching.push_held(text);
                 } else {
-                    self.watching.push_last(text);
+                    watching.push_last(text);
                 }
             }
         }

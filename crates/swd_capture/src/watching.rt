@@ -1,5 +1,6 @@
 //! Prints what the parts of a capture show of the target's memory.
-ghost use Rattle.std.specs.Prelude.{◌≡◌, ◌+◌, ◌-◌, ◌*◌, ◌^◌, ◌≤◌, ◌++◌, ◌∷◌, [], true, false, length, min, replicate};
+ghost use Rattle.std.specs.Prelude.{◌≡◌, ◌+◌, ◌-◌, ◌*◌, ◌^◌, ◌≤◌, ◌++◌, ◌∷◌, [], ℕ, List, true, false, length, min};
+ghost use Rattle.std.specs.Prelude.{replicate};
 ghost use Rattle.arrayvec.specs.ArrayString.{array_string_len};
 ghost use Rattle.swd_trace.specs.declared.item.Item.TheVariants.{Junk};
 ghost use Rattle.swd_resync.specs.AsItems.{resync_part_items};
@@ -179,7 +180,7 @@ impl Watching {
     ghost use Rattle.swd_capture.specs.Gaps.{CaptureRun, capture_due_at, capture_run_after, capture_run_none};
     ghost use Rattle.swd_capture.specs.Gaps.{capture_run_items, capture_run_of, capture_run_idle, capture_due_idle};
     ghost use Rattle.swd_capture.specs.Gaps.{capture_run_after_item, capture_due_item};
-    ghost use Rattle.swd_capture.specs.Tellers.{IsCaptureWatching};
+    ghost use Rattle.swd_capture.specs.Tellers.{CaptureShows, IsCaptureWatching};
 
     /// Returns one that was given no parts.
     pub(crate) fn new(observer: TraceObserver) -> Watching
@@ -196,11 +197,8 @@ impl Watching {
     /// Takes the transaction that waits, and appends the lines of what it shows: no skip follows.
     pub(crate) fn flush<const N: usize>(&mut self, text: &mut ArrayString<N>)
         requires { array_string_len text.old + LONGEST_SHOWN ≤ N }
-        ensures none { IsCaptureWatching capture_run_none self.new }
-        ensures observer { (run : CaptureRun) → IsCaptureWatching run self.old
-            → self.new.observer ≡ trace_observer_after (capture_run_items run) self.old.observer }
-        ensures bytes { (run : CaptureRun) → IsCaptureWatching run self.old
-            → text.new.bytes ≡ text.old.bytes ++ observer_text_of_items (capture_run_items run) self.old.observer }
+        ensures shows { (run : CaptureRun) → IsCaptureWatching run self.old → CaptureShows (capture_run_items run)
+            capture_run_none self.old self.new text.old.bytes text.new.bytes }
         ensures len { array_string_len text.new ≤ array_string_len text.old + LONGEST_SHOWN }
     {
         match self.held {
@@ -217,23 +215,19 @@ impl Watching {
     // Takes a transaction.
     fn hold<const N: usize>(&mut self, part: Part, text: &mut ArrayString<N>)
         requires { array_string_len text.old + LONGEST_SHOWN ≤ N }
-        ensures held { IsCaptureWatching (capture_run_of part) self.new }
-        ensures observer { (run : CaptureRun) → IsCaptureWatching run self.old
-            → self.new.observer ≡ trace_observer_after (capture_run_items run) self.old.observer }
-        ensures bytes { (run : CaptureRun) → IsCaptureWatching run self.old
-            → text.new.bytes ≡ text.old.bytes ++ observer_text_of_items (capture_run_items run) self.old.observer }
+        ensures shows { (run : CaptureRun) → IsCaptureWatching run self.old → CaptureShows (capture_run_items run)
+            (capture_run_of part) self.old self.new text.old.bytes text.new.bytes }
         ensures len { array_string_len text.new ≤ array_string_len text.old + LONGEST_SHOWN }
     {
         self.flush(text);
         self.held = Some(part);
     }
 
-    // Takes idle cycles.
+    // Takes idle cycles, which show nothing.
     fn rest(&mut self, count: u64)
-        ensures keeps { (run : CaptureRun) → IsCaptureWatching run self.old
-            → IsCaptureWatching (capture_run_idle run.part run.idle count) self.new }
-        ensures observer { (run : CaptureRun) → IsCaptureWatching run self.old
-            → self.new.observer ≡ trace_observer_after (capture_due_idle run.part count) self.old.observer }
+        ensures { (run : CaptureRun) (text : List ℕ) → IsCaptureWatching run self.old
+            → CaptureShows (capture_due_idle run.part count) (capture_run_idle run.part run.idle count)
+            self.old self.new text text }
     {
         match self.held {
             None => {
@@ -260,11 +254,8 @@ impl Watching {
     // Takes a skip, and with it what waits.
     fn skip<const N: usize>(&mut self, count: u64, text: &mut ArrayString<N>)
         requires { array_string_len text.old + LONGEST_SHOWN ≤ N }
-        ensures none { IsCaptureWatching capture_run_none self.new }
-        ensures observer { (run : CaptureRun) → IsCaptureWatching run self.old
-            → self.new.observer ≡ trace_observer_after (capture_due_at run (Skip count)) self.old.observer }
-        ensures bytes { (run : CaptureRun) → IsCaptureWatching run self.old → text.new.bytes ≡ text.old.bytes
-            ++ observer_text_of_items (capture_due_at run (Skip count)) self.old.observer }
+        ensures shows { (run : CaptureRun) → IsCaptureWatching run self.old → CaptureShows
+            (capture_due_at run (Skip count)) capture_run_none self.old self.new text.old.bytes text.new.bytes }
         ensures len { array_string_len text.new ≤ array_string_len text.old + LONGEST_SHOWN }
     {
         let all = held_len(self.held, self.idle).saturating_add(count);
@@ -276,11 +267,8 @@ impl Watching {
     // Takes an item that isn't a transaction or idle cycles.
     fn pass<const N: usize>(&mut self, item: &Item, text: &mut ArrayString<N>)
         requires { array_string_len text.old + 2 * LONGEST_SHOWN ≤ N }
-        ensures none { IsCaptureWatching capture_run_none self.new }
-        ensures observer { (run : CaptureRun) → IsCaptureWatching run self.old → self.new.observer
-            ≡ trace_observer_after (capture_run_items run ++ item.now ∷ []) self.old.observer }
-        ensures bytes { (run : CaptureRun) → IsCaptureWatching run self.old → text.new.bytes ≡ text.old.bytes
-            ++ observer_text_of_items (capture_run_items run ++ item.now ∷ []) self.old.observer }
+        ensures shows { (run : CaptureRun) → IsCaptureWatching run self.old → CaptureShows
+            (capture_run_items run ++ item.now ∷ []) capture_run_none self.old self.new text.old.bytes text.new.bytes }
         ensures len { array_string_len text.new ≤ array_string_len text.old + 2 * LONGEST_SHOWN }
     {
         self.flush(text);
@@ -290,21 +278,15 @@ impl Watching {
     // Takes an item of a stretch.
     fn watch_item<const N: usize>(&mut self, item: &Item, text: &mut ArrayString<N>)
         requires { array_string_len text.old + 2 * LONGEST_SHOWN ≤ N }
-        ensures keeps { (run : CaptureRun) → IsCaptureWatching run self.old
-            → IsCaptureWatching (capture_run_after_item run item.now) self.new }
-        ensures observer { (run : CaptureRun) → IsCaptureWatching run self.old
-            → self.new.observer ≡ trace_observer_after (capture_due_item run item.now) self.old.observer }
-        ensures bytes { (run : CaptureRun) → IsCaptureWatching run self.old → text.new.bytes ≡ text.old.bytes
-            ++ observer_text_of_items (capture_due_item run item.now) self.old.observer }
+        ensures shows { (run : CaptureRun) → IsCaptureWatching run self.old → CaptureShows
+            (capture_due_item run item.now) (capture_run_after_item run item.now)
+            self.old self.new text.old.bytes text.new.bytes }
         ensures len { array_string_len text.new ≤ array_string_len text.old + 2 * LONGEST_SHOWN }
     {
         match item {
             Item::Tx(tx) => self.hold(Part::Item(Item::Tx(*tx)), text),
             Item::Idle(count) => self.rest(*count),
-            Item::Reset(count) => self.pass(&Item::Reset(*count), text),
-            Item::Switch => self.pass(&Item::Switch, text),
-            Item::Junk(bit) => self.pass(&Item::Junk(*bit), text),
-            Item::Cut(bits) => self.pass(&Item::Cut(*bits), text),
+            Item::Reset(_) | Item::Switch | Item::Junk(_) | Item::Cut(_) => self.pass(item, text),
         }
     }
 
@@ -321,12 +303,9 @@ impl Watching {
     /// and `WORD` are eight lower-case hexadecimal digits, or `????????` if unknown. Accesses are listed in their order.
     pub(crate) fn watch<const N: usize>(&mut self, part: &Part, text: &mut ArrayString<N>)
         requires { array_string_len text.old + 2 * LONGEST_SHOWN ≤ N }
-        ensures keeps { (run : CaptureRun) → IsCaptureWatching run self.old
-            → IsCaptureWatching (capture_run_after run part.now) self.new }
-        ensures observer { (run : CaptureRun) → IsCaptureWatching run self.old
-            → self.new.observer ≡ trace_observer_after (capture_due_at run part.now) self.old.observer }
-        ensures bytes { (run : CaptureRun) → IsCaptureWatching run self.old → text.new.bytes ≡ text.old.bytes
-            ++ observer_text_of_items (capture_due_at run part.now) self.old.observer }
+        ensures shows { (run : CaptureRun) → IsCaptureWatching run self.old → CaptureShows
+            (capture_due_at run part.now) (capture_run_after run part.now)
+            self.old self.new text.old.bytes text.new.bytes }
         ensures len { array_string_len text.new ≤ array_string_len text.old + 2 * LONGEST_SHOWN }
     {
         match part {

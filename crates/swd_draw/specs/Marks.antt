@@ -97,17 +97,20 @@ rect_text x width shade =
     codes "<rect x='" ++ decimal x ++ codes "' y='74' width='" ++ decimal width ++ codes "' height='50' class='"
     ++ shade_class shade ++ codes "'/>"
 
--- a text that is centred at `x`, below the top of a box or above its bottom
-unfoldable pub top_text : ℕ → List ℕ → List ℕ
-top_text x text = codes "<text x='" ++ decimal x ++ codes "' y='88' class='m'>" ++ text ++ codes "</text>"
+-- a text at `x`, in the element that `start` and `rest` begin
+unfoldable pub label_text : List ℕ → ℕ → List ℕ → List ℕ → List ℕ
+label_text start x rest text = start ++ decimal x ++ rest ++ text ++ codes "</text>"
 
-unfoldable pub bottom_text : ℕ → List ℕ → List ℕ
-bottom_text x text = codes "<text x='" ++ decimal x ++ codes "' y='120' class='m'>" ++ text ++ codes "</text>"
+-- a text that is centred at `x`, below the top of a box or above its bottom
+abbrev pub top_text : ℕ → List ℕ → List ℕ
+top_text x text = label_text (codes "<text x='") x (codes "' y='88' class='m'>") text
+
+abbrev pub bottom_text : ℕ → List ℕ → List ℕ
+bottom_text x text = label_text (codes "<text x='") x (codes "' y='120' class='m'>") text
 
 -- a text that is written upwards, for a narrow box
-unfoldable pub turned_text : ℕ → List ℕ → List ℕ
-turned_text x text =
-    codes "<text transform='translate(" ++ decimal x ++ codes ",110)rotate(-90)'>" ++ text ++ codes "</text>"
+abbrev pub turned_text : ℕ → List ℕ → List ℕ
+turned_text x text = label_text (codes "<text transform='translate(") x (codes ",110)rotate(-90)'>") text
 
 -- a name over `len` bits, centred at `x`
 abbrev pub box_title : ℕ → ℕ → List ℕ → List ℕ

@@ -1,15 +1,15 @@
 //! Appends pieces of SVG text.
-ghost use Rattle.std.specs.Prelude.{◌≡◌, ◌+◌, ◌*◌, ◌<◌, ◌≤◌, ◌++◌, ◌∷◌, [], length, map};
+ghost use Rattle.std.specs.Prelude.{◌≡◌, ◌+◌, ◌*◌, ◌<◌, ◌≤◌, ◌++◌, length};
 ghost use Rattle.std.specs.Fmt.{decimal};
 ghost use Rattle.arrayvec.specs.ArrayString.{array_string_len};
 ghost use Rattle.swd_bits.specs.BitLists.{tx_bits_of};
-ghost use Rattle.swd_trace.specs.Texts.{trace_digit};
-ghost use Rattle.swd_draw.specs.Marks.{ack_value, bottom_text, box_text, field_wave, level_piece, rect_text, times};
-ghost use Rattle.swd_draw.specs.Marks.{box_title, top_text, turned_text, value_text, wave};
+ghost use Rattle.swd_draw.specs.Marks.{ack_value, box_text, field_wave, label_text, level_piece, rect_text, times};
+ghost use Rattle.swd_draw.specs.Marks.{box_title, value_text, wave};
 
 use crate::field::{Name, Shade};
 use arrayvec::ArrayString;
 use swd_bits::{TxBits, push_word};
+use swd_trace::push_bits;
 
 /// The most bytes of a box with its name and its value.
 pub(crate) const LONGEST_BOX: usize = 320;
@@ -49,48 +49,24 @@ fn push_rect<const N: usize>(text: &mut ArrayString<N>, x: u64, width: u64, shad
     text.push_str("'/>");
 }
 
-// Appends a centred text at the top of a box.
-#[tactic(auto, unfolding(crate::specs::Marks::top_text))]
-fn push_top<const N: usize>(text: &mut ArrayString<N>, x: u64, name: &str)
-    requires short { length name.now ≤ 16 }
-    requires room { array_string_len text.old + 90 ≤ N }
-    ensures bytes { text.new.bytes ≡ text.old.bytes ++ top_text x name.now }
-    ensures len { array_string_len text.new ≤ array_string_len text.old + 90 }
+// Appends a text at a place: `start` and `rest` are the element around the place.
+#[tactic(auto, unfolding(crate::specs::Marks::label_text))]
+fn push_label<const N: usize>(
+    text: &mut ArrayString<N>,
+    start: &str,
+    x: u64,
+    rest: &str,
+    label: &str,
+)
+    requires room { array_string_len text.old + length start.now + length rest.now + length label.now + 27 ≤ N }
+    ensures bytes { text.new.bytes ≡ text.old.bytes ++ label_text start.now x rest.now label.now }
+    ensures len { array_string_len text.new
+        ≤ array_string_len text.old + length start.now + length rest.now + length label.now + 27 }
 {
-    text.push_str("<text x='");
+    text.push_str(start);
     push_number(text, x);
-    text.push_str("' y='88' class='m'>");
-    text.push_str(name);
-    text.push_str("</text>");
-}
-
-// Appends a text that is written upwards.
-#[tactic(auto, unfolding(crate::specs::Marks::turned_text))]
-fn push_turned<const N: usize>(text: &mut ArrayString<N>, x: u64, name: &str)
-    requires short { length name.now ≤ 16 }
-    requires room { array_string_len text.old + 90 ≤ N }
-    ensures bytes { text.new.bytes ≡ text.old.bytes ++ turned_text x name.now }
-    ensures len { array_string_len text.new ≤ array_string_len text.old + 90 }
-{
-    text.push_str("<text transform='translate(");
-    push_number(text, x);
-    text.push_str(",110)rotate(-90)'>");
-    text.push_str(name);
-    text.push_str("</text>");
-}
-
-// Appends a centred text at the bottom of a box.
-#[tactic(auto, unfolding(crate::specs::Marks::bottom_text))]
-fn push_bottom<const N: usize>(text: &mut ArrayString<N>, x: u64, value: &str)
-    requires short { length value.now ≤ 64 }
-    requires room { array_string_len text.old + 120 ≤ N }
-    ensures bytes { text.new.bytes ≡ text.old.bytes ++ bottom_text x value.now }
-    ensures len { array_string_len text.new ≤ array_string_len text.old + 120 }
-{
-    text.push_str("<text x='");
-    push_number(text, x);
-    text.push_str("' y='120' class='m'>");
-    text.push_str(value);
+    text.push_str(rest);
+    text.push_str(label);
     text.push_str("</text>");
 }
 
@@ -103,9 +79,15 @@ fn push_title<const N: usize>(text: &mut ArrayString<N>, x: u64, len: u8, name: 
     ensures len { array_string_len text.new ≤ array_string_len text.old + 90 }
 {
     if len < 3 {
-        push_turned(text, x + 3, name);
+        push_label(
+            text,
+            "<text transform='translate(",
+            x + 3,
+            ",110)rotate(-90)'>",
+            name,
+        );
     } else {
-        push_top(text, x, name);
+        push_label(text, "<text x='", x, "' y='88' class='m'>", name);
     }
 }
 
@@ -129,7 +111,7 @@ pub(crate) fn push_box<const N: usize>(
     let middle = left + 6 * u64::from(len);
     push_rect(text, left, 12 * u64::from(len), shade);
     push_title(text, middle, len, name);
-    push_bottom(text, middle, value);
+    push_label(text, "<text x='", middle, "' y='120' class='m'>", value);
     text.push_str("\n");
 }
 
@@ -179,25 +161,6 @@ pub(crate) fn push_field_wave<const N: usize>(text: &mut ArrayString<N>, shade: 
     }
 }
 
-fn digit_text(bit: bool) -> &'static str
-    ensures { result.now ≡ trace_digit bit ∷ [] }
-{
-    if bit { "1" } else { "0" }
-}
-
-// Appends bits as digits.
-fn push_digits<const N: usize>(text: &mut ArrayString<N>, bits: TxBits)
-    requires { array_string_len text.old + bits.len ≤ N }
-    ensures bytes { text.new.bytes ≡ text.old.bytes ++ map trace_digit (tx_bits_of bits) }
-    ensures len { array_string_len text.new ≡ array_string_len text.old + bits.len }
-{
-    let mut rest = bits.bits;
-    for _ in 0..bits.len {
-        text.push_str(digit_text(rest % 2 == 1));
-        rest /= 2;
-    }
-}
-
 // Appends the name of an acknowledgement, or its bits.
 #[tactic(auto, unfolding(crate::specs::Marks::ack_value))]
 fn push_ack(text: &mut Value, bits: TxBits)
@@ -209,7 +172,7 @@ fn push_ack(text: &mut Value, bits: TxBits)
         1 => text.push_str("OK"),
         2 => text.push_str("WAIT"),
         4 => text.push_str("FAULT"),
-        _ => push_digits(text, bits),
+        _ => push_bits(text, bits),
     }
 }
 
@@ -224,7 +187,7 @@ pub(crate) fn value_of(name: Name, bits: TxBits) -> Value
         Name::Turnaround | Name::Ignored => {}
         Name::Ack => push_ack(&mut text, bits),
         Name::ReadData | Name::WriteData => push_word(&mut text, (bits.bits % (1 << 32)) as u32),
-        _ => push_digits(&mut text, bits),
+        _ => push_bits(&mut text, bits),
     }
     text
 }

@@ -1,5 +1,5 @@
 //! The listing line of an item, on the stack.
-ghost use Rattle.std.specs.Prelude.{◌≡◌, ◌+◌, ◌-◌, ◌<◌, ◌≤◌, ◌++◌, ◌∷◌, [], map};
+ghost use Rattle.std.specs.Prelude.{◌≡◌, ◌+◌, ◌-◌, ◌<◌, ◌≤◌, ◌++◌, ◌∷◌, [], codes, map};
 ghost use Rattle.std.specs.Fmt.{decimal};
 ghost use Rattle.arrayvec.specs.ArrayString.{array_string_len};
 ghost use Rattle.swd_bits.specs.BitLists.{tx_bits_of};
@@ -49,10 +49,7 @@ impl Item {
                 text.push_str("junk ");
                 text.push_str(bit_text(*bit));
             }
-            Item::Cut(bits) => {
-                text.push_str("cut ");
-                push_bits(text, *bits);
-            }
+            Item::Cut(bits) => push_cut(text, *bits),
         }
     }
 }
@@ -76,16 +73,26 @@ fn push_count<const N: usize>(text: &mut ArrayString<N>, count: u64)
     text.push_str(digits.format(count));
 }
 
+fn push_cut<const N: usize>(text: &mut ArrayString<N>, bits: TxBits)
+    requires { array_string_len text.old + 259 ≤ N }
+    ensures bytes { text.new.bytes ≡ text.old.bytes ++ (codes "cut " ++ map trace_digit (tx_bits_of bits)) }
+    ensures len { array_string_len text.new ≤ array_string_len text.old + 259 }
+{
+    text.push_str("cut ");
+    push_bits(text, bits);
+}
+
 fn bit_text(bit: bool) -> &'static str
     ensures { result.now ≡ trace_digit bit ∷ [] }
 {
     if bit { "1" } else { "0" }
 }
 
-fn push_bits<const N: usize>(text: &mut ArrayString<N>, bits: TxBits)
-    requires { array_string_len text.old + 255 ≤ N }
+/// Appends bits as digits, the first one first.
+pub fn push_bits<const N: usize>(text: &mut ArrayString<N>, bits: TxBits)
+    requires { array_string_len text.old + bits.len ≤ N }
     ensures bytes { text.new.bytes ≡ text.old.bytes ++ map trace_digit (tx_bits_of bits) }
-    ensures len { array_string_len text.new ≤ array_string_len text.old + 255 }
+    ensures len { array_string_len text.new ≡ array_string_len text.old + bits.len }
 {
     let mut rest = bits.bits;
     for _ in 0..bits.len {

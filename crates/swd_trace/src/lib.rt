@@ -1,6 +1,7 @@
 //! Items of a trace of the wire: line resets, switches, idle cycles, transactions, junk bits and a cut end.
 #![tactic(auto)]
 
+mod bit_count;
 mod decoder;
 mod encoder;
 mod found_tx;
@@ -21,7 +22,7 @@ pub use front::Front;
 pub use grammar::front_of;
 pub use item::Item;
 pub use item_bytes::ItemBytes;
-pub use item_text::{ItemLine, LONGEST_LINE};
+pub use item_text::{ItemLine, LONGEST_LINE, push_bits};
 pub use laws::{
     one_list_is_decided, readings_are_read_again, tests_of_the_reading, transactions_are_read,
 };

@@ -1,16 +1,14 @@
 //! Collects the lines of a listing, byte by byte.
-ghost use Rattle.std.specs.Prelude.{◌≡◌, ◌+◌, ◌^◌, ◌<◌, ◌∷◌, ◌++◌, [], ℕ, List, length, true, OnOk, IfOk, IfErr};
-ghost use Rattle.swd_bits.specs.Transactions.{tx_spelling_bits};
+ghost use Rattle.std.specs.Prelude.{◌≡◌, ◌+◌, ◌^◌, ◌<◌, ◌∷◌, ◌++◌, [], ℕ, List, length, OnOk, IfOk, IfErr};
 ghost use Rattle.swd_trace.specs.Listed.{AreLegalItems, listing_lines, ListsItems, RefusesListing};
 ghost use Rattle.swd_trace.specs.Taken.{ListingTakes};
-ghost use Rattle.swd_trace.specs.Texts.{item_bits, bits_of_items};
+ghost use Rattle.swd_trace.specs.Texts.{bits_of_items};
 
 use crate::item::Item;
 use crate::listing::fault::ListFault;
 use crate::listing::line::item_of;
 use arrayvec::ArrayVec;
 use std::alloc::Allocator;
-use swd_bits::{MOVED_BITS, REFUSED_BITS, SWITCH_BITS, Tx, TxEnd, UNACKNOWLEDGED_BITS};
 
 // Longer than any item's line.
 const LONGEST: usize = 64;
@@ -78,7 +76,7 @@ impl<A: Allocator> ListingLines<A> {
         let Some(item) = item_of(self.line.as_slice()) else {
             return Err(self.bad_line());
         };
-        let Some(total) = self.total.checked_add(bit_count(&item)) else {
+        let Some(total) = self.total.checked_add(item.bit_count()) else {
             return Err(self.bad_line());
         };
         if self.items.push(item).is_err() {
@@ -110,29 +108,5 @@ impl<A: Allocator> ListingLines<A> {
             Ok(()) => Ok(self.items),
             Err(fault) => Err(fault),
         }
-    }
-}
-
-// Returns how many bits an item has.
-fn bit_count(item: &Item) -> u64
-    ensures { result ≡ length (item_bits item.now) }
-{
-    match item {
-        Item::Reset(count) | Item::Idle(count) => *count,
-        Item::Switch => u64::from(SWITCH_BITS),
-        Item::Junk(_) => 1,
-        Item::Cut(bits) => u64::from(bits.len),
-        Item::Tx(tx) => u64::from(tx_bit_count(tx)),
-    }
-}
-
-// Returns how many bits a transaction has.
-fn tx_bit_count(tx: &Tx) -> u8
-    ensures { result ≡ length (tx_spelling_bits tx.now true true) }
-{
-    match tx.result {
-        TxEnd::Moved { .. } => MOVED_BITS,
-        TxEnd::Wait | TxEnd::Fault => REFUSED_BITS,
-        TxEnd::NoAck(_) => UNACKNOWLEDGED_BITS,
     }
 }

@@ -1,4 +1,4 @@
-use Rattle.std.proofs.Common.{◌≡◌, ℕ, ◌+◌, ◌<◌, List, [], ◌∷◌, ◌++◌, length, map, take, get_or}
+use Rattle.std.proofs.Common.{◌≡◌, ℕ, ◌+◌, ◌<◌, ◌≤◌, List, [], ◌∷◌, ◌++◌, length, map, take, get_or}
 use Rattle.std.proofs.Common.{refl, sym, ap, subst, ◌∙◌}
 use Rattle.std.proofs.KnownBytes.{Appends-nil}
 use Rattle.std.specs.Io.KnownBytes.{Appends}
@@ -6,6 +6,7 @@ use Rattle.std.proofs.lemmas.List.{map-append, take_all, take_more}
 use Rattle.swd_io.specs.Blocks.{BlockBufferSends, OutputStopped}
 use Rattle.swd_trace.specs.declared.item.Item.{Item}
 use Rattle.swd_resync.specs.declared.part.Part.TheVariants.{Item as Told}
+use Rattle.swd_capture.specs.declared.printed.Printed.{Printed}
 use Rattle.swd_capture.specs.Printing.{capture_printout, capture_printed_parts}
 use Rattle.swd_capture.specs.Tellers.{IsCaptureTellerAfter}
 use Rattle.swd_capture.proofs.TellerLemmas.{capture_printed_more, capture_printed_none}
@@ -45,36 +46,31 @@ loop-item-preserved g c =
       writer = c.put_part.ensures.writer ∙ c.loop-item.invariant.writer;
     }
 
+-- the output for all of them
+whole : (printed : Printed) (items : List Item) (i : ℕ) → length items ≤ i
+    → capture_printout printed (map Told (take i items)) ≡ print_items_output printed items
+whole printed items i h = ap (λ all. capture_printout printed (map Told all)) (take_all i items h)
+
 pub returns-in-Ok : goal.returns-in-Ok
 returns-in-Ok g c =
-    let contents = g.W.Write.contents in
-    let start = contents c.args.writer.now in
-    let items = c.args.items.now in
-    let printed = c.args.printed in
-    let parts = map Told (take c.loop-item.item-index items) in
-    let whole : parts ≡ map Told items =
-    ap (map Told) (take_all c.loop-item.item-index items c.loop-item-test.false) in
+    let start = g.W.Write.contents c.args.writer.now in
     let same = c.writer-1.given.1 (sym (c.flush.ensures.writer ∙ c.put_rows.ensures.writer
     ∙ c.loop-item.invariant.writer ∙ c.new-block.ensures.writer)) in
-    let all = c.put_rows.ensures.sends start printed parts c.loop-item.invariant.after
-    c.loop-item.invariant.sends in
-    subst (λ w. Appends start (contents w) (print_items_output printed items)) (sym same)
-    (subst (λ p. Appends start (contents c.flush.new.self.writer.now) (capture_printout printed p)) whole
-    (c.in-Ok.ensures.ok start (capture_printout printed parts) all).0)
+    let all = c.put_rows.ensures.sends start _ _ c.loop-item.invariant.after c.loop-item.invariant.sends in
+    let text = print_items_output c.args.printed c.args.items.now in
+    subst (λ w. Appends start (g.W.Write.contents w) text) (sym same)
+    (subst (Appends start (g.W.Write.contents c.flush.new.self.writer.now))
+    (whole c.args.printed c.args.items.now c.loop-item.item-index c.loop-item-test.false)
+    (c.in-Ok.ensures.ok start _ all).0)
 
 pub returns-in-Err : goal.returns-in-Err
 returns-in-Err g c =
-    let contents = g.W.Write.contents in
-    let start = contents c.args.writer.now in
-    let items = c.args.items.now in
-    let printed = c.args.printed in
-    let parts = map Told (take c.loop-item.item-index items) in
-    let whole : parts ≡ map Told items =
-    ap (map Told) (take_all c.loop-item.item-index items c.loop-item-test.false) in
+    let start = g.W.Write.contents c.args.writer.now in
     let same = c.writer-1.given.1 (sym (c.flush.ensures.writer ∙ c.put_rows.ensures.writer
     ∙ c.loop-item.invariant.writer ∙ c.new-block.ensures.writer)) in
-    let all = c.put_rows.ensures.sends start printed parts c.loop-item.invariant.after
-    c.loop-item.invariant.sends in
-    subst (λ w. OutputStopped c.in-Err.written start (contents w) (print_items_output printed items)) (sym same)
-    (subst (λ p. OutputStopped c.in-Err.written start (contents c.flush.new.self.writer.now)
-    (capture_printout printed p)) whole (c.in-Err.ensures.err start (capture_printout printed parts) all))
+    let all = c.put_rows.ensures.sends start _ _ c.loop-item.invariant.after c.loop-item.invariant.sends in
+    let text = print_items_output c.args.printed c.args.items.now in
+    subst (λ w. OutputStopped c.in-Err.written start (g.W.Write.contents w) text) (sym same)
+    (subst (OutputStopped c.in-Err.written start (g.W.Write.contents c.flush.new.self.writer.now))
+    (whole c.args.printed c.args.items.now c.loop-item.item-index c.loop-item-test.false)
+    (c.in-Err.ensures.err start _ all))

@@ -6,12 +6,12 @@ use Rattle.swd_bits.proofs.BitsLemmas.{length-low_bits}
 use Rattle.swd_trace.specs.declared.item.Item.TheVariants.{Junk}
 use Rattle.swd_observer.specs.Traces.{trace_observer_after}
 use Rattle.swd_capture.specs.Accesses.{observer_text_of_items}
-use Rattle.swd_capture.specs.declared.printed.Printed.TheVariants.{Counts, Accesses}
-use Rattle.swd_capture.specs.declared.teller.Teller.{Teller}
+use Rattle.swd_capture.specs.declared.printed.Printed.TheVariants.{Lines}
+use Rattle.swd_capture.specs.declared.teller.Telling.TheVariants.{Accesses as ToldAccesses}
 use Rattle.swd_capture.specs.Printing.{capture_junk_parts, capture_observer_of, capture_printed_parts}
 use Rattle.swd_trace.proofs.NumberLemmas.{decoder_bits_none}
 use Rattle.swd_capture.specs.Gaps.{capture_run_items, capture_waiting, capture_due_items}
-use Rattle.swd_capture.specs.Tellers.{CaptureTellerKeeps, IsCaptureTellerAfter, IsCaptureWatching}
+use Rattle.swd_capture.specs.Tellers.{CaptureTellingAfter, IsCaptureTellerAfter, IsCaptureWatching}
 use Rattle.swd_capture.proofs.TellerLemmas.{capture_accesses_at_junk, capture_observer_at_junk}
 use Rattle.swd_capture.proofs.TellerLemmas.{capture_waiting_at_junk}
 use Rattle.swd_capture.proofs.teller.Teller.tell_junk.Goals as goal
@@ -20,61 +20,72 @@ use Rattle.swd_capture.proofs.teller.Teller.tell_junk.Goals as goal
 no_bits : (len bits : ℕ) → len ≡ 0 → tx_bits_of (record { len = len; bits = bits }) ≡ []
 no_bits len bits e = decoder_bits_none len bits e
 
+pub returns-in-Lines-clause-after : goal.returns-in-Lines-clause-after
+returns-in-Lines-clause-after g c = λ printed parts h.
+    let keeps = subst (CaptureTellingAfter printed parts) c.in-Lines.is h.keeps in
+    record { keeps = (keeps.0 ∙ ap Lines (sym c.tell_junk.ensures.form), c.tell_junk.ensures.after parts keeps.1) }
+
+pub returns-in-Lines-clause-bytes : goal.returns-in-Lines-clause-bytes
+returns-in-Lines-clause-bytes g c = λ printed parts h.
+    let keeps = subst (CaptureTellingAfter printed parts) c.in-Lines.is h.keeps in
+    let told = c.tell_junk.ensures.bytes parts keeps.1 in (
+      told.0,
+      told.1,
+      subst (λ p. capture_printed_parts p (parts ++ capture_junk_parts (tx_bits_of c.args.junk))
+          ≡ capture_printed_parts p parts ++ told.0) (sym keeps.0) told.2,
+    )
+
 pub returns-then-junk-gt0-clause-after : goal.returns-then-junk-gt0-clause-after
 returns-then-junk-gt0-clause-after g c = λ printed parts h.
-    let old = c.args.self.now in
     let bits = tx_bits_of c.args.junk in
-    let made = c.in-Accesses.made in
-    let e : printed ≡ Accesses made = sym h.prints ∙ c.in-Accesses.is in
-    let keeps = subst (λ p. CaptureTellerKeeps p parts old) e h.keeps in
-    let new : Teller = record old { watching = c.lose.new.self } in
+    let keeps = subst (CaptureTellingAfter printed parts) c.in-Accesses.is h.keeps in
+    let flushed = c.flush.ensures.shows (capture_waiting parts) keeps.3 in
     let len : length bits ≡ c.from.result = length-low_bits c.args.junk.len c.args.junk.bits ∙ sym c.from.ensures in
     let some : 0 < c.from.result = omega (arith, c.if-junk-gt0.true, c.from.ensures) in
     record {
-      prints = h.prints;
-      keeps = subst (λ p. CaptureTellerKeeps p (parts ++ capture_junk_parts bits) new) (sym e) (
+      keeps = (
+        keeps.0,
+        keeps.1,
         c.lose.ensures.observer
             ∙ ap (trace_observer_after (replicate c.from.result (Junk false)))
-            (c.flush.ensures.observer (capture_waiting parts) keeps.1
-            ∙ ap (trace_observer_after (capture_run_items (capture_waiting parts))) keeps.0)
-            ∙ sym (capture_observer_at_junk made parts bits c.from.result len some),
+            (flushed.observer ∙ ap (trace_observer_after (capture_run_items (capture_waiting parts))) keeps.2)
+            ∙ sym (capture_observer_at_junk keeps.0 parts bits c.from.result len some),
         subst (λ r. IsCaptureWatching r c.lose.new.self) (sym (capture_waiting_at_junk parts bits (omega arith)))
             (record {
-              held = c.lose.ensures.held ∙ c.flush.ensures.none.held;
-              idle = c.lose.ensures.idle ∙ c.flush.ensures.none.idle;
+              held = c.lose.ensures.held ∙ flushed.keeps.held;
+              idle = c.lose.ensures.idle ∙ flushed.keeps.idle;
             }),
       );
     }
 
 pub returns-then-junk-gt0-clause-bytes : goal.returns-then-junk-gt0-clause-bytes
 returns-then-junk-gt0-clause-bytes g c = λ printed parts h.
-    let old = c.args.self.now in
     let bits = tx_bits_of c.args.junk in
-    let made = c.in-Accesses.made in
-    let e : printed ≡ Accesses made = sym h.prints ∙ c.in-Accesses.is in
-    let keeps = subst (λ p. CaptureTellerKeeps p parts old) e h.keeps in
+    let keeps = subst (CaptureTellingAfter printed parts) c.in-Accesses.is h.keeps in
+    let flushed = c.flush.ensures.shows (capture_waiting parts) keeps.3 in
     let len : length bits ≡ c.from.result = length-low_bits c.args.junk.len c.args.junk.bits ∙ sym c.from.ensures in
     let some : 0 < c.from.result = omega (arith, c.if-junk-gt0.true, c.from.ensures) in
     let waits = capture_run_items (capture_waiting parts) in
-    let before = trace_observer_after (capture_due_items parts) (capture_observer_of made) in
+    let before = trace_observer_after (capture_due_items parts) (capture_observer_of keeps.0) in
     let first = observer_text_of_items waits before in
     let second = observer_text_of_items (replicate c.from.result (Junk false)) (trace_observer_after waits before) in (
       first ++ second,
       c.lose.ensures.bytes
           ∙ ap (λ o. c.flush.new.text.bytes ++ observer_text_of_items (replicate c.from.result (Junk false)) o)
-          (c.flush.ensures.observer (capture_waiting parts) keeps.1 ∙ ap (trace_observer_after waits) keeps.0)
-          ∙ ap (λ x. x ++ second) (c.flush.ensures.bytes (capture_waiting parts) keeps.1
-          ∙ ap (λ o. c.args.text.now.bytes ++ observer_text_of_items waits o) keeps.0)
+          (flushed.observer ∙ ap (trace_observer_after waits) keeps.2)
+          ∙ ap (λ x. x ++ second) (flushed.bytes
+          ∙ ap (λ o. c.args.text.now.bytes ++ observer_text_of_items waits o) keeps.2)
           ∙ append_assoc c.args.text.now.bytes first second,
       subst (λ p. capture_printed_parts p (parts ++ capture_junk_parts bits) ≡ capture_printed_parts p parts
-          ++ (first ++ second)) (sym e) (capture_accesses_at_junk made parts bits c.from.result len some),
+          ++ (first ++ second)) (sym keeps.1) (capture_accesses_at_junk keeps.0 parts bits c.from.result len some),
     )
 
 pub returns-else-junk-gt0-clause-after : goal.returns-else-junk-gt0-clause-after
 returns-else-junk-gt0-clause-after g c = λ printed parts h.
-    subst (λ p. IsCaptureTellerAfter printed p c.args.self.now)
+    subst (λ p. IsCaptureTellerAfter printed p (record { telling = ToldAccesses c.in-Accesses.watching }))
     (sym (ap (λ x. parts ++ capture_junk_parts x) (no_bits c.args.junk.len c.args.junk.bits
-    (omega (arith, c.if-junk-gt0.false))) ∙ append-nil parts)) h
+    (omega (arith, c.if-junk-gt0.false))) ∙ append-nil parts))
+    (record { keeps = subst (CaptureTellingAfter printed parts) c.in-Accesses.is h.keeps })
 
 pub returns-else-junk-gt0-clause-bytes : goal.returns-else-junk-gt0-clause-bytes
 returns-else-junk-gt0-clause-bytes g c = λ printed parts h. (
@@ -88,22 +99,17 @@ returns-else-junk-gt0-clause-bytes g c = λ printed parts h. (
 
 pub returns-in-Counts-clause-after : goal.returns-in-Counts-clause-after
 returns-in-Counts-clause-after g c = λ printed parts h.
-    let old = c.args.self.now in
     let bits = tx_bits_of c.args.junk in
-    let e : printed ≡ Counts = sym h.prints ∙ c.in-Counts.is in
-    let keeps = subst (λ p. CaptureTellerKeeps p parts old) e h.keeps in
-    let new : Teller = record old { table = c.add_junk.new.self } in
+    let keeps = subst (CaptureTellingAfter printed parts) c.in-Counts.is h.keeps in
     record {
-      prints = h.prints;
-      keeps = subst (λ p. CaptureTellerKeeps p (parts ++ capture_junk_parts bits) new) (sym e)
-          (c.add_junk.ensures parts bits (length-low_bits c.args.junk.len c.args.junk.bits) keeps);
+      keeps = (keeps.0, c.add_junk.ensures parts bits (length-low_bits c.args.junk.len c.args.junk.bits) keeps.1);
     }
 
 pub returns-in-Counts-clause-bytes : goal.returns-in-Counts-clause-bytes
 returns-in-Counts-clause-bytes g c = λ printed parts h.
-    let e : printed ≡ Counts = sym h.prints ∙ c.in-Counts.is in (
+    let keeps = subst (CaptureTellingAfter printed parts) c.in-Counts.is h.keeps in (
       [],
       sym (append-nil c.args.text.now.bytes),
       subst (λ p. capture_printed_parts p (parts ++ capture_junk_parts (tx_bits_of c.args.junk))
-          ≡ capture_printed_parts p parts ++ []) (sym e) refl,
+          ≡ capture_printed_parts p parts ++ []) (sym keeps.0) refl,
     )

@@ -1,4 +1,4 @@
-use Rattle.std.proofs.Common.{◌≡◌, ◌+◌, ◌-◌, ◌^◌, ◌++◌, ℕ, min, length, false, replicate, ap, ◌∙◌}
+use Rattle.std.proofs.Common.{◌≡◌, ◌+◌, ◌-◌, ◌^◌, ◌++◌, ℕ, min, length, false, replicate, refl, ap, ◌∙◌}
 use Rattle.swd_trace.specs.declared.item.Item.TheVariants.{Junk}
 use Rattle.swd_trace.specs.Texts.{bits_of_items}
 use Rattle.swd_observer.specs.Traces.{trace_observer_after}
@@ -19,20 +19,17 @@ counted w run count all len h e f =
     ∙ ap (λ p. min (min (length (bits_of_items (capture_held_items p w.idle))) (2 ^ 64 - 1) + count) (2 ^ 64 - 1)) h.held
     ∙ capture_held_capped run.part run.idle w.idle count h.idle
 
-pub returns-clause-observer : goal.returns-clause-observer
-returns-clause-observer g c = λ run h.
+pub returns-clause-shows : goal.returns-clause-shows
+returns-clause-shows g c = λ run h.
     let old = c.args.self.now.observer in
     let n = length (bits_of_items (capture_run_items run)) + c.args.count in
-    c.watch_skip.ensures.observer
-    ∙ ap (λ m. trace_observer_after (replicate m (Junk false)) old) (counted c.args.self.now run c.args.count
-    c.saturating_add-all.result c.held_len.result h c.held_len.ensures c.saturating_add-all.ensures)
-    ∙ observer_text_after_many n old
-
-pub returns-clause-bytes : goal.returns-clause-bytes
-returns-clause-bytes g c = λ run h.
-    let old = c.args.self.now.observer in
-    let n = length (bits_of_items (capture_run_items run)) + c.args.count in
-    c.watch_skip.ensures.bytes
-    ∙ ap (λ m. c.args.text.now.bytes ++ observer_text_of_items (replicate m (Junk false)) old) (counted c.args.self.now
-    run c.args.count c.saturating_add-all.result c.held_len.result h c.held_len.ensures c.saturating_add-all.ensures)
-    ∙ ap (λ x. c.args.text.now.bytes ++ x) (observer_text_many_show n old)
+    let all = counted c.args.self.now run c.args.count c.saturating_add-all.result c.held_len.result h
+    c.held_len.ensures c.saturating_add-all.ensures in
+    record {
+      keeps = record { held = refl; idle = refl };
+      observer = c.watch_skip.ensures.observer ∙ ap (λ m. trace_observer_after (replicate m (Junk false)) old) all
+          ∙ observer_text_after_many n old;
+      bytes = c.watch_skip.ensures.bytes
+          ∙ ap (λ m. c.args.text.now.bytes ++ observer_text_of_items (replicate m (Junk false)) old) all
+          ∙ ap (λ x. c.args.text.now.bytes ++ x) (observer_text_many_show n old);
+    }

@@ -1,54 +1,22 @@
-use Rattle.std.proofs.Common.{◌++◌, sym, ap, ◌∙◌, subst}
-use Rattle.swd_observer.specs.Traces.{trace_observer_after}
-use Rattle.swd_capture.specs.Accesses.{observer_text_of_items}
-use Rattle.swd_capture.specs.Gaps.{capture_run_after, capture_due_at}
-use Rattle.swd_capture.specs.Tellers.{IsCaptureWatching}
+use Rattle.std.proofs.Common.{◌≡◌, ℕ, List, sym, subst}
+use Rattle.swd_resync.specs.declared.part.Part.{Part}
+use Rattle.swd_capture.specs.declared.watching.Watching.{Watching}
+use Rattle.swd_capture.specs.Gaps.{CaptureRun, capture_run_after, capture_due_at}
+use Rattle.swd_capture.specs.Tellers.{CaptureShows}
 use Rattle.swd_capture.proofs.watching.Watching.watch.Goals as goal
 
-pub returns-in-Item-clause-keeps : goal.returns-in-Item-clause-keeps
-returns-in-Item-clause-keeps g c = λ run h.
-    subst (λ p. IsCaptureWatching (capture_run_after run p) c.watch_item.new.self) (sym c.in-Item.is)
-    (c.watch_item.ensures.keeps run h)
+-- what holds of an equal part
+of_part : (run : CaptureRun) (part same : Part) (old new : Watching) (before after : List ℕ) → part ≡ same
+    → CaptureShows (capture_due_at run same) (capture_run_after run same) old new before after
+    → CaptureShows (capture_due_at run part) (capture_run_after run part) old new before after
+of_part run part same old new before after e h =
+    subst (λ p. CaptureShows (capture_due_at run p) (capture_run_after run p) old new before after) (sym e) h
 
-pub returns-in-Item-clause-observer : goal.returns-in-Item-clause-observer
-returns-in-Item-clause-observer g c = λ run h.
-    c.watch_item.ensures.observer run h
-    ∙ ap (λ p. trace_observer_after (capture_due_at run p) c.args.self.now.observer) (sym c.in-Item.is)
+pub returns-in-Item-clause-shows : goal.returns-in-Item-clause-shows
+returns-in-Item-clause-shows g c = λ run h. of_part run _ _ _ _ _ _ c.in-Item.is (c.watch_item.ensures.shows run h)
 
-pub returns-in-Item-clause-bytes : goal.returns-in-Item-clause-bytes
-returns-in-Item-clause-bytes g c = λ run h.
-    c.watch_item.ensures.bytes run h
-    ∙ ap (λ p. c.args.text.now.bytes ++ observer_text_of_items (capture_due_at run p) c.args.self.now.observer)
-    (sym c.in-Item.is)
+pub returns-in-Phased-clause-shows : goal.returns-in-Phased-clause-shows
+returns-in-Phased-clause-shows g c = λ run h. of_part run _ _ _ _ _ _ c.in-Phased.is (c.hold.ensures.shows run h)
 
-pub returns-in-Phased-clause-keeps : goal.returns-in-Phased-clause-keeps
-returns-in-Phased-clause-keeps g c = λ run h.
-    subst (λ p. IsCaptureWatching (capture_run_after run p) c.hold.new.self) (sym c.in-Phased.is)
-    (c.hold.ensures.held)
-
-pub returns-in-Phased-clause-observer : goal.returns-in-Phased-clause-observer
-returns-in-Phased-clause-observer g c = λ run h.
-    c.hold.ensures.observer run h
-    ∙ ap (λ p. trace_observer_after (capture_due_at run p) c.args.self.now.observer) (sym c.in-Phased.is)
-
-pub returns-in-Phased-clause-bytes : goal.returns-in-Phased-clause-bytes
-returns-in-Phased-clause-bytes g c = λ run h.
-    c.hold.ensures.bytes run h
-    ∙ ap (λ p. c.args.text.now.bytes ++ observer_text_of_items (capture_due_at run p) c.args.self.now.observer)
-    (sym c.in-Phased.is)
-
-pub returns-in-Skip-clause-keeps : goal.returns-in-Skip-clause-keeps
-returns-in-Skip-clause-keeps g c = λ run h.
-    subst (λ p. IsCaptureWatching (capture_run_after run p) c.skip.new.self) (sym c.in-Skip.is)
-    (c.skip.ensures.none)
-
-pub returns-in-Skip-clause-observer : goal.returns-in-Skip-clause-observer
-returns-in-Skip-clause-observer g c = λ run h.
-    c.skip.ensures.observer run h
-    ∙ ap (λ p. trace_observer_after (capture_due_at run p) c.args.self.now.observer) (sym c.in-Skip.is)
-
-pub returns-in-Skip-clause-bytes : goal.returns-in-Skip-clause-bytes
-returns-in-Skip-clause-bytes g c = λ run h.
-    c.skip.ensures.bytes run h
-    ∙ ap (λ p. c.args.text.now.bytes ++ observer_text_of_items (capture_due_at run p) c.args.self.now.observer)
-    (sym c.in-Skip.is)
+pub returns-in-Skip-clause-shows : goal.returns-in-Skip-clause-shows
+returns-in-Skip-clause-shows g c = λ run h. of_part run _ _ _ _ _ _ c.in-Skip.is (c.skip.ensures.shows run h)

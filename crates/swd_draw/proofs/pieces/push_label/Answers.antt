@@ -1,9 +1,9 @@
 use Rattle.std.proofs.Common.{append_assoc, refl}
-use Rattle.swd_draw.specs.Marks.{turned_text}
-use Rattle.swd_draw.proofs.pieces.push_turned.Goals as goal
+use Rattle.swd_draw.specs.Marks.{label_text}
+use Rattle.swd_draw.proofs.pieces.push_label.Goals as goal
 
 pub returns-clause-bytes : goal.returns-clause-bytes
-unfolding turned_text
+unfolding label_text
 returns-clause-bytes g c =
     rw (
       c.push_str-4.ensures.bytes,

@@ -19,7 +19,7 @@ use Rattle.swd_capture.specs.Places.{capture_place_behind}
 use Rattle.swd_capture.specs.Printing.{capture_printed_entry, capture_junk_parts, capture_part_line, capture_place_if}
 use Rattle.swd_capture.specs.Printing.{capture_printed_parts}
 use Rattle.swd_capture.proofs.TellerLemmas.{capture_place_more, capture_select_at_junk, capture_printed_more}
-use Rattle.swd_capture.proofs.teller.Teller.tell_junk_lines.Goals as goal
+use Rattle.swd_capture.proofs.teller.PartLines.tell_junk.Goals as goal
 
 -- a junk bit's line has no name
 no_name : (names : Bool) (select : Option Select) (b : Bool)
@@ -41,7 +41,7 @@ pub loop-left-preserved : goal.loop-left-preserved
 loop-left-preserved g c = record {
   tells = λ parts h.
       let i = c.loop-left.invariant.tells parts h in
-      let form = c.args.form in
+      let form = c.args.self.now.form in
       let left = c.loop-left.left in
       let bits = c.loop-left.bits in
       let old = c.loop-left.text.bytes in
@@ -55,6 +55,8 @@ loop-left-preserved g c = record {
         c.saturating_add-place.ensures ∙ ap (λ n. min (n + 1) (2 ^ 64 - 1)) i.2 ∙ sym
             (capture_place_more i.0 part),
         c.push_junk.ensures.bytes
+            ∙ ap (λ f. old ++ (capture_place_if f.places c.loop-left.place ++ (item_line (Junk bit) ++ 10 ∷ [])))
+            c.loop-left.invariant.form
             ∙ ap (λ p. old ++ (capture_place_if form.places p ++ (item_line (Junk bit) ++ 10 ∷ []))) i.2
             ∙ ap (λ x. old ++ x) (junk_entry form i.0 bit) ∙ ap (λ x. x ++ line) i.3
             ∙ append_assoc c.args.text.now.bytes i.1 line,
@@ -63,7 +65,7 @@ loop-left-preserved g c = record {
         append_assoc i.0 (part ∷ []) (capture_junk_parts (low_bits (left - 1) (bits / 2)))
             ∙ ap (λ x. i.0 ++ capture_junk_parts x) (sym next) ∙ i.5,
       );
-  printed = c.loop-left.invariant.printed;
+  form = c.loop-left.invariant.form;
   select = c.loop-left.invariant.select;
   room = omega (arith, c.loop-left.invariant.room, c.push_junk.ensures.len, c.loop-left-test.true);
 }
@@ -78,13 +80,10 @@ returns-clause-after g c = λ parts h.
     sym (append-nil i.0) ∙ ap (λ x. i.0 ++ capture_junk_parts x) (sym none) ∙ i.5 in
     let len : length bits ≡ c.from.result = length-low_bits c.args.junk.len c.args.junk.bits ∙ sym c.from.ensures in
     record {
-      prints = c.loop-left.invariant.printed ∙ h.prints;
-      keeps = (
-        i.2 ∙ ap (λ p. capture_place_behind (resync_items p)) all,
-        c.selected_behind-self.ensures
-            ∙ ap (λ s. capture_select_from s (replicate c.from.result (Junk false)))
-            (c.loop-left.invariant.select ∙ h.keeps.1) ∙ sym (capture_select_at_junk parts bits c.from.result len),
-      );
+      place = i.2 ∙ ap (λ p. capture_place_behind (resync_items p)) all;
+      select = c.selected_behind-self.ensures
+          ∙ ap (λ s. capture_select_from s (replicate c.from.result (Junk false)))
+          (c.loop-left.invariant.select ∙ h.select) ∙ sym (capture_select_at_junk parts bits c.from.result len);
     }
 
 pub returns-clause-bytes : goal.returns-clause-bytes
@@ -94,6 +93,6 @@ returns-clause-bytes g c = λ parts h.
     decoder_bits_none c.loop-left.left c.loop-left.bits (omega (arith, c.loop-left-test.false)) in (
       i.1,
       i.3,
-      ap (capture_printed_parts (Lines c.args.form))
+      ap (capture_printed_parts (Lines c.args.self.now.form))
           (sym (sym (append-nil i.0) ∙ ap (λ x. i.0 ++ capture_junk_parts x) (sym none) ∙ i.5)) ∙ i.4,
     )
