@@ -1,7 +1,7 @@
 -- OK to a request that isn't exempt, whatever is known of SELECT.
 use Rattle.std.proofs.Common.{◌≡◌, ◌<◌, ◌^◌, ℕ, Bool, true, false, List, [], ◌∷◌, ◌++◌, refl, sym, ap, subst, inl, inr}
 use Rattle.std.proofs.Common.{◌∙◌, append-nil}
-use Rattle.std.specs.Prelude.{Option, Some, None, IfSome, ◌||◌, if◌then◌else◌}
+use Rattle.std.specs.Prelude.{Option, Some, None, IfSome, if◌then◌else◌}
 use Rattle.swd_bits.specs.declared.request.Request.{Request}
 use Rattle.swd_bits.specs.Phases.{data_phase_word, data_phase_number}
 use Rattle.swd_port.specs.declared.access.Transfer.{Transfer}
@@ -13,9 +13,8 @@ use Rattle.swd_port.specs.Phases.{port_flipped}
 use Rattle.swd_port.specs.Port.{Port, Target, port_register}
 use Rattle.swd_port.specs.declared.mark.Mark.{Mark}
 use Rattle.swd_port.specs.Choices.{Choice}
-use Rattle.swd_port.specs.Answers.{is_exempt_register, is_port_unpowered}
 use Rattle.swd_port.specs.Completion.{PortCompletes}
-use Rattle.swd_port.specs.Asking.{PortAsks, PortAsksNow, port_after_okay, port_value_in, port_has_power}
+use Rattle.swd_port.specs.Asking.{PortAsks, PortAsksNow, port_after_okay, port_value_in}
 use Rattle.swd_port.specs.Moving.{PortTakes, PortGives, port_arrival, port_arrival_of, port_after_bits}
 use Rattle.swd_port.specs.Moves.{PortPhaseGot}
 use Rattle.swd_port.proofs.CompletionLaws.{port_kept, no_pending_same}
@@ -187,13 +186,10 @@ read_asked : (before : List Transfer) (told : List ObservedAccess) (o : Observer
 read_asked before told o q word ok place s a b t mark c bits tells reads first now d last range carries takes k =
     let h : ObservedOkayed a q b = observed_ask_okayed mark c a q b now in
     let known = observer_knows_stays (ObservedSince before told) o s a first k in
-    let plainly : is_exempt_register (port_register a.target.select q) ≡ false =
-    observed_not_exempt o a.target.select q tells (observed_other_bank (ObservedSince before told) o a.target known) in
-    let clear : (a.target.sticky_error || a.target.write_error || is_port_unpowered q.ap (port_has_power a.target))
-    ≡ false =
-    h.clear plainly in
-    let quiet : a.target.sticky_error ≡ false = observed_first_clear _ _ _ clear in
-    let intact : a.target.write_error ≡ false = observed_second_clear a.target.sticky_error _ _ clear in
+    let plainly = observed_not_exempt o a.target.select q tells (observed_other_bank _ o a.target known) in
+    let clear = h.clear plainly in
+    let quiet = observed_first_clear a.target.sticky_error _ _ clear in
+    let intact = observed_second_clear a.target.sticky_error _ _ clear in
     let line : d.link.line ≡ Drives (port_flipped h.flip (data_phase_number (port_value_in h.choice
     (port_register a.target.select q) a.target))) =
     ap (λ l. l.line) (port_kept b d last).link ∙ h.line ∙ observed_line_at_read q.read (port_register a.target.select q)
@@ -244,13 +240,10 @@ write_asked before told o q word ok place s a b mark c bits tells writes first n
     (e, f, third, given, fourth) k =
     let h : ObservedOkayed a q b = observed_ask_okayed mark c a q b now in
     let known = observer_knows_stays (ObservedSince before told) o s a first k in
-    let plainly : is_exempt_register (port_register a.target.select q) ≡ false =
-    observed_not_exempt o a.target.select q tells (observed_other_bank (ObservedSince before told) o a.target known) in
-    let clear : (a.target.sticky_error || a.target.write_error || is_port_unpowered q.ap (port_has_power a.target))
-    ≡ false =
-    h.clear plainly in
-    let quiet : a.target.sticky_error ≡ false = observed_first_clear _ _ _ clear in
-    let intact : a.target.write_error ≡ false = observed_second_clear a.target.sticky_error _ _ clear in
+    let plainly = observed_not_exempt o a.target.select q tells (observed_other_bank _ o a.target known) in
+    let clear = h.clear plainly in
+    let quiet = observed_first_clear a.target.sticky_error _ _ clear in
+    let intact = observed_second_clear a.target.sticky_error _ _ clear in
     let settled = observer_confirm_settles before told (observed_whole o.increments
     (if is_observed_posted_read q then word_observed ok word else None)) o a.target quiet intact
     (h.settled plainly) (observed_whole_right o.increments

@@ -290,40 +290,22 @@ abbrev is_observed_against : Bool → RequestEffect → Bool
 is_observed_against true k = is_observed_writing k
 is_observed_against false k = is_observed_reading k
 
-along_mem : (read : Bool) (addr : Reg4) → is_observed_against read (observed_kind_mem read addr) ≡ false
-along_mem true R0 = refl
-along_mem true R4 = refl
-along_mem true R8 = refl
-along_mem true RC = refl
-along_mem false R0 = refl
-along_mem false R4 = refl
-along_mem false R8 = refl
-along_mem false RC = refl
-
-along_maybe : (read : Bool) (addr : Reg4)
-    → is_observed_against read (observed_kind_maybe (observed_kind_mem read addr)) ≡ false
-along_maybe true R0 = refl
-along_maybe true R4 = refl
-along_maybe true R8 = refl
-along_maybe true RC = refl
-along_maybe false R0 = refl
-along_maybe false R4 = refl
-along_maybe false R8 = refl
-along_maybe false RC = refl
-
-along_dp : (read : Bool) (addr : Reg4) → is_observed_against read (observed_kind_dp read addr) ≡ false
-along_dp true R0 = refl
-along_dp true R4 = refl
-along_dp true R8 = refl
-along_dp true RC = refl
-along_dp false R0 = refl
-along_dp false R4 = refl
-along_dp false R8 = refl
-along_dp false RC = refl
+-- a request for a register of a MEM-AP or of the debug port isn't
+along_each : (read : Bool) (addr : Reg4) → (is_observed_against read (observed_kind_mem read addr) ≡ false)
+    × (is_observed_against read (observed_kind_maybe (observed_kind_mem read addr)) ≡ false)
+    × (is_observed_against read (observed_kind_dp read addr) ≡ false)
+along_each true R0 = (refl, refl, refl)
+along_each true R4 = (refl, refl, refl)
+along_each true R8 = (refl, refl, refl)
+along_each true RC = (refl, refl, refl)
+along_each false R0 = (refl, refl, refl)
+along_each false R4 = (refl, refl, refl)
+along_each false R8 = (refl, refl, refl)
+along_each false RC = (refl, refl, refl)
 
 along_if : (m d read : Bool) (addr : Reg4) → is_observed_against read
     (if m then observed_kind_mem read addr else if d then Elsewhere read else Other) ≡ false
-along_if true d read addr = along_mem read addr
+along_if true d read addr = (along_each read addr).0
 along_if false true true addr = refl
 along_if false true false addr = refl
 along_if false false true addr = refl
@@ -331,9 +313,9 @@ along_if false false false addr = refl
 
 along : (ap : Bool) (known : Option Select) (read : Bool) (addr : Reg4) → is_observed_against read
     (if ap then observed_kind_ap known read addr else observed_kind_dp read addr) ≡ false
-along true None read addr = along_maybe read addr
+along true None read addr = (along_each read addr).1
 along true (Some s) read addr = along_if (port_selects_mem_ap s) (is_observed_data_register s addr) read addr
-along false known read addr = along_dp read addr
+along false known read addr = (along_each read addr).2
 
 -- a read isn't taken for a write, nor for a possible one
 pub observed_reads_only : (known : Option Select) (q : Request) → q.read ≡ true
