@@ -1,6 +1,6 @@
 -- Laws of what is printed of parts, one after the other.
 use Rattle.std.proofs.Common.{◌≡◌, ℕ, zero, suc, ◌+◌, ◌-◌, ◌^◌, ◌<◌, min, Bool, true, false, List, [], ◌∷◌, ◌++◌}
-use Rattle.std.proofs.Common.{length, map, Option, None, replicate, refl, sym, ap, ◌∙◌, append_assoc, arith}
+use Rattle.std.proofs.Common.{length, map, Option, None, replicate, refl, sym, ap, subst, ◌∙◌, append_assoc, arith}
 use Rattle.std.specs.Prelude.{◌==◌, if◌then◌else◌}
 use Rattle.std.proofs.lemmas.List.{append-nil, length-append}
 use Rattle.swd_trace.specs.declared.item.Item.{Item}
@@ -22,6 +22,8 @@ use Rattle.swd_capture.specs.declared.printed.Printed.TheVariants.{Lines, Counts
 use Rattle.swd_capture.specs.Places.{capture_place_behind}
 use Rattle.swd_capture.specs.Gaps.{CaptureRun, capture_run_none, capture_run_items, capture_run_after, capture_due_at}
 use Rattle.swd_capture.specs.Gaps.{capture_run_behind, capture_due, capture_due_items, capture_waiting}
+use Rattle.swd_capture.specs.declared.watching.Watching.{Watching}
+use Rattle.swd_capture.specs.Tellers.{CaptureShows}
 use Rattle.swd_capture.specs.Names.{capture_select_after, capture_select_from, capture_select_behind}
 use Rattle.swd_capture.specs.Tables.{capture_part_counted, capture_count_in_row}
 use Rattle.swd_capture.specs.Printing.{capture_printed_entry, capture_junk_parts, capture_line_behind}
@@ -93,6 +95,13 @@ capture_observer_more made parts part =
     ap (λ i. trace_observer_after i (capture_observer_of made)) (due_more capture_run_none parts part)
     ∙ observer_text_after_join (capture_due_items parts) (capture_due_at (capture_waiting parts) part)
     (capture_observer_of made)
+
+-- what is shown of a part or an item is shown of an equal one
+pub capture_shows_same : {X : Type 0} (due : X → List Item) (run : X → CaptureRun) (one other : X) (old new : Watching)
+    (before after : List ℕ) → one ≡ other → CaptureShows (due other) (run other) old new before after
+    → CaptureShows (due one) (run one) old new before after
+capture_shows_same due run one other old new before after e h =
+    subst (λ x. CaptureShows (due x) (run x) old new before after) (sym e) h
 
 -- and what is counted in a row
 pub capture_count_more : (row : ℕ) (parts : List Part) (part : Part)
