@@ -116,6 +116,19 @@ world_due_okay w x q (done pends h) e = sym (due_success w w.pending q) ∙ sym 
 world_due_okay w x q (failed pends h) e = failed_okay (port_is_answered w.reset (world_register w q))
     (is_exempt_register (world_register w q)) _ (sym (due_now (world_failed w) x q h) ∙ e)
 
+failed_silent : (a b f : Bool) → by_flags a b true ≡ Silent → by_flags a b f ≡ Silent
+failed_silent false b f e = refl
+failed_silent true true f e = absurd (cc)
+failed_silent true false f e = absurd (cc)
+
+-- where a target answers nothing, a world that describes it is due to answer nothing
+pub world_due_silent : (w : World) (x : Target) (q : Request) → WorldDescribes w x → port_answer x q ≡ Silent
+    → world_due w q ≡ Silent
+world_due_silent w x q (now h) e = sym (due_now w x q h) ∙ e
+world_due_silent w x q (done pends h) e = sym (due_success w w.pending q) ∙ sym (due_now (world_succeeded w) x q h) ∙ e
+world_due_silent w x q (failed pends h) e = failed_silent (port_is_answered w.reset (world_register w q))
+    (is_exempt_register (world_register w q)) _ (sym (due_now (world_failed w) x q h) ∙ e)
+
 -- OK to a request that can be refused: no flag was set
 pub world_okay_clear : (w : World) (x : Target) (q : Request) → WorldDescribes w x → port_answer x q ≡ Okay
     → is_exempt_register (world_register w q) ≡ false
@@ -184,3 +197,14 @@ world_refuses w q x none (failed pends h) e = inr (
       (sym (due_now (world_failed w) x q h) ∙ e),
   now (world_fault_now (world_failed w) (world_register w q) q.ap x h),
 )
+
+-- and not where nothing is due
+pub world_never_faults : (w : World) (x : Target) (q : Request) → x.pending ≡ None → WorldDescribes w x
+    → port_answer x q ≡ Faults → world_due w q ≡ Silent → ⊥
+world_never_faults w x q none h e silent = elim (world_refuses w q x none h e) as (λ _. ⊥) [
+  | inl k ↦ absurd (let f : Silent ≡ Faults = sym silent ∙ k.0 in cc)
+  | inr k ↦ elim k.1 as (λ _. ⊥) [
+    | inl f ↦ absurd (let g : Silent ≡ Faults = sym silent ∙ f in cc)
+    | inr f ↦ absurd (let g : Silent ≡ Okay = sym silent ∙ f.0 in cc)
+  ]
+]

@@ -8,3 +8,8 @@ pub mod ReadLemmas
 pub mod StatusLemmas
 pub mod WriteLemmas
 pub mod AddedLemmas
+pub mod AddingLemmas
+pub mod ArrivalLemmas
+pub mod PhaseLemmas
+pub mod CheckedLemmas
+pub mod TransactLemmas

@@ -107,6 +107,7 @@ shares_success w None x h =
 shares_success w (Some transfer) x h =
     record { read_ok = h.read_ok; write_error = h.write_error; debug = h.debug; system = h.system }
 
+-- a world that describes a target has these of it
 pub world_shares : (w : World) (x : Target) → WorldDescribes w x → WorldShares w x
 world_shares w x (now h) =
     record { read_ok = h.read_ok; write_error = h.write_error; debug = h.debug; system = h.system }
@@ -163,13 +164,19 @@ powers_success : (w : World) (debug system : Power) (pending : Option Transfer)
 powers_success w debug system None = refl
 powers_success w debug system (Some transfer) = refl
 
--- the world in which the powers were found so describes the target, and CTRL/STAT returns what it has
+-- the world in which the powers were found so describes the target,
+pub world_finds : (w : World) (c : Choice) (x : Target) (debug system : Power)
+    → CheckedPower debug x.debug_power (power_up_after c.debug_late CtrlStatRead x.debug_up)
+    → CheckedPower system x.system_power (power_up_after c.system_late CtrlStatRead x.system_up) → WorldDescribes w x
+    → WorldDescribes (record w { debug = debug; system = system }) (port_after_okay c CtrlStatRead x)
+world_finds w c x debug system d s h =
+    world_describes_map (λ v. record v { debug = debug; system = system }) (λ y. port_after_okay c CtrlStatRead y) w x
+    (λ v e. status_now v c x debug system d s e) refl (powers_success w debug system) refl h
+
+-- and CTRL/STAT returns what it has
 pub world_at_status : WorldAtStatus
-world_at_status w c x debug system h sticky d s = (
-  status_shows w c x debug system h sticky d s,
-  world_describes_map (λ v. record v { debug = debug; system = system }) (λ y. port_after_okay c CtrlStatRead y) w x
-      (λ v e. status_now v c x debug system d.is s.is e) refl (powers_success w debug system) refl h,
-)
+world_at_status w c x debug system h sticky d s =
+    (status_shows w c x debug system h sticky d s, world_finds w c x debug system d.is s.is h)
 
 sticky_failed : (b : Bool) (w : World) (x : Target) → w.sticky_error ≡ b → is_some w.pending ≡ true
     → IsWorldNow (world_failed w) x → WorldShowsSticky w x

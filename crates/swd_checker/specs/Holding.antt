@@ -1,7 +1,8 @@
 -- Lists of worlds, and the targets that they describe.
 use Rattle.std.specs.Prelude.{ℕ, ◌≡◌, ◌<◌, Bool, false, length, slice_index_or, List, Option, Some, None}
 use Rattle.std.specs.List.{Any}
-use Rattle.swd_port.specs.Port.{Target}
+use Rattle.swd_port.specs.Port.{Port, Target}
+use Rattle.swd_port.specs.Leading.{port_line_awaits}
 use Rattle.swd_checker.specs.declared.worlds.Kept.{Kept}
 use Rattle.swd_checker.specs.declared.worlds.Worlds.{Worlds}
 use Rattle.swd_checker.specs.Described.{WorldDescribes}
@@ -27,3 +28,7 @@ abbrev pub IsKeptJoined : List Kept → Kept → Option (ℕ × Kept) → Type 0
 IsKeptJoined items added None = Unit {0}
 IsKeptJoined items added (Some (place, joined)) = (place < length items)
     × ((kept : Kept) → slice_index_or items place kept ≡ kept → KeptIncludes joined kept) × KeptIncludes joined added
+
+-- the port of a state: its target, and whether write data is awaited
+abbrev pub WorldsHoldPort : Worlds → Port → Type 0
+WorldsHoldPort v s = WorldsHold v (port_line_awaits s.link.line) s.target

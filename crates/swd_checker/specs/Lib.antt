@@ -5,5 +5,7 @@ pub mod Covering
 pub mod Holding
 pub mod Steps
 pub mod Asking
+pub mod Adding
+pub mod Checked
 pub mod StepLaws
 pub mod Laws

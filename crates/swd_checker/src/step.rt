@@ -1,18 +1,27 @@
 //! The worlds after a transaction.
-ghost use Rattle.std.specs.Prelude.{◌≡◌, Bool, true, false, None, is_some, IfSome};
+ghost use Rattle.std.specs.Prelude.{ℕ, ◌≡◌, ◌<◌, ◌+◌, ◌*◌, ◌^◌, ◌&&◌, ◌||◌, Bool, true, false, not, None, Some};
+ghost use Rattle.std.specs.Prelude.{is_some, IfSome};
 ghost use Rattle.swd_port.specs.Registers.{register_bit};
-ghost use Rattle.swd_port.specs.Port.{Target};
+ghost use Rattle.swd_port.specs.Port.{Port, Target};
 ghost use Rattle.swd_port.specs.Choices.{Choice};
 ghost use Rattle.swd_port.specs.Answers.{is_exempt_register};
-ghost use Rattle.swd_port.specs.Asking.{port_answer, port_after_wait, port_after_fault};
+ghost use Rattle.swd_port.specs.Asking.{port_answer, port_after_okay, port_after_wait, port_after_fault, port_value_in};
+ghost use Rattle.swd_port.specs.Asking.{is_port_posted};
 ghost use Rattle.swd_port.specs.Moving.{Arrives, port_after_bits};
 ghost use Rattle.swd_checker.specs.Worlds.{HeldWord};
-ghost use Rattle.swd_checker.specs.Described.{WorldDescribes};
-ghost use Rattle.swd_checker.specs.Holding.{WorldsHold, WorldsKeep};
+ghost use Rattle.swd_checker.specs.Described.{IsWorldNow, WorldDescribes, IsCheckedNear, checked_changed_at};
+ghost use Rattle.swd_checker.specs.Described.{checked_near_at};
+ghost use Rattle.swd_checker.specs.Holding.{WorldsHold, WorldsKeep, WorldsHoldPort};
+ghost use Rattle.swd_checker.specs.Laws.{WorldDescribesPort};
 ghost use Rattle.swd_checker.specs.Steps.{WorldAccepts, world_due};
 ghost use Rattle.swd_checker.specs.Steps.{world_live, world_posted, world_selecting, world_cleared};
 ghost use Rattle.swd_checker.specs.Steps.{world_powered, world_written};
-ghost use Rattle.swd_checker.specs.Asking.{IsAskedBy, IsAskedAlike, IsAskedAccepted};
+ghost use Rattle.swd_checker.specs.Asking.{IsAskedBy, IsAskedAlike, IsAskedAccepted, IsAskedTo};
+ghost use Rattle.swd_checker.specs.declared.step.Asked.{Asked};
+ghost use Rattle.swd_checker.specs.Adding.{WorldsReturn, WorldsPost, WorldsRead, WorldsFind, WorldsFindPowers};
+ghost use Rattle.swd_checker.specs.Adding.{WorldsArrive, WorldsDamage, WorldsLose, IsCheckedPrompt};
+ghost use Rattle.swd_checker.specs.Adding.{is_debug_late, is_system_late};
+ghost use Rattle.swd_checker.specs.Checked.{CheckedTransacts, CheckedHasMoved, WasCheckedLost};
 
 use crate::held::Held;
 use crate::near::{Near, Words, bit};
@@ -41,7 +50,11 @@ struct Asked {
 impl Worlds {
     /// Adds the worlds after a transaction in this world. Where `clean` is true, nothing is damaged or lost.
     #[inline(always)]
-    pub(crate) fn step(&mut self, world: World, faults: u64, tx: &Tx, clean: bool) {
+    pub(crate) fn step(&mut self, world: World, faults: u64, tx: &Tx, clean: bool)
+        ensures keeps { WorldsKeep self.old self.new }
+        ensures steps { (s t : Port) → CheckedTransacts clean tx.now.result tx.now.request s t
+            → WorldDescribesPort world s → WorldsHoldPort self.new t }
+    {
         let request = tx.request;
         let asked = Asked {
             world,
@@ -106,11 +119,28 @@ impl Worlds {
 
     // Adds the worlds after OK and a data phase.
     #[inline(always)]
-    fn moves(&mut self, asked: Asked, word: u32, parity_ok: bool) {
-        let Some(now) = asked.accepted(false) else {
-            return;
-        };
-        match (asked.request.read, parity_ok) {
+    fn moves(&mut self, asked: Asked, word: u32, parity_ok: bool)
+        ensures keeps { WorldsKeep self.old self.new }
+        ensures moves { (s t : Port) → IsAskedBy asked
+            → CheckedHasMoved asked.clean asked.request word parity_ok s t → WorldDescribesPort asked.world s
+            → WorldsHoldPort self.new t }
+    {
+        match asked.accepted(false) {
+            Some(now) => self.transfer(now, word, parity_ok),
+            None => {}
+        }
+    }
+
+    // Adds the worlds after the data phase.
+    #[inline(always)]
+    fn transfer(&mut self, now: Asked, word: u32, parity_ok: bool)
+        ensures keeps { WorldsKeep self.old self.new }
+        ensures moves { (asked : Asked) (s t : Port) → IsAskedAlike now asked → now.world.awaits ≡ false
+            → IsAskedTo asked now.world → IsAskedBy asked
+            → CheckedHasMoved asked.clean asked.request word parity_ok s t → WorldDescribesPort asked.world s
+            → WorldsHoldPort self.new t }
+    {
+        match (now.request.read, parity_ok) {
             (false, true) => self.write(now, word),
             (false, false) => self.write_damaged(now, word),
             (true, true) => self.read(now, Near::of(word), true),
@@ -119,66 +149,117 @@ impl Worlds {
     }
 
     // Adds the worlds after a request whose acknowledgement wasn't seen.
-    fn lose(&mut self, asked: Asked, seen: u8) {
-        if asked.world.due(asked.request) == Reply::Silent && seen == UNDRIVEN {
+    fn lose(&mut self, asked: Asked, seen: u8)
+        ensures keeps { WorldsKeep self.old self.new }
+        ensures loses { (s t : Port) → IsAskedBy asked → WasCheckedLost asked.clean asked.request seen s t
+            → WorldDescribesPort asked.world s → WorldsHoldPort self.new t }
+    {
+        if asked.is_quiet(seen) {
             self.add(asked.world, asked.faults);
-            return;
+        } else if !asked.clean {
+            self.lose_any(asked.with_fault());
         }
-        if asked.clean {
-            return;
-        }
-        let lost = asked.with_fault();
-        // the target didn't see the request
+    }
+
+    // Adds the worlds after a request that the target didn't see, or whose answer was damaged.
+    fn lose_any(&mut self, lost: Asked)
+        ensures keeps { WorldsKeep self.old self.new }
+        ensures loses { IsAskedBy lost → WorldsLose self.new lost.world lost.request lost.register }
+    {
         self.add(lost.world, lost.faults);
         self.refuse(lost);
         self.accept_unseen(lost);
     }
 
     // Adds the worlds after OK that wasn't seen.
-    fn accept_unseen(&mut self, lost: Asked) {
-        if let Some(now) = lost.accepted(!lost.request.read) {
-            self.return_unseen(now);
+    fn accept_unseen(&mut self, lost: Asked)
+        ensures keeps { WorldsKeep self.old self.new }
+        ensures accepts { (c : Choice) (x : Target) → IsAskedBy lost → WorldDescribes lost.world x
+            → (is_exempt_register lost.register ≡ false → x.pending ≡ None)
+            → port_answer x lost.request ≡ Reply.Okay → IsCheckedPrompt c
+            → WorldsHold self.new (not lost.request.read) (port_after_okay c lost.register x) }
+    {
+        match lost.accepted(!lost.request.read) {
+            Some(now) => self.return_unseen(now),
+            None => {}
         }
     }
 
     // Adds the worlds after a read that returned one of these words. `parity_ok` says that no bit of it was changed.
     #[inline(always)]
-    fn read(&mut self, now: Asked, seen: Near, parity_ok: bool) {
+    fn read(&mut self, now: Asked, seen: Near, parity_ok: bool)
+        ensures keeps { WorldsKeep self.old self.new }
+        ensures reads { WorldsRead self.new now.world now.register seen parity_ok }
+    {
         match now.register {
             Register::CtrlStatRead => self.read_status(now, seen, parity_ok),
             Register::ResendRead => self.resend(now, seen),
-            register => {
-                if !is_posted(register) {
-                    self.return_unseen(now);
-                } else if let Some(buffer) = now.world.buffer.narrowed(seen) {
-                    self.post(now, buffer);
-                }
-            }
+            _ => self.read_other(now, seen),
+        }
+    }
+
+    // The same where the register is neither CTRL/STAT nor RESEND.
+    fn read_other(&mut self, now: Asked, seen: Near)
+        ensures keeps { WorldsKeep self.old self.new }
+        ensures reads { (parity_ok : Bool) → (now.register ≡ Register.CtrlStatRead → ⊥)
+            → WorldsRead self.new now.world now.register seen parity_ok }
+    {
+        if is_posted(now.register) {
+            self.read_posted(now, seen);
+        } else {
+            self.return_unseen(now);
+        }
+    }
+
+    // Adds the worlds after a read that returned the read buffer.
+    fn read_posted(&mut self, now: Asked, seen: Near)
+        ensures keeps { WorldsKeep self.old self.new }
+        ensures reads { (parity_ok : Bool) → is_port_posted now.register ≡ true
+            → WorldsRead self.new now.world now.register seen parity_ok }
+    {
+        match now.world.buffer.narrowed(seen) {
+            Some(buffer) => self.post(now, buffer),
+            None => {}
         }
     }
 
     // The same where the word was seen with wrong parity.
-    fn read_damaged(&mut self, now: Asked, word: u32) {
+    fn read_damaged(&mut self, now: Asked, word: u32)
+        ensures keeps { WorldsKeep self.old self.new }
+        ensures reads { now.clean ≡ false → (place : ℕ) → place < 33 → (c : Choice) (x : Target)
+            → WorldAccepts now.world now.register c x → IsCheckedPrompt c
+            → port_value_in c now.register x ≡ checked_changed_at word place
+            → WorldsHold self.new now.world.awaits (port_after_okay c now.register x) }
+    {
         if !now.clean {
             self.read(now.with_fault(), Near::seen(word, false), false);
         }
     }
 
     // Adds the world after RESEND returned one of these words.
-    fn resend(&mut self, now: Asked, seen: Near) {
-        if let Some(last_returned) = now.world.last_returned.narrowed(seen) {
-            self.add(
+    fn resend(&mut self, now: Asked, seen: Near)
+        ensures keeps { WorldsKeep self.old self.new }
+        ensures resends { (c : Choice) (x : Target) → now.register ≡ Register.ResendRead
+            → WorldAccepts now.world now.register c x → IsCheckedNear seen (port_value_in c now.register x)
+            → WorldsHold self.new now.world.awaits (port_after_okay c now.register x) }
+    {
+        match now.world.last_returned.narrowed(seen) {
+            Some(last_returned) => self.add(
                 World {
                     last_returned,
                     ..now.world
                 },
                 now.faults,
-            );
+            ),
+            None => {}
         }
     }
 
     // Adds the worlds after OK to a request whose data wasn't seen, or that returns no word that is known.
-    fn return_unseen(&mut self, now: Asked) {
+    fn return_unseen(&mut self, now: Asked)
+        ensures keeps { WorldsKeep self.old self.new }
+        ensures returns { WorldsReturn self.new now.world now.register }
+    {
         match now.register {
             Register::DpidrRead => self.add(live(now.world), now.faults),
             Register::CtrlStatRead => self.add(
@@ -189,19 +270,29 @@ impl Worlds {
                 },
                 now.faults,
             ),
-            register => {
-                if is_posted(register) {
-                    self.post(now, now.world.buffer);
-                } else {
-                    self.add(now.world, now.faults);
-                }
-            }
+            _ => self.return_other(now),
+        }
+    }
+
+    // The same where the register is neither DPIDR nor CTRL/STAT.
+    fn return_other(&mut self, now: Asked)
+        ensures keeps { WorldsKeep self.old self.new }
+        ensures returns { (now.register ≡ Register.DpidrRead → ⊥) → (now.register ≡ Register.CtrlStatRead → ⊥)
+            → WorldsReturn self.new now.world now.register }
+    {
+        if is_posted(now.register) {
+            self.post(now, now.world.buffer);
+        } else {
+            self.add(now.world, now.faults);
         }
     }
 
     // Adds the worlds after an AP read or RDBUFF read that returned the read buffer.
     #[inline(always)]
-    fn post(&mut self, now: Asked, buffer: Held) {
+    fn post(&mut self, now: Asked, buffer: Held)
+        ensures keeps { WorldsKeep self.old self.new }
+        ensures posts { WorldsPost self.new now.world now.register buffer }
+    {
         let world = posted(now.world, buffer);
         match now.register {
             Register::CswRead => self.add(
@@ -249,7 +340,10 @@ impl Worlds {
     }
 
     // Adds the worlds after a read of TAR: from here on TAR and the read buffer are the same word.
-    fn post_tar(&mut self, world: World, faults: u64) {
+    fn post_tar(&mut self, world: World, faults: u64)
+        ensures keeps { WorldsKeep self.old self.new }
+        ensures posts { (x : Target) → IsWorldNow world x → x.buffer ≡ x.tar → WorldsHold self.new world.awaits x }
+    {
         let Tar::From { first, more } = world.tar else {
             self.add(world, faults);
             return;
@@ -261,15 +355,23 @@ impl Worlds {
 
     // Adds the worlds after a read of CTRL/STAT. A bus error may show already. A power is found late at a busy target
     // alone, whose data isn't damaged.
-    fn read_status(&mut self, now: Asked, seen: Near, may_be_late: bool) {
+    fn read_status(&mut self, now: Asked, seen: Near, may_be_late: bool)
+        ensures keeps { WorldsKeep self.old self.new }
+        ensures reads { (c : Choice) (x : Target) → (may_be_late ≡ false → IsCheckedPrompt c)
+            → WorldsFind self.new now.world seen c x }
+    {
         self.find_powers(now.world, now.faults, seen, may_be_late);
-        if now.world.pending.is_some() && !now.world.sticky_error {
+        if may_show(now.world) {
             self.find_powers(now.world.failed(), now.faults, seen, may_be_late);
         }
     }
 
     // Adds the worlds in which each power is found acknowledged, or late.
-    fn find_powers(&mut self, world: World, faults: u64, seen: Near, may_be_late: bool) {
+    fn find_powers(&mut self, world: World, faults: u64, seen: Near, may_be_late: bool)
+        ensures keeps { WorldsKeep self.old self.new }
+        ensures finds { (c : Choice) (x : Target) → (may_be_late ≡ false → IsCheckedPrompt c)
+            → WorldsFindPowers self.new world seen c x }
+    {
         self.find(world, faults, seen, (false, false));
         if may_be_late {
             self.find_late(world, faults, seen);
@@ -277,16 +379,26 @@ impl Worlds {
     }
 
     // Adds the worlds in which a power is found late.
-    fn find_late(&mut self, world: World, faults: u64, seen: Near) {
+    fn find_late(&mut self, world: World, faults: u64, seen: Near)
+        ensures keeps { WorldsKeep self.old self.new }
+        ensures finds { (c : Choice) (x : Target) → (is_debug_late c x || is_system_late c x) ≡ true
+            → WorldsFindPowers self.new world seen c x }
+    {
         self.find(world, faults, seen, (false, true));
         self.find(world, faults, seen, (true, false));
         self.find(world, faults, seen, (true, true));
     }
 
     // Adds the world in which debug power is found late or not, and system power.
-    fn find(&mut self, world: World, faults: u64, seen: Near, late: (bool, bool)) {
-        let (Some(debug), Some(system)) = (world.debug.found(late.0), world.system.found(late.1))
-        else {
+    fn find(&mut self, world: World, faults: u64, seen: Near, late: (bool, bool))
+        ensures keeps { WorldsKeep self.old self.new }
+        ensures finds { (c : Choice) (x : Target) → late.0 ≡ is_debug_late c x → late.1 ≡ is_system_late c x
+            → WorldsFindPowers self.new world seen c x }
+    {
+        let Some(debug) = world.debug.found(late.0) else {
+            return;
+        };
+        let Some(system) = world.system.found(late.1) else {
             return;
         };
         let found = World {
@@ -299,7 +411,11 @@ impl Worlds {
 
     // Adds the worlds after a write whose word was sent: it arrives, or arrives damaged.
     #[inline(always)]
-    fn write(&mut self, now: Asked, word: u32) {
+    fn write(&mut self, now: Asked, word: u32)
+        ensures keeps { WorldsKeep self.old self.new }
+        ensures arrives { WorldsArrive self.new now.world now.register word }
+        ensures damages { now.clean ≡ false → WorldsDamage self.new now.world }
+    {
         self.add_if(
             !now.clean,
             now.world.after_damage(),
@@ -309,7 +425,12 @@ impl Worlds {
     }
 
     // Adds the worlds after a write whose word was sent with wrong parity: it arrives so, or is cured.
-    fn write_damaged(&mut self, now: Asked, word: u32) {
+    fn write_damaged(&mut self, now: Asked, word: u32)
+        ensures keeps { WorldsKeep self.old self.new }
+        ensures damages { WorldsDamage self.new now.world }
+        ensures cures { now.clean ≡ false → (place : ℕ) → place < 33
+            → WorldsArrive self.new now.world now.register (checked_changed_at word place) }
+    {
         self.add(now.world.after_damage(), now.faults);
         if !now.clean {
             self.cure(now.with_fault(), Near::seen(word, false));
@@ -317,17 +438,34 @@ impl Worlds {
     }
 
     // Adds the worlds after one of these words arrived.
-    fn cure(&mut self, now: Asked, sent: Near) {
+    fn cure(&mut self, now: Asked, sent: Near)
+        ensures keeps { WorldsKeep self.old self.new }
+        ensures cures { (word : ℕ) → IsCheckedNear sent word → WorldsArrive self.new now.world now.register word }
+    {
         for place in 0..33 {
-            if let Some(word) = sent.at(place) {
-                self.arrive(now, word);
-            }
+            self.cure_at(now, sent, place);
+        }
+    }
+
+    // Adds the worlds after the word with the bit at one place changed arrived, if that place is one of the set.
+    fn cure_at(&mut self, now: Asked, sent: Near, place: u8)
+        requires { place < 33 }
+        ensures keeps { WorldsKeep self.old self.new }
+        ensures cures { register_bit place sent.places ≡ true
+            → WorldsArrive self.new now.world now.register (checked_near_at sent place) }
+    {
+        match sent.at(place) {
+            Some(word) => self.arrive(now, word),
+            None => {}
         }
     }
 
     // Adds the worlds after a write's word arrived.
     #[inline]
-    fn arrive(&mut self, now: Asked, word: u32) {
+    fn arrive(&mut self, now: Asked, word: u32)
+        ensures keeps { WorldsKeep self.old self.new }
+        ensures arrives { WorldsArrive self.new now.world now.register word }
+    {
         match now.register {
             Register::AbortWrite => self.abort(now.world, now.faults, word),
             Register::CtrlStatWrite => self.add(powered(now.world, word), now.faults),
@@ -434,6 +572,14 @@ impl Asked {
         }
     }
 
+    // Returns whether nobody is to answer, and these three bits are those of a line that nobody drives.
+    fn is_quiet(self, seen: u8) -> bool
+        ensures quiet { result ≡ true → world_due self.world self.request ≡ Reply.Silent }
+        ensures other { result ≡ false → world_due self.world self.request ≡ Reply.Silent → seen ≡ UNDRIVEN → ⊥ }
+    {
+        self.world.due(self.request) == Reply::Silent && seen == UNDRIVEN
+    }
+
     // Returns whether FAULT is due.
     fn is_refused(self) -> bool
         ensures { world_due self.world self.request ≡ Reply.Faults → result ≡ true }
@@ -471,6 +617,13 @@ impl Asked {
     }
 }
 
+// Returns whether a bus error that didn't show yet may show in STICKYERR.
+fn may_show(world: World) -> bool
+    ensures { result ≡ (is_some world.pending && not world.sticky_error) }
+{
+    world.pending.is_some() && !world.sticky_error
+}
+
 // Returns the world after a read of DPIDR.
 fn live(world: World) -> World
     ensures { result ≡ world_live world }
@@ -495,7 +648,12 @@ fn posted(world: World, buffer: Held) -> World
 }
 
 // Returns the world in which TAR, and the read buffer, is the address at this index.
-fn at_tar(world: World, first: u32, index: u16) -> World {
+fn at_tar(world: World, first: u32, index: u16) -> World
+    requires { index < 2 ^ 9 }
+    ensures tar { (x : Target) → IsWorldNow world x → x.tar ≡ Some (first + 4 * index) → x.buffer ≡ x.tar
+        → IsWorldNow result x }
+    ensures awaits { result.awaits ≡ world.awaits }
+{
     match first.checked_add(4 * u32::from(index)) {
         Some(address) => World {
             tar: Tar::at(address),

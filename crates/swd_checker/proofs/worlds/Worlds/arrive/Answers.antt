@@ -1,0 +1,50 @@
+use Rattle.std.proofs.Common.{refl, sym, subst}
+use Rattle.swd_checker.specs.Adding.{WorldsArrive}
+use Rattle.swd_checker.proofs.ArrivalLemmas.{arrive_ctrl_stat, arrive_select, arrive_csw, arrive_tar, arrive_drw}
+use Rattle.swd_checker.proofs.ArrivalLemmas.{arrive_other, arrive_nowhere}
+use Rattle.swd_checker.proofs.worlds.Worlds.arrive.Goals as goal
+
+pub returns-in-AbortWrite-clause-arrives : goal.returns-in-AbortWrite-clause-arrives
+returns-in-AbortWrite-clause-arrives c = subst (λ r. WorldsArrive c.abort.new.self c.args.now.world r c.args.word)
+    (sym c.in-AbortWrite.is) (λ refuses x none h. c.abort.ensures.aborts refuses x h)
+
+pub returns-in-CtrlStatWrite-clause-arrives : goal.returns-in-CtrlStatWrite-clause-arrives
+returns-in-CtrlStatWrite-clause-arrives c = subst (λ r. WorldsArrive c.add.new.self c.args.now.world r c.args.word)
+    (sym c.in-CtrlStatWrite.is)
+    (arrive_ctrl_stat c.add.new.self c.args.now.world c.powered.result c.args.word c.add.ensures.adds c.powered.ensures)
+
+pub returns-in-SelectWrite-clause-arrives : goal.returns-in-SelectWrite-clause-arrives
+returns-in-SelectWrite-clause-arrives c =
+    subst (λ r. WorldsArrive c.add-in-SelectWrite.new.self c.args.now.world r c.args.word) (sym c.in-SelectWrite.is)
+    (arrive_select c.add-in-SelectWrite.new.self c.args.now.world c.selecting.result c.args.word
+    c.add-in-SelectWrite.ensures.adds c.selecting.ensures)
+
+pub returns-in-CswWrite-clause-arrives : goal.returns-in-CswWrite-clause-arrives
+returns-in-CswWrite-clause-arrives c =
+    subst (λ r. WorldsArrive c.add-in-CswWrite.new.self c.args.now.world r c.args.word) (sym c.in-CswWrite.is)
+    (arrive_csw c.add-in-CswWrite.new.self c.args.now.world c.written.result c.of.result _ c.args.word
+    c.add-in-CswWrite.ensures.adds c.written.ensures c.of.ensures refl)
+
+pub returns-in-TarWrite-clause-arrives : goal.returns-in-TarWrite-clause-arrives
+returns-in-TarWrite-clause-arrives c =
+    subst (λ r. WorldsArrive c.add-in-TarWrite.new.self c.args.now.world r c.args.word) (sym c.in-TarWrite.is)
+    (arrive_tar c.add-in-TarWrite.new.self c.args.now.world c.written-in-TarWrite.result c.at.result c.args.word
+    c.add-in-TarWrite.ensures.adds c.written-in-TarWrite.ensures c.at.ensures)
+
+pub returns-in-DrwWrite-clause-arrives : goal.returns-in-DrwWrite-clause-arrives
+returns-in-DrwWrite-clause-arrives c =
+    subst (λ r. WorldsArrive c.add-in-DrwWrite.new.self c.args.now.world r c.args.word) (sym c.in-DrwWrite.is)
+    (arrive_drw c.add-in-DrwWrite.new.self c.args.now.world c.written-in-DrwWrite.result c.args.word
+    c.add-in-DrwWrite.ensures.adds c.written-in-DrwWrite.ensures)
+
+pub returns-in-ApOtherWrite-clause-arrives : goal.returns-in-ApOtherWrite-clause-arrives
+returns-in-ApOtherWrite-clause-arrives c =
+    subst (λ r. WorldsArrive c.arrive_elsewhere.new.self c.args.now.world r c.args.word) (sym c.in-ApOtherWrite.is)
+    (arrive_other c.arrive_elsewhere.new.self c.args.now.world c.written-in-ApOtherWrite.result c.args.word
+    c.arrive_elsewhere.ensures.nothing c.arrive_elsewhere.ensures.error c.written-in-ApOtherWrite.ensures)
+
+pub returns-in_default-clause-arrives : goal.returns-in_default-clause-arrives
+returns-in_default-clause-arrives c = arrive_nowhere c.add-in_default.new.self c.args.now.world c.args.now.register
+    c.args.word c.add-in_default.ensures.adds c.in_default.not-AbortWrite c.in_default.not-CtrlStatWrite
+    c.in_default.not-SelectWrite c.in_default.not-CswWrite c.in_default.not-TarWrite c.in_default.not-DrwWrite
+    c.in_default.not-ApOtherWrite
