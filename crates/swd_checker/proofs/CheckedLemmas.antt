@@ -45,8 +45,9 @@ fault_driven Okay e = absurd (omega arith)
 fault_driven Waits e = absurd (omega arith)
 fault_driven Silent e = absurd (omega arith)
 
-okay_seen : (mark : Mark) (reply : Reply) → PortSees mark reply 1 → reply ≡ Okay
-okay_seen mark reply h = elim (driven mark reply 1 h) as (λ _. reply ≡ Okay) [
+-- OK that was seen was answered
+pub checked_reply_okay : (mark : Mark) (reply : Reply) → PortSees mark reply 1 → reply ≡ Okay
+checked_reply_okay mark reply h = elim (driven mark reply 1 h) as (λ _. reply ≡ Okay) [
   | inl none ↦ absurd (let e : true ≡ false = none.not_okay in cc)
   | inr e ↦ okay_driven reply e
 ]
@@ -110,7 +111,7 @@ pub checked_okay_seen : (clean : Bool) (s : Port) (q : Request) (t : Port) (r : 
     → (h : CheckedAsks clean s q 1 t) → port_register h.before.target.select q ≡ r
     → CheckedOkayed h.mark h.choice q r h.before h.after
 checked_okay_seen clean s q t r h named = checked_okayed h.mark h.choice r h.before q 1 h.after
-    (okay_seen h.mark (port_reply h.mark h.before.target q) h.asks.sees) named h.asks
+    (checked_reply_okay h.mark (port_reply h.mark h.before.target q) h.asks.sees) named h.asks
 
 -- FAULT that the target answered: nothing is pending, and the request is one that can be refused
 plain_faults : (a b c : Bool) → (if not a then Silent else if b then Okay else if c then Faults else Okay) ≡ Faults

@@ -86,15 +86,21 @@ due_success : (w : World) (pending : Option Transfer) (q : Request)
 due_success w None q = refl
 due_success w (Some transfer) q = refl
 
-abbrev by_flags : Bool → Bool → Bool → Reply
+abbrev pub by_flags : Bool → Bool → Bool → Reply
 by_flags answered exempt flagged =
     if not answered then Silent else if exempt then Okay else if flagged then Faults else Okay
 
-clear_by : (a b f : Bool) → by_flags a b f ≡ Okay → b ≡ false → f ≡ false
-clear_by a b false e g = refl
-clear_by false b true e g = absurd (cc)
-clear_by true true true e g = absurd (cc)
-clear_by true false true e g = absurd (cc)
+-- what is answered OK is answered
+pub checked_answered_by : (a b f : Bool) → by_flags a b f ≡ Okay → a ≡ true
+checked_answered_by true b f e = refl
+checked_answered_by false b f e = absurd (cc)
+
+-- OK to a request that isn't exempt: no flag is set
+pub checked_clear_by : (a b f : Bool) → by_flags a b f ≡ Okay → b ≡ false → f ≡ false
+checked_clear_by a b false e g = refl
+checked_clear_by false b true e g = absurd (cc)
+checked_clear_by true true true e g = absurd (cc)
+checked_clear_by true false true e g = absurd (cc)
 
 failed_okay : (a b f : Bool) → by_flags a b true ≡ Okay → by_flags a b f ≡ Okay
 failed_okay false b f e = absurd (cc)
@@ -133,7 +139,7 @@ world_due_silent w x q (failed pends h) e = failed_silent (port_is_answered w.re
 pub world_okay_clear : (w : World) (x : Target) (q : Request) → WorldDescribes w x → port_answer x q ≡ Okay
     → is_exempt_register (world_register w q) ≡ false
     → (x.sticky_error || x.write_error || is_port_unpowered q.ap (port_has_power x)) ≡ false
-world_okay_clear w x q h e plain = clear_by (port_is_answered x.reset (port_register x.select q))
+world_okay_clear w x q h e plain = checked_clear_by (port_is_answered x.reset (port_register x.select q))
     (is_exempt_register (port_register x.select q)) _ e (ap is_exempt_register (world_names w x q h) ∙ plain)
 
 confirmed_as : (w : World) (x : Target) (c : Choice) (r : Register) (b : Bool) → is_access_port_register r ≡ b

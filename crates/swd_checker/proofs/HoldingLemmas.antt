@@ -1,7 +1,7 @@
 -- What a list of worlds holds while worlds are added and joined.
-use Rattle.std.proofs.Common.{◌≡◌, ◌<◌, ◌+◌, ◌-◌, ℕ, Bool, false, sym, subst, arith, ◌∙◌}
+use Rattle.std.proofs.Common.{◌≡◌, ◌<◌, ◌≤◌, ◌+◌, ◌-◌, ℕ, Bool, false, sym, subst, arith, ◌∙◌}
 use Rattle.std.proofs.Common.{◌⊎◌, inl, inr, List, [], ◌∷◌, ◌++◌, length, get_or}
-use Rattle.std.specs.Prelude.{Some, slice_index_or}
+use Rattle.std.specs.Prelude.{Some, true, ◌==◌, slice_index_or}
 use Rattle.std.specs.List.{Any, remove}
 use Rattle.std.proofs.lemmas.List.Edits.{get_or-remove_below, get_or-remove_above, length-remove}
 use Rattle.std.proofs.lemmas.List.{get_or_append_left, length_push}
@@ -11,7 +11,7 @@ use Rattle.swd_checker.specs.declared.worlds.Kept.{Kept}
 use Rattle.swd_checker.specs.declared.worlds.Worlds.{Worlds}
 use Rattle.swd_checker.specs.Worlds.{World}
 use Rattle.swd_checker.specs.Described.{WorldDescribes}
-use Rattle.swd_checker.specs.Holding.{KeptDescribes, WorldsHold, WorldsKeep, IsKeptJoined}
+use Rattle.swd_checker.specs.Holding.{KeptDescribes, WorldsHold, WorldsKeep, WorldsGrow, IsKeptJoined}
 
 -- a target is described by a world of the list, or by the one that is to be added
 pub record HeldOr (v : Worlds) (added : Kept) (awaited : Bool) (x : Target) : Type 0 where
@@ -21,6 +21,7 @@ pub record HeldOr (v : Worlds) (added : Kept) (awaited : Bool) (x : Target) : Ty
 -- while a world is added, nothing that was held or that it describes is lost
 pub record WorldsAdding (v : Worlds) (w : World) (now : Worlds) (added : Kept) : Type 0 where
   pub crowded : now.crowded ≡ v.crowded
+  pub few : length now.kept.items ≤ length v.kept.items
   pub kept : (awaited : Bool) (x : Target) → WorldsHold v awaited x → HeldOr now added awaited x
   pub adds : (x : Target) → WorldDescribes w x → HeldOr now added w.awaits x
 
@@ -75,6 +76,11 @@ joined_or : (now left : Worlds) (added joined : Kept) (place : ℕ) (awaited : B
 joined_or now left added joined place awaited x same items h or =
     record { held = λ f. joined_left now left added joined place awaited x items h (or.held (sym same ∙ f)) }
 
+fewer : (items left : List Kept) (place most : ℕ) → left ≡ remove items place → place < length items
+    → length items ≤ most → length left ≤ most
+fewer items left place most is inside few =
+    subst (λ l. length l ≤ most) (sym is) (omega (arith, length-remove items place inside, few))
+
 -- one of the worlds is joined with the added one
 pub worlds_adding_joined : (v : Worlds) (w : World) (now left : Worlds) (added joined : Kept) (place : ℕ)
     → left.crowded ≡ now.crowded → left.kept.items ≡ remove now.kept.items place
@@ -82,6 +88,7 @@ pub worlds_adding_joined : (v : Worlds) (w : World) (now left : Worlds) (added j
     → WorldsAdding v w left joined
 worlds_adding_joined v w now left added joined place same items h before = record {
   crowded = same ∙ before.crowded;
+  few = fewer now.kept.items left.kept.items place (length v.kept.items) items h.0 before.few;
   kept = λ awaited x held. joined_or now left added joined place awaited x same items h (before.kept awaited x held);
   adds = λ x described. joined_or now left added joined place w.awaits x same items h (before.adds x described);
 }
@@ -123,3 +130,31 @@ pub worlds_hold_as : (v : Worlds) (u w : World) (awaited : Bool) (x : Target)
     → WorldsHold v awaited x
 worlds_hold_as v u w awaited x adds is same described = subst (λ a. WorldsHold v a x) same
     (subst (λ z. (y : Target) → WorldDescribes z y → WorldsHold v z.awaits y) is adds x described)
+
+-- there was no room for the added one
+pub worlds_adding_full : (v : Worlds) (w : World) (now last : Worlds) (added : Kept)
+    → last.kept.items ≡ now.kept.items → length now.kept.items ≡ 64 → WorldsAdding v w now added → WorldsGrow 1 v last
+worlds_adding_full v w now last added items full h = let few = h.few in record {
+  few = subst (λ l. length l ≤ length v.kept.items + 1) (sym items) (omega (arith, few));
+  fits = λ room. absurd (omega (arith, few, full, room));
+}
+
+-- there was
+pub worlds_adding_grows : (v : Worlds) (w : World) (now last : Worlds) (added : Kept) → last.crowded ≡ now.crowded
+    → last.kept.items ≡ now.kept.items ++ added ∷ [] → WorldsAdding v w now added → WorldsGrow 1 v last
+worlds_adding_grows v w now last added same items h = let few = h.few in record {
+  few = subst (λ l. length l ≤ length v.kept.items + 1) (sym items) (omega (arith, length_push now.kept.items added, few));
+  fits = λ room. same ∙ h.crowded;
+}
+
+-- some are added, and then others
+pub worlds_grow_then : (a b : ℕ) (v now last : Worlds) → WorldsGrow a v now → WorldsGrow b now last
+    → WorldsGrow (a + b) v last
+worlds_grow_then a b v now last h k = let first = h.few in let second = k.few in record {
+  few = omega (arith, first, second);
+  fits = λ room. k.fits (omega (arith, first, room)) ∙ h.fits (omega (arith, room));
+}
+
+-- the list has as many as fit
+pub worlds_are_full : (n : ℕ) (b : Bool) → b ≡ (n == 64) → b ≡ true → n ≡ 64
+worlds_are_full n b e f = grind arith

@@ -13,3 +13,11 @@ pub mod ArrivalLemmas
 pub mod PhaseLemmas
 pub mod CheckedLemmas
 pub mod TransactLemmas
+pub mod EachLemmas
+pub mod KeepingLemmas
+pub mod IdentifyLemmas
+pub mod OpeningLemmas
+pub mod OpenLemmas
+pub mod StandingLemmas
+pub mod WholeLemmas
+pub mod ShownLemmas

@@ -1,11 +1,12 @@
 -- Data phases of which a bit was changed on the way.
-use Rattle.std.proofs.Common.{◌≡◌, ◌<◌, ◌%◌, ◌^◌, ℕ, Bool, true, false, refl, sym, ap, arith, ◌∙◌, ◌⊎◌, inl, inr}
+use Rattle.std.proofs.Common.{◌≡◌, ◌<◌, ◌+◌, ◌%◌, ◌^◌, ℕ, Bool, true, false, refl, sym, ap, arith, ◌∙◌, ◌⊎◌, inl, inr}
 use Rattle.std.specs.Prelude.{Option, Some, None, ◌==◌, if◌then◌else◌, bit_xor, count_ones}
 use Rattle.std.specs.Int.Bits.{xor_self, xor_zero_r, xor_assoc}
 use Rattle.std.proofs.Math.Pow.{pow-lt}
-use Rattle.std.proofs.lemmas.Nat.{xor_mod, mod_low}
+use Rattle.std.proofs.lemmas.Nat.{xor_mod, xor_lt, mod_low}
 use Rattle.swd_bits.specs.Phases.{data_phase_number, data_phase_word}
-use Rattle.swd_bits.proofs.PhaseLemmas.{data_phase_gives_word, flipped_data_phase_no_word}
+use Rattle.swd_bits.proofs.PhaseLemmas.{data_phase_gives_word, flipped_data_phase_no_word, bit_flip_changes_parity}
+use Rattle.swd_bits.proofs.PhaseLemmas.{data_phase_of_found_word}
 use Rattle.swd_port.specs.Phases.{port_flipped}
 use Rattle.swd_checker.specs.Described.{checked_changed_at}
 use Rattle.swd_checker.specs.Checked.{checked_phase}
@@ -101,3 +102,22 @@ sent_changed word place h inside =
     by_parity (count_ones (bit_xor (checked_phase false word) (2 ^ place)) % 2 == 0)
     (bit_xor (checked_phase false word) (2 ^ place) % 2 ^ 32) (checked_changed_at word place)
     (sent_changed_low word place h inside)
+
+uneven : (even : Bool) (bits : ℕ) → (if even then Some (bits % 2 ^ 32) else None) ≡ None → even ≡ false
+uneven true bits e = absurd (cc)
+uneven false bits e = refl
+
+one_more : (ones : ℕ) → (ones % 2 == 0) ≡ false → (ones + 1) % 2 ≡ 0
+one_more ones e = grind arith
+
+-- 33 bits with wrong parity are those of a word with its parity changed
+pub phase_of_wrong_parity : (bits : ℕ) → bits < 2 ^ 33 → data_phase_word bits ≡ None
+    → bits ≡ checked_phase false (bit_xor bits (2 ^ 32) % 2 ^ 32)
+phase_of_wrong_parity bits h e =
+    let other = bit_xor bits (2 ^ 32) in
+    let even : count_ones other % 2 ≡ 0 = bit_flip_changes_parity 32 bits
+    ∙ one_more (count_ones bits) (uneven (count_ones bits % 2 == 0) bits e) in
+    let found : data_phase_word other ≡ Some (other % 2 ^ 32) = rw even refl in
+    let small : other < 2 ^ 33 = xor_lt 33 bits (2 ^ 32) h (omega arith) in
+    sym (twice bits (2 ^ 32)) ∙ ap (λ z. bit_xor z (2 ^ 32))
+    (data_phase_of_found_word other (other % 2 ^ 32) small found)

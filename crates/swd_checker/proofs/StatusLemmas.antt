@@ -1,7 +1,7 @@
 -- Worlds after a read of CTRL/STAT.
 use Rattle.std.proofs.Common.{◌≡◌, ◌≢◌, ◌<◌, ◌/◌, ◌%◌, ◌^◌, ℕ, Bool, true, false, refl, sym, ap, arith}
 use Rattle.std.proofs.Common.{◌∙◌, inl, inr}
-use Rattle.std.specs.Prelude.{Option, Some, None, is_some, ◌&&◌, ◌==◌, not}
+use Rattle.std.specs.Prelude.{Option, Some, None, is_some, ◌&&◌, ◌==◌}
 use Rattle.swd_bits.specs.Bits.{bit}
 use Rattle.swd_port.specs.Registers.{register_bit, ctrl_stat_read}
 use Rattle.swd_port.specs.declared.state.PowerUp.{PowerUp}

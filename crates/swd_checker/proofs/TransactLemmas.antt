@@ -1,7 +1,7 @@
 -- What the worlds hold after a whole transaction: the request, its answer, the data phase, and what takes effect
 -- between these.
 use Rattle.std.proofs.Common.{◌≡◌, ◌<◌, ◌^◌, ℕ, Bool, true, false, refl, sym, ap, subst, ◌∙◌, inl, inr, List}
-use Rattle.std.specs.Prelude.{Option, Some, None, IfSome, not, if◌then◌else◌}
+use Rattle.std.specs.Prelude.{Option, Some, None, IfSome, not, ◌==◌, if◌then◌else◌}
 use Rattle.std.specs.List.{Any}
 use Rattle.swd_bits.specs.declared.request.Request.{Request}
 use Rattle.swd_bits.specs.declared.request.Reg4.{Reg4}
@@ -16,7 +16,7 @@ use Rattle.swd_port.specs.declared.mark.Mark.TheVariants.{Clean, Wait, Flip, Dea
 use Rattle.swd_port.specs.Phases.{port_flipped}
 use Rattle.swd_port.specs.declared.state.AfterAck.{AfterAck}
 use Rattle.swd_port.specs.declared.state.AfterAck.TheVariants.{Awaits, Drives}
-use Rattle.swd_port.specs.Port.{Port, Target, port_dp_register}
+use Rattle.swd_port.specs.Port.{Port, Target, port_dp_register, port_selects_mem_ap}
 use Rattle.swd_port.specs.Port.{mem_ap_register, port_other_ap_register}
 use Rattle.swd_port.specs.Choices.{Choice, port_flip_of, IsPortMark, PortMayBeLate}
 use Rattle.swd_port.specs.Answers.{is_exempt_register}
@@ -36,7 +36,7 @@ use Rattle.swd_checker.specs.Worlds.{World}
 use Rattle.swd_checker.specs.Described.{WorldDescribes, IsCheckedNear, checked_changed_at}
 use Rattle.swd_checker.specs.Holding.{KeptDescribes, WorldsHold, WorldsKeep, WorldsHoldPort}
 use Rattle.swd_checker.specs.Laws.{WorldDescribesPort}
-use Rattle.swd_checker.specs.Steps.{WorldAccepts, world_register, world_due}
+use Rattle.swd_checker.specs.Steps.{WorldAccepts, checked_register, world_register, world_due}
 use Rattle.swd_checker.specs.Asking.{IsAskedBy, IsAskedAlike, IsAskedAccepted, IsAskedTo}
 use Rattle.swd_checker.specs.Adding.{IsCheckedPrompt, WorldsReturn, WorldsRead, WorldsArrive, WorldsDamage}
 use Rattle.swd_checker.specs.Adding.{WorldsLose}
@@ -57,7 +57,8 @@ describes_more : (kept : Kept) (awaited : Bool) (c : Choice) (x : Target) → Ke
 describes_more kept awaited c x h =
     record { awaits = h.awaits; target = world_completes kept.world c x h.target }
 
-any_more : (P Q : Kept → Type 0) (items : List Kept) → ((kept : Kept) → P kept → Q kept) → Any P items → Any Q items
+-- what follows for each world of a list
+pub any_more : (P Q : Kept → Type 0) (items : List Kept) → ((kept : Kept) → P kept → Q kept) → Any P items → Any Q items
 any_more P Q items step (k, kept, within, is, holds) = (k, kept, within, is, step kept holds)
 
 hold_completes : (v : Worlds) (awaited : Bool) (c : Choice) (x : Target) → WorldsHold v awaited x
@@ -76,6 +77,7 @@ hold_later v awaited s t h held =
 same_line : (s t : Port) → PortCompletes s t → port_line_awaits t.link.line ≡ port_line_awaits s.link.line
 same_line s t h = ap (λ l. port_line_awaits l.line) (port_kept s t h).link
 
+-- the worlds still hold a port
 pub hold_port_later : (v : Worlds) (s t : Port) → PortCompletes s t → WorldsHoldPort v s → WorldsHoldPort v t
 hold_port_later v s t h held = subst (λ b. WorldsHold v b t.target) (sym (same_line s t h))
     (hold_later v (port_line_awaits s.link.line) s t h held)
@@ -87,7 +89,8 @@ hold_taken v b asked t bits first (d, e, before, takes, last) h =
     let k : WorldsHold v false d.target = hold_later v false asked d before (hold_later v false b asked first h) in
     hold_port_later v e t last (subst (WorldsHoldPort v) (sym takes.after) k)
 
-line_later : (s t : Port) (line : AfterAck) → PortCompletes s t → s.link.line ≡ line → t.link.line ≡ line
+-- what the target awaits or drives
+pub line_later : (s t : Port) (line : AfterAck) → PortCompletes s t → s.link.line ≡ line → t.link.line ≡ line
 line_later s t line h e = ap (λ l. l.line) (port_kept s t h).link ∙ e
 
 -- the bits that are taken
@@ -138,7 +141,8 @@ hold_faulted v w q r a b d h refuses =
     (subst (WorldsHold v w.awaits) (sym h.target) (refuses a.target d.target h.settled h.answer))
 
 -- WHAT WAS SEEN OF A DATA PHASE
-moved_whole : (mark : Mark) (word value : ℕ) → word < 2 ^ 32 → value < 2 ^ 32
+-- a word that is seen with right parity is what the target returned
+pub moved_whole : (mark : Mark) (word value : ℕ) → word < 2 ^ 32 → value < 2 ^ 32
     → checked_phase true word ≡ port_flipped (port_flip_of mark) (data_phase_number value) → word ≡ value
 moved_whole Clean word value h k e = seen_whole word value h k e
 moved_whole Wait word value h k e = seen_whole word value h k e
@@ -180,7 +184,8 @@ arrives_whole : (P : PortArrival → Type 0) (r : Register) (word : ℕ) → wor
     → P (port_arrival_of r (data_phase_word (checked_phase true word)))
 arrives_whole P r word h arrives = subst (λ o. P (port_arrival_of r o)) (sym (data_phase_gives_word word h)) arrives
 
-written_whole : (P : PortArrival → Type 0) (clean : Bool) (mark : Mark) (r : Register) (word : ℕ) → word < 2 ^ 32
+-- a word that was sent with right parity
+pub written_whole : (P : PortArrival → Type 0) (clean : Bool) (mark : Mark) (r : Register) (word : ℕ) → word < 2 ^ 32
     → (clean ≡ true → is_checked_clean mark ≡ true) → P (Arrives r word) → (clean ≡ false → P Damaged)
     → P (port_arrival_of r (data_phase_word (port_flipped (port_flip_of mark) (checked_phase true word))))
 written_whole P clean Clean r word h undamaged arrives damages = arrives_whole P r word h arrives
@@ -255,23 +260,69 @@ moves_some asked now v result word ok some same accepts moves s t is moved d =
     moves s t k.0 k.1 (λ c x by h settled e. subst (λ o. IsAskedAccepted o asked.register c x) some
     (accepts c x by h settled e)) is moved d
 
-phase_read : (read : Bool) (r : Register) (flip : Option ℕ) (value : ℕ) → read ≡ true
+-- a read drives its word
+pub phase_read : (read : Bool) (r : Register) (flip : Option ℕ) (value : ℕ) → read ≡ true
     → port_phase_after read r flip value ≡ Drives (port_flipped flip (data_phase_number value))
 phase_read true r flip value e = refl
 phase_read false r flip value e = absurd (cc)
 
-phase_written : (read : Bool) (r : Register) (flip : Option ℕ) (value : ℕ) → read ≡ false
+-- a write awaits its word
+pub phase_written : (read : Bool) (r : Register) (flip : Option ℕ) (value : ℕ) → read ≡ false
     → port_phase_after read r flip value ≡ Awaits r flip
 phase_written true r flip value e = absurd (cc)
 phase_written false r flip value e = refl
 
-takes : (read : Bool) (a t : Port) (bits : ℕ) → read ≡ true → ObservedMoves read a bits t → PortTakes a bits t
+-- the data phase of a read
+pub takes : (read : Bool) (a t : Port) (bits : ℕ) → read ≡ true → ObservedMoves read a bits t → PortTakes a bits t
 takes true a t bits e h = h
 takes false a t bits e h = absurd (cc)
 
-gives : (read : Bool) (a t : Port) (bits : ℕ) → read ≡ false → ObservedMoves read a bits t → PortGives a bits t
+-- the data phase of a write
+pub gives : (read : Bool) (a t : Port) (bits : ℕ) → read ≡ false → ObservedMoves read a bits t → PortGives a bits t
 gives true a t bits e h = absurd (cc)
 gives false a t bits e h = h
+
+-- DPIDR
+record DpidrMoved (clean : Bool) (q : Request) (word : ℕ) (ok : Bool) (s t : Port)
+    (h : CheckedHasMoved clean q word ok s t) : Type 0 where
+  okayed : CheckedOkayed h.asks.mark h.asks.choice q DpidrRead h.asks.before h.asks.after
+  bits : checked_phase ok word ≡ port_flipped (port_flip_of h.asks.mark)
+      (data_phase_number h.asks.before.target.identification)
+  same : h.asks.before.target.identification ≡ s.target.identification
+
+dpidr_moved : (clean : Bool) (q : Request) (word : ℕ) (ok : Bool) (s t : Port) → q.read ≡ true
+    → ((mem_ap bank0 : Bool) → checked_register mem_ap bank0 q ≡ DpidrRead)
+    → (h : CheckedHasMoved clean q word ok s t) → DpidrMoved clean q word ok s t h
+dpidr_moved clean q word ok s t read named h =
+    let k : CheckedOkayed h.asks.mark h.asks.choice q DpidrRead h.asks.before h.asks.after =
+    checked_okay_seen clean s q h.asked DpidrRead h.asks
+    (named (port_selects_mem_ap h.asks.before.target.select) (h.asks.before.target.select.dpbanksel == 0)) in
+    record {
+      okayed = k;
+      bits = bits_taken h.asks.after h.asked t (checked_phase ok word) _
+          (k.line ∙ phase_read q.read DpidrRead (port_flip_of h.asks.mark) _ read) h.asks.then
+          (takes q.read h.asked t (checked_phase ok word) read h.moves);
+      same = (port_kept s h.asks.before h.asks.completes).identification;
+    }
+
+-- a read of DPIDR with right parity returns its word,
+pub dpidr_whole : (clean : Bool) (q : Request) (word : ℕ) (s t : Port) → q.read ≡ true
+    → ((mem_ap bank0 : Bool) → checked_register mem_ap bank0 q ≡ DpidrRead) → CheckedHasMoved clean q word true s t
+    → word ≡ s.target.identification
+dpidr_whole clean q word s t read named h =
+    let k : DpidrMoved clean q word true s t h = dpidr_moved clean q word true s t read named h in
+    moved_whole h.asks.mark word h.asks.before.target.identification h.small (k.okayed.word read) k.bits ∙ k.same
+
+-- and one with wrong parity returns it with one bit changed
+pub dpidr_changed : (clean : Bool) (q : Request) (word : ℕ) (s t : Port) → q.read ≡ true
+    → ((mem_ap bank0 : Bool) → checked_register mem_ap bank0 q ≡ DpidrRead) → CheckedHasMoved clean q word false s t
+    → (place : ℕ) × (place < 33) × (s.target.identification ≡ checked_changed_at word place)
+dpidr_changed clean q word s t read named h =
+    let k : DpidrMoved clean q word false s t h = dpidr_moved clean q word false s t read named h in
+    let z : ReadChanged clean h.asks.choice word h.asks.before.target.identification =
+    moved_changed clean h.asks.mark h.asks.choice word h.asks.before.target.identification k.okayed.legal k.okayed.late
+    h.asks.undamaged h.small (k.okayed.word read) k.bits in
+    (z.place, z.inside, sym k.same ∙ z.is)
 
 -- a read: which 33 bits were seen, and what is left of the worlds that hold the target after OK
 record ReadAfter (asked : Asked) (word : ℕ) (ok : Bool) (s t : Port)

@@ -9,3 +9,7 @@ pub mod Adding
 pub mod Checked
 pub mod StepLaws
 pub mod Laws
+pub mod Openings
+pub mod Standing
+pub mod Whole
+pub mod Shown

@@ -1,15 +1,25 @@
 //! The checker of a trace.
 
-ghost use Rattle.std.specs.Prelude.{◌≤◌};
+ghost use Rattle.std.specs.Prelude.{ℕ, ◌≡◌, ◌≤◌, Bool, true, false, length};
 ghost use Rattle.arrayvec.specs.ArrayVec.{array_vec_len};
+ghost use Rattle.swd_port.specs.Port.{Port};
+ghost use Rattle.swd_port.specs.Registers.{register_bit};
+ghost use Rattle.swd_trace.specs.declared.item.Item.{Item};
+ghost use Rattle.swd_checker.specs.Holding.{WorldsHoldPort};
+ghost use Rattle.swd_checker.specs.Openings.{OpeningHolds};
+ghost use Rattle.swd_checker.specs.Standing.{CheckerHolds, CheckerStarts, CheckerWatches, CheckerLeaves};
+ghost use Rattle.swd_checker.specs.Standing.{CheckerKeeps, CheckerKeepsWorlds, CheckerChecks, CheckerIdentifies};
+ghost use Rattle.swd_checker.specs.Standing.{checker_gap, checked_gap_none, checked_stray_after};
+ghost use Rattle.swd_checker.specs.Standing.{is_checked_broken};
 
-use crate::near::{Near, Words};
+use crate::identification::Identification;
+use crate::near::Near;
 use crate::opening::Opening;
 use crate::rule::{Rule, broken_rule};
 use crate::world::World;
-use crate::worlds::{Kept, MOST_WORLDS, Worlds};
+use crate::worlds::{Kept, MOST_WORLDS, Worlds, copy_of};
 use arrayvec::ArrayVec;
-use swd_bits::{Reg4, Tx, TxEnd};
+use swd_bits::{Tx, TxEnd};
 use swd_trace::Item;
 
 /// How many bits that belong to no item may follow a lost acknowledgement: the rest of a data phase, and a turnaround.
@@ -37,18 +47,18 @@ pub enum Verdict {
     Crowded { place: u64 },
 }
 
-/// Decides whether some run of the port model explains the items of a trace. It allocates nothing. What it says is only
-/// tested: no contract relates its verdict to the runs of the model. `laws` has what is proved of the worlds.
+/// Decides whether some run of the port model explains the items of a trace. It allocates nothing. Where it says
+/// `Breaks`, none does; that some run does where it says `Fits` is only tested.
 ///
 /// Junk bits begin a gap, except for up to 34 after a lost acknowledgement. In a gap nothing is checked, up to the next
-/// line reset. After a gap, after `Crowded`, and where the target's first state is unknown, the worlds may be too many
+/// line reset, and so it is behind a cut end. After a gap, after `Crowded`, and where the target's first state is unknown, the worlds may be too many
 /// to be held. So the check begins later there: at the first read of CTRL/STAT of a target at rest, and else at the
 /// first OK to a request that can be refused, next to a write of SELECT.
 #[derive(Clone, Debug, Drop)]
 pub struct Checker {
     worlds: Worlds,
     opening: Opening,
-    identification: Option<Near>,
+    identification: Identification,
     clean: bool,
     began: Option<u64>,
     faults_before: u64,
@@ -61,34 +71,46 @@ pub struct Checker {
 
 impl Checker {
     /// Returns a checker for a wire on which data may be damaged, and requests and acknowledgements may be lost.
-    pub fn new(start: CheckStart) -> Checker {
+    pub fn new(start: CheckStart) -> Checker
+        ensures { CheckerStarts start false result }
+    {
         Checker::of(start, false)
     }
 
     /// Returns a checker for a wire on which nothing is damaged or lost, as in a simulation.
-    pub fn clean(start: CheckStart) -> Checker {
+    pub fn clean(start: CheckStart) -> Checker
+        ensures { CheckerStarts start true result }
+    {
         Checker::of(start, true)
     }
 
-    fn of(start: CheckStart, clean: bool) -> Checker {
-        let mut worlds = Worlds::none();
-        let opening = match start {
+    /// Returns a checker for a wire on which nothing is damaged or lost if `clean` is true.
+    pub(crate) fn of(start: CheckStart, clean: bool) -> Checker
+        ensures { CheckerStarts start clean result }
+    {
+        match start {
             CheckStart::Made => {
+                let mut worlds = Worlds::none();
                 worlds.add(World::made(), 0);
-                Opening::Over
+                Checker::at(Opening::Over, worlds, Some(0), clean)
             }
-            CheckStart::Rest => Opening::Resting,
-            CheckStart::Any => Opening::Anything,
-        };
-        let began = if start == CheckStart::Made {
-            Some(0)
-        } else {
-            None
-        };
+            CheckStart::Rest => Checker::at(Opening::Resting, Worlds::none(), None, clean),
+            CheckStart::Any => Checker::at(Opening::Anything, Worlds::none(), None, clean),
+        }
+    }
+
+    // Returns a checker before the first item, whose check began at this place.
+    fn at(opening: Opening, worlds: Worlds, began: Option<u64>, clean: bool) -> Checker
+        ensures holds { (s : Port) → register_bit 0 s.target.identification ≡ true → OpeningHolds opening worlds s
+            → CheckerHolds result s }
+        ensures unbroken { result.broken ≡ None }
+        ensures wire { result.clean ≡ clean }
+        ensures gapless { checker_gap result ≡ checked_gap_none }
+    {
         Checker {
             worlds,
             opening,
-            identification: None,
+            identification: Identification::unknown(),
             clean,
             began,
             faults_before: 0,
@@ -101,24 +123,27 @@ impl Checker {
     }
 
     /// Takes the next item. `place` is the number of bits before it. After `Breaks` it does nothing.
-    pub fn watch(&mut self, item: &Item, place: u64) {
-        if self.broken.is_some() {
-            return;
-        }
-        match *item {
-            Item::Junk(_) => self.skip(),
-            Item::Reset(_) => self.reset(),
-            Item::Tx(tx) => {
-                if !self.in_gap {
-                    self.transact(&tx, place);
-                }
-            }
-            Item::Switch | Item::Idle(_) | Item::Cut(_) => {}
+    pub fn watch(&mut self, item: &Item, place: u64)
+        ensures { CheckerWatches item.now self.old self.new }
+    {
+        if self.broken.is_none() {
+            self.take(item, place);
         }
     }
 
-    /// Returns what the items so far show, which is only tested.
-    pub fn verdict(&self) -> Verdict {
+    /// Leaves the model up to the next line reset: nothing before it is checked. It is no gap that is counted.
+    pub fn leave(&mut self)
+        ensures { CheckerLeaves self.old self.new }
+    {
+        self.in_gap = true;
+        self.forget();
+    }
+
+    /// Returns what the items so far show.
+    pub fn verdict(&self) -> Verdict
+        ensures breaks { is_checked_broken result ≡ true → self.now.broken ≡ None → ⊥ }
+        ensures goes_on { is_checked_broken result ≡ false → self.now.broken ≡ None }
+    {
         if let Some((place, rule)) = self.broken {
             return Verdict::Breaks { place, rule };
         }
@@ -140,7 +165,7 @@ impl Checker {
 
     /// Returns how many requests were damaged or lost at least: no run that explains the items has fewer of them.
     pub fn faults(&self) -> u64 {
-        if self.opening == Opening::Over {
+        if self.opening.is_over() {
             self.faults_before
                 .saturating_add(self.worlds.fewest_faults())
         } else {
@@ -153,11 +178,44 @@ impl Checker {
         self.worlds.kept.len()
     }
 
+    // Takes an item where no rule was broken.
+    fn take(&mut self, item: &Item, place: u64)
+        ensures { CheckerWatches item.now self.old self.new }
+    {
+        match *item {
+            Item::Junk(_) => self.skip(),
+            Item::Reset(_) => self.reset(),
+            Item::Tx(tx) => self.take_transaction(&tx, place),
+            Item::Cut(_) => self.leave(),
+            _ => {}
+        }
+    }
+
+    // Takes a transaction, in a gap or outside of one.
+    fn take_transaction(&mut self, tx: &Tx, place: u64)
+        ensures { CheckerWatches (Item.Tx tx.now) self.old self.new }
+    {
+        if !self.in_gap {
+            self.transact(tx, place);
+        }
+    }
+
     // Takes a junk bit.
-    fn skip(&mut self) {
+    fn skip(&mut self)
+        ensures { (b : Bool) → CheckerWatches (Item.Junk b) self.old self.new }
+    {
         if self.stray > 0 {
             self.stray -= 1;
-        } else if !self.in_gap {
+        } else {
+            self.begin_gap();
+        }
+    }
+
+    // Begins a gap, if none has begun.
+    fn begin_gap(&mut self)
+        ensures { self.old.stray ≡ 0 → (b : Bool) → CheckerWatches (Item.Junk b) self.old self.new }
+    {
+        if !self.in_gap {
             self.in_gap = true;
             self.gaps = self.gaps.saturating_add(1);
             self.forget();
@@ -165,52 +223,66 @@ impl Checker {
     }
 
     // Forgets the worlds.
-    fn forget(&mut self) {
+    fn forget(&mut self)
+        ensures keeps { CheckerKeeps self.old self.new }
+        ensures opening { self.new.opening ≡ Opening.Anything }
+        ensures broken { self.new.broken ≡ self.old.broken }
+    {
         self.faults_before = self.faults();
         self.worlds.empty();
         self.opening = Opening::Anything;
     }
 
     // Takes a line reset.
-    fn reset(&mut self) {
+    fn reset(&mut self)
+        ensures { (ones : ℕ) → CheckerWatches (Item.Reset ones) self.old self.new }
+    {
         self.in_gap = false;
         self.stray = 0;
         self.worlds.reset();
     }
 
-    // Takes a transaction.
-    fn transact(&mut self, tx: &Tx, place: u64) {
-        self.stray = if matches!(&tx.result, TxEnd::NoAck(_)) {
-            STRAY_BITS
-        } else {
-            0
-        };
-        if self.opening != Opening::Over {
-            self.begin(tx, place);
-        }
-        if self.opening == Opening::Over {
+    // Takes a transaction outside of a gap.
+    fn transact(&mut self, tx: &Tx, place: u64)
+        ensures { self.old.in_gap ≡ false → CheckerWatches (Item.Tx tx.now) self.old self.new }
+    {
+        self.stray = stray_after(tx.result);
+        self.check(tx, place);
+        self.identify(tx, place);
+    }
+
+    // Takes a transaction in the worlds, or looks whether they are few enough to be held.
+    fn check(&mut self, tx: &Tx, place: u64)
+        ensures keeps { CheckerKeeps self.old self.new }
+        ensures checks { CheckerChecks tx.now self.old self.new }
+    {
+        if self.opening.is_over() {
             self.step(tx, place);
         } else {
-            self.opening = self.opening.after(tx);
-        }
-        if !self.identifies(tx) && self.broken.is_none() {
-            self.broken = Some((place, Rule::Identification));
+            self.begin(tx, place);
         }
     }
 
     // Begins the check at a transaction, if the worlds before it are few enough.
     #[inline(never)]
-    fn begin(&mut self, tx: &Tx, place: u64) {
-        if self.worlds.open(self.opening, tx) {
+    fn begin(&mut self, tx: &Tx, place: u64)
+        ensures keeps { CheckerKeeps self.old self.new }
+        ensures checks { (self.old.opening ≡ Opening.Over → ⊥) → CheckerChecks tx.now self.old self.new }
+    {
+        if self.worlds.begin(self.opening, tx) {
             self.opening = Opening::Over;
-            if self.began.is_none() {
-                self.began = Some(place);
-            }
+            self.began = self.began.or(Some(place));
+            self.step(tx, place);
+        } else {
+            self.opening = self.opening.after(tx);
         }
     }
 
     // Takes a transaction in each of the worlds. Only those that are held are copied: mostly one.
-    fn step(&mut self, tx: &Tx, place: u64) {
+    fn step(&mut self, tx: &Tx, place: u64)
+        ensures keeps { CheckerKeeps self.old self.new }
+        ensures checks { self.old.opening ≡ Opening.Over → CheckerChecks tx.now self.old self.new }
+    {
         let count = self.worlds.kept.len();
         if count <= 1 {
             self.step_few::<1>(tx, place);
@@ -226,25 +298,38 @@ impl Checker {
     fn step_few<const MOST: usize>(&mut self, tx: &Tx, place: u64)
         requires most { MOST ≤ MOST_WORLDS }
         requires few { array_vec_len self.old.worlds.kept ≤ MOST }
+        ensures keeps { CheckerKeeps self.old self.new }
+        ensures checks { self.old.opening ≡ Opening.Over → CheckerChecks tx.now self.old self.new }
     {
-        let mut before: ArrayVec<Kept, MOST> = ArrayVec::new();
-        let _ = before.try_extend_from_slice(self.worlds.kept.as_slice());
+        let before: ArrayVec<Kept, MOST> = copy_of(self.worlds.kept.as_slice());
         self.worlds.empty();
         self.worlds.step_each(before.as_slice(), tx, self.clean);
+        self.settle(before.as_slice(), tx, place);
+    }
+
+    // Looks what is left of these worlds after a transaction: too many, or none.
+    fn settle(&mut self, before: &[Kept], tx: &Tx, place: u64)
+        requires { length before.now ≤ MOST_WORLDS }
+        ensures keeps { CheckerKeeps self.old self.new }
+        ensures settles { (t : Port) → self.old.opening ≡ Opening.Over → WorldsHoldPort self.old.worlds t
+            → OpeningHolds self.new.opening self.new.worlds t × (self.new.broken ≡ self.old.broken) }
+    {
         if self.worlds.crowded {
-            self.worlds.restore(before.as_slice());
+            self.worlds.restore(before);
             self.crowd(place);
         } else if self.worlds.kept.is_empty() {
-            self.worlds.restore(before.as_slice());
+            self.worlds.restore(before);
             self.broken = Some((place, self.rule_broken(tx)));
         }
     }
 
     // Gives up the worlds, which are too many.
-    fn crowd(&mut self, place: u64) {
-        if self.crowded.is_none() {
-            self.crowded = Some(place);
-        }
+    fn crowd(&mut self, place: u64)
+        ensures keeps { CheckerKeeps self.old self.new }
+        ensures opening { self.new.opening ≡ Opening.Anything }
+        ensures broken { self.new.broken ≡ self.old.broken }
+    {
+        self.crowded = self.crowded.or(Some(place));
         self.forget();
     }
 
@@ -270,28 +355,27 @@ impl Checker {
 
     /// Returns what DPIDR's word may be.
     pub(crate) fn identified(&self) -> Option<Near> {
-        self.identification
+        self.identification.word()
     }
 
-    // Narrows DPIDR's word by a read of it. Returns false if there is none: it is one and the same, and its bit 0 is 1.
-    fn identifies(&mut self, tx: &Tx) -> bool {
-        let request = tx.request;
-        let TxEnd::Moved { word, parity_ok } = tx.result else {
-            return true;
-        };
-        if request.ap || !request.read || request.addr != Reg4::R0 {
-            return true;
+    // Narrows DPIDR's word by a read of it.
+    fn identify(&mut self, tx: &Tx, place: u64)
+        ensures identifies { CheckerIdentifies tx.now self.old self.new }
+        ensures keeps { CheckerKeepsWorlds self.old self.new }
+    {
+        if self.identification.narrow(tx) {
+            return;
         }
-        let Some(odd) = Near::seen(word, parity_ok).among(Words::Odd) else {
-            return false;
-        };
-        let left = match self.identification {
-            Some(before) => odd.among(Words::Near(before)),
-            None => Some(odd),
-        };
-        if left.is_some() {
-            self.identification = left;
-        }
-        left.is_some()
+        self.broken = self.broken.or(Some((place, Rule::Identification)));
+    }
+}
+
+// Returns how many junk bits may follow.
+fn stray_after(end: TxEnd) -> u8
+    ensures { result ≡ checked_stray_after end }
+{
+    match end {
+        TxEnd::NoAck(_) => STRAY_BITS,
+        _ => 0,
     }
 }

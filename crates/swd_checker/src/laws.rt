@@ -1,6 +1,7 @@
 //! Laws of worlds and the states of the port model. The functions do nothing: their contracts are the laws.
 ghost use Rattle.swd_checker.specs.Laws.{WorldAtCompletion, WorldAtIdle, WorldAtReset, WorldAtWait, WorldAtFault};
 ghost use Rattle.swd_checker.specs.Laws.{WorldAtDamage, WorldAtMade, WorldAtOkay};
+ghost use Rattle.swd_checker.specs.Shown.{ObservedRunsAreShown};
 ghost use Rattle.swd_checker.specs.StepLaws.{WorldAtDpidr, WorldAtResend, WorldAtRdbuff, WorldAtCswRead};
 ghost use Rattle.swd_checker.specs.StepLaws.{WorldAtTarRead};
 ghost use Rattle.swd_checker.specs.StepLaws.{WorldAtDrwRead, WorldAtReadElsewhere, WorldAtCtrlStat, WorldAtSelect};
@@ -69,4 +70,10 @@ pub fn writes()
     ensures drw { WorldAtDrwWrite }
     ensures elsewhere { WorldAtWriteElsewhere }
     ensures abort { WorldAtAbort }
+{}
+
+/// States that each run of the port model that an observer of the wire knows is one that some items show. So where
+/// [`broken_item`](crate::broken_item) finds a broken rule, no such run is one of its items.
+pub fn runs()
+    ensures { ObservedRunsAreShown }
 {}

@@ -18,6 +18,7 @@
 mod answer;
 mod checker;
 mod held;
+mod identification;
 pub mod laws;
 mod near;
 mod opening;
@@ -27,6 +28,7 @@ mod register;
 mod rule;
 mod step;
 mod tar;
+mod whole;
 mod world;
 mod worlds;
 
@@ -34,3 +36,4 @@ pub use checker::{CheckStart, Checker, Verdict};
 pub use origins::{Origin, Origins};
 pub use reason::{Cause, Due, Reason};
 pub use rule::Rule;
+pub use whole::broken_item;

@@ -1,4 +1,5 @@
 //! Why an item breaks a rule.
+ghost use Rattle.std.specs.Prelude.{◌≡◌, None, IfSome};
 
 use crate::checker::{Checker, Verdict};
 use crate::held::Held;
@@ -79,7 +80,10 @@ pub struct Reason {
 
 impl Checker {
     /// Returns why the last transaction that was watched breaks a rule, if it does.
-    pub fn reason(&self, tx: &Tx, origins: &Origins) -> Option<Reason> {
+    pub fn reason(&self, tx: &Tx, origins: &Origins) -> Option<Reason>
+        ensures breaks { IfSome result (λ _. self.now.broken ≡ None → ⊥) }
+        ensures goes_on { result ≡ None → self.now.broken ≡ None }
+    {
         let Verdict::Breaks { rule, .. } = self.verdict() else {
             return None;
         };

@@ -589,6 +589,7 @@ impl Asked {
 
     // Returns whether the pending transfer, if it was a bus error, is due to make the answer FAULT.
     fn may_have_failed(self) -> bool
+        ensures pending { result ≡ true → is_some self.world.pending ≡ true }
         ensures refused { is_some self.world.pending ≡ true → world_due self.world self.request ≡ Reply.Faults
             → result ≡ true }
         ensures okay { is_some self.world.pending ≡ true → world_due self.world self.request ≡ Reply.Okay

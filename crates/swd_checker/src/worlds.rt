@@ -1,8 +1,11 @@
 //! The list of worlds.
-ghost use Rattle.std.specs.Prelude.{◌≡◌, ◌≤◌, [], false, length};
-ghost use Rattle.swd_port.specs.Port.{Target};
+ghost use Rattle.std.specs.Prelude.{ℕ, ◌≡◌, ◌≢◌, ◌≤◌, [], false, length};
+ghost use Rattle.swd_port.specs.Port.{Port, Target};
+ghost use Rattle.swd_port.specs.Leading.{PortLeads};
 ghost use Rattle.swd_checker.specs.Described.{WorldDescribes};
-ghost use Rattle.swd_checker.specs.Holding.{WorldsHold, WorldsKeep, IsKeptJoined};
+ghost use Rattle.swd_checker.specs.Holding.{WorldsHold, WorldsKeep, WorldsGrow, IsKeptJoined, WorldsHoldPort};
+ghost use Rattle.swd_checker.specs.Holding.{AnyKeptHolds};
+ghost use Rattle.swd_checker.specs.Checked.{CheckedTransacts};
 
 use crate::world::World;
 use arrayvec::ArrayVec;
@@ -34,6 +37,17 @@ impl Default for Kept {
             faults: 0,
         }
     }
+}
+
+/// Returns a copy of these worlds.
+#[inline(always)]
+pub(crate) fn copy_of<const MOST: usize>(kept: &[Kept]) -> ArrayVec<Kept, MOST>
+    requires { length kept.now ≤ MOST }
+    ensures { result.items ≡ kept.now }
+{
+    let mut copy = ArrayVec::new();
+    let _ = copy.try_extend_from_slice(kept);
+    copy
 }
 
 impl Worlds {
@@ -71,6 +85,7 @@ impl Worlds {
     pub(crate) fn add(&mut self, world: World, faults: u64)
         ensures keeps { WorldsKeep self.old self.new }
         ensures adds { (x : Target) → WorldDescribes world x → WorldsHold self.new world.awaits x }
+        ensures grows { WorldsGrow 1 self.old self.new }
     {
         let mut added = Kept { world, faults };
         for _ in 0..MOST_WORLDS {
@@ -89,18 +104,34 @@ impl Worlds {
 
     /// Takes a line reset in each of the worlds.
     #[inline(never)]
-    pub(crate) fn reset(&mut self) {
-        let mut before: ArrayVec<Kept, MOST_WORLDS> = ArrayVec::new();
-        let _ = before.try_extend_from_slice(self.kept.as_slice());
+    pub(crate) fn reset(&mut self)
+        ensures resets { (ones : ℕ) (s t : Port) → ones ≢ 0 → PortLeads s ones t → self.old.crowded ≡ false
+            → WorldsHoldPort self.old s → WorldsHoldPort self.new t }
+        ensures crowded { self.new.crowded ≡ false }
+    {
+        let mut before = Worlds::none();
+        before.restore(self.kept.as_slice());
         self.empty();
-        for kept in &before {
+        self.reset_each(before.kept.as_slice());
+    }
+
+    // Adds each of these worlds after a line reset.
+    fn reset_each(&mut self, before: &[Kept])
+        ensures resets { (ones : ℕ) (s t : Port) → ones ≢ 0 → PortLeads s ones t → AnyKeptHolds before.now s
+            → WorldsHoldPort self.new t }
+        ensures grows { WorldsGrow (length before.now) self.old self.new }
+    {
+        for kept in before {
             self.add(kept.world.after_reset(), kept.faults);
         }
     }
 
     /// Takes a transaction in each of these worlds: adds the worlds after it. Where `clean` is true, nothing is damaged
     /// or lost.
-    pub(crate) fn step_each(&mut self, before: &[Kept], tx: &Tx, clean: bool) {
+    pub(crate) fn step_each(&mut self, before: &[Kept], tx: &Tx, clean: bool)
+        ensures { (s t : Port) → CheckedTransacts clean tx.now.result tx.now.request s t
+            → AnyKeptHolds before.now s → WorldsHoldPort self.new t }
+    {
         for kept in before {
             self.step(kept.world, kept.faults, tx, clean);
         }

@@ -2,6 +2,7 @@
 
 mod openings;
 mod rows;
+mod whole;
 mod worlds;
 
 use std::alloc::Global;

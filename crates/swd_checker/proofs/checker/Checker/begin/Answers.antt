@@ -1,0 +1,15 @@
+use Rattle.std.proofs.Common.{refl}
+use Rattle.swd_checker.proofs.StandingLemmas.{checks_opened, checks_unopened}
+use Rattle.swd_checker.proofs.checker.Checker.begin.Goals as goal
+
+pub returns-then-begin-clause-keeps : goal.returns-then-begin-clause-keeps
+returns-then-begin-clause-keeps c = let k = c.step.ensures.keeps in
+    record { identification = k.identification; wire = k.wire; gap = k.gap }
+
+pub returns-then-begin-clause-checks : goal.returns-then-begin-clause-checks
+returns-then-begin-clause-checks c = λ other. checks_opened c.args.self.now c.step.new.self c.begin.new.self _
+    c.args.tx.now (c.begin.ensures c.if-begin.true) (c.step.ensures.checks refl)
+
+pub returns-else-begin-clause-checks : goal.returns-else-begin-clause-checks
+returns-else-begin-clause-checks c = λ other. checks_unopened c.args.self.now c.begin.new.self c.after-self.result
+    c.args.tx.now (c.after-self.ensures other)

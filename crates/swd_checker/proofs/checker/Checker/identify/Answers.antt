@@ -1,0 +1,14 @@
+use Rattle.std.proofs.Common.{refl}
+use Rattle.swd_checker.proofs.StandingLemmas.{not_narrowed}
+use Rattle.swd_checker.proofs.checker.Checker.identify.Goals as goal
+
+pub returns-then-narrow-clause-identifies : goal.returns-then-narrow-clause-identifies
+returns-then-narrow-clause-identifies c = record {
+  each = λ clean s t h odd known. ((c.narrow.ensures clean s t h odd known).1, refl);
+}
+
+pub returns-clause-identifies : goal.returns-clause-identifies
+returns-clause-identifies c = record {
+  each = λ clean s t h odd known.
+      not_narrowed c.narrow.result _ c.if-narrow.false (c.narrow.ensures clean s t h odd known).0;
+}

@@ -1,0 +1,24 @@
+use Rattle.std.proofs.Common.{refl, sym, subst, ◌∙◌}
+use Rattle.swd_checker.specs.Openings.{OpeningHolds}
+use Rattle.swd_checker.proofs.StandingLemmas.{none_left}
+use Rattle.swd_checker.proofs.checker.Checker.settle.Goals as goal
+
+pub returns-then-self-clause-keeps : goal.returns-then-self-clause-keeps
+returns-then-self-clause-keeps c = let k = c.crowd.ensures.keeps in
+    record { identification = k.identification; wire = k.wire; gap = k.gap }
+
+pub returns-then-self-clause-settles : goal.returns-then-self-clause-settles
+returns-then-self-clause-settles c = λ t over held. (
+  subst (λ o. OpeningHolds o c.crowd.new.self.worlds t) (sym c.crowd.ensures.opening) tt,
+  c.crowd.ensures.broken,
+)
+
+pub returns-then-is_empty-clause-settles : goal.returns-then-is_empty-clause-settles
+returns-then-is_empty-clause-settles c = λ t over held. none_left c.args.self.now.worlds t _
+    c.if-self.false (sym c.is_empty.ensures ∙ c.if-is_empty.true) held
+
+pub returns-else-is_empty-clause-settles : goal.returns-else-is_empty-clause-settles
+returns-else-is_empty-clause-settles c = λ t over held. (
+  subst (λ o. OpeningHolds o c.args.self.now.worlds t) (sym over) (c.if-self.false, held),
+  refl,
+)

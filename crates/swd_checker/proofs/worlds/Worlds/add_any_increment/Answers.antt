@@ -1,0 +1,16 @@
+use Rattle.swd_checker.proofs.HoldingLemmas.{worlds_keep_then, worlds_grow_then}
+use Rattle.swd_checker.proofs.OpenLemmas.{single_or_off}
+use Rattle.swd_checker.specs.Described.{WorldDescribes}
+use Rattle.swd_checker.specs.Holding.{WorldsHold}
+use Rattle.swd_checker.proofs.worlds.Worlds.add_any_increment.Goals as goal
+
+pub returns-clause-keeps : goal.returns-clause-keeps
+returns-clause-keeps c = worlds_keep_then _ _ _ c.add.ensures.keeps c.add-2.ensures.keeps
+
+pub returns-clause-grows : goal.returns-clause-grows
+returns-clause-grows c = worlds_grow_then 1 1 _ _ _ c.add.ensures.grows c.add-2.ensures.grows
+
+pub returns-clause-adds : goal.returns-clause-adds
+returns-clause-adds c = λ increments x. single_or_off
+    (λ b. WorldDescribes (record c.args.world { increments = b }) x → WorldsHold c.add-2.new.self c.args.world.awaits x)
+    (λ h. c.add-2.ensures.keeps.each _ _ (c.add.ensures.adds x h)) (λ h. c.add-2.ensures.adds x h) increments

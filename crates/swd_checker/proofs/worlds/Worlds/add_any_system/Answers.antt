@@ -1,0 +1,22 @@
+use Rattle.swd_checker.proofs.HoldingLemmas.{worlds_keep_then, worlds_grow_then}
+use Rattle.swd_checker.proofs.OpenLemmas.{power_of_three}
+use Rattle.swd_checker.specs.Described.{WorldDescribes}
+use Rattle.swd_checker.specs.Holding.{WorldsHold}
+use Rattle.swd_checker.proofs.worlds.Worlds.add_any_system.Goals as goal
+
+pub returns-clause-keeps : goal.returns-clause-keeps
+returns-clause-keeps c = worlds_keep_then _ _ _ c.add_any_increment.ensures.keeps
+    (worlds_keep_then _ _ _ c.add_any_increment-2.ensures.keeps c.add_any_increment-3.ensures.keeps)
+
+pub returns-clause-grows : goal.returns-clause-grows
+returns-clause-grows c = worlds_grow_then 2 4 _ _ _ c.add_any_increment.ensures.grows
+    (worlds_grow_then 2 2 _ _ _ c.add_any_increment-2.ensures.grows c.add_any_increment-3.ensures.grows)
+
+pub returns-clause-adds : goal.returns-clause-adds
+returns-clause-adds c = λ system increments x other h. power_of_three
+    (λ p. WorldDescribes (record c.args.world { system = p; increments = increments }) x
+    → WorldsHold c.add_any_increment-3.new.self c.args.world.awaits x)
+    (λ k. c.add_any_increment-3.ensures.keeps.each _ _
+    (c.add_any_increment-2.ensures.keeps.each _ _ (c.add_any_increment.ensures.adds increments x k)))
+    (λ k. c.add_any_increment-3.ensures.keeps.each _ _ (c.add_any_increment-2.ensures.adds increments x k))
+    (λ k. c.add_any_increment-3.ensures.adds increments x k) system other h
