@@ -10,7 +10,11 @@ use Rattle.swd_capture_text.specs.Captures.{CaptureTextReadsAs, CaptureTextDecid
 use Rattle.swd_check.specs.declared.checked.Checked.{Checked}
 use Rattle.swd_check.specs.declared.checked.Checked.TheVariants.{Fits, Breaks, Crowded, Outside}
 use Rattle.swd_check.specs.declared.text.CheckedParts.{CheckedParts}
+use Rattle.swd_trace.specs.declared.item.Item.{Item}
+use Rattle.swd_resync.specs.AsItems.{resync_items}
+use Rattle.swd_check.specs.declared.check.Check.{Check}
 use Rattle.swd_check.specs.Lines.{check_line}
+use Rattle.swd_check.specs.Watched.{CheckIndex, CheckHolds, CheckTakes, CheckSays}
 
 -- the number of items that fit is this one
 abbrev pub IsCheckedCount : ℕ → Checked → Type 0
@@ -24,36 +28,44 @@ abbrev pub check_count : List Part → ℕ
 check_count parts = min (length parts) (2 ^ 64 - 1)
 
 -- a sink that was given these parts
-abbrev pub CheckHasTaken : {A : Type 0} → Unit {0} → CheckedParts A × Unit {0} → List Part → Type 0
-CheckHasTaken i state parts = state.0.parts ≡ check_count parts
+abbrev pub CheckHasTaken : {A : Type 0} → Check A → CheckedParts A × Unit {0} → List Part → Type 0
+CheckHasTaken before state parts =
+    (state.0.parts ≡ check_count parts) × CheckTakes (resync_items parts) before state.0.check
 
 -- it never stops
 abbrev pub check_never_stops : {A : Type 0} → CheckedParts A × Unit {0} → ℕ → CheckedParts A × Unit {0} → Type 0
 check_never_stops before told now = ⊥
 
+-- what a verdict says of further items
+abbrev pub CheckSaysBehind : {A : Type 0} → Check A → List Item → Checked → Type 0
+CheckSaysBehind check items checked =
+    (i : CheckIndex) (seen : List Item) → CheckHolds i check seen → CheckSays i (seen ++ items) checked
+
 -- What a result says of the reader's text, if its bytes are known, and of what is left of it. The whole text was read
--- before a verdict.
-abbrev pub ChecksText : Reading → Result Checked DecodeFault → Option (List ℕ) → Option (List ℕ) → Type 0
-ChecksText reading (Ok checked) text left =
+-- before a verdict, which says this of the items that the text is read as.
+abbrev pub ChecksText : Reading → (List Item → Checked → Type 0) → Result Checked DecodeFault → Option (List ℕ)
+    → Option (List ℕ) → Type 0
+ChecksText reading Says (Ok checked) text left =
     (read : List ℕ) × (parts : List Part) × Consumes text left read × IsAtEnd left
     × CaptureTextReadsAs reading read parts × IsCheckedCount (check_count parts) checked
-ChecksText reading (Err (Text fault)) text left =
+    × Says (resync_items parts) checked
+ChecksText reading Says (Err (Text fault)) text left =
     (read : List ℕ) × (parts : List Part) × Consumes text left read
     × ((more : List ℕ) → CaptureTextStopsWith reading fault parts (read ++ more))
-ChecksText reading (Err Read) text left =
+ChecksText reading Says (Err Read) text left =
     (read : List ℕ) × (parts : List Part) × Consumes text left read × CaptureTextDecides reading read parts
-ChecksText reading (Err (Write told)) text left = ⊥
+ChecksText reading Says (Err (Write told)) text left = ⊥
 
 -- The same where the line of the verdict is written, of which any text says why an item breaks a rule. At an error of
 -- the text or of the reader nothing was written, and at one of the writer exactly the line's first bytes.
-abbrev pub WritesChecked : Reading → Result Checked DecodeFault → Option (List ℕ) → Option (List ℕ)
+abbrev pub WritesChecked : Reading → (List Item → Checked → Type 0) → Result Checked DecodeFault → Option (List ℕ) → Option (List ℕ)
     → Option (List ℕ) → Option (List ℕ) → Type 0
-WritesChecked reading (Ok checked) text left old new =
-    ChecksText reading (Ok checked) text left
+WritesChecked reading Says (Ok checked) text left old new =
+    ChecksText reading Says (Ok checked) text left
     × ((why : List ℕ) × Appends old new (check_line checked why ++ 10 ∷ []))
-WritesChecked reading (Err (Text fault)) text left old new =
-    ChecksText reading (Err (Text fault)) text left × Appends old new []
-WritesChecked reading (Err Read) text left old new = ChecksText reading (Err Read) text left × Appends old new []
-WritesChecked reading (Err (Write told)) text left old new =
-    (checked : Checked) × ChecksText reading (Ok checked) text left
+WritesChecked reading Says (Err (Text fault)) text left old new =
+    ChecksText reading Says (Err (Text fault)) text left × Appends old new []
+WritesChecked reading Says (Err Read) text left old new = ChecksText reading Says (Err Read) text left × Appends old new []
+WritesChecked reading Says (Err (Write told)) text left old new =
+    (checked : Checked) × ChecksText reading Says (Ok checked) text left
     × ((why : List ℕ) × OutputStopped told old new (check_line checked why ++ 10 ∷ []))

@@ -1,15 +1,19 @@
 //! The check of a trace.
+ghost use Rattle.std.specs.Prelude.{◌≡◌, false, None, List, [], ◌∷◌, replicate};
+ghost use Rattle.swd_bits.specs.declared.tx.Tx.{Tx as Transaction};
+ghost use Rattle.swd_trace.specs.declared.item.Item.{Item};
 ghost use Rattle.swd_check.specs.Checks.{IsCheckedCount};
+ghost use Rattle.swd_check.specs.Watched.{CheckIndex, CheckHolds, CheckTakes, CheckSays, CheckJudges, check_index};
 
+use crate::beside::Beside;
 use crate::checked::Checked;
-use crate::exact::ExactRegisters;
-use crate::overrun::Overrun;
-use crate::plain::{NotPlain, PlainMemory};
+use crate::plain::PlainMemory;
+use crate::rules::{Rules, Stand};
 use crate::why::{Broken, Why};
 use std::alloc::Allocator;
 use swd_bits::{MOVED_BITS, REFUSED_BITS, Tx, TxEnd, UNACKNOWLEDGED_BITS};
-use swd_checker::{CheckStart, Checker, Origins, Verdict};
-use swd_observer::{Observations, ObservedAccess, Observer, ShownItem, TraceObserver};
+use swd_checker::CheckStart;
+use swd_observer::{Observer, ShownItem, TraceObserver};
 use swd_trace::Item;
 
 /// How many junk bits are a gap, whatever was before them.
@@ -30,99 +34,52 @@ pub struct CheckOptions {
 /// Checks the items of a trace, one after the other.
 #[derive(Drop)]
 pub struct Check<A: Allocator> {
-    checker: Checker,
-    origins: Origins,
+    rules: Rules,
     /// It has the place of the next item. It watches transactions only if something is looked at beside the rules.
     observer: TraceObserver,
     looks: bool,
-    overrun: Overrun,
-    clean: bool,
-    exact: Option<ExactRegisters>,
-    plain: PlainMemory<A>,
-    /// The place at which the session first left the model.
-    outside: Option<u64>,
-    /// Whether it left the model and there was no line reset since.
-    is_outside: bool,
-    /// How many of the checker's gaps aren't gaps of the trace.
-    hidden_gaps: u64,
+    beside: Beside<A>,
     broken: Option<Broken>,
 }
 
 impl<A: Allocator + Copy> Check<A> {
     /// Returns a check of no items, with these plain memories.
-    pub fn new(options: CheckOptions, plain: PlainMemory<A>) -> Check<A> {
-        let start = options.start;
-        let made = start == CheckStart::Made;
+    pub fn new(options: CheckOptions, plain: PlainMemory<A>) -> Check<A>
+        ensures { CheckHolds (check_index options.start options.clean) result [] }
+    {
+        let beside = Beside::new(options, plain);
         Check {
-            checker: if options.clean {
-                Checker::clean(start)
-            } else {
-                Checker::new(start)
-            },
-            origins: Origins::new(),
-            observer: if made {
-                TraceObserver::of_made()
-            } else {
-                TraceObserver::new()
-            },
-            looks: options.exact_registers || !plain.is_empty(),
-            overrun: Overrun::new(options.overrun, options.clean),
-            clean: options.clean,
-            exact: if !options.exact_registers {
-                None
-            } else if made {
-                Some(ExactRegisters::made())
-            } else {
-                Some(ExactRegisters::unknown())
-            },
-            plain,
-            outside: None,
-            is_outside: false,
-            hidden_gaps: 0,
+            rules: Rules::new(options),
+            observer: observer_of(options.start),
+            looks: beside.looks(),
+            beside,
             broken: None,
         }
     }
 
     /// Takes the next item.
-    pub fn watch(&mut self, item: &Item) {
-        let place = self.observer.place;
-        if let Item::Tx(tx) = item {
-            self.transact(tx, place);
-            return;
-        }
-        let shown = self.observer.watch(item);
-        if self.broken.is_some() {
-            return;
-        }
+    pub fn watch(&mut self, item: &Item)
+        ensures { CheckTakes (item.now ∷ []) self.old self.new }
+    {
         match item {
-            Item::Reset(_) => {
-                self.is_outside = false;
-                self.rule(item, place);
-            }
-            Item::Tx(_) | Item::Switch | Item::Idle(_) => {}
-            Item::Junk(_) | Item::Cut(_) => {
-                self.checker.watch(item, place);
-                self.origins.note(&self.checker, item, place);
-                if shown.gap.is_some() {
-                    self.forget();
-                }
-            }
+            Item::Tx(tx) => self.transact(tx),
+            _ => self.show(item),
         }
     }
 
     /// Takes the bits of a data phase that follows WAIT or FAULT. They say nothing.
-    pub fn pass(&mut self, bits: u64) {
-        let _ = self.observer.watch(&Item::Idle(bits));
+    pub fn pass(&mut self, bits: u64)
+        ensures { CheckTakes (Item.Idle bits ∷ []) self.old self.new }
+    {
+        self.watch(&Item::Idle(bits))
     }
 
     /// Takes bits that belong to no item.
-    pub fn skip(&mut self, bits: u64) {
-        if bits == 0 {
-            return;
-        }
+    pub fn skip(&mut self, bits: u64)
+        ensures { CheckTakes (replicate bits (Item.Junk false)) self.old self.new }
+    {
         let behind = self.observer.place.saturating_add(bits);
-        let junk = bits.min(GAP_BITS);
-        for _ in 0..junk {
+        for _taken in 0..bits.min(GAP_BITS) {
             self.watch(&Item::Junk(false));
         }
         self.observer.place = behind;
@@ -130,52 +87,118 @@ impl<A: Allocator + Copy> Check<A> {
 
     /// Returns what is said of so many items, which it took.
     pub fn checked(&self, items: u64) -> Checked
-        ensures { IsCheckedCount items result }
+        ensures count { IsCheckedCount items result }
+        ensures says { (i : CheckIndex) (seen : List Item) → CheckHolds i self.now seen → CheckSays i seen result }
     {
         if let Some(broken) = self.broken {
             return Checked::Breaks(broken);
         }
-        let crowded = match (self.checker.verdict(), self.checker.began()) {
-            (Verdict::Crowded { place }, _) => Some(place),
-            (_, None) => Some(0),
-            _ => None,
-        };
-        match (self.outside, crowded) {
+        match (self.rules.outside(), self.rules.crowded()) {
             (Some(place), Some(before)) if before < place => Checked::Crowded { place: before },
             (Some(place), _) => Checked::Outside { place },
             (None, Some(place)) => Checked::Crowded { place },
-            (None, None) => self.fits(items),
+            (None, None) => Checked::Fits {
+                items,
+                from: match self.rules.began() {
+                    Some(0) => None,
+                    began => began,
+                },
+                faults: self.rules.faults(),
+                gaps: self.rules.gaps(),
+            },
         }
     }
 
-    // Returns that they fit.
-    fn fits(&self, items: u64) -> Checked
-        ensures { IsCheckedCount items result }
+    // Takes an item that is no transaction.
+    fn show(&mut self, item: &Item)
+        ensures { ((tx : Transaction) → item.now ≡ Item.Tx tx → ⊥) → CheckTakes (item.now ∷ []) self.old self.new }
     {
-        Checked::Fits {
-            items,
-            from: match self.checker.began() {
-                Some(0) => None,
-                began => began,
-            },
-            faults: self.checker.faults(),
-            gaps: self.checker.gaps().saturating_sub(self.hidden_gaps),
+        let place = self.observer.place;
+        let shown = self.observer.watch(item);
+        if self.broken.is_some() {
+            return;
         }
+        self.rules.show(item, place);
+        self.beside.show(&shown);
     }
 
     // Takes a transaction.
-    fn transact(&mut self, tx: &Tx, place: u64) {
-        let why = if self.looks {
-            self.observe(tx, place)
+    fn transact(&mut self, tx: &Tx)
+        ensures { CheckTakes (Item.Tx tx.now ∷ []) self.old self.new }
+    {
+        if self.looks {
+            self.look(tx);
         } else {
-            self.observer.place = place.saturating_add(bits_in(tx));
-            if self.follows(tx, place) {
-                self.broken_rule(tx)
-            } else {
-                None
+            self.follow(tx);
+        }
+    }
+
+    // Takes a transaction by the rules alone.
+    fn follow(&mut self, tx: &Tx)
+        ensures { CheckTakes (Item.Tx tx.now ∷ []) self.old self.new }
+    {
+        let place = self.observer.place;
+        self.observer.place = place.saturating_add(bits_in(tx));
+        if self.broken.is_some() {
+            return;
+        }
+        match self.rules.transact(tx, place) {
+            Stand::Inside => self.judge(tx, place),
+            _ => {}
+        }
+    }
+
+    // Takes a transaction, and what it shows beside the rules.
+    fn look(&mut self, tx: &Tx)
+        ensures { CheckTakes (Item.Tx tx.now ∷ []) self.old self.new }
+    {
+        let place = self.observer.place;
+        let before = self.observer.observer;
+        let shown = self.observer.watch(&Item::Tx(*tx));
+        if self.broken.is_some() {
+            return;
+        }
+        match self.rules.transact(tx, place) {
+            Stand::Inside => self.judge_all(&before, tx, place, &shown),
+            Stand::Leaves => self.leave(),
+            Stand::Outside => {}
+        }
+    }
+
+    // Notes the rule that the last transaction breaks, if it does.
+    fn judge(&mut self, tx: &Tx, place: u64)
+        ensures { CheckJudges tx.now self.old self.new }
+    {
+        if let Some(reason) = self.rules.reason(tx) {
+            self.broken = Some(Broken {
+                place,
+                tx: *tx,
+                why: Why::Rule(reason),
+            });
+        }
+    }
+
+    // Notes why the last transaction isn't right, if it isn't.
+    fn judge_all(&mut self, before: &Observer, tx: &Tx, place: u64, shown: &ShownItem)
+        ensures { CheckJudges tx.now self.old self.new }
+    {
+        match self.rules.reason(tx) {
+            Some(reason) => {
+                self.broken = Some(Broken {
+                    place,
+                    tx: *tx,
+                    why: Why::Rule(reason),
+                });
             }
-        };
-        if let Some(why) = why {
+            None => self.judge_beside(before, tx, place, shown),
+        }
+    }
+
+    // The same of a transaction that breaks no rule.
+    fn judge_beside(&mut self, before: &Observer, tx: &Tx, place: u64, shown: &ShownItem)
+        ensures { self.old.rules.checker.broken ≡ None → CheckJudges tx.now self.old self.new }
+    {
+        if let Some(why) = self.beside.take(before, tx, &self.observer.observer, shown) {
             self.broken = Some(Broken {
                 place,
                 tx: *tx,
@@ -184,117 +207,21 @@ impl<A: Allocator + Copy> Check<A> {
         }
     }
 
-    // Takes a transaction, and what it shows beside the rules. Returns why it breaks a rule, if it does.
-    fn observe(&mut self, tx: &Tx, place: u64) -> Option<Why> {
-        let before = self.observer.observer;
-        let shown = self.observer.watch(&Item::Tx(*tx));
-        if self.follows(tx, place) {
-            self.why(&before, tx, &shown)
-        } else {
-            None
-        }
-    }
-
-    // Takes a transaction by the rules of the port model. Returns whether it did: not where a rule is broken, nor
-    // outside the model.
-    fn follows(&mut self, tx: &Tx, place: u64) -> bool {
-        if self.broken.is_some() {
-            return false;
-        }
-        if self.overrun.leaves(tx) && !self.is_outside {
-            self.leave(place);
-        }
-        if self.is_outside {
-            return false;
-        }
-        self.rule(&Item::Tx(*tx), place);
-        true
-    }
-
-    // Returns which rule of the port model a transaction breaks, which the checker has watched.
-    fn broken_rule(&self, tx: &Tx) -> Option<Why> {
-        match self.checker.reason(tx, &self.origins) {
-            Some(reason) => Some(Why::Rule(reason)),
-            None => None,
-        }
-    }
-
-    // Returns why a transaction breaks a rule, which the checker has watched.
-    fn why(&mut self, before: &Observer, tx: &Tx, shown: &ShownItem) -> Option<Why> {
-        let rule = self.broken_rule(tx);
-        if rule.is_some() {
-            return rule;
-        }
-        if let Some(due) = self.compare(before, tx) {
-            return Some(Why::Register(due));
-        }
-        match self.look(&shown.tells) {
-            Some(fault) => Some(Why::Memory(fault)),
-            None => None,
-        }
-    }
-
-    // Takes an item by the rules of the port model.
-    fn rule(&mut self, item: &Item, place: u64) {
-        self.checker.watch(item, place);
-        if !matches!(self.checker.verdict(), Verdict::Breaks { .. }) {
-            self.origins.note(&self.checker, item, place);
-        }
-    }
-
-    // Compares a register with that of this project's simulated target. Returns its word, if it is another.
-    fn compare(&mut self, before: &Observer, tx: &Tx) -> Option<u32> {
-        let Some(mut exact) = self.exact else {
-            return None;
-        };
-        let due = exact.take(before, tx, &self.observer.observer);
-        self.exact = Some(exact);
-        due
-    }
-
-    // Takes the accesses that an item shows. Returns why one isn't one of a plain memory.
-    fn look(&mut self, tells: &Observations) -> Option<NotPlain> {
-        let older = self.take(tells.older);
-        if older.is_some() {
-            return older;
-        }
-        let before = self.take(tells.before);
-        if before.is_some() {
-            return before;
-        }
-        self.take(tells.itself)
-    }
-
-    fn take(&mut self, told: Option<ObservedAccess>) -> Option<NotPlain> {
-        match told {
-            Some(told) => self.plain.take(&told, self.clean),
-            None => None,
-        }
-    }
-
-    // Leaves the model up to the next line reset: the checker gets as many junk bits as are a gap.
-    fn leave(&mut self, place: u64) {
-        let gaps = self.checker.gaps();
-        for _ in 0..GAP_BITS {
-            self.checker.watch(&Item::Junk(false), place);
-        }
-        let more = self.checker.gaps().saturating_sub(gaps);
-        self.hidden_gaps = self.hidden_gaps.saturating_add(more);
-        self.is_outside = true;
-        if self.outside.is_none() {
-            self.outside = Some(place);
-        }
-        self.origins = Origins::new();
+    // Leaves the model up to the next line reset.
+    fn leave(&mut self)
+        ensures rules { self.new.rules ≡ self.old.rules }
+        ensures broken { self.new.broken ≡ self.old.broken }
+    {
         self.observer.observer = Observer::new();
-        self.forget();
+        self.beside.forget();
     }
+}
 
-    // Forgets what is known beside the rules.
-    fn forget(&mut self) {
-        self.plain.forget();
-        if self.exact.is_some() {
-            self.exact = Some(ExactRegisters::unknown());
-        }
+// Returns an observer of a trace that begins with this state of the target.
+fn observer_of(start: CheckStart) -> TraceObserver {
+    match start {
+        CheckStart::Made => TraceObserver::of_made(),
+        CheckStart::Rest | CheckStart::Any => TraceObserver::new(),
     }
 }
 

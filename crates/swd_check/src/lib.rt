@@ -5,11 +5,13 @@
 //! project's own registers.
 #![tactic(auto)]
 
+mod beside;
 mod check;
 mod checked;
 mod exact;
 mod overrun;
 mod plain;
+mod rules;
 mod text;
 mod why;
 

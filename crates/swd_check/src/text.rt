@@ -1,9 +1,12 @@
 //! Checks a trace or a capture from its text.
-ghost use Rattle.std.specs.Prelude.{ℕ, List, ◌∷◌, ◌++◌, []};
+ghost use Rattle.std.specs.Prelude.{ℕ, List, ◌∷◌, ◌++◌, [], map};
+ghost use Rattle.swd_bits.specs.BitLists.{tx_bits_of};
+ghost use Rattle.swd_resync.specs.AsItems.{resync_part_items};
 ghost use Rattle.swd_io.specs.Blocks.{WritesOutput};
 ghost use Rattle.swd_text.specs.Sinks.{LeadsSinkOn, sink_takes_nothing, sink_leads_join};
-ghost use Rattle.swd_check.specs.Checks.{CheckHasTaken, ChecksText, WritesChecked, check_never_stops};
+ghost use Rattle.swd_check.specs.Checks.{CheckHasTaken, CheckSaysBehind, ChecksText, WritesChecked, check_never_stops};
 ghost use Rattle.swd_check.specs.Lines.{check_line};
+ghost use Rattle.swd_check.specs.Watched.{CheckTakes};
 
 use crate::check::Check;
 use crate::checked::Checked;
@@ -25,7 +28,9 @@ pub(crate) struct CheckedParts<A: Allocator> {
 }
 
 // Takes a part.
-fn watch_part<A: Allocator + Copy>(check: &mut Check<A>, part: &Part) {
+fn watch_part<A: Allocator + Copy>(check: &mut Check<A>, part: &Part)
+    ensures { CheckTakes (resync_part_items part.now) check.old check.new }
+{
     match part {
         Part::Item(item) => check.watch(item),
         Part::Phased(tx) => {
@@ -37,9 +42,11 @@ fn watch_part<A: Allocator + Copy>(check: &mut Check<A>, part: &Part) {
 }
 
 // Takes junk bits.
-fn watch_junk<A: Allocator + Copy>(check: &mut Check<A>, junk: TxBits) {
+fn watch_junk<A: Allocator + Copy>(check: &mut Check<A>, junk: TxBits)
+    ensures { CheckTakes (map Item.Junk (tx_bits_of junk)) check.old check.new }
+{
     let mut bits = junk.bits;
-    for _ in 0..junk.len {
+    for _taken in 0..junk.len {
         check.watch(&Item::Junk(bits % 2 == 1));
         bits /= 2;
     }
@@ -80,7 +87,7 @@ pub fn check_text<R: io::Read, A: Allocator + Copy>(
     check: Check<A>,
     reader: &mut R,
 ) -> Result<Checked, DecodeFault>
-    ensures { ChecksText reading result (R.remaining reader.old) (R.remaining reader.new) }
+    ensures { ChecksText reading (CheckSaysBehind check) result (R.remaining reader.old) (R.remaining reader.new) }
 {
     let parts = CheckedParts { check, parts: 0 };
     match read_parts(reading, reader, &mut (), parts) {
@@ -102,7 +109,7 @@ pub fn check_to<R: io::Read, W: io::Write, A: Allocator + Copy>(
     reader: &mut R,
     writer: &mut W,
 ) -> Result<Checked, DecodeFault>
-    ensures { WritesChecked reading result (R.remaining reader.old) (R.remaining reader.new)
+    ensures { WritesChecked reading (CheckSaysBehind check) result (R.remaining reader.old) (R.remaining reader.new)
         (W.contents writer.old) (W.contents writer.new) }
 {
     let checked = match check_text(reading, check, reader) {

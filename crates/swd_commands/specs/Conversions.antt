@@ -11,7 +11,10 @@ use Rattle.swd_capture_text.specs.Captures.{Prints}
 use Rattle.swd_capture_text.specs.declared.reading.Reading.{Reading}
 use Rattle.swd_capture_text.specs.declared.reading.Reading.TheVariants.{Trace, Capture}
 use Rattle.swd_draw.specs.Draws.{Draws}
+use Rattle.swd_checker.specs.declared.checker.CheckStart.{CheckStart}
+use Rattle.swd_checker.specs.declared.checker.CheckStart.TheVariants.{Made, Rest, Any}
 use Rattle.swd_check.specs.Checks.{WritesChecked}
+use Rattle.swd_check.specs.Watched.{CheckSays, check_index}
 use Rattle.swd_check.specs.declared.checked.Checked.{Checked}
 use Rattle.swd_check.specs.declared.checked.Checked.TheVariants.{Fits, Breaks, Crowded, Outside}
 use Rattle.swd_words.specs.declared.command.CheckLine.{CheckLine}
@@ -48,13 +51,19 @@ command_status_of_check (Ok (Crowded place)) = 2
 command_status_of_check (Ok (Outside place)) = 2
 command_status_of_check (Err fault) = 2
 
+-- the state of the target before the first item
+abbrev pub command_check_start : CheckLine → CheckStart
+command_check_start check = if check.made then Made else if check.rest then Rest else Any
+
 -- The verdict on a trace, or on a capture, is written as the engine's contract says, and the status is the verdict's.
+-- Where it is that a rule is broken, no run of the port model shows the items up to the one that the line names.
 -- Or there is no memory for the words of plain memory: status 2, and nothing is read or written.
 abbrev pub ChecksCommandInput : CheckLine → ℕ → Option (List ℕ) → Option (List ℕ) → Option (List ℕ) → Option (List ℕ)
     → Type 0
 ChecksCommandInput check status text left old new =
     ((answer : Result Checked DecodeFault)
-    × WritesChecked (command_capture_reading (check.resync || check.overrun) check.overrun) answer text left old new
+    × WritesChecked (command_capture_reading (check.resync || check.overrun) check.overrun)
+    (CheckSays (check_index (command_check_start check) check.clean)) answer text left old new
     × (status ≡ command_status_of_check answer))
     ⊎ ((check.plain.items ≢ []) × CommandNotOpened status old new)
 

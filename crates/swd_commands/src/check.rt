@@ -1,11 +1,13 @@
 //! `swd check`: writes whether a trace is that of a target that keeps the standard.
-ghost use Rattle.std.specs.Prelude.{◌≡◌, ◌≢◌, Ok, IfErr, []};
+ghost use Rattle.std.specs.Prelude.{◌≡◌, ◌≢◌, ◌||◌, Ok, IfErr, []};
 ghost use Rattle.swd_commands.specs.Conversions.{ChecksCommandInput, command_status_of_check as status_of};
+ghost use Rattle.swd_commands.specs.Conversions.{command_check_start, command_capture_reading};
 
 use crate::character::trace_status;
 use crate::conversion::reading;
 use std::alloc::{AllocError, Allocator};
 use std::io::{Read, Write};
+use swd_capture_text::Reading;
 use swd_check::{Check, CheckOptions, Checked, PlainMemory, check_to};
 use swd_checker::CheckStart;
 use swd_console::{Console, DONE, FAULT, KeepsError, STOPPED, tell};
@@ -33,26 +35,43 @@ pub(crate) fn check_read<
     let Ok(plain) = plain_memory(console.alloc, check.plain.as_slice()) else {
         return tell(console.errors, "no memory");
     };
-    let reading = reading(check.resync || check.overrun, check.overrun);
+    let reading = reading_of(check);
     match check_to(reading, Check::new(options(check), plain), input, output) {
         Ok(checked) => checked_status(&checked),
         Err(fault) => trace_status(console.errors, Err(fault), reading, name, input, output),
     }
 }
 
+// Returns how the bits of the input are read.
+fn reading_of(check: &CheckLine) -> Reading
+    ensures { result ≡ command_capture_reading (check.now.resync || check.now.overrun) check.now.overrun }
+{
+    reading(check.resync || check.overrun, check.overrun)
+}
+
 // Returns how the arguments say that a trace is checked.
-fn options(check: &CheckLine) -> CheckOptions {
+fn options(check: &CheckLine) -> CheckOptions
+    ensures start { result.start ≡ command_check_start check.now }
+    ensures clean { result.clean ≡ check.now.clean }
+{
     CheckOptions {
-        start: if check.made {
-            CheckStart::Made
-        } else if check.rest {
-            CheckStart::Rest
-        } else {
-            CheckStart::Any
-        },
+        start: start_of(check),
         clean: check.clean,
         exact_registers: check.exact_registers,
         overrun: check.overrun,
+    }
+}
+
+// Returns the state of the target before the first item.
+fn start_of(check: &CheckLine) -> CheckStart
+    ensures { result ≡ command_check_start check.now }
+{
+    if check.made {
+        CheckStart::Made
+    } else if check.rest {
+        CheckStart::Rest
+    } else {
+        CheckStart::Any
     }
 }
 

@@ -1,0 +1,81 @@
+-- What a check knows of the items that it took, and what its verdict says of them.
+use Rattle.std.specs.Prelude.{◌≡◌, ◌⊎◌, ◌++◌, Bool, true, false, List, [], ◌∷◌, Option, None, Some}
+use Rattle.swd_bits.specs.declared.tx.Tx.{Tx as Transaction}
+use Rattle.swd_trace.specs.declared.item.Item.{Item}
+use Rattle.swd_trace.specs.declared.item.Item.TheVariants.{Tx}
+use Rattle.swd_port.specs.Port.{Port}
+use Rattle.swd_checker.specs.declared.checker.CheckStart.{CheckStart}
+use Rattle.swd_checker.specs.Standing.{CheckedStarts, CheckedRuns, CheckerHolds}
+use Rattle.swd_checker.specs.Standing.{checker_gap, checked_gap_none, checked_gap_over}
+use Rattle.swd_checker.specs.Whole.{IsShownByNoRun}
+use Rattle.swd_check.specs.declared.rules.Rules.{Rules}
+use Rattle.swd_check.specs.declared.why.Why.{Why}
+use Rattle.swd_check.specs.declared.why.Why.TheVariants.{Rule}
+use Rattle.swd_check.specs.declared.why.Broken.{Broken}
+use Rattle.swd_check.specs.declared.check.Check.{Check}
+use Rattle.swd_check.specs.declared.checked.Checked.{Checked}
+use Rattle.swd_check.specs.declared.checked.Checked.TheVariants.{Breaks}
+use Rattle.swd_text.specs.Sinks.{LeadsSinkOn}
+
+-- where a check begins: the state of the target, and whether nothing is damaged or lost
+pub record CheckIndex : Type 0 where
+  pub start : CheckStart
+  pub clean : Bool
+
+abbrev pub check_index : CheckStart → Bool → CheckIndex
+check_index start clean = record { start = start; clean = clean }
+
+-- A rule of the port model, and none of the checks beside it.
+abbrev pub is_check_rule : Why → Bool
+is_check_rule (Rule reason) = true
+is_check_rule why = false
+
+-- This transaction is one of the items, and no run of the port model shows the items up to it.
+pub record CheckBreaksAt (start : CheckStart) (clean : Bool) (items : List Item) (tx : Transaction) : Type 0 where
+  pub before : List Item
+  pub after : List Item
+  pub is : items ≡ before ++ Tx tx ∷ after
+  pub never : IsShownByNoRun start clean (before ++ Tx tx ∷ [])
+
+-- What a verdict says of the items: where a rule of the port model is broken, it is so.
+abbrev pub CheckSays : CheckIndex → List Item → Checked → Type 0
+CheckSays i items (Breaks broken) =
+    is_check_rule broken.why ≡ true → CheckBreaksAt i.start i.clean items broken.tx
+CheckSays i items checked = Unit {0}
+
+-- Rules that took these items. Outside of the model the checker is in a gap, and the items may be in none.
+pub record CheckRulesHold (start : CheckStart) (clean : Bool) (r : Rules) (items : List Item) : Type 0 where
+  pub holds : (s t : Port) → CheckedStarts start s → CheckedRuns clean checked_gap_none items s t
+      → CheckerHolds r.checker t
+  pub wire : r.checker.clean ≡ clean
+  pub gap : (r.checker.in_gap ≡ true) ⊎ (checker_gap r.checker ≡ checked_gap_over items checked_gap_none)
+  pub outside : r.is_outside ≡ true → r.checker.in_gap ≡ true
+
+-- rules that take one item more, where none is broken yet
+abbrev pub CheckRulesTake : Item → Rules → Rules → Type 0
+CheckRulesTake item r now = (start : CheckStart) (clean : Bool) (items : List Item) → r.checker.broken ≡ None
+    → CheckRulesHold start clean r items → CheckRulesHold start clean now (items ++ item ∷ [])
+
+abbrev pub CheckBroke : CheckIndex → List Item → Option Broken → Type 0
+CheckBroke i items None = Unit {0}
+CheckBroke i items (Some broken) = is_check_rule broken.why ≡ true → CheckBreaksAt i.start i.clean items broken.tx
+
+-- a check that took these items
+pub record CheckHolds {A : Type 0} (i : CheckIndex) (check : Check A) (items : List Item) : Type 0 where
+  pub rules : check.broken ≡ None → CheckRulesHold i.start i.clean check.rules items
+  pub unbroken : check.broken ≡ None → check.rules.checker.broken ≡ None
+  pub broke : CheckBroke i items check.broken
+
+-- and takes these
+abbrev pub CheckTakes : {A : Type 0} → List Item → Check A → Check A → Type 0
+CheckTakes items check now = LeadsSinkOn CheckHolds check items now
+
+-- what is found of a transaction that was taken by the rules
+abbrev pub IsCheckJudged : Transaction → Rules → Option Broken → Type 0
+IsCheckJudged tx r None = r.checker.broken ≡ None
+IsCheckJudged tx r (Some broken) = (broken.tx ≡ tx)
+    × (is_check_rule broken.why ≡ true → r.checker.broken ≡ None → ⊥)
+
+pub record CheckJudges {A : Type 0} (tx : Transaction) (check now : Check A) : Type 0 where
+  pub rules : now.rules ≡ check.rules
+  pub broken : check.broken ≡ None → IsCheckJudged tx now.rules now.broken

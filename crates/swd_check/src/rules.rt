@@ -1,0 +1,168 @@
+//! The rules of the port model, up to where a session leaves it.
+ghost use Rattle.std.specs.Prelude.{◌≡◌, true, false, IfSome, None, []};
+ghost use Rattle.swd_bits.specs.declared.tx.Tx.{Tx as Transaction};
+ghost use Rattle.swd_trace.specs.declared.item.Item.{Item};
+ghost use Rattle.swd_checker.specs.Standing.{CheckerStarts, CheckerWatches, CheckerLeaves};
+ghost use Rattle.swd_check.specs.Watched.{CheckRulesHold, CheckRulesTake};
+
+use crate::check::CheckOptions;
+use crate::overrun::Overrun;
+use swd_bits::Tx;
+use swd_checker::{CheckStart, Checker, Origins, Reason, Verdict};
+use swd_trace::Item;
+
+/// The rules of the port model, by a checker, and where the session left the model by overrun detection.
+#[derive(Drop)]
+pub(crate) struct Rules {
+    checker: Checker,
+    origins: Origins,
+    overrun: Overrun,
+    /// The place at which the session first left the model.
+    outside: Option<u64>,
+    /// Whether it left the model and there was no line reset since.
+    is_outside: bool,
+}
+
+/// Where a transaction stands.
+#[derive(Clone, Copy, Debug, PartialEq, Eq)]
+pub(crate) enum Stand {
+    /// In the model, by whose rules it was taken.
+    Inside,
+    /// There the session leaves the model.
+    Leaves,
+    /// Outside of the model, up to the next line reset.
+    Outside,
+}
+
+impl Rules {
+    /// Returns the rules before the first item.
+    pub(crate) fn new(options: CheckOptions) -> Rules
+        ensures holds { CheckRulesHold options.start options.clean result [] }
+        ensures unbroken { result.checker.broken ≡ None }
+    {
+        Rules {
+            checker: checker_of(options.start, options.clean),
+            origins: Origins::new(),
+            overrun: Overrun::new(options.overrun, options.clean),
+            outside: None,
+            is_outside: false,
+        }
+    }
+
+    /// Takes the next item, which is no transaction.
+    pub(crate) fn show(&mut self, item: &Item, place: u64)
+        ensures takes { CheckRulesTake item.now self.old self.new }
+        ensures broken { ((tx : Transaction) → item.now ≡ Item.Tx tx → ⊥)
+            → self.new.checker.broken ≡ self.old.checker.broken }
+    {
+        match item {
+            Item::Reset(_) => self.reset(item, place),
+            Item::Idle(_) => self.checker.watch(item, place),
+            _ => self.follow(item, place),
+        }
+    }
+
+    /// Takes the next transaction. Returns where it stands.
+    pub(crate) fn transact(&mut self, tx: &Tx, place: u64) -> Stand
+        ensures takes { CheckRulesTake (Item.Tx tx.now) self.old self.new }
+        ensures broken { (result ≡ Stand.Inside → ⊥) → self.new.checker.broken ≡ self.old.checker.broken }
+    {
+        let leaves = self.overrun.leaves(tx);
+        if self.is_outside {
+            return Stand::Outside;
+        }
+        if leaves {
+            self.leave(place);
+            return Stand::Leaves;
+        }
+        self.follow(&Item::Tx(*tx), place);
+        Stand::Inside
+    }
+
+    /// Returns why the last transaction breaks a rule, if it does.
+    pub(crate) fn reason(&self, tx: &Tx) -> Option<Reason>
+        ensures breaks { IfSome result (λ _. self.now.checker.broken ≡ None → ⊥) }
+        ensures goes_on { result ≡ None → self.now.checker.broken ≡ None }
+    {
+        self.checker.reason(tx, &self.origins)
+    }
+
+    /// Returns the place of the first item that was checked, or `None` if none was yet.
+    pub(crate) fn began(&self) -> Option<u64> {
+        self.checker.began()
+    }
+
+    /// Returns how many gaps there were.
+    pub(crate) fn gaps(&self) -> u64 {
+        self.checker.gaps()
+    }
+
+    /// Returns how many requests were damaged or lost at least.
+    pub(crate) fn faults(&self) -> u64 {
+        self.checker.faults()
+    }
+
+    /// Returns the place at which the session first left the model.
+    pub(crate) fn outside(&self) -> Option<u64> {
+        self.outside
+    }
+
+    /// Returns the place from which on it isn't decided, since there were too many worlds, or too little was known.
+    pub(crate) fn crowded(&self) -> Option<u64> {
+        match (self.checker.verdict(), self.checker.began()) {
+            (Verdict::Crowded { place }, _) => Some(place),
+            (_, None) => Some(0),
+            _ => None,
+        }
+    }
+
+    // Takes a line reset.
+    fn reset(&mut self, item: &Item, place: u64)
+        ensures watches { CheckerWatches item.now self.old.checker self.new.checker }
+        ensures outside { self.new.is_outside ≡ false }
+    {
+        self.is_outside = false;
+        self.follow(item, place);
+    }
+
+    // Gives an item to the checker, and notes what it changed.
+    fn follow(&mut self, item: &Item, place: u64)
+        ensures watches { CheckerWatches item.now self.old.checker self.new.checker }
+        ensures outside { self.new.is_outside ≡ self.old.is_outside }
+    {
+        self.checker.watch(item, place);
+        self.note(item, place);
+    }
+
+    // Notes what an item changed, unless it breaks a rule.
+    fn note(&mut self, item: &Item, place: u64)
+        ensures checker { self.new.checker ≡ self.old.checker }
+        ensures outside { self.new.is_outside ≡ self.old.is_outside }
+    {
+        if !matches!(self.checker.verdict(), Verdict::Breaks { .. }) {
+            self.origins.note(&self.checker, item, place);
+        }
+    }
+
+    // Leaves the model up to the next line reset.
+    fn leave(&mut self, place: u64)
+        ensures leaves { CheckerLeaves self.old.checker self.new.checker }
+        ensures outside { self.new.is_outside ≡ true }
+    {
+        self.checker.leave();
+        self.origins = Origins::new();
+        self.outside = self.outside.or(Some(place));
+        self.is_outside = true;
+    }
+}
+
+// Returns a checker before the first item.
+fn checker_of(start: CheckStart, clean: bool) -> Checker
+    ensures { CheckerStarts start clean result }
+{
+    if clean {
+        Checker::clean(start)
+    } else {
+        Checker::new(start)
+    }
+}
