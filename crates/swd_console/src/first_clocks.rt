@@ -135,6 +135,11 @@ impl FirstClocks {
         }
     }
 
+    /// Returns whether the stream is a host's: whether it began with `O`.
+    pub(crate) fn are_sent(&self) -> bool {
+        self.is_begun && !self.is_other
+    }
+
     // Passes a character.
     fn character(&mut self, byte: u8) {
         match Character::of(byte) {

@@ -20,7 +20,7 @@ const ENOUGH: u64 = 1000;
 fn stray_in(bytes: &[u8]) -> u64 {
     let mut count: u64 = 0;
     for place in 0..bytes.len() {
-        if bytes[place..].starts_with(STRAY) {
+        if bytes[place] == STRAY[0] && bytes[place..].starts_with(STRAY) {
             count = count.saturating_add(1);
         }
     }
@@ -96,13 +96,14 @@ impl Sample {
         self.found.other = self.found.other || bytes.is_empty();
     }
 
-    // Notes bytes that were written. All of them are looked at only where a line of a stray bit is among the first, and
-    // until enough were found.
+    // Notes bytes that were written, unless they are a host's characters. All of them are looked at only where a line of
+    // a stray bit is among the first, and until enough were found.
     pub(crate) fn note_written(&mut self, bytes: &[u8]) {
-        if self.stray < ENOUGH && stray_in(&bytes[..bytes.len().min(LOOKED_AT)]) > 0 {
+        self.clocks.pass(bytes);
+        let looks = !self.clocks.are_sent() && self.stray < ENOUGH;
+        if looks && stray_in(&bytes[..bytes.len().min(LOOKED_AT)]) > 0 {
             self.stray = self.stray.saturating_add(stray_in(bytes));
         }
-        self.clocks.pass(bytes);
     }
 
     /// Returns the first bytes that were read.
