@@ -109,37 +109,44 @@ pub fn run_status<E: Write, F: Display + Drop>(
     }
 }
 
+const NEVER_CAME: &str = "the word of an until never came: the report ends with its last read";
+
+const BUS_ERROR: &str = "--strict: an access met a bus error: its line in the report has busfault";
+
 /// Returns the status of a run that has a report: 0, or 1 if it ended early, a word differs from the script's, the word
 /// of an `until` never came, or a strict run met a bus error. Prints a line for the word that differs, or that never
-/// came. If an access met a bus error and the simulated target's room is used up, prints a line for that first.
+/// came. If an access met a bus error and the simulated target's room is used up, prints a line for that first. Else a
+/// strict run that met one has a line, too.
 pub fn finished_status<E: Write>(errors: &mut E, finished: Finished, strict: bool) -> u8
     ensures { result ≡ command_status_of_end (command_run_failed strict finished) finished.ended }
 {
-    tell_full(errors, finished);
+    let is_full = tell_full(errors, finished);
     if let Some(difference) = finished.differs {
         tell_difference(errors, difference);
         return STOPPED;
     }
+    let is_broken = strict && finished.bus_fault;
     if finished.never_came {
-        let _ = tell(
-            errors,
-            "the word of an until never came: the report ends with its last read",
-        );
+        let _ = tell(errors, NEVER_CAME);
+    } else if is_broken && !is_full {
+        let _ = tell(errors, BUS_ERROR);
     }
-    let failed = strict && finished.bus_fault || finished.never_came;
+    let failed = is_broken || finished.never_came;
     match finished.ended {
         End::All if !failed => DONE,
         _ => STOPPED,
     }
 }
 
-// Prints that the simulated target's room is used up, if an access met a bus error.
-fn tell_full<E: Write>(errors: &mut E, finished: Finished) {
-    if let Some(room) = finished.full
-        && finished.bus_fault
-    {
+// Prints that the simulated target's room is used up, if an access met a bus error, and returns whether it is so.
+fn tell_full<E: Write>(errors: &mut E, finished: Finished) -> bool {
+    let Some(room) = finished.full else {
+        return false;
+    };
+    if finished.bus_fault {
         tell_used_up(errors, room as usize);
     }
+    finished.bus_fault
 }
 
 /// Prints that a simulated target's room for so many transfers is used up.

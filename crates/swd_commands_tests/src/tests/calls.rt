@@ -206,7 +206,7 @@ const RUNS: [Call; 16] = [
         SCRIPT,
         1,
         REPORT,
-        b"",
+        b"swd: --strict: an access met a bus error: its line in the report has busfault\n",
     ),
     (
         "a strict run with a bus error at a write",
@@ -214,7 +214,7 @@ const RUNS: [Call; 16] = [
         b"memory 0 1\nw 4 0\nr 0\n",
         1,
         b"w 00000004 busfault\nr 00000000 00000000\nend all 2\n",
-        b"",
+        b"swd: --strict: an access met a bus error: its line in the report has busfault\n",
     ),
     (
         "a strict run without a bus error",
