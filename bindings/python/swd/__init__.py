@@ -43,7 +43,7 @@ from ._errors import (
     TooManyAccesses, Unaligned, report_of,
 )
 from ._hosts import Host, Session
-from ._identities import Identification
+from ._identities import Identification, Opening
 from ._library import Library
 from ._lines import Line, SequenceLine, Sequences
 from ._runs import Run
@@ -55,8 +55,8 @@ __all__ = [
     "ConditionNotMet", "Cue", "Cut", "Decoder", "DecoderFinished", "Drive", "End", "Give", "Host", "Idle",
     "Identification", "ImageDiffers", "ImageInterrupted", "ImageStopped", "Interrupted", "Item", "Junk", "Lead",
     "Library", "LibraryMismatch", "LibraryNotFound", "LibraryRefused", "Line", "LineFailed", "MOST_ACCESSES",
-    "NotABit", "NotALine", "NotAnAccess", "NotBytes", "NotResumable", "OutOfRange", "Pass", "Read", "Reentered",
-    "Release", "Report", "Reset", "Run", "RunEnded", "RunFailed", "RunStopped", "Sample", "Sequence",
+    "NotABit", "NotALine", "NotAnAccess", "NotBytes", "NotResumable", "Opening", "OutOfRange", "Pass", "Read",
+    "Reentered", "Release", "Report", "Reset", "Run", "RunEnded", "RunFailed", "RunStopped", "Sample", "Sequence",
     "SequenceLine", "Sequences", "Session", "SwdError", "Switch", "Take", "Target", "TooManyAccesses",
     "Transaction", "Unaligned", "Value", "Write", "Written", "block", "decode", "report_of", "trace_bits",
 ]

@@ -11,7 +11,7 @@ from ._errors import (
     CallbackFailed, ConditionNotMet, Interrupted, LineFailed, Reentered, RunFailed, RunStopped, fail, number,
     word as checked_word,
 )
-from ._identities import Identification, Watch
+from ._identities import Identification, Opening, Watch
 from ._images import Buffer, OnProgress
 from ._library import REFUSED, REST, LibraryOrPath, library_functions
 from ._lines import AnyLine, Wire
@@ -61,6 +61,7 @@ class _Driver:
         library_functions(library)
         # How the last run over this line ended, if there was one. The target is open after End.ALL.
         self._last: Optional[End] = None
+        self._opening = Opening()
         # Whether the line isn't known to be between two cues.
         self._inside = True
 
@@ -114,8 +115,15 @@ class _Driver:
             self._performed(run, None, Run.report, watch.perform).check()
         except RunStopped as stop:
             raise RunStopped(f"{stop}; {watch}", stop.report) from None
-        assert watch.dpidr is not None  # An opening that succeeds has read it.
-        return Identification(watch.dpidr)
+        finally:
+            self._opening = watch.opening
+        assert watch.opening.dpidr is not None  # An opening that succeeds has read it.
+        return watch.opening.dpidr
+
+    @property
+    def opening(self) -> Opening:
+        """What the last `identify` read, also where it failed."""
+        return self._opening
 
     def load(self, addr: int, data: Buffer, *, on_progress: OnProgress = None) -> None:
         """Writes bytes from `addr` on, which need not be a multiple of 4. Byte 0 of a word is bits 0 to 7. A word of

@@ -1,6 +1,6 @@
 """What a target says of itself while it is opened."""
-from dataclasses import dataclass
-from typing import Any, Callable, Optional
+from dataclasses import dataclass, replace
+from typing import Any, Callable, List, Optional
 
 from ._cues import DATA_BITS
 from ._library import ASK, TAKE
@@ -49,12 +49,42 @@ class Identification:
         return f"dpidr {self.word:08x}: {fields}{minimal}"
 
 
+@dataclass(frozen=True)
+class Opening:
+    """What was read of a target while it was opened, as far as that came: also where the opening failed. Each word is one
+    that was read with right parity: DPIDR, and the last of CTRL/STAT."""
+
+    dpidr: Optional[Identification] = None
+    ctrl_stat: Optional[int] = None
+
+    @property
+    def has_debug_power(self) -> bool:
+        """Whether the target acknowledged debug power."""
+        return "debug" in self._powers(2)
+
+    @property
+    def has_system_power(self) -> bool:
+        """Whether the target acknowledged system power."""
+        return "system" in self._powers(2)
+
+    def _powers(self, flag: int, mask: int = 2) -> List[str]:
+        """The powers of which the bits under `mask`, 1 for the request and 2 for its acknowledgement, are these."""
+        return [name for bit, name in _POWERS.items() if (self.ctrl_stat or 0) >> bit & mask == flag]
+
+    def __str__(self) -> str:
+        if self.dpidr is None:
+            return "DPIDR was never read with right parity"
+        late = self._powers(1, 3)
+        powers = f", and CTRL/STAT acknowledged no {' and no '.join(late)} power" if late else ""
+        return f"DPIDR was {self.dpidr.word:08x}{powers}"
+
+
 class Watch:
     """Performs the cues of an opening, and keeps what the target said of itself."""
 
     def __init__(self, perform: Callable[[int, Any], int]) -> None:
-        self._perform, self._request, self._is_answered, self._status = perform, 0, False, 0
-        self.dpidr: Optional[int] = None
+        self._perform, self._request, self._is_answered = perform, 0, False
+        self.opening = Opening()
 
     def perform(self, kind: int, cue: Any) -> int:
         """Performs a cue, and returns the reply."""
@@ -65,17 +95,11 @@ class Watch:
         elif kind == TAKE and bin(reply).count("1") % 2 == 0:
             word = reply & (1 << DATA_BITS - 1) - 1
             if self._request == _DPIDR:
-                self.dpidr = word
+                self.opening = replace(self.opening, dpidr=Identification(word))
             elif self._request == _CTRL_STAT:
-                self._status = word
+                self.opening = replace(self.opening, ctrl_stat=word)
         return reply
 
     def __str__(self) -> str:
         """Says how far an opening came, for messages."""
-        if not self._is_answered:
-            return "no request was answered OK"
-        if self.dpidr is None:
-            return "DPIDR was never read with right parity"
-        late = [name for bit, name in _POWERS.items() if self._status >> bit & 3 == 1]
-        powers = f", and CTRL/STAT acknowledged no {' and no '.join(late)} power" if late else ""
-        return f"DPIDR was {self.dpidr:08x}{powers}"
+        return str(self.opening) if self._is_answered else "no request was answered OK"

@@ -226,17 +226,33 @@ class Identities(unittest.TestCase):
 
     def test_how_far_an_opening_came(self):
         """Requests 1, 3 and 6 of an opening read DPIDR and CTRL/STAT, before and after power is requested."""
+        found, no_power = swd.Identification(0x2BA01477), "and CTRL/STAT acknowledged no debug and no system power"
         rows = [
-            (DEAD, "no request was answered OK"),
-            (damaged({1: "flip 0"})[0], "DPIDR was never read with right parity"),
-            (damaged({4: "mute 0"})[0], "DPIDR was 2ba01477"),
-            (damaged({6: "wait"})[0], "DPIDR was 2ba01477, and CTRL/STAT acknowledged no debug and no system power"),
+            (DEAD, "no request was answered OK", None, None),
+            (damaged({1: "flip 0"})[0], "DPIDR was never read with right parity", None, None),
+            (damaged({4: "mute 0"})[0], "DPIDR was 2ba01477", found, 0),
+            (damaged({6: "wait"})[0], f"DPIDR was 2ba01477, {no_power}", found, 0x50000000),
         ]
-        for line, told in rows:
+        for line, told, dpidr, ctrl_stat in rows:
+            host = swd.Host(line, 0)
             with self.subTest(told), self.assertRaises(swd.RunStopped) as caught:
-                swd.Host(line, 0).identify()
+                host.identify()
             self.assertEqual(str(caught.exception).split("; ")[1], told)
             self.assertEqual(caught.exception.report.answers, ())
+            self.assertEqual(host.opening, swd.Opening(dpidr, ctrl_stat))
+            self.assertEqual((host.opening.has_debug_power, host.opening.has_system_power), (False, False))
+
+    def test_an_opening_that_succeeded(self):
+        session = swd.Session(damaged()[0])
+        self.assertEqual(session.opening, swd.Opening())
+        session.identify()
+        opening = session.opening
+        self.assertEqual(opening.dpidr, swd.Identification(0x2BA01477))
+        self.assertEqual((opening.has_debug_power, opening.has_system_power), (True, True))
+        self.assertEqual(str(opening), "DPIDR was 2ba01477")
+        half = swd.Opening(swd.Identification(0x2BA01477), 0x70000000)
+        self.assertEqual((half.has_debug_power, half.has_system_power), (True, False))
+        self.assertEqual(str(half), "DPIDR was 2ba01477, and CTRL/STAT acknowledged no system power")
 
     def test_a_target_that_was_lost_before(self):
         """It is brought to rest, and identified by the opening that does so."""

@@ -45,6 +45,9 @@ def use() -> List[int]:
     with swd.Session(swd.Sequences(Probe()), tries=8) as session:
         identification: swd.Identification = session.identify()
         print(identification.word, identification)
+        opening: swd.Opening = session.opening
+        powers: List[bool] = [opening.has_debug_power, opening.has_system_power]
+        print(opening.ctrl_stat, powers)
         session.write(0x20000000, 1)
         word: int = session.read(0x20000000)
         found: int = session.until(0x20000000, 1, 1, reads=10, interval=0.1)

@@ -3,7 +3,7 @@
 use crate::cut::Cut;
 use crate::ffi::{listed, stored};
 use crate::wire::{silence, Wire, REST};
-use crate::{ffi, Access, Answer, End, Error, Identification, Line, Refused, Report, Slot, MOST_ACCESSES};
+use crate::{ffi, Access, Answer, End, Error, Identification, Line, Opening, Refused, Report, Slot, MOST_ACCESSES};
 
 /// The clocks from a turnaround to the end of an acknowledgement. A run that continues releases the line for the clocks
 /// of a data phase; one that was broken off may be that far before it.
@@ -32,14 +32,14 @@ struct Driver {
     inside: bool,
     /// The write's data phase inside which the line failed.
     cut: Option<Cut>,
-    /// DPIDR, as the last opening read it.
-    dpidr: Option<u32>,
+    /// What was read while the target was opened the last time.
+    opening: Opening,
 }
 
 impl Driver {
     fn new(tries: u32, opens_each: bool) -> Driver {
         let standing = Standing::Fresh;
-        Driver { tries, bus_errors: false, standing, opens_each, inside: true, cut: None, dpidr: None }
+        Driver { tries, bus_errors: false, standing, opens_each, inside: true, cut: None, opening: Opening::default() }
     }
 
     fn run<L: Line>(
@@ -98,13 +98,13 @@ impl Driver {
     }
 
     fn identify<L: Line>(&mut self, line: &mut L) -> Result<Identification, Error<L::Error>> {
-        self.dpidr = None;
+        self.opening = Opening::default();
         if self.standing == Standing::Astray {
             self.settle(line)?;
         } else {
             self.conduct(line, &mut ffi::Run::new(self.tries), &[], &mut [])?;
         }
-        Ok(Identification { word: self.dpidr.expect("an opening that succeeds has read DPIDR") })
+        Ok(self.opening.dpidr.expect("an opening that succeeds has read DPIDR"))
     }
 
     /// Leaves the cue in which a run may have been broken off, before a run that continues it.
@@ -148,7 +148,7 @@ impl Driver {
         }
         wire.flush();
         self.cut = wire.cut;
-        self.dpidr = wire.dpidr.or(self.dpidr);
+        self.opening = wire.opening.unwrap_or(self.opening);
         let mut report = Report::of(run);
         if let Some(error) = wire.failure {
             if report.ended != End::All {
@@ -260,6 +260,11 @@ impl<L: Line> Host<L> {
         self.driver.identify(&mut self.line)
     }
 
+    /// What was read of the target while it was opened the last time, also where that failed.
+    pub fn opening(&self) -> Opening {
+        self.driver.opening
+    }
+
     /// Performs reads at consecutive addresses, as [`block`](crate::block) gives them, at one request per further word
     /// in place of two.
     ///
@@ -345,6 +350,11 @@ impl<'l, L: Line> Session<'l, L> {
     /// As [`Host::run`].
     pub fn identify(&mut self) -> Result<Identification, Error<L::Error>> {
         self.driver.identify(self.line)
+    }
+
+    /// What was read of the target while it was opened the last time, also where that failed.
+    pub fn opening(&self) -> Opening {
+        self.driver.opening
     }
 
     /// Performs the accesses in order, each once, as [`Host::run`] does, over the open target.

@@ -44,3 +44,54 @@ impl fmt::Display for Identification {
         f.write_str(if self.is_minimal() { ", minimal" } else { "" })
     }
 }
+
+/// The flags of CTRL/STAT that request power, each below the one that acknowledges it: CDBGPWRUPREQ and CSYSPWRUPREQ.
+const DEBUG_REQUEST: u32 = 1 << 28;
+const SYSTEM_REQUEST: u32 = 1 << 30;
+
+/// What was read of a target while it was opened, as far as that came: also where the opening failed.
+#[derive(Clone, Copy, Debug, Default, PartialEq, Eq)]
+pub struct Opening {
+    /// DPIDR, if it was read with right parity.
+    pub dpidr: Option<Identification>,
+    /// The last word of CTRL/STAT that was read with right parity, if any was.
+    pub ctrl_stat: Option<u32>,
+}
+
+impl Opening {
+    /// Whether the target acknowledged debug power.
+    pub const fn has_debug_power(self) -> bool {
+        self.has(DEBUG_REQUEST << 1)
+    }
+
+    /// Whether the target acknowledged system power.
+    pub const fn has_system_power(self) -> bool {
+        self.has(SYSTEM_REQUEST << 1)
+    }
+
+    const fn has(self, flag: u32) -> bool {
+        match self.ctrl_stat {
+            Some(word) => word & flag != 0,
+            None => false,
+        }
+    }
+
+    const fn lacks(self, request: u32) -> bool {
+        self.has(request) && !self.has(request << 1)
+    }
+}
+
+impl fmt::Display for Opening {
+    fn fmt(&self, f: &mut fmt::Formatter<'_>) -> fmt::Result {
+        let Some(dpidr) = self.dpidr else {
+            return f.write_str("DPIDR was never read with right parity");
+        };
+        write!(f, "DPIDR was {:08x}", dpidr.word)?;
+        f.write_str(match (self.lacks(DEBUG_REQUEST), self.lacks(SYSTEM_REQUEST)) {
+            (true, true) => ", and CTRL/STAT acknowledged no debug and no system power",
+            (true, false) => ", and CTRL/STAT acknowledged no debug power",
+            (false, true) => ", and CTRL/STAT acknowledged no system power",
+            (false, false) => "",
+        })
+    }
+}

@@ -109,7 +109,7 @@ pub use access::{block, Access, Answer, End, Report, Slot};
 pub use decoder::{decode, Ack, Decoder, Item, Items, Transaction};
 pub use error::{Error, Refused};
 pub use host::{Host, Session};
-pub use identity::Identification;
+pub use identity::{Identification, Opening};
 pub use line::{Broken, Line};
 pub use target::{Bus, BusError, Target};
 

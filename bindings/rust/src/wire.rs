@@ -1,7 +1,7 @@
 //! What cues say, over a line.
 
 use crate::cut::{Cut, DATA_CLOCKS};
-use crate::{ffi, Broken, Line};
+use crate::{ffi, Broken, Identification, Line, Opening};
 
 /// Kinds of cues.
 pub(crate) const REST: u8 = 0;
@@ -11,8 +11,9 @@ const TAKE: u8 = 3;
 const GIVE: u8 = 4;
 const PASS: u8 = 5;
 
-/// The request that reads DPIDR.
+/// The requests that read DPIDR and CTRL/STAT.
 const DPIDR: u8 = 0xa5;
+const CTRL_STAT: u8 = 0x8d;
 
 /// The sixteen bits that switch from JTAG to serial wire.
 const SWITCH_BITS: u64 = 0xe79e;
@@ -32,14 +33,14 @@ pub(crate) struct Wire<'l, L: Line> {
     pub failure: Option<L::Error>,
     /// The write's data phase inside which the line failed.
     pub cut: Option<Cut>,
-    /// DPIDR, as far as it was read with right parity.
-    pub dpidr: Option<u32>,
+    /// What was read since the last line reset, if there was one.
+    pub opening: Option<Opening>,
     request: u8,
 }
 
 impl<'l, L: Line> Wire<'l, L> {
     pub fn new(line: &'l mut L) -> Self {
-        Wire { line, failure: None, cut: None, dpidr: None, request: 0 }
+        Wire { line, failure: None, cut: None, opening: None, request: 0 }
     }
 
     /// Performs the cue, and returns the reply. Once the line has failed it makes no clock, and returns what an
@@ -62,7 +63,10 @@ impl<'l, L: Line> Wire<'l, L> {
 
     fn perform(&mut self, cue: &ffi::Cue) -> Result<u64, L::Error> {
         match cue.kind {
-            LEAD => self.lead(cue)?,
+            LEAD => {
+                self.opening = Some(Opening::default());
+                self.lead(cue)?;
+            }
             ASK => {
                 self.request = cue.request;
                 self.drive(u64::from(cue.request), 8)?;
@@ -72,8 +76,8 @@ impl<'l, L: Line> Wire<'l, L> {
             TAKE => {
                 let bits = self.line.sample_bits(DATA_CLOCKS)?;
                 self.line.release_for(1)?;
-                if self.request == DPIDR && bits.count_ones() % 2 == 0 {
-                    self.dpidr = Some(bits as u32);
+                if bits.count_ones() % 2 == 0 {
+                    self.note(bits as u32);
                 }
                 return Ok(bits);
             }
@@ -88,6 +92,18 @@ impl<'l, L: Line> Wire<'l, L> {
             kind => unreachable!("cue {kind}"),
         }
         Ok(0)
+    }
+
+    /// Keeps a word that was read with right parity, if it says what the target is.
+    fn note(&mut self, word: u32) {
+        let Some(opening) = &mut self.opening else {
+            return;
+        };
+        match self.request {
+            DPIDR => opening.dpidr = Some(Identification { word }),
+            CTRL_STAT => opening.ctrl_stat = Some(word),
+            _ => {}
+        }
     }
 
     fn lead(&mut self, cue: &ffi::Cue) -> Result<(), L::Error> {

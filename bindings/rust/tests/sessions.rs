@@ -4,7 +4,9 @@ mod common;
 
 use common::{answers, plan_of, report_of, Call, Damaged, Mark, PlainMemory, Transfer, Unplugged, BASE, WORD};
 use std::error::Error as _;
-use swd::{block, Access, Answer, Broken, End, Error, Host, Identification, Line, Refused, Session, Slot, Target};
+use swd::{
+    block, Access, Answer, Broken, End, Error, Host, Identification, Line, Opening, Refused, Session, Slot, Target,
+};
 
 const POLL_REQUESTS: u64 = 3;
 const POLL_CLOCKS: usize = 160;
@@ -87,6 +89,44 @@ fn an_identification_after_a_loss() {
         let ended = Host::new(line_with(&[(1, mark)]), 0).identify();
         assert!(matches!(ended, Err(Error::Stopped(report)) if report.answered == 0), "{mark}");
     }
+}
+
+// Requests 1, 3 and 6 of an opening read DPIDR and CTRL/STAT, before and after power is requested. An opening whose power
+// isn't acknowledged reads CTRL/STAT as requested: 50000000.
+#[test]
+fn how_far_an_opening_came() {
+    let identified = Some(Identification { word: 0x2ba0_1477 });
+    let rows = [
+        (1, Mark::Deaf, None, None, "DPIDR was never read with right parity"),
+        (1, Mark::Flip(0), None, None, "DPIDR was never read with right parity"),
+        (4, Mark::Mute(0), identified, Some(0), "DPIDR was 2ba01477"),
+        (
+            6,
+            Mark::Wait,
+            identified,
+            Some(0x5000_0000),
+            "DPIDR was 2ba01477, and CTRL/STAT acknowledged no debug and no system power",
+        ),
+    ];
+    for (number, mark, dpidr, ctrl_stat, told) in rows {
+        let mut line = line_with(&[(number, mark)]);
+        let mut host = Host::new(&mut line, 0);
+        assert!(host.identify().is_err(), "{told}");
+        let opening = host.opening();
+        assert_eq!((opening.dpidr, opening.ctrl_stat), (dpidr, ctrl_stat), "{told}");
+        assert_eq!(opening.to_string(), told);
+        assert!(!opening.has_debug_power() && !opening.has_system_power(), "{told}");
+    }
+    let mut line = line_with(&[]);
+    let mut session = Session::new(&mut line, 8);
+    assert_eq!(session.opening(), Opening::default());
+    session.open().unwrap();
+    let opening = session.opening();
+    assert_eq!(opening.dpidr, identified);
+    assert!(opening.has_debug_power() && opening.has_system_power());
+    // A run over the open target reads neither register.
+    session.write(BASE, WORD).unwrap();
+    assert_eq!(session.opening(), opening);
 }
 
 // Nine requests of the opening, TAR, DRW and RDBUFF. The next list is performed over a target that was opened again.
