@@ -18,6 +18,7 @@ answer_by true false true = λ e. cc
 answer_by true false false = λ e. cc
 answer_by false b c = λ e. cc
 
+-- a target's answer is never WAIT, which it may give before it has one
 pub port_answer_never_wait : (reset : Reset) (sticky write unpowered : Bool) (r : Register)
     → port_answer_by reset sticky write unpowered r ≢ Waits
 port_answer_never_wait reset sticky write unpowered r = answer_by (port_is_answered reset r) (is_exempt_register r)

@@ -81,6 +81,7 @@ same_steady x = record {
   memory = refl;
 }
 
+-- whatever is answered to a request, it leaves these registers and the memory as they were
 pub port_steady_after : (c : Choice) (reply : Reply) (r : Register) (ap : Bool) (x : Target)
     → PortSteady x (port_target_after c reply r ap x)
 port_steady_after c Okay r ap x = record {
