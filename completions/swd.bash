@@ -7,14 +7,14 @@ _swd() {
     if ((COMP_CWORD == 1)); then
         case $word in
         -*) words='--help --version -h -V' ;;
-        *) words='one decode encode run target draw check load verify dump help' ;;
+        *) words='one decode encode run target draw check info load verify dump help' ;;
         esac
         COMPREPLY=($(compgen -W "$words" -- "$word"))
         return
     fi
     case ${COMP_WORDS[1]} in
     help)
-        ((COMP_CWORD > 2)) || COMPREPLY=($(compgen -W 'one decode encode run target draw check load verify dump help' -- "$word"))
+        ((COMP_CWORD > 2)) || COMPREPLY=($(compgen -W 'one decode encode run target draw check info load verify dump help' -- "$word"))
         return
         ;;
     one)
@@ -38,16 +38,19 @@ _swd() {
     check)
         words='--made --rest --clean --plain --exact-registers --resync --overrun --help -h'
         ;;
+    info)
+        words='--remote --tries --help -h'
+        ;;
     load)
-        words='--format --tries --resume --report --remote --memory --base --plan --help -h'
+        words='--format --tries --resume --report --progress --remote --memory --base --plan --help -h'
         formats='bin hex srec elf'
         ;;
     verify)
-        words='--format --tries --resume --report --remote --memory --base --plan --help -h'
+        words='--format --tries --resume --report --progress --remote --memory --base --plan --help -h'
         formats='bin hex srec elf'
         ;;
     dump)
-        words='--format --tries --resume --report --remote --memory --base --plan --help -h'
+        words='--format --tries --resume --report --progress --remote --memory --base --plan --help -h'
         formats='bin hex srec'
         ;;
     esac

@@ -52,9 +52,20 @@ impl Files for Disk<'_> {
     }
 
     fn open_to_write(&self, name: &str) -> io::Result<Opened<DiskFile>> {
+        if let Some(file) = self.created(name)? {
+            return made(file, true);
+        }
         let mut how = OpenOptions::new();
         how.write(true).create(true);
         made(how.open(self.rt, name)?, false)
+    }
+
+    fn open_line_in(&self, name: &str) -> io::Result<Opened<File>> {
+        identified(self.open_both_ways(name)?)
+    }
+
+    fn open_line_out(&self, name: &str) -> io::Result<Opened<DiskFile>> {
+        made(self.open_both_ways(name)?, false)
     }
 
     fn cut_off(&self, file: &DiskFile) -> io::Result<()> {
@@ -66,10 +77,10 @@ impl Files for Disk<'_> {
     }
 
     fn open_to_replace(&self, name: &str) -> io::Result<Opened<DiskFile>> {
-        if let Some(file) = self.created(name)? {
-            return made(file, true);
-        }
         let opened = self.open_to_write(name)?;
+        if opened.file.is_new {
+            return Ok(opened);
+        }
         if let Some(beside) = self.beside(name, &opened.file.file)? {
             beside.remove(self.rt);
         }
@@ -152,6 +163,21 @@ fn is_terminal(metadata: &Metadata) -> bool {
 }
 
 impl Disk<'_> {
+    // Opens a file for reading and writing, which has to exist. One that keeps its bytes leads nowhere, and isn't
+    // overwritten.
+    fn open_both_ways(&self, name: &str) -> io::Result<File> {
+        let mut how = OpenOptions::new();
+        how.read(true).write(true);
+        let file = how.open(self.rt, name)?;
+        if file.metadata()?.is_file() {
+            return Err(io::Error::new(
+                ErrorKind::InvalidInput,
+                "it is a regular file, no line to a target",
+            ));
+        }
+        Ok(file)
+    }
+
     // Creates a file, unless one has the name.
     fn created(&self, name: &str) -> io::Result<Option<File>> {
         let mut how = OpenOptions::new();

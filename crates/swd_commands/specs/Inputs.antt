@@ -1,12 +1,12 @@
 -- What a command reads.
-use Rattle.std.specs.Prelude.{ℕ, ◌≡◌, ◌⊎◌, Bool, false, List, Option, Some, None, codes, is_none}
+use Rattle.std.specs.Prelude.{ℕ, ◌≡◌, ◌≢◌, ◌⊎◌, List, [], Option, Some, None, IsSomeAnd, codes}
 use Rattle.std.specs.Option.{option_map}
 use Rattle.std.specs.String.{string_bytes}
 use Rattle.swd_words.specs.declared.command.CommandLine.{CommandLine}
 use Rattle.swd_words.specs.declared.command.ServedMemory.{ServedMemory}
 use Rattle.swd_words.specs.declared.command.ServedMemory.TheVariants.{Script, File}
 use Rattle.swd_words.specs.declared.command.CommandLine.TheVariants.{One, Decode, Draw, Check, Encode, Run, Target}
-use Rattle.swd_words.specs.declared.command.CommandLine.TheVariants.{Image}
+use Rattle.swd_words.specs.declared.command.CommandLine.TheVariants.{Image, Info}
 
 -- the file of a served memory: its script, or its bytes
 abbrev pub command_served_file : ServedMemory → List ℕ
@@ -23,6 +23,8 @@ command_named_file (Encode file) = option_map string_bytes file
 command_named_file (Run run) = Some (string_bytes run.script)
 command_named_file (Target target) = Some (command_served_file target.memory)
 command_named_file (Image image) = Some (string_bytes image.file)
+-- an info reads no file: no file has this name, and standard input hasn't either
+command_named_file (Info info) = Some []
 
 -- standard input is read: no file is named, or `-` is
 abbrev pub IsStandardInput : Option (List ℕ) → Type 0
@@ -31,8 +33,13 @@ IsStandardInput name = (name ≡ None) ⊎ (name ≡ Some (codes "-"))
 abbrev pub CommandReadsStdin : CommandLine → Type 0
 CommandReadsStdin line = IsStandardInput (command_named_file line)
 
--- the target is behind the standard streams
-abbrev pub is_remote_command : CommandLine → Bool
-is_remote_command (Run run) = run.remote
-is_remote_command (Image image) = is_none image.memory
-is_remote_command _ = false
+-- what leads to the target, if that is remote
+abbrev pub command_remote : CommandLine → Option (List ℕ)
+command_remote (Run run) = option_map string_bytes run.remote
+command_remote (Image image) = option_map string_bytes image.remote
+command_remote (Info info) = Some (string_bytes info.remote)
+command_remote _ = None
+
+-- files lead to it, not the standard streams, and the command reads no other file from standard input
+abbrev pub CommandHasLine : CommandLine → Type 0
+CommandHasLine line = IsSomeAnd (command_remote line) (λ files. files ≢ codes "-") × (CommandReadsStdin line → ⊥)

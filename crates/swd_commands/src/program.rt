@@ -1,9 +1,10 @@
 //! Carries out the program's arguments.
-ghost use Rattle.std.specs.Prelude.{◌≡◌, ◌⊎◌, codes};
+ghost use Rattle.std.specs.Prelude.{◌≡◌, ◌≢◌, ◌⊎◌, IfNone, IfSome, IsSomeAnd, codes, is_some};
+ghost use Rattle.std.specs.Option.{option_map};
 ghost use Rattle.std.specs.String.{string_bytes};
 ghost use Rattle.swd_console.specs.Statuses.{CommandNotOpened};
 ghost use Rattle.swd_console.specs.Streams.{CommandEndsOver};
-ghost use Rattle.swd_commands.specs.Inputs.{CommandReadsStdin, command_served_file, is_remote_command};
+ghost use Rattle.swd_commands.specs.Inputs.{CommandHasLine, CommandReadsStdin, command_remote, command_served_file};
 ghost use Rattle.swd_commands.specs.Statuses.{PerformsCommand};
 
 use crate::conversion::{Conversion, convert, decode_conversion, draw_conversion};
@@ -13,11 +14,12 @@ use clap::Error;
 use std::alloc::Global;
 use std::io::{Read, Write};
 use swd_console::{
-    Clock, Console, DONE, FAULT, Files, KeepsError, STOPPED, Stream, Untold, Watched, cannot_open,
-    named_file_of, status_after, tell, tell_failure, unnamed_file,
+    Clock, Console, DONE, FAULT, Files, KeepsError, LineFiles, STOPPED, Stream, Untold, Watched,
+    cannot_open, cannot_open_line, line_ends, named_file_of, status_after, tell, tell_failure,
+    unnamed_file,
 };
 use swd_image_commands::perform_image;
-use swd_run_commands::{perform_run, perform_target};
+use swd_run_commands::{perform_info, perform_run, perform_target};
 use swd_words::{CommandLine, ImageLine, LineFault, ServedMemory, TargetLine, line};
 
 /// Carries out the arguments, the program's name first, and returns the status. Standard output gets the requested
@@ -91,22 +93,134 @@ fn print_help<O: Write + KeepsError, E: Write>(error: &Error, output: &mut O, er
 
 const SHOWN: &str = "\
 --remote: standard output is a terminal, not a target's line: connect it, as by \
-socat TCP:localhost:4711,nodelay EXEC:'swd ..'";
+socat TCP:localhost:4711,nodelay EXEC:'swd ..', or name files, --remote=IN,OUT";
 
-// Returns whether a command speaks to a target over the standard streams.
-fn is_remote(line: &CommandLine) -> bool
-    ensures { result ≡ is_remote_command line.now }
+// Returns an argument that may not be given.
+fn given(argument: &Option<String>) -> Option<&str>
+    ensures { option_map (λ s. s.now) result ≡ option_map string_bytes argument.now }
 {
-    match line {
-        CommandLine::Run(run) => run.remote,
-        CommandLine::Image(image) => image.memory.is_none(),
-        _ => false,
+    match argument {
+        Some(text) => Some(text.as_str()),
+        None => None,
     }
 }
 
-// Performs the command. In a terminal none speaks to a target: its characters would fill the screen. If a target wasn't
-// opened, prints how far the session came.
+// Returns what leads to the target of a command, if that is remote.
+fn remote_of(line: &CommandLine) -> Option<&str>
+    ensures { option_map (λ s. s.now) result ≡ command_remote line.now }
+{
+    match line {
+        CommandLine::Run(run) => given(&run.remote),
+        CommandLine::Image(image) => given(&image.remote),
+        CommandLine::Info(info) => Some(info.remote.as_str()),
+        _ => None,
+    }
+}
+
+// Returns whether a command speaks to a remote target.
+fn is_remote(line: &CommandLine) -> bool
+    ensures { result ≡ is_some (command_remote line.now) }
+{
+    remote_of(line).is_some()
+}
+
+// Returns the files that lead to the target of a command in place of the standard streams, if it names them, unless it
+// is to read another file from standard input.
+fn line_files(line: &CommandLine) -> Option<&str>
+    ensures some { IfSome result (λ _. CommandReadsStdin line.now → ⊥) }
+    ensures none { IfNone result (CommandHasLine line.now → ⊥) }
+{
+    match line {
+        CommandLine::Run(run) => files_beside(given(&run.remote), run.script.as_str()),
+        CommandLine::Image(image) => files_beside(given(&image.remote), image.file.as_str()),
+        CommandLine::Info(info) => files_beside(Some(info.remote.as_str()), ""),
+        _ => None,
+    }
+}
+
+// Returns these files, unless they are the standard streams, or the other name is that of standard input.
+fn files_beside<'a>(files: Option<&'a str>, name: &str) -> Option<&'a str>
+    ensures some { IfSome result (λ _. name.now ≢ codes "-") }
+    ensures none { IfNone result (IsSomeAnd (option_map (λ s. s.now) files.entry) (λ files. files ≢ codes "-")
+        → name.now ≢ codes "-" → ⊥) }
+{
+    let files = named_file_of(files?)?;
+    match named_file_of(name) {
+        Some(_) => Some(files),
+        None => None,
+    }
+}
+
+// Performs a command at the target to which these files lead. If it wasn't opened, prints how far the session came.
+fn carry_out_over<F: Files, C: Clock, E: Write>(
+    line: &CommandLine,
+    files: &str,
+    console: &mut Console<'_, Global, F, C, E>,
+) -> u8 {
+    let (from, to) = line_ends(files);
+    let input = match console.files.open_line_in(from) {
+        Ok(opened) => opened,
+        Err(why) => return cannot_open_line(console.errors, from, &why),
+    };
+    let output = match console.files.open_line_out(to) {
+        Ok(opened) => opened,
+        Err(why) => return cannot_open_line(console.errors, to, &why),
+    };
+    let files = LineFiles {
+        files: console.files,
+        input: input.identity,
+        output: output.identity,
+    };
+    let console = Console {
+        alloc: console.alloc,
+        files: &files,
+        clock: console.clock,
+        errors: &mut *console.errors,
+    };
+    perform_over(
+        line,
+        Watched::line(input.file),
+        Watched::line(output.file),
+        console,
+    )
+}
+
+// Performs a command at the target to which these streams lead. If it wasn't opened, prints how far the session came.
+fn perform_over<
+    I: Read + KeepsError + Drop,
+    O: Write + KeepsError + Drop,
+    F: Files,
+    C: Clock,
+    E: Write,
+>(line: &CommandLine, input: I, output: O, console: Console<'_, Global, F, C, E>) -> u8 {
+    let (mut input, mut output, mut console) = (input, output, console);
+    let status = perform(line, &mut input, &mut output, &mut console);
+    tell_session(console.errors, line, status, &input, &output);
+    status
+}
+
+// Performs the command, over the files that lead to its target, or over the standard streams.
 fn carry_out<I: Read + KeepsError, O: Write + KeepsError, F: Files, C: Clock, E: Write>(
+    line: &CommandLine,
+    input: &mut I,
+    output: &mut O,
+    console: &mut Console<'_, Global, F, C, E>,
+) -> u8
+    ensures reads { CommandReadsStdin line.now → CommandEndsOver (O.kept output.new)
+        (λ status. PerformsCommand line.now status (I.remaining input.old) (I.remaining input.new)
+        (O.contents output.old) (O.contents output.new)) result }
+    ensures line { CommandHasLine line.now → (I.remaining input.new ≡ I.remaining input.old)
+        × (O.contents output.new ≡ O.contents output.old) }
+{
+    match line_files(line) {
+        Some(files) => carry_out_over(line, files, console),
+        None => carry_out_here(line, input, output, console),
+    }
+}
+
+// Performs the command over the standard streams. In a terminal none speaks to a target: its characters would fill the
+// screen. If a target wasn't opened, prints how far the session came.
+fn carry_out_here<I: Read + KeepsError, O: Write + KeepsError, F: Files, C: Clock, E: Write>(
     line: &CommandLine,
     input: &mut I,
     output: &mut O,
@@ -120,20 +234,33 @@ fn carry_out<I: Read + KeepsError, O: Write + KeepsError, F: Files, C: Clock, E:
         return status_after(output.kept_error(), tell(console.errors, SHOWN));
     }
     let status = perform(line, input, output, console);
-    if is_remote(line) && status == STOPPED {
-        tell_reached(console.errors, input, output);
+    if is_remote(line) {
+        tell_session(console.errors, line, status, input, output);
     }
     status
 }
 
-// Prints how far a session came that ended before the target was open: one line, unless the target sent nothing.
-fn tell_reached<I: KeepsError, O: KeepsError, E: Write>(errors: &mut E, input: &I, output: &O) {
+// Prints how far a session came that ended before the target was open: one line, unless the target sent nothing. Of an
+// info it prints what was read in any case.
+fn tell_session<I: KeepsError, O: KeepsError, E: Write>(
+    errors: &mut E,
+    line: &CommandLine,
+    status: u8,
+    input: &I,
+    output: &O,
+) {
+    let is_info = matches!(line, CommandLine::Info(_));
+    if status == FAULT || status == DONE && !is_info {
+        return;
+    }
     if let Some(level) = input.sample().only_bit() {
         tell_no_reply(errors, level);
         return;
     }
     let reached = Reached::of(input, output);
-    if reached.is_answered() && !reached.is_open() {
+    if is_info {
+        let _ = write!(errors, "{}", reached.info());
+    } else if reached.is_answered() && !reached.is_open() {
         let _ = writeln!(errors, "swd: {reached}");
     }
 }
@@ -182,6 +309,12 @@ fn perform<I: Read + KeepsError, O: Write + KeepsError, F: Files, C: Clock, E: W
         CommandLine::Run(run) => perform_run(run, input, output, console),
         CommandLine::Target(target) => carry_out_target(target, input, output, console),
         CommandLine::Image(image) => carry_out_image(image, input, output, console),
+        CommandLine::Info(info) => {
+            let (status, _) = perform_info::<Untold, _, _, _, _, _, _>(
+                info, input, output, console,
+            );
+            status
+        }
     }
 }
 
@@ -214,7 +347,7 @@ fn carry_out_target<I: Read + KeepsError, O: Write + KeepsError, F: Files, C, E:
 }
 
 // Performs a command over an image, which is in a file.
-fn carry_out_image<I: Read + KeepsError, O: Write + KeepsError, F: Files, C, E: Write>(
+fn carry_out_image<I: Read + KeepsError, O: Write + KeepsError, F: Files, C: Clock, E: Write>(
     image: &ImageLine,
     input: &mut I,
     output: &mut O,
@@ -232,7 +365,7 @@ fn carry_out_image<I: Read + KeepsError, O: Write + KeepsError, F: Files, C, E: 
         Some(_) => cannot_open(console.errors, "-", &unnamed_file()),
         None => tell(
             console.errors,
-            "FILE has to be a file: standard input is the target's",
+            "with --remote FILE has to be a file, not standard input",
         ),
     };
     status_after(output.kept_error(), status)

@@ -99,9 +99,27 @@ impl Reached {
         self.is_open
     }
 
+    /// Returns the lines of `swd info`.
+    pub(crate) fn info(&self) -> Info<'_> {
+        Info(self)
+    }
+
     /// Returns whether a request was answered in any way.
     pub(crate) fn is_answered(&self) -> bool {
         self.last.is_some()
+    }
+}
+
+// Returns what is said of a word of CTRL/STAT that doesn't acknowledge both powers.
+fn missing_power(status: u32) -> Option<&'static str> {
+    match (
+        has(status, CtrlStat::CDBGPWRUPACK),
+        has(status, CtrlStat::CSYSPWRUPACK),
+    ) {
+        (true, true) => None,
+        (true, false) => Some("debug power is acknowledged, and system power is not"),
+        (false, true) => Some("system power is acknowledged, and debug power is not"),
+        (false, false) => Some("power was requested and is not acknowledged"),
     }
 }
 
@@ -137,30 +155,65 @@ impl Display for LastAnswer {
     }
 }
 
-impl Display for Reached {
+// What is known of the power of a target that was identified.
+#[derive(Clone, Copy)]
+struct Power<'a>(&'a Reached);
+
+impl Display for Power<'_> {
     fn fmt<W: fmt::Write>(&self, f: &mut Formatter<W>) -> fmt::Result {
-        let last = LastAnswer(self.last);
-        let Some(dpidr) = self.dpidr else {
-            return write!(f, "DPIDR was not read: the last answer was {last}");
-        };
-        write!(f, "DPIDR was read, {dpidr:08x}; ")?;
-        match self.status {
-            _ if !self.asked => write!(
-                f,
-                "power was not requested yet: the last answer was {last}"
-            ),
-            Some(status)
-                if has(status, CtrlStat::CDBGPWRUPACK) && has(status, CtrlStat::CSYSPWRUPACK) => {
-                write!(
+        let last = LastAnswer(self.0.last);
+        match self.0.status {
+            _ if !self.0.asked => {
+                write!(f, "power was not requested yet: the last answer was {last}")
+            }
+            Some(status) => match missing_power(status) {
+                Some(missing) => write!(f, "{missing}: CTRL/STAT is {status:08x}"),
+                None if self.0.is_open => {
+                    f.write_str("debug power and system power are acknowledged: the target is open")
+                }
+                None => write!(
                     f,
                     "power is acknowledged; no access port answered: the last answer was {last}"
-                )
-            }
-            Some(status) => write!(
-                f,
-                "power was requested and is not acknowledged: CTRL/STAT is {status:08x}"
-            ),
+                ),
+            },
             None => write!(f, "power was requested: the last answer was {last}"),
         }
+    }
+}
+
+impl Display for Reached {
+    fn fmt<W: fmt::Write>(&self, f: &mut Formatter<W>) -> fmt::Result {
+        match self.dpidr {
+            Some(dpidr) => write!(f, "DPIDR was read, {dpidr:08x}; {}", Power(self)),
+            None => {
+                let last = LastAnswer(self.last);
+                write!(f, "DPIDR was not read: the last answer was {last}")
+            }
+        }
+    }
+}
+
+/// The lines of `swd info`: DPIDR by its fields, and what is known of the power; or that DPIDR wasn't read.
+#[derive(Clone, Copy)]
+pub(crate) struct Info<'a>(&'a Reached);
+
+impl Display for Info<'_> {
+    fn fmt<W: fmt::Write>(&self, f: &mut Formatter<W>) -> fmt::Result {
+        let Some(dpidr) = self.0.dpidr else {
+            return writeln!(f, "swd: {}", self.0);
+        };
+        let (designer, part) = (dpidr >> 1 & 0x7ff, dpidr >> 20 & 0xff);
+        let (version, revision) = (dpidr >> 12 & 0xf, dpidr >> 28);
+        let minimal = if dpidr >> 16 & 1 == 1 {
+            ", minimal"
+        } else {
+            ""
+        };
+        write!(
+            f,
+            "swd: DPIDR {dpidr:08x}: designer {designer:03x}, part {part:02x}, "
+        )?;
+        writeln!(f, "version {version:x}, revision {revision:x}{minimal}")?;
+        writeln!(f, "swd: {}", Power(self.0))
     }
 }

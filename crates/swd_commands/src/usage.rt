@@ -42,8 +42,11 @@ fn tip_for(words: &[&str]) -> Option<&'static str> {
         "one" | "decode" | "encode" | "draw" | "check" if names_output(words) => {
             Some("the result goes to standard output: >FILE writes it to a file")
         }
-        "run" | "load" | "verify" | "dump" if names_server(words) => {
+        "run" | "info" | "load" | "verify" | "dump" if names_server(words) => {
             Some("--remote takes no address: socat connects it to a socket, see --help")
+        }
+        "run" | "info" | "load" | "verify" | "dump" if names_files(words) => {
+            Some("the files of --remote follow =, as in --remote=IN,OUT")
         }
         _ => None,
     }
@@ -58,10 +61,25 @@ fn names_output(words: &[&str]) -> bool {
 
 // Returns whether these arguments name the address of a server.
 fn names_server(words: &[&str]) -> bool {
-    words.iter().any(|word| word.starts_with("--remote="))
+    words.iter().any(|word| is_server(*word))
         || words
             .windows(2)
             .any(|pair| pair[0] == "--remote" && pair[1].contains(':'))
+}
+
+// Returns whether an argument has the address of a server as the files that lead to a target.
+fn is_server(word: &str) -> bool {
+    match word.strip_prefix("--remote=") {
+        Some(files) => files.contains(':') && !files.contains('/'),
+        None => false,
+    }
+}
+
+// Returns whether these arguments name the files that lead to a target without `=`.
+fn names_files(words: &[&str]) -> bool {
+    words.windows(2).any(|pair| {
+        pair[0] == "--remote" && (pair[1].contains(',') || pair[1].starts_with("/dev/"))
+    })
 }
 
 impl UsageText<'_> {

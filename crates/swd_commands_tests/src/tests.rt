@@ -132,6 +132,8 @@ fn number_of(name: &str) -> u64 {
         "traced" => 4,
         "errors" => 8,
         "memory" | "memory-again" => 6,
+        "silent" => 9,
+        "to" => 10,
         _ => 5,
     }
 }
@@ -160,6 +162,7 @@ fn text_of(name: &str) -> Option<&'static [u8]> {
         "open.hex" => Some(b"\n"),
         "elf" | "elf.hex" => Some(EMPTY_ELF),
         "foreign.elf" => Some(FOREIGN_ELF),
+        "silent" => Some(b"111"),
         "end" | "end.hex" | "end.IHX" => Some(b":00000001FF\n"),
         "memory" => Some(b"memory 20000000 16\n"),
         "awaiting" => Some(b"memory 20000000 16\nuntil 20000000 1 1 3\n"),
@@ -210,6 +213,14 @@ impl<'a> Files for Shelf<'a> {
             "locked" => Err(io::Error::from(ErrorKind::PermissionDenied)),
             _ => Ok(file(name, made)),
         }
+    }
+
+    fn open_line_in(&self, name: &str) -> io::Result<Opened<Leaf>> {
+        self.open(name)
+    }
+
+    fn open_line_out(&self, name: &str) -> io::Result<Opened<Page<'a>>> {
+        self.open_to_write(name)
     }
 
     fn cut_off(&self, _file: &Page<'a>) -> io::Result<()> {
@@ -391,6 +402,14 @@ impl<'a> Files for Unknown<'a> {
     }
 
     fn open_to_write(&self, name: &str) -> io::Result<Opened<Page<'a>>> {
+        self.0.open_to_write(name)
+    }
+
+    fn open_line_in(&self, name: &str) -> io::Result<Opened<Leaf>> {
+        self.0.open(name)
+    }
+
+    fn open_line_out(&self, name: &str) -> io::Result<Opened<Page<'a>>> {
         self.0.open_to_write(name)
     }
 

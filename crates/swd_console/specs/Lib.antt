@@ -1,5 +1,6 @@
 pub mod Connections
 pub mod Destinations
+pub mod LineFiles
 pub mod MemoryFiles
 pub mod Roles
 pub mod Statuses

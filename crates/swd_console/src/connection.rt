@@ -5,7 +5,7 @@ ghost use Rattle.swd_port.specs.Bus.{bus_of};
 ghost use Rattle.swd_port.specs.Port.{port_made};
 
 use crate::report::{FAULT, STOPPED, tell};
-use crate::streams::{INPUT, Stream, tell_failure_or};
+use crate::streams::{Stream, tell_failure_or};
 use crate::watched::KeepsError;
 use std::io::Write;
 use swd_port::Story;
@@ -22,10 +22,7 @@ impl Story for Untold {
 pub fn line_streams<R: KeepsError, W: KeepsError>(
     line: &RemoteStreams<R, W>,
 ) -> [Stream<'static>; 2] {
-    [
-        Stream::sent(&line.writer),
-        Stream::read(INPUT, &line.reader),
-    ]
+    [Stream::sent(&line.writer), Stream::received(&line.reader)]
 }
 
 /// Prints a line with the reason why the other end is gone. `streams` are those of the connection. Returns the status

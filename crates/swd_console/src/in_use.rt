@@ -320,6 +320,20 @@ impl InUse {
     }
 }
 
+/// Gives up a file that was opened for writing, if it is named: one that was created for that is removed, and any other
+/// is unchanged.
+pub fn give_up_named<A, F: Files, C, E>(
+    name: &Option<String>,
+    file: Option<Watched<F::Made>>,
+    console: &Console<'_, A, F, C, E>,
+) {
+    if let Some(name) = name
+        && let Some(Watched { mut stream, .. }) = file
+    {
+        console.files.give_up(name.as_str(), &mut stream);
+    }
+}
+
 /// Truncates a file that was opened for writing under this name. At an error it prints a line and returns the status 2.
 pub fn cut_off<A, F: Files, C, E: Write>(
     name: &str,

@@ -7,11 +7,13 @@ mod connection;
 mod destination;
 mod first_clocks;
 mod in_use;
+mod line_files;
 mod list_reason;
 mod machine;
 mod memory_file;
 mod noted;
 mod open_files;
+mod pace;
 mod reason;
 mod report;
 mod sample;
@@ -23,17 +25,20 @@ pub use connection::{Untold, gone_status, line_streams};
 pub use destination::Destination;
 pub use first_clocks::SentClock;
 pub use in_use::{
-    InUse, ReadRole, StreamsInUse, WriteRole, cut_off, cut_off_named, named_file_of, unnamed_file,
+    InUse, ReadRole, StreamsInUse, WriteRole, cut_off, cut_off_named, give_up_named, named_file_of,
+    unnamed_file,
 };
+pub use line_files::{LineFiles, line_ends};
 pub use list_reason::list_line_status;
 pub use machine::Console;
 pub use memory_file::{HeldMemory, MemoryFile, read_target_files, write_back};
 pub use noted::{Seen, SeenLine, TrackedReader};
 pub use open_files::{Files, Identity, Opened};
+pub use pace::{Counted, Pace};
 pub use reason::{script_status, texts_status};
 pub use report::{
-    DONE, Escaped, FAULT, STOPPED, cannot_open, cannot_use, engine_status, run_status, tell,
-    tell_used_up,
+    DONE, Escaped, FAULT, STOPPED, cannot_open, cannot_open_line, cannot_use, engine_status,
+    run_status, tell, tell_used_up,
 };
 pub use sample::Sample;
 pub use streams::{

@@ -32,6 +32,14 @@ pub trait Files {
     /// Opens a file for writing, or creates an empty one. An existing file isn't truncated.
     fn open_to_write(&self, name: &str) -> io::Result<Opened<Self::Made>>;
 
+    /// Opens a file that leads from a target, to be read. It is opened for writing too: so opening a fifo waits for no
+    /// other end, and reading it comes to no end.
+    fn open_line_in(&self, name: &str) -> io::Result<Opened<Self::File>>;
+
+    /// Opens a file that leads to a target, to be written. It is opened for reading too, for the same reason. It isn't
+    /// created, nor truncated.
+    fn open_line_out(&self, name: &str) -> io::Result<Opened<Self::Made>>;
+
     /// Truncates a file to length 0, if it is one with a length.
     fn cut_off(&self, file: &Self::Made) -> io::Result<()>;
 
@@ -52,8 +60,8 @@ pub trait Files {
     fn finish_replacing(&self, file: &mut Self::Made) -> io::Result<()>
         ensures { Self.Made.Write.contents file.new ≡ Self.Made.Write.contents file.old };
 
-    /// Removes what was written beside the file, which then is as it was. Removes the file, too, if `open_to_replace`
-    /// created it and it is empty.
+    /// Removes what was written beside the file, which then is as it was. Removes the file, too, if opening it created
+    /// it and it is empty.
     fn give_up(&self, name: &str, file: &mut Self::Made)
         ensures { Self.Made.Write.contents file.new ≡ Self.Made.Write.contents file.old };
 

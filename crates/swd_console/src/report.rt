@@ -59,18 +59,35 @@ pub fn cannot_open<E: Write>(errors: &mut E, name: &str, why: &io::Error) -> u8
     FAULT
 }
 
+// What to do where the file of a memory isn't there, and a file that leads to a target.
+const NEW_MEMORY: &str = "for a memory of 64 KiB of zeros: head -c 64K /dev/zero >FILE";
+
+const SOCKET: &str =
+    "for a server on a socket: socat TCP:localhost:4711,nodelay EXEC:'swd .. --remote'";
+
 /// Prints that the file of a memory can't be opened, why, and how to make one that isn't there. Returns the status 2.
 pub(crate) fn cannot_open_memory<E: Write>(errors: &mut E, name: &str, why: &io::Error) -> u8
+    ensures { result ≡ 2 }
+{
+    cannot_find(errors, name, why, NEW_MEMORY)
+}
+
+/// Prints that a file that leads to a target can't be opened, why, and how to reach a server on a socket if the file
+/// isn't there. Returns the status 2.
+pub fn cannot_open_line<E: Write>(errors: &mut E, name: &str, why: &io::Error) -> u8
+    ensures { result ≡ 2 }
+{
+    cannot_find(errors, name, why, SOCKET)
+}
+
+// Prints that a file can't be opened, why, and what to do if it isn't there. Returns the status 2.
+fn cannot_find<E: Write>(errors: &mut E, name: &str, why: &io::Error, what: &str) -> u8
     ensures { result ≡ 2 }
 {
     if why.kind() != ErrorKind::NotFound {
         return cannot_open(errors, name, why);
     }
-    let _ = writeln!(
-        errors,
-        "swd: cannot open {}: {why}; for a memory of 64 KiB of zeros: head -c 64K /dev/zero >FILE",
-        Escaped(name)
-    );
+    let _ = writeln!(errors, "swd: cannot open {}: {why}; {what}", Escaped(name));
     FAULT
 }
 

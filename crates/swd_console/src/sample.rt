@@ -73,17 +73,20 @@ pub struct Sample {
     stray: u64,
     levels: FirstLevels,
     clocks: FirstClocks,
+    // Whether the stream is a file that leads to a target.
+    is_line: bool,
 }
 
 impl Sample {
     // Nothing has passed.
-    pub(crate) fn new() -> Sample {
+    pub(crate) fn new(is_line: bool) -> Sample {
         Sample {
             first: ArrayVec::new(),
             found: Found::new(),
             stray: 0,
             levels: FirstLevels::new(),
             clocks: FirstClocks::new(),
+            is_line,
         }
     }
 
@@ -109,6 +112,11 @@ impl Sample {
     /// Returns the first bytes that were read.
     pub fn first(&self) -> &[u8] {
         self.first.as_slice()
+    }
+
+    /// Returns whether the stream is a file that leads to a target, in place of a standard stream.
+    pub fn is_line(&self) -> bool {
+        self.is_line
     }
 
     /// Returns the level at this place, if this is a connection and it is one of the first.

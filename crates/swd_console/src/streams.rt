@@ -16,6 +16,11 @@ pub const OUTPUT: &str = "standard output";
 
 pub const ERRORS: &str = "standard error";
 
+// The names of the files that lead to a target in their place.
+const LINE_IN: &str = "the line from the target";
+
+const LINE_OUT: &str = "the line to the target";
+
 // What a command does with a stream.
 #[derive(Clone, Copy)]
 enum Use {
@@ -85,13 +90,27 @@ impl<'a> Stream<'a> {
         }
     }
 
-    /// Standard output with a connection to the other end.
+    /// The stream to the other end of a connection: standard output, or a line's.
     pub fn sent<S: KeepsError>(stream: &S) -> Stream<'a> {
         Stream {
-            name: OUTPUT,
+            name: if stream.sample().is_line() {
+                LINE_OUT
+            } else {
+                OUTPUT
+            },
             used: Use::Send,
             error: stream.kept_error(),
         }
+    }
+
+    /// The stream from the other end of a connection: standard input, or a line's.
+    pub fn received<S: KeepsError>(stream: &S) -> Stream<'a> {
+        let name = if stream.sample().is_line() {
+            LINE_IN
+        } else {
+            INPUT
+        };
+        Stream::read(name, stream)
     }
 
     // Prints why it failed. A closed standard output ends a command without a line, and a connection as the other end.

@@ -53,7 +53,19 @@ impl<S> Watched<S> {
         Watched {
             stream,
             error: None,
-            sample: Sample::new(),
+            sample: Sample::new(false),
+        }
+    }
+
+    /// Watches a file that leads to a target, in place of a standard stream.
+    pub fn line(stream: S) -> Watched<S>
+        ensures stream { result.stream ≡ stream }
+        ensures error { result.error ≡ None }
+    {
+        Watched {
+            stream,
+            error: None,
+            sample: Sample::new(true),
         }
     }
 }

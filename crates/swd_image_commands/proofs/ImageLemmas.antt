@@ -17,7 +17,7 @@ use Rattle.swd_image_ends.specs.Came.{DumpCame}
 use Rattle.swd_words.specs.declared.command.ImageLine.{ImageLine}
 use Rattle.swd_console.specs.Connections.{CommandWentOver}
 use Rattle.swd_image_commands.specs.Images.{IsCommandDumped, IsCommandWritten, PerformsDump, command_limits}
-use Rattle.swd_image_commands.specs.Images.{command_result_reached}
+use Rattle.swd_image_commands.specs.Images.{command_result_reached, makes_command_reports}
 use Rattle.swd_run.specs.Wires.{run_story_wire}
 
 -- a result with its bytes as a list
@@ -69,7 +69,7 @@ dump_command_stopped list format addr _ (Err fault) error is = cc
 -- a dump over a line, and what became of its file
 pub dump_command_performed : {V R W : Type 0} (list : V → List ℕ) (story : ℕ → Port) (image : ImageLine)
     (limits : Limits) (count : ℕ) (answer : Result V ImageFault) (before after : Option (Option (List ℕ)))
-    (calls : List Call) → limits ≡ command_limits image → is_some before ≡ is_some image.report
+    (calls : List Call) → limits ≡ command_limits image → is_some before ≡ makes_command_reports image
     → DumpCame (run_story_wire story) limits image.addr count answer list [] calls before after
     → (remaining : R → Option (List ℕ)) (contents : W → Option (List ℕ)) (sent left : Option (List ℕ))
     (line : RemoteStreams R W) → CommandWentOver remaining contents sent left line calls → (status : ℕ)

@@ -16,7 +16,7 @@ use Rattle.swd_image_ends.proofs.AddressLemmas.{loaded_there}
 use Rattle.swd_words.specs.declared.command.ImageLine.{ImageLine}
 use Rattle.swd_console.specs.MemoryFiles.{CommandWritesBack}
 use Rattle.swd_image_commands.specs.Images.{IsCommandDumped, command_limits, command_result_reached}
-use Rattle.swd_image_commands.specs.Images.{command_status_loaded, command_status_of_image}
+use Rattle.swd_image_commands.specs.Images.{command_status_loaded, command_status_of_image, makes_command_reports}
 use Rattle.swd_image_commands.specs.Simulated.{DumpCommandSimulated, IsSimulatedCommandStatus, LoadCommandSimulated}
 use Rattle.swd_image_commands.proofs.ImageLemmas.{dump_command_as_list, dump_command_came_list}
 
@@ -29,7 +29,7 @@ simulated_ok_list list (Err fault) P h = tt
 -- a load, and what became of the memory's file behind it
 pub load_command_simulated : {A : Type 0} (image : ImageLine) (limits : Limits) (pieces : List ImageFileBytes)
     (s t : Bench PlainMemory A) (answer : Result (Unit {0}) ImageFault) (blank filled : Option (Option (List ℕ)))
-    → limits ≡ command_limits image → IsAtRest (bench_port bus_of s) → is_some blank ≡ is_some image.report
+    → limits ≡ command_limits image → IsAtRest (bench_port bus_of s) → is_some blank ≡ makes_command_reports image
     → LoadCame (image_bench_wire A) limits pieces answer s t blank filled
     → (base count status : ℕ) (old new : Option (List ℕ)) (wrote : Result (Unit {0}) ℕ)
     → CommandWritesBack (plain_of (bench_port bus_of t).target.memory) base count wrote old new
@@ -52,7 +52,7 @@ load_command_simulated {A} image limits pieces s t answer blank filled same rest
 -- a dump, and what became of its file
 pub dump_command_simulated : {A V : Type 0} (list : V → List ℕ) (image : ImageLine) (limits : Limits) (count : ℕ)
     (s t : Bench PlainMemory A) (answer : Result V ImageFault) (blank filled : Option (Option (List ℕ)))
-    → limits ≡ command_limits image → IsAtRest (bench_port bus_of s) → is_some blank ≡ is_some image.report
+    → limits ≡ command_limits image → IsAtRest (bench_port bus_of s) → is_some blank ≡ makes_command_reports image
     → DumpCame (image_bench_wire A) limits image.addr count answer list s t blank filled → (status : ℕ)
     → IsCommandDumped image.format image.addr (command_result_reached None (dump_command_as_list list answer)) status
     → DumpCommandSimulated image count s status

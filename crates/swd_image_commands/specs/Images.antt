@@ -1,6 +1,6 @@
 -- The status of a load, a verification or a dump at a remote target.
-use Rattle.std.specs.Prelude.{◌≡◌, ◌<◌, ◌⊎◌, ℕ, List, [], length, take, Option, Some, None, Result, Ok, Err, is_some}
-use Rattle.std.specs.Prelude.{if◌then◌else◌}
+use Rattle.std.specs.Prelude.{◌≡◌, ◌<◌, ◌⊎◌, ◌||◌, ℕ, Bool, List, [], length, take, Option, Some, None, Result, Ok}
+use Rattle.std.specs.Prelude.{Err, is_some, if◌then◌else◌}
 use Rattle.std.specs.Io.KnownBytes.{Appends}
 use Rattle.swd_port.specs.declared.call.Call.{Call}
 use Rattle.swd_port.specs.Port.{Port}
@@ -34,6 +34,10 @@ command_status_of_fault Memory = 2
 command_status_of_fault (Stopped end) = 1
 command_status_of_fault (FaultAt at) = 1
 command_status_of_fault Report = 2
+
+-- reports of the calls are made if a file is named for them, or their lines are counted
+abbrev pub makes_command_reports : ImageLine → Bool
+makes_command_reports image = is_some image.report || image.progress
 
 -- a result, or the status at an error; the status is 1 if the call succeeded but the other end is gone
 abbrev pub command_result_reached : {V : Type 0} → Option Fault → Result V ImageFault → Result V ℕ
@@ -92,7 +96,7 @@ module _ {R W : Type 0} (story : ℕ → Port) (image : ImageLine) (status : ℕ
       IsLeft
       ⊎ ((pieces : List ImageFileBytes) × (answer : Result (Unit {0}) ImageFault) × AreCommandPieces image pieces
       × (before : Option (Option (List ℕ))) × (after : Option (Option (List ℕ)))
-      × (is_some before ≡ is_some image.report)
+      × (is_some before ≡ makes_command_reports image)
       × (calls : List Call)
       × LoadCame (run_story_wire story) (command_limits image) pieces answer [] calls before after
       × CommandWentOver remaining contents sent left line calls
@@ -105,7 +109,7 @@ module _ {R W : Type 0} (story : ℕ → Port) (image : ImageLine) (status : ℕ
       ⊎ ((pieces : List ImageFileBytes) × (answer : Result (Option ByteDifference) ImageFault)
       × AreCommandPieces image pieces
       × (before : Option (Option (List ℕ))) × (after : Option (Option (List ℕ)))
-      × (is_some before ≡ is_some image.report)
+      × (is_some before ≡ makes_command_reports image)
       × (calls : List Call)
       × VerifyCame (run_story_wire story) (command_limits image) pieces answer [] calls before after
       × CommandWentOver remaining contents sent left line calls
@@ -117,7 +121,7 @@ module _ {R W : Type 0} (story : ℕ → Port) (image : ImageLine) (status : ℕ
       IsLeft
       ⊎ ((answer : Result (List ℕ) ImageFault)
       × (before : Option (Option (List ℕ))) × (after : Option (Option (List ℕ)))
-      × (is_some before ≡ is_some image.report)
+      × (is_some before ≡ makes_command_reports image)
       × (calls : List Call)
       × DumpCame (run_story_wire story) (command_limits image) image.addr count answer (λ bytes. bytes) [] calls
       before after

@@ -1,3 +1,4 @@
 pub mod Images
+pub mod Reports
 pub mod Simulated
 pub mod Targeted

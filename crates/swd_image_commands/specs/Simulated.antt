@@ -21,6 +21,7 @@ use Rattle.swd_words.specs.declared.command.ImageLine.{ImageLine}
 use Rattle.swd_words.specs.declared.command.MemoryLine.{MemoryLine}
 use Rattle.swd_console.specs.MemoryFiles.{CommandWritesBack}
 use Rattle.swd_image_commands.specs.Images.{AreCommandPieces, IsCommandDumped, command_limits, command_result_reached}
+use Rattle.swd_image_commands.specs.Images.{makes_command_reports}
 use Rattle.swd_image_commands.specs.Images.{command_status_of_image, command_status_loaded, command_status_verified}
 
 -- a target at rest with this plan, whose memory has the words of these bytes from an address on, and no other word
@@ -46,7 +47,7 @@ pub record LoadCommandSimulated {A : Type 0} (image : ImageLine) (pieces : List 
       (plain_of (bench_port bus_of after).target.memory))
   pub blank : Option (Option (List ℕ))
   pub filled : Option (Option (List ℕ))
-  pub named : is_some blank ≡ is_some image.report
+  pub named : is_some blank ≡ makes_command_reports image
   pub came : LoadCame (image_bench_wire A) (command_limits image) pieces answer s after blank filled
   pub wrote : Result (Unit {0}) ℕ
   pub written : CommandWritesBack (plain_of (bench_port bus_of after).target.memory) base count wrote old new
@@ -63,7 +64,7 @@ pub record VerifyCommandSimulated {A : Type 0} (image : ImageLine) (pieces : Lis
       (plain_of (bench_port bus_of after).target.memory))
   pub blank : Option (Option (List ℕ))
   pub filled : Option (Option (List ℕ))
-  pub named : is_some blank ≡ is_some image.report
+  pub named : is_some blank ≡ makes_command_reports image
   pub came : VerifyCame (image_bench_wire A) (command_limits image) pieces answer s after blank filled
   pub is : status ≡ command_status_of_image command_status_verified None answer
 
@@ -77,7 +78,7 @@ pub record DumpCommandSimulated {A : Type 0} (image : ImageLine) (count : ℕ) (
       (plain_of (bench_port bus_of after).target.memory))
   pub blank : Option (Option (List ℕ))
   pub filled : Option (Option (List ℕ))
-  pub named : is_some blank ≡ is_some image.report
+  pub named : is_some blank ≡ makes_command_reports image
   pub came : DumpCame (image_bench_wire A) (command_limits image) image.addr count answer (λ bytes. bytes) s after
       blank filled
   pub dumped : IsCommandDumped image.format image.addr (command_result_reached None answer) status

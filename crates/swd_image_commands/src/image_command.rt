@@ -3,12 +3,12 @@ ghost use Rattle.swd_image_commands.specs.Images.{PerformsDump, PerformsLoad, Pe
 ghost use Rattle.swd_image_commands.specs.Targeted.{PerformsImage};
 
 use crate::image_file::{keep_or_give_up, read_image_file, write_image_file};
-use crate::image_report::{limits_of, open_report, report_writer};
+use crate::image_report::{limits_of, open_report, report_writer, words_in, words_of};
 use crate::result::{loaded_status, reached, verified_status};
 use crate::simulated_command::perform_simulated;
 use std::alloc::Allocator;
 use std::io::{Read, Write};
-use swd_console::{Console, Files, INPUT, InUse, KeepsError, Stream, StreamsInUse, WriteRole};
+use swd_console::{Clock, Console, Files, InUse, KeepsError, Stream, StreamsInUse, WriteRole};
 use swd_image_ends::{DumpJob, LoadJob, VerifyJob, over_line};
 use swd_port::Story;
 use swd_remote::RemoteStreams;
@@ -23,7 +23,7 @@ pub fn perform_image<
     O: Write + KeepsError + Drop,
     A: Allocator + Copy,
     F: Files,
-    C,
+    C: Clock,
     E: Write,
 >(
     image: &ImageLine,
@@ -58,7 +58,7 @@ fn perform_load<
     O: Write + KeepsError + Drop,
     A: Allocator + Copy,
     F: Files,
-    C,
+    C: Clock,
     E: Write,
 >(
     image: &ImageLine,
@@ -78,11 +78,12 @@ fn perform_load<
         Ok(opened) => opened,
         Err(status) => return (status, RemoteStreams::unused(input, output)),
     };
+    let words = words_in(&whole);
     let mut job = LoadJob {
         alloc: console.alloc,
         image: &whole,
         limits: limits_of(image),
-        report: report_writer(opened, &mut *console.errors),
+        report: report_writer(image, opened, words, &mut *console.errors, console.clock),
     };
     let (answer, line) = over_line::<P, _, _, _>(&mut job, input, output);
     let streams = call_streams(image, &job.report, &line);
@@ -106,7 +107,7 @@ fn perform_verify<
     O: Write + KeepsError + Drop,
     A: Allocator + Copy,
     F: Files,
-    C,
+    C: Clock,
     E: Write,
 >(
     image: &ImageLine,
@@ -126,11 +127,12 @@ fn perform_verify<
         Ok(opened) => opened,
         Err(status) => return (status, RemoteStreams::unused(input, output)),
     };
+    let words = words_in(&whole);
     let mut job = VerifyJob {
         alloc: console.alloc,
         image: &whole,
         limits: limits_of(image),
-        report: report_writer(opened, &mut *console.errors),
+        report: report_writer(image, opened, words, &mut *console.errors, console.clock),
     };
     let (answer, line) = over_line::<P, _, _, _>(&mut job, input, output);
     let streams = call_streams(image, &job.report, &line);
@@ -154,7 +156,7 @@ fn perform_dump<
     O: Write + KeepsError + Drop,
     A: Allocator + Copy,
     F: Files,
-    C,
+    C: Clock,
     E: Write,
 >(
     image: &ImageLine,
@@ -178,12 +180,13 @@ fn perform_dump<
             return (status, RemoteStreams::unused(input, output));
         }
     };
+    let words = words_of(image.addr, u64::from(count));
     let mut job = DumpJob {
         alloc: console.alloc,
         addr: image.addr,
         count: count as u64,
         limits: limits_of(image),
-        report: report_writer(opened, &mut *console.errors),
+        report: report_writer(image, opened, words, &mut *console.errors, console.clock),
     };
     let (answer, line) = over_line::<P, _, _, _>(&mut job, input, output);
     let streams = call_streams(image, &job.report, &line);
@@ -210,6 +213,6 @@ fn call_streams<'a, S: KeepsError, R: KeepsError, W: KeepsError>(
     [
         Stream::record(&image.report, report),
         Stream::sent(&line.writer),
-        Stream::read(INPUT, &line.reader),
+        Stream::received(&line.reader),
     ]
 }

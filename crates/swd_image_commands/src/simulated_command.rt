@@ -5,18 +5,19 @@ ghost use Rattle.swd_port.specs.Bus.{bus_of};
 ghost use Rattle.swd_target.specs.Benches.{bench_port};
 ghost use Rattle.swd_target.specs.Marks.{IsLegalPlan};
 ghost use Rattle.swd_image_ends.specs.Pieces.{pieces_to_load};
+ghost use Rattle.swd_image_commands.specs.Images.{makes_command_reports};
 ghost use Rattle.swd_image_commands.specs.Simulated.{DumpCommandSimulated, LoadCommandSimulated, SimulatesAction};
 ghost use Rattle.swd_image_commands.specs.Simulated.{SimulatesImage, SimulatesCommandTarget};
 ghost use Rattle.swd_image_commands.specs.Simulated.{SimulatesDump, SimulatesLoad, SimulatesVerify};
 ghost use Rattle.swd_image_commands.specs.Simulated.{VerifyCommandSimulated};
 
 use crate::image_file::{keep_or_give_up, read_image_file, write_image_file};
-use crate::image_report::{ReportTo, limits_of, open_report, report_writer};
+use crate::image_report::{ReportTo, limits_of, open_report, report_writer, words_in, words_of};
 use crate::result::{loaded_status, reached, verified_status};
 use std::alloc::Allocator;
 use std::io::Write;
 use swd_console::{
-    Console, Escaped, Files, HeldMemory, InUse, MemoryFile, Stream, StreamsInUse, WriteRole,
+    Clock, Console, Escaped, Files, HeldMemory, InUse, MemoryFile, Stream, StreamsInUse, WriteRole,
     cannot_use, read_target_files, write_back,
 };
 use swd_image::{ImageFault, dump};
@@ -27,7 +28,7 @@ use swd_words::{ImageAction, ImageLine, MemoryLine};
 
 /// Reads the memory's file, and performs a command over an image at the simulated target that has it. Returns the
 /// status.
-pub(crate) fn perform_simulated<A: Allocator + Copy, F: Files, C, E: Write>(
+pub(crate) fn perform_simulated<A: Allocator + Copy, F: Files, C: Clock, E: Write>(
     image: &ImageLine,
     memory: &MemoryLine,
     console: &mut Console<'_, A, F, C, E>,
@@ -42,7 +43,7 @@ pub(crate) fn perform_simulated<A: Allocator + Copy, F: Files, C, E: Write>(
 }
 
 // Performs the command at the target.
-fn simulate_action<A: Allocator + Copy, F: Files, C, E: Write>(
+fn simulate_action<A: Allocator + Copy, F: Files, C: Clock, E: Write>(
     image: &ImageLine,
     held: HeldMemory<'_, A>,
     in_use: &mut InUse,
@@ -113,7 +114,7 @@ fn tell_outside<V, A: Allocator, E: Write>(
 }
 
 // Loads the file's pieces, and writes the memory back.
-fn simulate_load<A: Allocator + Copy, F: Files, C, E: Write>(
+fn simulate_load<A: Allocator + Copy, F: Files, C: Clock, E: Write>(
     image: &ImageLine,
     held: HeldMemory<'_, A>,
     in_use: &mut InUse,
@@ -153,7 +154,7 @@ fn simulate_load<A: Allocator + Copy, F: Files, C, E: Write>(
 }
 
 // Loads the pieces at the target, and writes the memory after that to its file, however the run ended.
-fn load_over<A: Allocator + Copy, F: Files, C, E: Write>(
+fn load_over<A: Allocator + Copy, F: Files, C: Clock, E: Write>(
     image: &ImageLine,
     whole: &Image<A>,
     mut bench: Bench<Memory<A>, A>,
@@ -163,12 +164,13 @@ fn load_over<A: Allocator + Copy, F: Files, C, E: Write>(
 ) -> u8
     requires rests { IsAtRest (bench_port bus_of bench) }
     requires fits { back.memory.now.base + back.count ≤ 2 ^ 32 }
-    requires named { is_some opened ≡ is_some image.now.report }
+    requires named { is_some opened ≡ makes_command_reports image.now }
     ensures { (new : Option (List ℕ)) × LoadCommandSimulated image.now (pieces_to_load whole.now) bench
         back.entry.memory.now.base back.entry.count result (F.Made.Write.contents back.entry.file) new }
 {
     let limits = limits_of(image);
-    let mut report = report_writer(opened, &mut *console.errors);
+    let words = words_in(whole);
+    let mut report = report_writer(image, opened, words, &mut *console.errors, console.clock);
     let answer = load_pieces(console.alloc, &mut bench, whole, limits, &mut report);
     let streams = [Stream::record(&image.report, &report)];
     drop(report);
@@ -187,7 +189,7 @@ fn load_over<A: Allocator + Copy, F: Files, C, E: Write>(
 }
 
 // Compares the memory with the file's pieces.
-fn simulate_verify<A: Allocator + Copy, F: Files, C, E: Write>(
+fn simulate_verify<A: Allocator + Copy, F: Files, C: Clock, E: Write>(
     image: &ImageLine,
     held: HeldMemory<'_, A>,
     in_use: &mut InUse,
@@ -217,7 +219,7 @@ fn simulate_verify<A: Allocator + Copy, F: Files, C, E: Write>(
 }
 
 // Compares the memory of the target with the pieces.
-fn verify_over<M: Write + Drop, A: Allocator + Copy, F, C, E: Write>(
+fn verify_over<M: Write + Drop, A: Allocator + Copy, F, C: Clock, E: Write>(
     image: &ImageLine,
     whole: &Image<A>,
     mut bench: Bench<Memory<A>, A>,
@@ -225,11 +227,12 @@ fn verify_over<M: Write + Drop, A: Allocator + Copy, F, C, E: Write>(
     console: &mut Console<'_, A, F, C, E>,
 ) -> u8
     requires rests { IsAtRest (bench_port bus_of bench) }
-    requires named { is_some opened ≡ is_some image.now.report }
+    requires named { is_some opened ≡ makes_command_reports image.now }
     ensures { VerifyCommandSimulated image.now (pieces_to_load whole.now) bench result }
 {
     let limits = limits_of(image);
-    let mut report = report_writer(opened, &mut *console.errors);
+    let words = words_in(whole);
+    let mut report = report_writer(image, opened, words, &mut *console.errors, console.clock);
     let answer = verify_pieces(console.alloc, &mut bench, whole, limits, &mut report);
     let streams = [Stream::record(&image.report, &report)];
     drop(report);
@@ -245,7 +248,7 @@ fn verify_over<M: Write + Drop, A: Allocator + Copy, F, C, E: Write>(
 }
 
 // Opens the file, and reads bytes of the memory. Then replaces the file by the bytes.
-fn simulate_dump<A: Allocator + Copy, F: Files, C, E: Write>(
+fn simulate_dump<A: Allocator + Copy, F: Files, C: Clock, E: Write>(
     image: &ImageLine,
     count: u32,
     held: HeldMemory<'_, A>,
@@ -282,7 +285,7 @@ fn simulate_dump<A: Allocator + Copy, F: Files, C, E: Write>(
 }
 
 // Reads bytes of the target's memory. Then replaces the file by the bytes.
-fn dump_over<A: Allocator + Copy, F: Files, C, E: Write>(
+fn dump_over<A: Allocator + Copy, F: Files, C: Clock, E: Write>(
     image: &ImageLine,
     count: u32,
     mut bench: Bench<Memory<A>, A>,
@@ -291,11 +294,12 @@ fn dump_over<A: Allocator + Copy, F: Files, C, E: Write>(
     console: &mut Console<'_, A, F, C, E>,
 ) -> u8
     requires rests { IsAtRest (bench_port bus_of bench) }
-    requires named { is_some opened ≡ is_some image.now.report }
+    requires named { is_some opened ≡ makes_command_reports image.now }
     ensures { DumpCommandSimulated image.now count bench result }
 {
     let (addr, limits) = (image.addr, limits_of(image));
-    let mut report = report_writer(opened, &mut *console.errors);
+    let words = words_of(addr, u64::from(count));
+    let mut report = report_writer(image, opened, words, &mut *console.errors, console.clock);
     let answer = dump(
         console.alloc,
         &mut bench,

@@ -1,3 +1,4 @@
+pub mod Infos
 pub mod MemoryTargets
 pub mod Remotes
 pub mod Runs

@@ -1,6 +1,7 @@
-//! Carries out `swd run`, at a simulated target or at one behind the standard streams, and `swd target`.
+//! Carries out `swd run`, at a simulated target or at one behind the standard streams, `swd info` and `swd target`.
 #![tactic(auto)]
 
+mod info_command;
 mod memory_target;
 mod paced_run;
 mod progress;
@@ -10,5 +11,6 @@ mod run_command;
 mod session;
 mod target_command;
 
+pub use info_command::perform_info;
 pub use run_command::perform_run;
 pub use target_command::perform_target;

@@ -3,7 +3,7 @@ ghost use Rattle.std.specs.Prelude.{◌≡◌, IfErr, IfOk, is_some, true};
 ghost use Rattle.swd_run_commands.specs.Runs.{run_command_names_file};
 
 use std::io::Write;
-use swd_console::{Console, Files, InUse, Watched, WriteRole, cut_off_named};
+use swd_console::{Console, Files, InUse, Watched, WriteRole, cut_off_named, give_up_named};
 use swd_run::Records;
 use swd_words::RunLine;
 
@@ -25,7 +25,10 @@ pub(crate) fn open_records<A, F: Files, C, E: Write>(
     };
     let accesses = match in_use.open_named(&run.accesses, WriteRole::Accesses, console) {
         Ok(accesses) => accesses,
-        Err(status) => return Err(status),
+        Err(status) => {
+            give_up_named(&run.trace, trace, console);
+            return Err(status);
+        }
     };
     if let Err(status) = cut_off_named(&run.trace, &trace, console) {
         return Err(status);

@@ -48,6 +48,18 @@ fn open_report<A, F: Files, C, E: Write>(
     }
 }
 
+// Gives up the file of a report that isn't written: one that was created for it is removed.
+fn give_up_report<A, F: Files, C, E>(
+    name: &str,
+    report: Destination<F::Made, ()>,
+    console: &Console<'_, A, F, C, E>,
+) {
+    if let Destination::File(file) = report {
+        let mut file = file;
+        console.files.give_up(name, &mut file);
+    }
+}
+
 /// Opens the report's file, and those of the trace and the accesses if they are named. Then runs the script at the
 /// target behind the streams. Returns the status, and the streams with the error that ended the connection, if any. If
 /// a file can't be opened, the streams weren't used.
@@ -82,7 +94,10 @@ pub(crate) fn perform_remote<
     };
     let records = match open_records(run, false, &mut in_use, console) {
         Ok(records) => records,
-        Err(status) => return (status, RemoteStreams::unused(input, output)),
+        Err(status) => {
+            give_up_report(name.as_str(), report, console);
+            return (status, RemoteStreams::unused(input, output));
+        }
     };
     match report {
         Destination::File(file) => {

@@ -1,5 +1,5 @@
 //! Performs `swd run`.
-ghost use Rattle.std.specs.Prelude.{◌≡◌, codes};
+ghost use Rattle.std.specs.Prelude.{◌≡◌, codes, is_some};
 ghost use Rattle.std.specs.String.{string_bytes};
 ghost use Rattle.swd_console.specs.Statuses.{command_status_of_run};
 ghost use Rattle.swd_console.specs.Streams.{CommandEndsOver};
@@ -29,14 +29,14 @@ pub fn perform_run<
     E: Write,
 >(run: &RunLine, input: &mut I, output: &mut O, console: &mut Console<'_, A, F, C, E>) -> u8
     ensures { string_bytes run.now.script ≡ codes "-" → CommandEndsOver (O.kept output.new)
-        (λ status. PerformsRunCommandWhere run.now.remote run.now status (I.remaining input.old)
+        (λ status. PerformsRunCommandWhere (is_some run.now.remote) run.now status (I.remaining input.old)
         (O.contents output.old) (O.contents output.new)) result }
 {
     let Some(name) = named_file_of(run.script.as_str()) else {
         let own = run_standard_input(run, input, output, console);
         return status_after(output.kept_error(), own);
     };
-    let mut in_use = InUse::new(if run.remote {
+    let mut in_use = InUse::new(if run.remote.is_some() {
         StreamsInUse::Both
     } else {
         StreamsInUse::Output
@@ -46,7 +46,7 @@ pub fn perform_run<
         Err(status) => return status,
     };
     let mut script = TrackedReader::new(name, Watched::new(script));
-    if run.remote {
+    if run.remote.is_some() {
         let (status, _) = perform_remote::<Untold, _, _, _, _, _, _, _>(
             run, script, in_use, input, output, console,
         );
@@ -65,13 +65,13 @@ fn run_standard_input<
     C: Clock,
     E: Write,
 >(run: &RunLine, input: &mut I, output: &mut O, console: &mut Console<'_, A, F, C, E>) -> u8
-    ensures { PerformsRunCommandWhere run.now.remote run.now result (I.remaining input.old) (O.contents output.old)
+    ensures { PerformsRunCommandWhere (is_some run.now.remote) run.now result (I.remaining input.old) (O.contents output.old)
         (O.contents output.new) }
 {
-    if run.remote {
+    if run.remote.is_some() {
         return tell(
             console.errors,
-            "SCRIPT has to be a file: standard input is the target's",
+            "with --remote SCRIPT has to be a file, not standard input",
         );
     }
     let mut script = TrackedReader::new(INPUT, input);

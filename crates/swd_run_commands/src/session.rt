@@ -8,7 +8,7 @@ use std::io::Write;
 use swd_bitbang::{Served, Trace};
 use swd_console::{
     Console, DONE, FAULT, Files, INPUT, InUse, KeepsError, Stream, Watched, WriteRole,
-    cut_off_named, tell_failure_or,
+    cut_off_named, give_up_named, tell_failure_or,
 };
 use swd_ends::LiveFiles;
 use swd_words::TargetLine;
@@ -47,7 +47,10 @@ pub(crate) fn open_session<A, F: Files, C, E: Write>(
     };
     let trace = match in_use.open_named(&target.trace, WriteRole::Trace, console) {
         Ok(trace) => trace,
-        Err(status) => return Err(status),
+        Err(status) => {
+            give_up_named(&target.log, log, console);
+            return Err(status);
+        }
     };
     if let Err(status) = cut_off_named(&target.log, &log, console) {
         return Err(status);

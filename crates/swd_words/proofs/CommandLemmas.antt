@@ -1,5 +1,6 @@
 -- What a parse says of a command's rows.
-use Rattle.std.proofs.Common.{◌≡◌, ◌⊎◌, List, [], Option, None, Some, refl, sym, subst, ap, ◌∙◌, inl, inr, true}
+use Rattle.std.proofs.Common.{◌≡◌, ◌⊎◌, Bool, List, [], Option, None, Some, refl, sym, subst, ap, ◌∙◌, inl, inr, true}
+use Rattle.std.proofs.Common.{if◌then◌else◌}
 use Rattle.std.specs.Prelude.{IsSomeAnd, IfErr, Result, Ok, Err}
 use Rattle.clap.proofs.OnLiterals.{clap_on_literals}
 use Rattle.clap.specs.Words.{is_simple, is_simple_and_free, Row, Text, first_of, subcommand_rows_of, subcommand_name_of}
@@ -12,7 +13,8 @@ use Rattle.clap.specs.declared.error.kind.ErrorKind.TheVariants as kind
 use Rattle.swd_words.specs.declared.command.CommandLine.{CommandLine}
 use Rattle.swd_words.specs.declared.command.LineFault.{LineFault}
 use Rattle.swd_words.specs.declared.command.LineFault.TheVariants.{Clap, Memory}
-use Rattle.swd_words.specs.Commands.{IsArgumentsErrorKind, IsArgumentsRefusal, swd_app}
+use Rattle.swd_words.specs.Commands.{IsArgumentsErrorKind, IsArgumentsRefusal, arguments_spelled_out}
+use Rattle.swd_words.specs.Commands.{swd_app}
 
 -- one row's part, from the name and the rows
 pub argument_from_rows : (rows : Option (Text × List Row)) (name want id : Text) (own : List Row) (value : Option Text)
@@ -57,3 +59,7 @@ pub arguments_refused_alike : (kinds : Kinds) (error : Error) (fault : LineFault
 arguments_refused_alike kinds error Memory has same = tt
 arguments_refused_alike kinds error (Clap other) has same = inl
     (subst (λ k. (k ≡ kind.OutOfMemory) ⊎ IsAmong k kinds) (sym same) has)
+
+-- what is left of the arguments, as the parser gets them: after -- they are unchanged
+abbrev pub arguments_left : Bool → List Text → List Text
+arguments_left escaped words = if escaped then words else arguments_spelled_out words

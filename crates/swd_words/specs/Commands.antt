@@ -10,7 +10,7 @@ use Rattle.clap.specs.Words.{with_rule}
 use Rattle.clap.specs.Words.{with_subcommand}
 use Rattle.swd_words.specs.declared.command.CommandLine.{CommandLine}
 use Rattle.swd_words.specs.declared.command.CommandLine.TheVariants.{One, Decode, Draw, Check, Encode, Run, Target}
-use Rattle.swd_words.specs.declared.command.CommandLine.TheVariants.{Image}
+use Rattle.swd_words.specs.declared.command.CommandLine.TheVariants.{Info, Image}
 use Rattle.swd_words.specs.declared.command.DecodeLine.{DecodeLine}
 use Rattle.swd_words.specs.declared.command.DrawLine.{DrawLine}
 use Rattle.swd_words.specs.declared.command.CheckLine.{CheckLine}
@@ -18,6 +18,7 @@ use Rattle.swd_words.specs.declared.command.PlainWords.{PlainWords}
 use Rattle.swd_words.specs.declared.command.ImageAction.{ImageAction}
 use Rattle.swd_words.specs.declared.command.ImageAction.TheVariants.{Load, Verify, Dump}
 use Rattle.swd_words.specs.declared.command.ImageLine.{ImageLine}
+use Rattle.swd_words.specs.declared.command.InfoLine.{InfoLine}
 use Rattle.swd_words.specs.declared.command.MemoryLine.{MemoryLine}
 use Rattle.swd_words.specs.declared.command.RunLine.{RunLine}
 use Rattle.swd_words.specs.declared.command.ScriptLine.{ScriptLine}
@@ -170,10 +171,25 @@ abbrev pub strict_rule : Rule
 strict_rule = let rule = new_rule (codes "strict") in record rule
     { long = Some (codes "strict"); action = Some SetTrue }
 
--- --remote: the target is behind the standard streams
+-- what leads to a remote target, after --remote: at most one value
 abbrev pub remote_rule : Rule
-remote_rule = let rule = new_rule (codes "remote") in record rule
-    { long = Some (codes "remote"); action = Some SetTrue }
+remote_rule =
+    let rule = new_rule (codes "remote") in
+    record rule {
+      long = Some (codes "remote");
+      range = Some (record { start_inclusive = 0; end_inclusive = 1 });
+      value_names = 1;
+    }
+
+-- --remote alone is read as --remote=-, so that the argument after it isn't its value
+abbrev pub remote_spelled_out : Text → Text
+remote_spelled_out word = if bytes_eq word (codes "--remote") then codes "--remote=-" else word
+
+-- the arguments as the parser gets them: each is spelled out, up to --, after which there are no options
+abbrev pub arguments_spelled_out : List Text → List Text
+arguments_spelled_out [] = []
+arguments_spelled_out (word ∷ more) = if bytes_eq word (codes "--") then word ∷ more
+    else remote_spelled_out word ∷ arguments_spelled_out more
 
 -- the report of a remote run, after --report
 abbrev pub report_rule : Rule
@@ -197,6 +213,10 @@ run_here_args_app =
 -- with the options of a run at a remote target, and of the progress
 abbrev pub run_args_app : App
 run_args_app = with_rule (with_rule (with_rule run_here_args_app remote_rule) report_rule) progress_rule
+
+-- the command `info`
+abbrev pub info_args_app : App
+info_args_app = with_rule (with_rule (new_app (codes "info")) remote_rule) tries_rule
 
 -- the log, after --log
 abbrev pub log_rule : Rule
@@ -240,13 +260,16 @@ target_args_app = with_rule (with_rule (with_rule (with_rule memory_args_app pla
 
 -- the options for the target of an image
 abbrev pub with_target_args : App → App
-with_target_args app =
-    with_rule (with_rule (with_rule (with_rule app remote_rule) memory_rule) base_rule) plan_rule
+with_target_args app = with_rule (with_rule (with_rule (with_rule app remote_rule) memory_rule) base_rule) plan_rule
+
+-- the options for the report of an image's calls, and how far they are
+abbrev pub with_report_args : App → App
+with_report_args app = with_rule (with_rule app report_rule) progress_rule
 
 -- the options of each command over an image
 abbrev pub with_image_args : App → App
 with_image_args app =
-    with_target_args (with_rule (with_rule (with_rule (with_rule app format_rule) tries_rule) resume_rule) report_rule)
+    with_target_args (with_report_args (with_rule (with_rule (with_rule app format_rule) tries_rule) resume_rule))
 
 -- the commands `load` and `verify`
 abbrev pub image_args_app : Text → App
@@ -265,10 +288,10 @@ with_image_args_apps app = with_subcommand (with_subcommand (with_subcommand app
 -- the whole command
 abbrev pub swd_app : App
 swd_app =
-    with_image_args_apps (with_subcommand (with_subcommand (with_subcommand (with_subcommand
+    with_image_args_apps (with_subcommand (with_subcommand (with_subcommand (with_subcommand (with_subcommand
     (with_subcommand (with_subcommand (with_subcommand bare_args_app (file_args_app (codes "one")).top)
     decode_args_app.top) (file_args_app (codes "encode")).top) run_args_app.top) target_args_app.top) draw_args_app.top)
-    check_args_app.top)
+    check_args_app.top) info_args_app.top)
 
 -- the arguments have this command, and this file or no file
 abbrev pub HasFileArgument : Text → Option Text → Option (Text × List Row) → Type 0
@@ -337,8 +360,8 @@ abbrev pub IsResumeArgument : ℕ → Option Text → Type 0
 IsResumeArgument resumes None = resumes ≡ 0
 IsResumeArgument resumes (Some text) = (resumes ≤ 1000) × (pos resumes ≡ signed_digits_value 10 text)
 
--- the script, the plan, the two numbers, the trace, the accesses and the report that the arguments name, and whether
--- the run is strict, and remote, and says how far it is
+-- the script, the plan, the two numbers, the trace, the accesses, what leads to a remote target, and the report that the
+-- arguments name, and whether the run is strict, and says how far it is
 pub record AreRunArguments (run : RunLine) (rows : List Row) : Type 0 where
   pub script : Some (string_bytes run.script) ≡ first_of (codes "SCRIPT") rows
   pub plan : option_map string_bytes run.plan ≡ first_of (codes "plan") rows
@@ -347,7 +370,7 @@ pub record AreRunArguments (run : RunLine) (rows : List Row) : Type 0 where
   pub trace : option_map string_bytes run.trace ≡ first_of (codes "trace") rows
   pub accesses : option_map string_bytes run.accesses ≡ first_of (codes "accesses") rows
   pub strict : (run.strict ≡ true) ↔ (first_of (codes "strict") rows ≡ Some (codes "true"))
-  pub remote : (run.remote ≡ true) ↔ (first_of (codes "remote") rows ≡ Some (codes "true"))
+  pub remote : option_map string_bytes run.remote ≡ first_of (codes "remote") rows
   pub report : option_map string_bytes run.report ≡ first_of (codes "report") rows
   pub progress : (run.progress ≡ true) ↔ (first_of (codes "progress") rows ≡ Some (codes "true"))
 
@@ -365,6 +388,11 @@ IsBytesArgument count text =
     × (is_script_hex_prefix first second ≡ true) × (Some count ≡ script_hex_number text))
     ⊎ ((digits : Text) × (text ≡ digits ++ 107 ∷ []) × AreBytesInUnits count 1024 digits)
     ⊎ ((digits : Text) × (text ≡ digits ++ 77 ∷ []) × AreBytesInUnits count 1048576 digits)
+
+-- what leads to the remote target, and the number of tries
+pub record AreInfoArguments (info : InfoLine) (rows : List Row) : Type 0 where
+  pub remote : Some (string_bytes info.remote) ≡ first_of (codes "remote") rows
+  pub tries : IsTriesArgument info.tries (first_of (codes "tries") rows)
 
 -- what is done with an image, by the command's name, and a dump's number of bytes
 abbrev pub IsActionArgument : ImageAction → Text → List Row → Type 0
@@ -432,17 +460,17 @@ pub record AreTargetArguments (target : TargetLine) (rows : List Row) : Type 0 w
   pub trace : option_map string_bytes target.trace ≡ first_of (codes "trace") rows
   pub idr : IsIdrArgument target.idr (first_of (codes "idr") rows)
 
--- Exactly one of --remote and --memory is given: the target is behind the standard streams, or has this memory. Only
--- with --memory there may be --base and --plan.
+-- Exactly one of --remote and --memory is given: the target is remote, or has this memory. Only with --memory there may
+-- be --base and --plan.
 abbrev pub IsTargetArgument : Option MemoryLine → List Row → Type 0
-IsTargetArgument None rows = (first_of (codes "remote") rows ≡ Some (codes "true"))
+IsTargetArgument None rows = (first_of (codes "remote") rows ≢ None)
     × (first_of (codes "memory") rows ≡ None) × (first_of (codes "base") rows ≡ None)
     × (first_of (codes "plan") rows ≡ None)
-IsTargetArgument (Some memory) rows = (first_of (codes "remote") rows ≢ Some (codes "true"))
-    × AreMemoryArguments memory rows
+IsTargetArgument (Some memory) rows = (first_of (codes "remote") rows ≡ None) × AreMemoryArguments memory rows
 
--- the action, the address of 1 to 8 hexadecimal digits after an optional 0x, the file with its format, the two numbers
--- and the target that the arguments name
+-- the action, the address of 1 to 8 hexadecimal digits after an optional 0x, the file with its format, the two numbers,
+-- the report, what leads to a remote target, and the target that the arguments name, and whether the command says how
+-- far it is
 pub record AreImageArguments (image : ImageLine) (name : Text) (rows : List Row) : Type 0 where
   pub action : IsActionArgument image.action name rows
   pub addr : Some image.addr ≡ option_and_then (λ text. script_hex_number text) (first_of (codes "ADDR") rows)
@@ -450,6 +478,8 @@ pub record AreImageArguments (image : ImageLine) (name : Text) (rows : List Row)
   pub tries : IsTriesArgument image.tries (first_of (codes "tries") rows)
   pub resumes : IsResumeArgument image.resumes (first_of (codes "resume") rows)
   pub report : option_map string_bytes image.report ≡ first_of (codes "report") rows
+  pub progress : (image.progress ≡ true) ↔ (first_of (codes "progress") rows ≡ Some (codes "true"))
+  pub remote : option_map string_bytes image.remote ≡ first_of (codes "remote") rows
   pub target : IsTargetArgument image.memory rows
   pub format : AreFormatArguments image.action image.format image.elf (string_bytes image.file)
       (first_of (codes "format") rows)
@@ -473,4 +503,5 @@ IsLineOfArguments (Check check) rows = IsSomeAnd rows (λ p. (p.0 ≡ codes "che
 IsLineOfArguments (Encode file) rows = HasFileArgument (codes "encode") (option_map string_bytes file) rows
 IsLineOfArguments (Run run) rows = IsSomeAnd rows (λ p. (p.0 ≡ codes "run") × AreRunArguments run p.1)
 IsLineOfArguments (Target target) rows = IsSomeAnd rows (λ p. (p.0 ≡ codes "target") × AreTargetArguments target p.1)
+IsLineOfArguments (Info info) rows = IsSomeAnd rows (λ p. (p.0 ≡ codes "info") × AreInfoArguments info p.1)
 IsLineOfArguments (Image image) rows = IsSomeAnd rows (λ p. AreImageArguments image p.0 p.1)

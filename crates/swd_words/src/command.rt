@@ -19,14 +19,16 @@ pub enum CommandLine {
     Check(CheckLine),
     /// `swd encode [FILE]`. Without a file it reads standard input.
     Encode(Option<String>),
-    /// `swd run SCRIPT [--plan FILE]` or `swd run SCRIPT --remote --report FILE`. Both take `[--tries N] [--resume N]
-    /// [--trace FILE] [--accesses FILE] [--strict] [--progress]` too.
+    /// `swd run SCRIPT [--plan FILE]` or `swd run SCRIPT --remote[=IN,OUT] --report FILE`. Both take `[--tries N]
+    /// [--resume N] [--trace FILE] [--accesses FILE] [--strict] [--progress]` too.
     Run(RunLine),
     /// `swd target MEMORY [--plan FILE] [--log FILE] [--trace FILE] [--idr WORD]`. MEMORY is SCRIPT or
     /// `--memory FILE [--base ADDR]`.
     Target(TargetLine),
-    /// `swd load ADDR FILE TARGET [--format FORMAT] [--tries N] [--resume N]`, the same with `verify`, or
-    /// `swd dump ADDR BYTES FILE TARGET [--format FORMAT] [--tries N] [--resume N]`. TARGET is `--remote` or
+    /// `swd info --remote[=IN,OUT] [--tries N]`.
+    Info(InfoLine),
+    /// `swd load ADDR FILE TARGET [--format FORMAT] [--tries N] [--resume N] [--report FILE] [--progress]`, the same
+    /// with `verify`, or with `dump ADDR BYTES FILE`. TARGET is `--remote[=IN,OUT]` or
     /// `--memory FILE [--base ADDR] [--plan FILE]`.
     Image(ImageLine),
 }
@@ -114,9 +116,10 @@ pub struct RunLine {
     pub accesses: Option<String>,
     /// Whether a bus error fails the run.
     pub strict: bool,
-    /// Whether the target is behind the standard streams.
-    pub remote: bool,
-    /// The file that the report is then written to.
+    /// What leads to a remote target: `-` for the standard streams, two files as `IN,OUT`, or one that does both. `None`
+    /// for a simulated target.
+    pub remote: Option<String>,
+    /// The file that the report of a remote run is written to.
     pub report: Option<String>,
     /// Whether lines on standard error say how far the run is.
     pub progress: bool,
@@ -151,6 +154,15 @@ pub struct TargetLine {
     pub trace: Option<String>,
     /// IDR of the access port, if it has one.
     pub idr: Option<u32>,
+}
+
+/// The arguments of `swd info`.
+#[derive(Debug, Drop)]
+pub struct InfoLine {
+    /// What leads to the target: `-` for the standard streams, two files as `IN,OUT`, or one that does both.
+    pub remote: String,
+    /// The number of events that the opening may meet, at most 1,000.
+    pub tries: u32,
 }
 
 /// What is done with an image.
@@ -195,7 +207,12 @@ pub struct ImageLine {
     pub resumes: u32,
     /// The file to which the reports of the calls are written, if they are to be.
     pub report: Option<String>,
-    /// The memory of the simulated target, or `None` for a target behind the standard streams.
+    /// Whether lines on standard error say how far the command is.
+    pub progress: bool,
+    /// What leads to a remote target: `-` for the standard streams, two files as `IN,OUT`, or one that does both. `None`
+    /// for a simulated target.
+    pub remote: Option<String>,
+    /// The memory of the simulated target, or `None` for a remote target.
     pub memory: Option<MemoryLine>,
 }
 

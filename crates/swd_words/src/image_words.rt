@@ -5,14 +5,16 @@ ghost use Rattle.clap.specs.Words.{app_of, found_of, rows_of, rule_of};
 ghost use Rattle.clap.specs.declared.builder.command.Command.TheViews.{out-Command};
 ghost use Rattle.swd_script.specs.Numerals.{is_script_hex_prefix, script_hex_number};
 ghost use Rattle.swd_words.specs.Commands.{addr_rule, bytes_rule, dump_args_app, image_rule, image_args_app};
-ghost use Rattle.swd_words.specs.Commands.{with_image_args, with_image_args_apps as images_of, IsActionArgument};
+ghost use Rattle.swd_words.specs.Commands.{with_image_args, with_image_args_apps as images_of, with_report_args};
+ghost use Rattle.swd_words.specs.Commands.{IsActionArgument};
 ghost use Rattle.swd_words.specs.Commands.{AreBytesInUnits, AreImageArguments, IsBytesArgument};
 
 use crate::command::{ImageAction, ImageLine, LineFault};
 use crate::format_words::{READ_FORMATS, WRITTEN_FORMATS, format_arg, format_form, formats_in};
 use crate::memory_words::{target_in, with_target_options};
 use crate::words::{
-    invalid, numbers_in, owned, report_arg, resume_arg, tries_arg, unknown, with_arg, with_sub,
+    invalid, is_asked_for, numbers_in, owned, progress_arg, refused, report_arg, resume_arg,
+    tries_arg, unknown, why_unpaced, with_arg, with_sub,
 };
 use clap::error::ErrorKind;
 use clap::{Arg, ArgMatches, Command};
@@ -46,6 +48,7 @@ are read first, so that their other bytes keep their values.
 With --remote the standard streams connect to a server of OpenOCD's
 remote_bitbang protocol for SWD, such as swd target. For a server on a socket:
   socat TCP:localhost:4711,nodelay EXEC:'swd load ADDR FILE --remote'
+--remote=IN,OUT is as for swd run.
 
 With --memory the target is simulated. The memory's FILE has its bytes from
 --base on, a multiple of 4 of them, the byte at the lowest address first. A load
@@ -58,6 +61,9 @@ the partial words, and then up to 65,536 writes in a call. FILE is overwritten,
 and written while the load goes on. So after a load with --remote that was
 killed it shows which words were certainly written; with --memory none were.
 With - it is appended to standard error.
+
+--progress is as for swd run, but counts the words that are written:
+  swd: 12288 of 16384 words, 4096 a second
 
 A line on standard error has the result, or the first error of FILE:
   swd: loaded 65536 bytes at 20000000
@@ -75,7 +81,8 @@ FILE and ADDR are as for swd load, and so are --remote and --memory, whose FILE
 is only read. The pieces of FILE are read and compared in its order,
 up to the first one that differs.
 
---report FILE is as for swd load. A call has up to 65,536 reads.
+--report FILE is as for swd load. A call has up to 65,536 reads. --progress
+counts the words that are read.
 
 A line on standard error has the result, or the first byte that differs:
   swd: verified 65536 bytes at 20000000
@@ -91,9 +98,9 @@ const DUMP_AFTER: &str = "\
 BYTES is 1 to 10 decimal digits, which k (1024 bytes) or M (1048576 bytes) may
 follow, or 1 to 8 hexadecimal digits after 0x. ADDR is 1 to 8 hexadecimal
 digits, after an optional 0x. --remote and --memory are as for swd load; the
-memory's FILE is only read. --report is as for swd verify. FILE is hex, srec or
-bin by its name, as for swd load, or by --format. In a hex or srec file the
-addresses are the target's.
+memory's FILE is only read. --report and --progress are as for swd verify. FILE
+is hex, srec or bin by its name, as for swd load, or by --format. In a hex or
+srec file the addresses are the target's.
 
 FILE is replaced once all bytes are read, by a new file beside it that gets its
 name. At an error it is unchanged, or isn't created. A line on standard error
@@ -134,6 +141,17 @@ fn image_arg<'a>(alloc: Global, help: &'a str) -> Arg<'a>
     Arg::new(alloc, "FILE").required(true).help(help)
 }
 
+// Adds the options for the report of the calls, and how far they are.
+fn with_report_options<'a>(alloc: Global, command: Command<'a>) -> Result<Command<'a>, AllocError>
+    requires local { (out-Command command).has_globals ≡ false }
+    ensures app { IfOk result (λ c. app_of c ≡ with_report_args (app_of command.entry)) }
+    ensures local { IfOk result (λ c. (out-Command c).has_globals ≡ false) }
+{
+    let help = "Write the report of the calls to FILE, - is stderr";
+    let report = with_arg(command, report_arg(alloc, help))?;
+    with_arg(report, progress_arg(alloc))
+}
+
 // Adds the options of each command over an image.
 fn with_options<'a>(
     alloc: Global,
@@ -147,8 +165,7 @@ fn with_options<'a>(
     let format = with_arg(command, format_arg(alloc, formats))?;
     let tries = with_arg(format, tries_arg(alloc))?;
     let resume = with_arg(tries, resume_arg(alloc))?;
-    let help = "Write the report of the calls to FILE, - is stderr";
-    let report = with_arg(resume, report_arg(alloc, help))?;
+    let report = with_report_options(alloc, resume)?;
     with_target_options(alloc, report)
 }
 
@@ -313,6 +330,13 @@ pub(crate) fn image_line(
     let Ok(report) = owned(alloc, matches.get_str("report")) else {
         return Err(LineFault::Memory);
     };
+    let progress = is_asked_for(matches.get_str("progress"));
+    if let Some(why) = why_unpaced(progress, &report) {
+        return Err(refused(alloc, ErrorKind::ArgumentConflict, why));
+    }
+    let Ok(remote) = owned(alloc, matches.get_str("remote")) else {
+        return Err(LineFault::Memory);
+    };
     let memory = target_in(alloc, matches)?;
     let word = matches.get_str("format");
     let Some(formats) = formats_in(action, word, file.as_str()) else {
@@ -327,6 +351,8 @@ pub(crate) fn image_line(
         tries: numbers.0,
         resumes: numbers.1,
         report,
+        progress,
+        remote,
         memory,
     })
 }

@@ -7,14 +7,15 @@ mod decode_words;
 mod draw_words;
 mod format_words;
 mod image_words;
+mod info_words;
 mod memory_words;
 mod target_words;
 mod usage;
 mod words;
 
 pub use command::{
-    CheckLine, CommandLine, DecodeLine, DrawLine, ImageAction, ImageLine, LineFault, MemoryLine,
-    PlainWords, RunLine, ScriptLine, ServedMemory, TargetLine,
+    CheckLine, CommandLine, DecodeLine, DrawLine, ImageAction, ImageLine, InfoLine, LineFault,
+    MemoryLine, PlainWords, RunLine, ScriptLine, ServedMemory, TargetLine,
 };
 pub use usage::{commands_line, usage_line};
 pub use words::line;

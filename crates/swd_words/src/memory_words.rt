@@ -1,6 +1,6 @@
-//! The options for the target of `swd load`, `swd verify` and `swd dump`: behind the standard streams, or simulated.
+//! The options for the target of `swd load`, `swd verify` and `swd dump`: remote, or simulated.
 //! And those for the memory that `swd target` serves.
-ghost use Rattle.std.specs.Prelude.{◌≡◌, ◌%◌, IfOk, IfSome, None, false, true};
+ghost use Rattle.std.specs.Prelude.{◌≡◌, ◌%◌, ◌↔◌, IfOk, IfSome, None, false, true};
 ghost use Rattle.std.specs.Option.{option_map};
 ghost use Rattle.clap.specs.Words.{app_of, found_of, rows_of, rule_of};
 ghost use Rattle.clap.specs.declared.builder.command.Command.TheViews.{out-Command};
@@ -8,7 +8,7 @@ ghost use Rattle.swd_words.specs.Commands.{base_rule, memory_rule, with_target_a
 ghost use Rattle.swd_words.specs.Commands.{IsBaseArgument, AreMemoryArguments, IsTargetArgument};
 
 use crate::command::{LineFault, MemoryLine};
-use crate::words::{invalid, is_asked_for, owned, plan_arg, refused, remote_arg, with_arg};
+use crate::words::{invalid, owned, plan_arg, refused, remote_arg, with_arg};
 use clap::error::ErrorKind;
 use clap::{Arg, ArgMatches, Command};
 use std::alloc::{AllocError, Global};
@@ -65,7 +65,7 @@ pub(crate) fn with_target_options<'a>(
 
 /// Returns whether an argument isn't given.
 pub(crate) fn is_missing(word: Option<&str>) -> bool
-    ensures { result ≡ true → option_map (λ s. s.now) word.entry ≡ None }
+    ensures { (result ≡ true) ↔ (option_map (λ s. s.now) word.entry ≡ None) }
 {
     word.is_none()
 }
@@ -110,15 +110,14 @@ pub(crate) fn memory_line(
     Ok(MemoryLine { file, base, plan })
 }
 
-/// Returns the memory of the simulated target that the arguments name, or `None` for a target behind the standard
-/// streams.
+/// Returns the memory of the simulated target that the arguments name, or `None` for a remote target.
 pub(crate) fn target_in(
     alloc: Global,
     matches: &ArgMatches<'_>,
 ) -> Result<Option<MemoryLine>, LineFault>
     ensures { IfOk result (λ memory. IsTargetArgument memory (rows_of (found_of matches.now))) }
 {
-    if !is_asked_for(matches.get_str("remote")) {
+    if is_missing(matches.get_str("remote")) {
         return match memory_line(alloc, matches, NO_TARGET) {
             Ok(memory) => Ok(Some(memory)),
             Err(fault) => Err(fault),

@@ -1,5 +1,6 @@
 //! Parses the arguments of the command line.
-ghost use Rattle.std.specs.Prelude.{◌≡◌, ◌↔◌, IfOk, IfErr, IfSome, Some, [], map, true, false, codes};
+ghost use Rattle.std.specs.Prelude.{◌≡◌, ◌↔◌, IfOk, IfErr, IfSome, Some, [], map, true, false, codes, if◌then◌else◌};
+ghost use Rattle.std.specs.Str.{bytes_eq};
 ghost use Rattle.std.specs.Option.{option_map};
 ghost use Rattle.std.specs.String.{string_bytes};
 ghost use Rattle.clap.specs.Words.{app_of, found_of, rows_of, subcommand_of, subcommand_rows_of, rule_of, shape_of};
@@ -7,6 +8,7 @@ ghost use Rattle.clap.specs.Words.{fault_of, first_of, kind_of, with_rule, with_
 ghost use Rattle.clap.specs.declared.builder.command.Command.TheViews.{out-Command};
 ghost use Rattle.swd_words.specs.Commands.{file_rule, plan_rule, resume_rule, script_rule, strict_rule, trace_rule};
 ghost use Rattle.swd_words.specs.Commands.{accesses_file_rule, tries_rule, progress_rule, remote_rule, report_rule};
+ghost use Rattle.swd_words.specs.Commands.{arguments_spelled_out, remote_spelled_out};
 ghost use Rattle.swd_words.specs.Commands.{run_here_args_app, bare_args_app, script_args_app, file_args_app};
 ghost use Rattle.swd_words.specs.Commands.{run_args_app, swd_app, IsResumeArgument, IsTriesArgument, IsLineOfArguments};
 ghost use Rattle.swd_words.specs.Commands.{IsArgumentsErrorKind, AreRunArguments, IsArgumentsRefusal};
@@ -16,6 +18,7 @@ use crate::command::{CommandLine, LineFault, RunLine};
 use crate::decode_words::{decode_command, decode_line};
 use crate::draw_words::{ITEMS_OPTION, ITEMS_RANGE, draw_command, draw_line};
 use crate::image_words::{image_line, with_images};
+use crate::info_words::{info_command, info_line};
 use crate::target_words::{target_command, target_line};
 use clap::error::ErrorKind;
 use clap::{Arg, ArgAction, ArgMatches, Command, Error, value_parser};
@@ -74,6 +77,10 @@ that --report names, which is overwritten; with - it is appended to standard
 error. SCRIPT must be a file. There is no plan, and the script's memory and room
 are ignored. For a server on a socket:
   socat TCP:localhost:4711,nodelay EXEC:'swd run SCRIPT --remote --report FILE'
+With --remote=IN,OUT these files take the place of the standard streams, such as
+two fifos; with --remote=DEVICE one file is both, such as a serial device that
+stty set raw. Each is opened for reading and writing, so opening one waits for
+no other end. If the server goes away the run waits until a signal ends it.
 
 A script has one command per line; # begins a comment. BASE, ADDR, VALUE and
 MASK are 1 to 8 hexadecimal digits, which may follow 0x, and addresses multiples
@@ -168,6 +175,9 @@ pub(crate) const RESUME_OPTION: &str = "--resume <N>";
 
 pub(crate) const NUMBER_RANGE: &str = "it is not in 0..=1000";
 
+// What the option for a remote target is short for without a value.
+const REMOTE_STREAMS: &str = "--remote=-";
+
 // Returns a value as an owned string.
 pub(crate) fn owned(alloc: Global, text: Option<&str>) -> Result<Option<String>, AllocError>
     ensures { IfOk result (λ o. option_map string_bytes o ≡ option_map (λ s. s.now) text.entry) }
@@ -240,15 +250,16 @@ fn strict_arg<'a>(alloc: Global) -> Arg<'a>
         .help("Exit with status 1 if an access met a bus error")
 }
 
-/// Returns the flag for a target behind the standard streams.
+/// Returns the option for a remote target, and for what leads to it.
 pub(crate) fn remote_arg<'a>(alloc: Global) -> Arg<'a>
     ensures rule { rule_of result ≡ remote_rule }
     ensures local { result.global ≡ false }
 {
     Arg::new(alloc, "remote")
         .long("remote")
-        .action(ArgAction::SetTrue)
-        .help("The target is a remote_bitbang server on the streams")
+        .num_args(0..=1)
+        .value_name("LINE")
+        .help("The target is a server on the streams, or =IN,OUT")
 }
 
 /// Returns the option for the report's file.
@@ -262,8 +273,8 @@ pub(crate) fn report_arg<'a>(alloc: Global, help: &'a str) -> Arg<'a>
         .help(help)
 }
 
-// Returns the flag for the lines on standard error that say how far the run is.
-fn progress_arg<'a>(alloc: Global) -> Arg<'a>
+/// Returns the flag for the lines on standard error that say how far the run is.
+pub(crate) fn progress_arg<'a>(alloc: Global) -> Arg<'a>
     ensures rule { rule_of result ≡ progress_rule }
     ensures local { result.global ≡ false }
 {
@@ -391,7 +402,8 @@ pub(crate) fn swd_command<'a>(alloc: Global) -> Result<Command<'a>, AllocError>
     let target = with_sub(run, target_command(alloc)?)?;
     let draw = with_sub(target, draw_command(alloc)?)?;
     let check = with_sub(draw, check_command(alloc)?)?;
-    with_images(alloc, check)
+    let info = with_sub(check, info_command(alloc)?)?;
+    with_images(alloc, info)
 }
 
 // Returns the error of arguments that `clap` accepted and that aren't allowed.
@@ -466,7 +478,7 @@ fn negative_or<'a>(
 fn negative_in<'a>(words: &[&'a str]) -> Option<Negative<'a>> {
     let name = words.get(1)?;
     match *name {
-        "run" | "load" | "verify" | "dump" => {
+        "run" | "info" | "load" | "verify" | "dump" => {
             let resume = negative_or(words, "--resume", RESUME_OPTION, NUMBER_RANGE, None);
             negative_or(words, "--tries", TRIES_OPTION, NUMBER_RANGE, resume)
         }
@@ -572,6 +584,9 @@ fn run_line(alloc: Global, matches: &ArgMatches<'_>) -> Result<RunLine, LineFaul
     let Ok(report) = owned(alloc, matches.get_str("report")) else {
         return Err(LineFault::Memory);
     };
+    let Ok(remote) = owned(alloc, matches.get_str("remote")) else {
+        return Err(LineFault::Memory);
+    };
     let numbers = numbers_in(alloc, matches)?;
     Ok(RunLine {
         script,
@@ -581,7 +596,7 @@ fn run_line(alloc: Global, matches: &ArgMatches<'_>) -> Result<RunLine, LineFaul
         trace,
         accesses,
         strict: is_asked_for(matches.get_str("strict")),
-        remote: is_asked_for(matches.get_str("remote")),
+        remote,
         report,
         progress: is_asked_for(matches.get_str("progress")),
     })
@@ -603,14 +618,22 @@ fn matched_line(alloc: Global, matches: &ArgMatches<'_>) -> Result<RunLine, Line
 
 // Returns why the options can't be combined, if they can't.
 fn why_unmatched(run: &RunLine) -> Option<&'static str> {
-    if run.remote != run.report.is_some() {
+    if run.remote.is_some() != run.report.is_some() {
         Some("--remote and --report FILE go together")
-    } else if run.remote && run.plan.is_some() {
+    } else if run.remote.is_some() && run.plan.is_some() {
         Some("with --remote there is no --plan")
-    } else if run.progress && run.report.as_ref().is_some_and(|name| name.as_str() == "-") {
-        Some("with --report - there is no --progress")
     } else {
-        None
+        why_unpaced(run.progress, &run.report)
+    }
+}
+
+/// Returns why a command can't say how far it is, if it can't: its report goes to standard error, too.
+pub(crate) fn why_unpaced(progress: bool, report: &Option<String>) -> Option<&'static str> {
+    match report {
+        Some(name) if progress && name.as_str() == "-" => {
+            Some("with --report - there is no --progress")
+        }
+        _ => None,
     }
 }
 
@@ -647,6 +670,10 @@ fn line_of(alloc: Global, matches: &ArgMatches<'_>) -> Result<CommandLine, LineF
             Ok(target) => Ok(CommandLine::Target(target)),
             Err(fault) => Err(fault),
         },
+        "info" => match info_line(alloc, rest) {
+            Ok(info) => Ok(CommandLine::Info(info)),
+            Err(fault) => Err(fault),
+        },
         _ => match image_line(alloc, name, rest) {
             Ok(image) => Ok(CommandLine::Image(image)),
             Err(fault) => Err(fault),
@@ -654,15 +681,47 @@ fn line_of(alloc: Global, matches: &ArgMatches<'_>) -> Result<CommandLine, LineF
     }
 }
 
-/// Parses the arguments, the program's name first.
-///
-/// Returns the command that they mean by the rules of `clap`. By these rules the arguments then have no error.
-///
-/// # Errors
-///
-/// - `Clap`: a usage error, the help or the version. If `clap`'s rules find errors, its kind is one of theirs.
-/// - `Memory`: out of memory.
-pub fn line<'a>(alloc: Global, words: &'a [&'a str]) -> Result<CommandLine, LineFault>
+// Returns whether there are no options after an argument.
+fn ends_options(word: &str) -> bool
+    ensures { result ≡ bytes_eq word.now (codes "--") }
+{
+    matches!(word.as_bytes(), b"--")
+}
+
+// Returns whether an argument is the option for a remote target, without a value.
+fn is_remote(word: &str) -> bool
+    ensures { result ≡ bytes_eq word.now (codes "--remote") }
+{
+    word == "--remote"
+}
+
+// Returns an argument as the parser gets it. One after `--` is unchanged.
+fn spelled<'a>(word: &'a str, escaped: bool) -> &'a str
+    ensures { result.now ≡ (if escaped then word.entry.now else remote_spelled_out word.entry.now) }
+{
+    if !escaped && is_remote(word) {
+        REMOTE_STREAMS
+    } else {
+        word
+    }
+}
+
+// Returns the arguments, of which `--remote` alone is spelled out.
+fn spelled_out<'a>(alloc: Global, words: &[&'a str]) -> Result<Vec<&'a str>, AllocError>
+    ensures { IfOk result (λ spelled. map (λ w. w.now) spelled.items
+        ≡ arguments_spelled_out (map (λ w. w.now) words.now)) }
+{
+    let mut result = Vec::new(alloc);
+    let mut escaped = false;
+    for word in words {
+        escaped |= ends_options(*word);
+        result.push(spelled(*word, escaped))?;
+    }
+    Ok(result)
+}
+
+// Parses arguments that are spelled out.
+fn parsed<'a>(alloc: Global, words: &'a [&'a str]) -> Result<CommandLine, LineFault>
     ensures line { IfOk result (λ l. IsLineOfArguments l (subcommand_of swd_app (map (λ w. w.now) words.entry.now))) }
     ensures right { IfOk result (λ _. fault_of swd_app (map (λ w. w.now) words.entry.now) ≡ []) }
     ensures wrong { IfErr result (IsArgumentsRefusal (fault_of swd_app (map (λ w. w.now) words.entry.now))) }
@@ -673,5 +732,28 @@ pub fn line<'a>(alloc: Global, words: &'a [&'a str]) -> Result<CommandLine, Line
     match command.try_get_matches_from(words) {
         Ok(matches) => line_of(alloc, &matches),
         Err(fault) => Err(line_fault(alloc, words, fault)),
+    }
+}
+
+/// Parses the arguments, the program's name first.
+///
+/// Returns the command that they mean by the rules of `clap`, where `--remote` stands for `--remote=-`. By these rules
+/// the arguments then have no error.
+///
+/// # Errors
+///
+/// - `Clap`: a usage error, the help or the version. If `clap`'s rules find errors, its kind is one of theirs.
+/// - `Memory`: out of memory.
+pub fn line(alloc: Global, words: &[&str]) -> Result<CommandLine, LineFault>
+    ensures line { IfOk result (λ l. IsLineOfArguments l
+        (subcommand_of swd_app (arguments_spelled_out (map (λ w. w.now) words.now)))) }
+    ensures right { IfOk result (λ _.
+        fault_of swd_app (arguments_spelled_out (map (λ w. w.now) words.now)) ≡ []) }
+    ensures wrong { IfErr result
+        (IsArgumentsRefusal (fault_of swd_app (arguments_spelled_out (map (λ w. w.now) words.now)))) }
+{
+    match spelled_out(alloc, words) {
+        Ok(spelled) => parsed(alloc, spelled.as_slice()),
+        Err(_) => Err(LineFault::Memory),
     }
 }

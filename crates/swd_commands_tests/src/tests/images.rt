@@ -90,15 +90,15 @@ fn a_file_that_is_refused_leaves_the_line_unused(rt: HostRuntime) {
         ),
         (
             &["swd", "load", "0", "-", "--remote"],
-            b"swd: FILE has to be a file: standard input is the target's\n",
+            b"swd: with --remote FILE has to be a file, not standard input\n",
         ),
         (
             &["swd", "verify", "0", "-", "--remote"],
-            b"swd: FILE has to be a file: standard input is the target's\n",
+            b"swd: with --remote FILE has to be a file, not standard input\n",
         ),
         (
             &["swd", "dump", "0", "1", "-", "--remote"],
-            b"swd: FILE has to be a file: standard input is the target's\n",
+            b"swd: with --remote FILE has to be a file, not standard input\n",
         ),
         (
             &["swd", "dump", "0", "1", "input", "--remote"],

@@ -114,6 +114,14 @@ impl<'a> Files for Shelf<'a> {
         }
     }
 
+    fn open_line_in(&self, name: &str) -> io::Result<Opened<Source>> {
+        self.open(name)
+    }
+
+    fn open_line_out(&self, name: &str) -> io::Result<Opened<Pen<'a>>> {
+        self.open_to_write(name)
+    }
+
     fn cut_off(&self, file: &Pen<'a>) -> io::Result<()> {
         self.cuts.set(self.cuts.get().saturating_add(1));
         file.page.set(EMPTY);

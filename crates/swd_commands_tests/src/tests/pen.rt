@@ -6,12 +6,12 @@ use std::io::{ErrorKind, Read, Write};
 /// What was written to a file since it was cut off.
 #[derive(Clone, Copy)]
 pub(super) struct Page {
-    bytes: [u8; 96],
+    bytes: [u8; 128],
     len: usize,
 }
 
 pub(super) const EMPTY: Page = Page {
-    bytes: [0; 96],
+    bytes: [0; 128],
     len: 0,
 };
 

@@ -1,5 +1,6 @@
 //! The lines that say how far a run is.
 use super::expect::{expect_at, expect_eq, expect_eq_at};
+use super::simulated::run_at_by;
 use super::{RESUMED, Shelf, run_by};
 use std::cell::Cell;
 use swd_commands::run_words;
@@ -326,4 +327,72 @@ fn a_remote_run_says_how_far_it_is(rt: HostRuntime) {
         expect_at(&rt, &lines, ran.output.ends_with(sent));
         expect_eq_at(&rt, &lines, &ran.output.is_empty(), &sent.is_empty());
     }
+}
+
+// A load counts the words that were written, of which the first two calls here have none: they read the partial words. A
+// verification and a dump count those that were read.
+#[test]
+fn a_command_over_an_image_says_how_far_it_is(rt: HostRuntime) {
+    let times = [Some(0), Some(1000), Some(2000), Some(3000)];
+    let rows: [(&[&str], &[u8], &[u8]); 3] = [
+        (
+            &["swd", "load", "20000002", "image", "--memory", "ram"],
+            b"swd: 0 of 3 words, 0 a second\nswd: 0 of 3 words, 0 a second\nswd: 3 of 3 words, 3 a second\n\
+                swd: loaded 8 bytes at 20000002\n",
+            b"r 20000000 64636261\nend all 1\nr 20000008 6c6b6a69\nend all 1\nw 20000000 written\n\
+                w 20000004 written\nw 20000008 written\nend all 3\n",
+        ),
+        (
+            &["swd", "verify", "20000001", "image", "--memory", "ram"],
+            b"swd: 3 of 3 words, 3 a second\nswd: 20000001 has 62, not 31\n",
+            b"r 20000000 64636261\nr 20000004 68676665\nr 20000008 6c6b6a69\nend all 3\n",
+        ),
+        (
+            &["swd", "dump", "20000003", "1", "out", "--memory", "ram"],
+            b"swd: 1 of 1 words, 1 a second\nswd: dumped 1 bytes at 20000003\n",
+            b"r 20000000 64636261\nend all 1\n",
+        ),
+    ];
+    for (command, said, report) in rows {
+        for more in [
+            ["--progress"].as_slice(),
+            ["--progress", "--report", "calls"].as_slice(),
+        ] {
+            let mut words = Vec::new(rt.alloc());
+            assert!(rt; words.extend_from_slice(command).is_ok());
+            assert!(rt; words.extend_from_slice(more).is_ok());
+            let clock = Readings::new(times.as_slice());
+            let (ram, image) = (b"abcdefghijkl".as_slice(), b"12345678".as_slice());
+            let ran = run_at_by(rt.alloc(), words.as_slice(), ram, image, b"", &clock);
+            expect_eq_at(&rt, &words, &ran.errors.as_slice(), &said);
+            let calls = if more.len() == 1 {
+                b"".as_slice()
+            } else {
+                report
+            };
+            expect_eq_at(&rt, &words, &ran.calls.text(), &calls);
+        }
+    }
+    let words = [
+        "swd",
+        "verify",
+        "0",
+        "image",
+        "--memory",
+        "ram",
+        "--progress",
+        "--report",
+        "-",
+    ];
+    let ran = run_at_by(
+        rt.alloc(),
+        words.as_slice(),
+        b"abcd",
+        b"1",
+        b"",
+        &Readings::new(&[]),
+    );
+    expect_eq(&rt, &ran.status, &2);
+    let line = b"error: with --report - there is no --progress\n";
+    expect_at(&rt, &words, ran.errors.starts_with(line));
 }

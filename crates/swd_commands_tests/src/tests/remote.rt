@@ -78,6 +78,11 @@ const OK: &[u8] = b"100";
 
 const REQUESTED: &[u8] = b"100000000000000000000000000000010100";
 
+// One of the two powers is acknowledged: 70000000 and d0000000.
+const DEBUG_POWERED: &[u8] = b"100000000000000000000000000000011101";
+
+const SYSTEM_POWERED: &[u8] = b"100000000000000000000000000000010111";
+
 const POWERED: &[u8] = b"100000000000000000000000000000011110";
 
 // A session that ends before the target is open says how far it came.
@@ -261,4 +266,124 @@ fn a_report_goes_to_standard_error(rt: HostRuntime) {
         expect_eq_at(&rt, &trace, &(ran.traced > 0), &(status == 1));
         expect_eq_at(&rt, &trace, &ran.output.is_empty(), &(status == 2));
     }
+}
+
+// Files that lead to the target take the place of the standard streams, which aren't used then.
+#[test]
+fn files_lead_to_the_target(rt: HostRuntime) {
+    let rows: [(&[&str], &[u8], u8); 6] = [
+        (
+            &[
+                "swd",
+                "run",
+                "script",
+                "--remote=silent,to",
+                "--report",
+                "traced",
+            ],
+            LOST_LINES,
+            1,
+        ),
+        (
+            &["swd", "load", "0", "image", "--remote=silent,to"],
+            LOST_LINES,
+            1,
+        ),
+        (
+            &["swd", "load", "0", "image", "--remote=missing,to"],
+            b"swd: cannot open missing: entity not found; for a server on a socket: socat \
+                TCP:localhost:4711,nodelay EXEC:'swd .. --remote'\n",
+            2,
+        ),
+        (
+            &["swd", "load", "0", "image", "--remote=silent,locked"],
+            b"swd: cannot open locked: permission denied\n",
+            2,
+        ),
+        // One file is both ends. It is read and written under one name.
+        (
+            &["swd", "verify", "0", "image", "--remote=locked"],
+            b"swd: cannot open locked: entity not found; for a server on a socket: socat \
+                TCP:localhost:4711,nodelay EXEC:'swd .. --remote'\n",
+            2,
+        ),
+        // The line is none of the other files.
+        (
+            &[
+                "swd",
+                "run",
+                "script",
+                "--remote=silent,traced",
+                "--report",
+                "traced",
+            ],
+            b"swd: cannot open traced: it is another output\n",
+            2,
+        ),
+    ];
+    for (words, said, status) in rows {
+        let ran = run_on(rt.alloc(), words, b"".as_slice());
+        expect_eq_at(&rt, &words, &ran.errors.as_slice(), &said);
+        expect_eq_at(&rt, &words, &ran.status, &status);
+        expect_eq_at(&rt, &words, &ran.output.is_empty(), &true);
+    }
+}
+
+const CSW: &[u8] = b"100010010100000000000000000110001000";
+
+const IDENTITY: &[u8] = b"swd: DPIDR 2ba01477: designer 23b, part ba, version 1, revision 2\n\
+    swd: debug power and system power are acknowledged: the target is open\n";
+
+// An info opens the target, and prints what it read in any case.
+#[test]
+fn an_info_identifies_the_target(rt: HostRuntime) -> Result<(), Fail> {
+    let rows: [(&[&[u8]], &[u8], u8); 6] = [
+        (
+            &[IDENTIFIED, OK, NO_FLAGS, OK, OK, POWERED, OK, NO_FLAGS, CSW],
+            IDENTITY,
+            0,
+        ),
+        (
+            &[IDENTIFIED, OK, NO_FLAGS, OK, OK, REQUESTED],
+            b"swd: the run ended early: tries\n\
+                swd: DPIDR 2ba01477: designer 23b, part ba, version 1, revision 2\n\
+                swd: power was requested and is not acknowledged: CTRL/STAT is 50000000\n",
+            1,
+        ),
+        (
+            &[IDENTIFIED, OK, NO_FLAGS, OK, OK, DEBUG_POWERED],
+            b"swd: the run ended early: tries\n\
+                swd: DPIDR 2ba01477: designer 23b, part ba, version 1, revision 2\n\
+                swd: debug power is acknowledged, and system power is not: CTRL/STAT is 70000000\n",
+            1,
+        ),
+        (
+            &[IDENTIFIED, OK, NO_FLAGS, OK, OK, SYSTEM_POWERED],
+            b"swd: the run ended early: tries\n\
+                swd: DPIDR 2ba01477: designer 23b, part ba, version 1, revision 2\n\
+                swd: system power is acknowledged, and debug power is not: CTRL/STAT is d0000000\n",
+            1,
+        ),
+        (&[b"111"], LOST_LINES, 1),
+        (
+            &[b"1"],
+            b"swd: the other end went away\nswd: DPIDR was not read: the last answer was none\n",
+            1,
+        ),
+    ];
+    for (levels, said, status) in rows {
+        let mut input = Vec::new(rt.alloc());
+        for piece in levels {
+            input.extend_from_slice(piece)?;
+        }
+        let words = ["swd", "info", "--remote", "--tries", "0"];
+        let ran = run_on(rt.alloc(), words.as_slice(), input.as_slice());
+        expect_eq_at(&rt, &levels.len(), &ran.errors.as_slice(), &said);
+        expect_eq_at(&rt, &levels.len(), &ran.status, &status);
+    }
+    let ran = run_on(rt.alloc(), &["swd", "info"], b"".as_slice());
+    let line = b"error: the target is missing: give --remote\n";
+    expect_eq(&rt, &ran.errors.starts_with(line), &true);
+    expect_eq(&rt, &ran.status, &2);
+    Ok(())
 }

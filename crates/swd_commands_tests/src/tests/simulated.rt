@@ -8,7 +8,7 @@ use std::io;
 use std::io::{ErrorKind, Read};
 use std::test::Fail;
 use swd_commands::run_words;
-use swd_console::{Console, Files, Identity, Opened};
+use swd_console::{Clock, Console, Files, Identity, Opened};
 use swd_words::{CommandLine, ImageAction, line};
 
 // Five bytes from 20000002 on, and two from 20000011 on.
@@ -96,6 +96,14 @@ impl<'a> Files for Desk<'a> {
         }
     }
 
+    fn open_line_in(&self, name: &str) -> io::Result<Opened<Source>> {
+        self.open(name)
+    }
+
+    fn open_line_out(&self, name: &str) -> io::Result<Opened<Pen<'a>>> {
+        self.open_to_write(name)
+    }
+
     fn cut_off(&self, file: &Pen<'a>) -> io::Result<()> {
         self.cuts.set(self.cuts.get().saturating_add(1));
         file.page.set(EMPTY);
@@ -179,6 +187,18 @@ pub(super) fn run_at(
     image: &'static [u8],
     plan: &'static [u8],
 ) -> Ran {
+    run_at_by(alloc, words, ram, image, plan, &Still)
+}
+
+/// The same by another clock.
+pub(super) fn run_at_by<C: Clock>(
+    alloc: Global,
+    words: &[&str],
+    ram: &'static [u8],
+    image: &'static [u8],
+    plan: &'static [u8],
+    clock: &C,
+) -> Ran {
     let (written, calls, cuts) = (Cell::new(EMPTY), Cell::new(EMPTY), Cell::new(0));
     let desk = Desk {
         ram,
@@ -192,7 +212,7 @@ pub(super) fn run_at(
     let mut console = Console {
         alloc,
         files: &desk,
-        clock: &Still,
+        clock,
         errors: &mut errors,
     };
     let status = run_words(words, &mut Deaf, &mut output, &mut console);

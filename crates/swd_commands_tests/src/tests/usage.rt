@@ -3,7 +3,7 @@ use super::expect::expect_eq_at;
 use super::run_on;
 
 // The arguments, and all lines.
-const ROWS: [(&[&str], &[u8]); 23] = [
+const ROWS: [(&[&str], &[u8]); 24] = [
     (
         &["swd", "run", "s", "--remote"],
         b"error: --remote and --report FILE go together\n\nUsage: swd run [OPTIONS] <SCRIPT>\n\n\
@@ -87,7 +87,7 @@ const ROWS: [(&[&str], &[u8]); 23] = [
     (
         &["swd", "rnu"],
         b"error: unrecognized subcommand 'rnu'\n\
-          \x20 [subcommands: one, decode, encode, run, target, draw, check, load, verify, dump, help]\n\n\
+          \x20 [subcommands: one, decode, encode, run, target, draw, check, info, load, verify, dump, help]\n\n\
           Usage: swd <COMMAND>\n\nFor more information, try '--help'.\n",
     ),
     (
@@ -122,6 +122,11 @@ const ROWS: [(&[&str], &[u8]); 23] = [
         ],
         b"error: unexpected argument 'localhost:4711' found\n\n  tip: --remote takes no address: socat connects it to \
           a socket, see --help\n\nUsage: swd run [OPTIONS] <SCRIPT>\n\nFor more information, try '--help'.\n",
+    ),
+    (
+        &["swd", "load", "0", "f", "--remote", "/dev/ttyACM0"],
+        b"error: unexpected argument '/dev/ttyACM0' found\n\n  tip: the files of --remote follow =, as in \
+          --remote=IN,OUT\n\nUsage: swd load [OPTIONS] <ADDR> <FILE>\n\nFor more information, try '--help'.\n",
     ),
     (
         &["swd", "one", "a", "\x1b[2J\x07"],

@@ -276,6 +276,45 @@ fn words_of_a_run(rt: HostRuntime) -> Result<(), Fail> {
     Ok(())
 }
 
+// What leads to the target of a run: the standard streams where `--remote` stands alone, whatever follows it. After `--`
+// there are no options.
+#[test]
+fn remote_has_a_value_after_an_equals_sign_alone(rt: HostRuntime) -> Result<(), Fail> {
+    let rows: [(&[&str], &str, &str); 6] = [
+        (&["--remote", "s"], "s", "-"),
+        (&["s", "--remote"], "s", "-"),
+        (&["--remote=-", "s"], "s", "-"),
+        (&["--remote=in,out", "s"], "s", "in,out"),
+        (&["--remote=/dev/ttyACM0", "s"], "s", "/dev/ttyACM0"),
+        (&["--remote", "--", "--remote"], "--remote", "-"),
+    ];
+    for (more, script, remote) in rows {
+        let mut words = Vec::new(rt.alloc());
+        words.extend_from_slice(&["swd", "run", "--report", "r"])?;
+        words.extend_from_slice(more)?;
+        let Ok(CommandLine::Run(run)) = line(rt.alloc(), words.as_slice()) else {
+            return Err(Fail::from("no run"));
+        };
+        expect_eq_at(&rt, &more, &run.script.as_str(), &script);
+        expect_eq_at(
+            &rt,
+            &more,
+            &run.remote.ok_or("not remote")?.as_str(),
+            &remote,
+        );
+    }
+    for words in [
+        ["swd", "info"].as_slice(),
+        ["swd", "info", "--", "--remote"].as_slice(),
+        ["swd", "info", "--remote", "in,out"].as_slice(),
+        ["swd", "info", "--remote", "--remote=a"].as_slice(),
+    ] {
+        let refused = matches!(line(rt.alloc(), words), Err(LineFault::Clap(_)));
+        expect_eq_at(&rt, &words, &refused, &true);
+    }
+    Ok(())
+}
+
 #[test]
 fn words_that_are_no_command(rt: HostRuntime) {
     for words in [

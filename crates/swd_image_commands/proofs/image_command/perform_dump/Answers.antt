@@ -3,8 +3,8 @@ use Rattle.std.specs.Prelude.{◌^◌}
 use Rattle.swd_run.specs.Records.{run_file_held}
 use Rattle.swd_run.proofs.EngineLemmas.{run_file_is_some}
 use Rattle.swd_image_files.specs.Texts.{image_file_of_piece}
-use Rattle.swd_console.specs.Destinations.{console_report_contents}
 use Rattle.swd_console.specs.Streams.{stream_watched}
+use Rattle.swd_image_commands.specs.Reports.{command_writer_contents}
 use Rattle.swd_image_commands.specs.Images.{IsCommandWritten}
 use Rattle.swd_image_commands.proofs.ImageLemmas.{dump_command_done, dump_command_fits, dump_command_performed}
 use Rattle.swd_image_commands.proofs.ImageLemmas.{dump_command_stopped}
@@ -24,7 +24,7 @@ write_image_file-status-requires g c =
 pub returns-in-Ok-reached : goal.returns-in-Ok-reached
 returns-in-Ok-reached g c =
     let (calls, came, over) = c.over_line-answer.ensures in
-    let bytes = stream_watched (console_report_contents g.F.Made.Write.contents (λ e. g.E.Write.contents e.now)) in
+    let bytes = stream_watched (command_writer_contents g.F.Made.Write.contents g.E.Write.contents) in
     let opened = c.report_writer.result in
     let image = c.args.image.now in
     let answer = c.over_line-answer.result.0 in
@@ -42,7 +42,7 @@ returns-in-Ok-reached g c =
 pub returns : goal.returns
 returns g c =
     let (calls, came, over) = c.over_line-answer.ensures in
-    let bytes = stream_watched (console_report_contents g.F.Made.Write.contents (λ e. g.E.Write.contents e.now)) in
+    let bytes = stream_watched (command_writer_contents g.F.Made.Write.contents g.E.Write.contents) in
     let opened = c.report_writer.result in
     let image = c.args.image.now in
     let answer = c.over_line-answer.result.0 in

@@ -3,15 +3,15 @@ use Rattle.swd_run.specs.Records.{run_file_held}
 use Rattle.swd_run.proofs.EngineLemmas.{run_file_is_some}
 use Rattle.swd_image_ends.specs.Came.{VerifyCame}
 use Rattle.swd_image_ends.specs.Pieces.{pieces_to_load}
-use Rattle.swd_console.specs.Destinations.{console_report_contents}
 use Rattle.swd_console.specs.Streams.{stream_watched}
+use Rattle.swd_image_commands.specs.Reports.{command_writer_contents}
 use Rattle.swd_image_commands.proofs.image_command.perform_verify.Goals as goal
 use Rattle.swd_run.specs.Wires.{run_story_wire}
 
 pub returns : goal.returns
 returns g c =
     let (calls, came, over) = c.over_line-answer.ensures in
-    let bytes = stream_watched (console_report_contents g.F.Made.Write.contents (λ e. g.E.Write.contents e.now)) in
+    let bytes = stream_watched (command_writer_contents g.F.Made.Write.contents g.E.Write.contents) in
     let before = run_file_held bytes c.report_writer.result in
     let after = run_file_held bytes c.over_line-answer.new.job.report in
     let pieces = pieces_to_load c.in-Ok.whole in

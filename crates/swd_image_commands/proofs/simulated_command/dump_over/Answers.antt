@@ -4,8 +4,8 @@ use Rattle.swd_run.specs.Records.{run_file_held}
 use Rattle.swd_run.proofs.EngineLemmas.{run_file_is_some}
 use Rattle.swd_image_files.specs.Texts.{image_file_of_piece}
 use Rattle.swd_image_ends.specs.Came.{image_bench_wire}
-use Rattle.swd_console.specs.Destinations.{console_report_contents}
 use Rattle.swd_console.specs.Streams.{stream_watched}
+use Rattle.swd_image_commands.specs.Reports.{command_writer_contents}
 use Rattle.swd_image_commands.specs.Images.{IsCommandWritten}
 use Rattle.swd_image_commands.proofs.ImageLemmas.{dump_command_done, dump_command_fits, dump_command_stopped}
 use Rattle.swd_image_commands.proofs.SimulatedLemmas.{dump_command_simulated}
@@ -25,7 +25,7 @@ pub returns-in-Ok : goal.returns-in-Ok
 returns-in-Ok g c =
     let image = c.args.image.now in
     let dumped = c.dump-answer in
-    let bytes = stream_watched (console_report_contents g.F.Made.Write.contents (λ e. g.E.Write.contents e.now)) in
+    let bytes = stream_watched (command_writer_contents g.F.Made.Write.contents g.E.Write.contents) in
     let opened = c.report_writer-report.result in
     dump_command_simulated (λ v. v.items) image c.limits_of-limits.result c.args.count c.args.bench dumped.new.wire
     dumped.result (run_file_held bytes opened) (run_file_held bytes dumped.new.report) c.limits_of-limits.ensures
@@ -45,7 +45,7 @@ pub returns : goal.returns
 returns g c =
     let image = c.args.image.now in
     let dumped = c.dump-answer in
-    let bytes = stream_watched (console_report_contents g.F.Made.Write.contents (λ e. g.E.Write.contents e.now)) in
+    let bytes = stream_watched (command_writer_contents g.F.Made.Write.contents g.E.Write.contents) in
     let opened = c.report_writer-report.result in
     dump_command_simulated (λ v. v.items) image c.limits_of-limits.result c.args.count c.args.bench dumped.new.wire
     dumped.result (run_file_held bytes opened) (run_file_held bytes dumped.new.report) c.limits_of-limits.ensures

@@ -3,9 +3,9 @@ use Rattle.swd_port.specs.Bus.{plain_of}
 use Rattle.swd_run.specs.Records.{run_file_held}
 use Rattle.swd_run.proofs.EngineLemmas.{run_file_is_some}
 use Rattle.swd_image_ends.specs.Pieces.{pieces_to_load}
-use Rattle.swd_console.specs.Destinations.{console_report_contents}
 use Rattle.swd_console.specs.MemoryFiles.{CommandWritesBack}
 use Rattle.swd_console.specs.Streams.{stream_watched}
+use Rattle.swd_image_commands.specs.Reports.{command_writer_contents}
 use Rattle.swd_image_commands.specs.Images.{command_status_loaded, command_status_of_image}
 use Rattle.swd_image_commands.specs.Simulated.{IsSimulatedCommandStatus}
 use Rattle.swd_image_commands.proofs.SimulatedLemmas.{load_command_simulated}
@@ -17,7 +17,7 @@ load_pieces-answer-requires g c = c.requires.rests.due
 pub returns-in-Ok : goal.returns-in-Ok
 returns-in-Ok g c =
     let loaded = c.load_pieces-answer in
-    let bytes = stream_watched (console_report_contents g.F.Made.Write.contents (λ e. g.E.Write.contents e.now)) in
+    let bytes = stream_watched (command_writer_contents g.F.Made.Write.contents g.E.Write.contents) in
     let opened = c.report_writer-report.result in
     let old = g.F.Made.Write.contents c.args.back.file in
     let new = g.F.Made.Write.contents c.write_back.new.to.file in
@@ -42,7 +42,7 @@ returns-in-Ok g c =
 pub returns : goal.returns
 returns g c =
     let loaded = c.load_pieces-answer in
-    let bytes = stream_watched (console_report_contents g.F.Made.Write.contents (λ e. g.E.Write.contents e.now)) in
+    let bytes = stream_watched (command_writer_contents g.F.Made.Write.contents g.E.Write.contents) in
     let opened = c.report_writer-report.result in
     let old = g.F.Made.Write.contents c.args.back.file in
     let new = g.F.Made.Write.contents c.write_back.new.to.file in

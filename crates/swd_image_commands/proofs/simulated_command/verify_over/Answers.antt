@@ -5,8 +5,8 @@ use Rattle.swd_run.proofs.EngineLemmas.{run_file_is_some}
 use Rattle.swd_image_ends.specs.Came.{VerifyCame, image_bench_wire}
 use Rattle.swd_image_ends.specs.Pieces.{pieces_to_load}
 use Rattle.swd_image_ends.proofs.AddressLemmas.{verified_there}
-use Rattle.swd_console.specs.Destinations.{console_report_contents}
 use Rattle.swd_console.specs.Streams.{stream_watched}
+use Rattle.swd_image_commands.specs.Reports.{command_writer_contents}
 use Rattle.swd_image_commands.proofs.simulated_command.verify_over.Goals as goal
 
 pub verify_pieces-answer-requires : goal.verify_pieces-answer-requires
@@ -15,7 +15,7 @@ verify_pieces-answer-requires g c = c.requires.rests.due
 pub returns : goal.returns
 returns g c =
     let verified = c.verify_pieces-answer in
-    let bytes = stream_watched (console_report_contents g.M.Write.contents (λ e. g.E.Write.contents e.now)) in
+    let bytes = stream_watched (command_writer_contents g.M.Write.contents g.E.Write.contents) in
     let before = run_file_held bytes c.report_writer-report.result in
     let after = run_file_held bytes verified.new.report in
     let pieces = pieces_to_load c.args.whole.now in

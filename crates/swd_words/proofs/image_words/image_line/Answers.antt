@@ -1,4 +1,4 @@
-use Rattle.std.proofs.Common.{◌∙◌, Option, sym, ap, subst, codes}
+use Rattle.std.proofs.Common.{◌∙◌, ◌≡◌, ◌↔◌, Option, Some, true, sym, ap, subst, codes}
 use Rattle.std.specs.Option.{option_and_then, option_map}
 use Rattle.std.specs.String.{string_bytes}
 use Rattle.clap.specs.Words.{Text, first_of, found_of, rows_of}
@@ -18,6 +18,11 @@ returns c = record {
   tries = c.in_ok-numbers.ensures.tries;
   resumes = c.in_ok-numbers.ensures.resumes;
   report = c.in-Ok.ensures ∙ c.get_str-2.ensures ∙ first_value-rows (found_of c.args.matches.now) (codes "report");
+  progress = subst (λ (word : Option Text). (c.is_asked_for-progress.result ≡ true) ↔ (word ≡ Some (codes "true")))
+      (c.get_str-3.ensures ∙ first_value-rows (found_of c.args.matches.now) (codes "progress"))
+      c.is_asked_for-progress.ensures;
+  remote = c.in-Ok-owned.ensures ∙ c.get_str-4.ensures
+      ∙ first_value-rows (found_of c.args.matches.now) (codes "remote");
   target = c.in_ok-memory.ensures;
   format =
       let formats = c.in-Some-formats_in.formats in

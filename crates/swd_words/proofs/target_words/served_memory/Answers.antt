@@ -21,7 +21,7 @@ returns c = (
         ∙ first_value-rows (found_of c.args.matches.now) (codes "plan");
   },
   sym (c.get_str-2.ensures ∙ first_value-rows (found_of c.args.matches.now) (codes "memory"))
-      ∙ c.is_missing.ensures c.if-not-is_missing.false,
+      ∙ c.is_missing.ensures.0 c.if-not-is_missing.false,
   sym (c.get_str-3.ensures ∙ first_value-rows (found_of c.args.matches.now) (codes "base"))
-      ∙ c.is_missing-2.ensures c.if-not-is_missing-2.false,
+      ∙ c.is_missing-2.ensures.0 c.if-not-is_missing-2.false,
 )

@@ -16,12 +16,12 @@ returns c = record {
   accesses = c.in-Ok-owned-2.ensures ∙ c.get_str-4.ensures
       ∙ first_value-rows (found_of c.args.matches.now) (codes "accesses");
   strict = subst (λ (word : Option Text). (c.is_asked_for.result ≡ true) ↔ (word ≡ Some (codes "true")))
-      (c.get_str-6.ensures ∙ first_value-rows (found_of c.args.matches.now) (codes "strict")) c.is_asked_for.ensures;
-  remote = subst (λ (word : Option Text). (c.is_asked_for-2.result ≡ true) ↔ (word ≡ Some (codes "true")))
-      (c.get_str-7.ensures ∙ first_value-rows (found_of c.args.matches.now) (codes "remote")) c.is_asked_for-2.ensures;
+      (c.get_str-7.ensures ∙ first_value-rows (found_of c.args.matches.now) (codes "strict")) c.is_asked_for.ensures;
+  remote = c.in-Ok-owned-4.ensures ∙ c.get_str-6.ensures
+      ∙ first_value-rows (found_of c.args.matches.now) (codes "remote");
   report = c.in-Ok-owned-3.ensures ∙ c.get_str-5.ensures
       ∙ first_value-rows (found_of c.args.matches.now) (codes "report");
-  progress = subst (λ (word : Option Text). (c.is_asked_for-3.result ≡ true) ↔ (word ≡ Some (codes "true")))
+  progress = subst (λ (word : Option Text). (c.is_asked_for-2.result ≡ true) ↔ (word ≡ Some (codes "true")))
       (c.get_str-8.ensures ∙ first_value-rows (found_of c.args.matches.now) (codes "progress"))
-      c.is_asked_for-3.ensures;
+      c.is_asked_for-2.ensures;
 }

@@ -18,4 +18,5 @@ returns-clause-app c =
     let target = c.in_ok-target.ensures.app ∙ ap₂ with_subcommand run (ap top_of c.in_ok-target_command.ensures.app) in
     let draw = c.in_ok-draw.ensures.app ∙ ap₂ with_subcommand target (ap top_of c.in_ok-draw_command.ensures.app) in
     let check = c.in_ok-check.ensures.app ∙ ap₂ with_subcommand draw (ap top_of c.in_ok-check_command.ensures.app) in
-    IfOk-weaker c.with_images.result _ _ (λ command h. h ∙ ap with_image_args_apps check) c.with_images.ensures.app
+    let info = c.in_ok-info.ensures.app ∙ ap₂ with_subcommand check (ap top_of c.in_ok-info_command.ensures.app) in
+    IfOk-weaker c.with_images.result _ _ (λ command h. h ∙ ap with_image_args_apps info) c.with_images.ensures.app

@@ -1,0 +1,58 @@
+//! The arguments of `swd info`.
+ghost use Rattle.std.specs.Prelude.{◌≡◌, IfOk, false};
+ghost use Rattle.clap.specs.Words.{app_of, found_of, rows_of};
+ghost use Rattle.clap.specs.declared.builder.command.Command.TheViews.{out-Command};
+ghost use Rattle.swd_words.specs.Commands.{info_args_app, AreInfoArguments};
+
+use crate::command::{InfoLine, LineFault};
+use crate::words::{numbers_in, owned, refused, remote_arg, tries_arg, with_arg};
+use clap::error::ErrorKind;
+use clap::{ArgMatches, Command};
+use std::alloc::{AllocError, Global};
+
+const INFO_ABOUT: &str = "Identify a target, or say how far its opening came";
+
+const INFO_AFTER: &str = "\
+Opens the target as swd run does, and makes no access. Lines on standard error
+have DPIDR by its fields, in hexadecimal, and what power was acknowledged:
+  swd: DPIDR 2ba01477: designer 23b, part ba, version 1, revision 2
+  swd: debug power and system power are acknowledged: the target is open
+If the opening failed, the last line says how far it came. Designer 23b is Arm.
+
+--remote is as for swd run. For a server on a socket:
+  socat TCP:localhost:4711,nodelay EXEC:'swd info --remote'
+
+Status: 0 if the target was opened, 1 if it wasn't or the other end went away,
+2 at an error.";
+
+const NO_TARGET: &str = "the target is missing: give --remote";
+
+/// Returns the command `info`.
+pub(crate) fn info_command<'a>(alloc: Global) -> Result<Command<'a>, AllocError>
+    ensures app { IfOk result (λ c. app_of c ≡ info_args_app) }
+    ensures local { IfOk result (λ c. (out-Command c).has_globals ≡ false) }
+{
+    let bare = Command::new(alloc, "info")
+        .about(INFO_ABOUT)
+        .after_help(INFO_AFTER);
+    let remote = with_arg(bare, remote_arg(alloc))?;
+    with_arg(remote, tries_arg(alloc))
+}
+
+/// Returns the arguments of `swd info`. Rejects those without `--remote`.
+pub(crate) fn info_line(alloc: Global, matches: &ArgMatches<'_>) -> Result<InfoLine, LineFault>
+    ensures { IfOk result (λ info. AreInfoArguments info (rows_of (found_of matches.now))) }
+{
+    let Ok(remote) = owned(alloc, matches.get_str("remote")) else {
+        return Err(LineFault::Memory);
+    };
+    let Some(remote) = remote else {
+        let kind = ErrorKind::MissingRequiredArgument;
+        return Err(refused(alloc, kind, NO_TARGET));
+    };
+    let numbers = numbers_in(alloc, matches)?;
+    Ok(InfoLine {
+        remote,
+        tries: numbers.0,
+    })
+}
