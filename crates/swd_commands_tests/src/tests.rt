@@ -517,7 +517,7 @@ fn a_trace_that_may_be_standard_output_is_refused(rt: HostRuntime) {
     expect_eq(
         &rt,
         &errors.as_slice(),
-        &b"swd: cannot open traced: standard output is unknown\n".as_slice(),
+        &b"swd: cannot open traced: standard output is unknown without /proc\n".as_slice(),
     );
     assert!(rt; output.is_empty());
     expect_eq(&rt, &cuts.get(), &0);
