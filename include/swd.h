@@ -1,5 +1,5 @@
 /*
- * swd.h - a Serial Wire Debug host, a simulated target and a trace decoder, for C99 and C++.
+ * swd.h - a Serial Wire Debug host, a simulated target, a trace decoder and a checker of traces, for C99 and C++.
  *
  * The functions are those of the crate swd_c, which is proved. docs/C.md says how to build the archive
  * libswd_c.a, what is proved of these calls, and what a caller must do.
@@ -398,6 +398,118 @@ bool swd_decoder_due(struct swd_decoder *decoder, struct swd_item *item);
  */
 bool swd_decoder_last(struct swd_decoder *decoder, struct swd_item *item);
 
+/* --------------------------------------------------------------------------------------- the checker ---- */
+
+/*
+ * A checker of a trace: whether a target that conforms to the port model may show its items, or the first item that
+ * none may show, with the rule that it breaks. docs/CONFORMANCE.md says what a verdict says, and what it doesn't. All
+ * fields are private to the library. A struct of zeros is invalid. It has 4,168 bytes, and a call needs several times that
+ * on the stack.
+ *
+ *	struct swd_check check;
+ *	swd_check_new(&check, SWD_MADE, 1);
+ *	while (next_item(&item, &place))
+ *		swd_check_watch(&check, &item, place);
+ *	swd_check_verdict(&check, &verdict);
+ */
+struct swd_held {
+	uint64_t places;
+	uint32_t word;
+	uint8_t kind;
+};
+
+struct swd_world {
+	uint64_t faults;
+	struct swd_held buffer, last_returned;
+	struct {
+		uint32_t first;
+		uint8_t more, known;
+	} tar;
+	uint8_t reset, sticky_error, write_error, read_ok, debug, system, mem_ap, bank0, increments, pending, awaits;
+};
+
+struct swd_check {
+	struct swd_world worlds[64];
+	struct swd_held identification;
+	uint64_t began, faults_before, gaps, broken, crowded;
+	uint32_t select;
+	uint8_t count, overfull, opening, clean, has_began, in_gap, stray, rule, is_crowded;
+};
+
+/*
+ * The state of the target before the first item.
+ */
+enum {
+	SWD_MADE = 1, /* its reset state: no line reset yet, each register 0 */
+	SWD_AT_REST = 2, /* SELECT is 0, no transfer is in progress, and no data phase is due, as after a reset of its power */
+	SWD_ANY = 3 /* no data phase is due */
+};
+
+/*
+ * What the items so far show.
+ */
+struct swd_verdict {
+	uint64_t place; /* of SWD_BREAKS and SWD_CROWDED: the number of bits before the item, as it was passed; else 0 */
+	uint64_t began; /* the place of the first item that was checked, if `has_began`; else 0 */
+	uint64_t faults; /* how many requests were damaged or lost at least */
+	uint64_t gaps; /* how many times stray bits hid what came before a line reset */
+	uint8_t kind;
+	uint8_t rule; /* of SWD_BREAKS: the rule, for swd_rule_name; else 0 */
+	uint8_t has_began;
+};
+
+enum {
+	SWD_FITS = 1, /* some run of the model explains the items */
+	SWD_BREAKS = 2, /* none explains the items up to the one at `place` */
+	SWD_CROWDED = 3 /* not decided from `place` on: more states of the target are possible than the struct holds */
+};
+
+/*
+ * Makes a checker that has watched no item. `clean` isn't 0 if nothing is damaged or lost on the line, as in a
+ * simulation.
+ *
+ * Returns false: `start` is none of the three.
+ */
+bool swd_check_new(struct swd_check *check, uint8_t start, uint8_t clean);
+
+/*
+ * Takes the next item. `place` is the number of bits before it, and is used in the verdict alone. After SWD_BREAKS it
+ * does nothing.
+ *
+ * Returns false: *check is invalid; or *item is no item: a kind that there isn't, a field that isn't 0 where the kind
+ * doesn't name it, eight bits that are no request, an `ack` above 7, or more than 49 bits of SWD_CUT.
+ */
+bool swd_check_watch(struct swd_check *check, const struct swd_item *item, uint64_t place);
+
+/*
+ * Writes what the items so far show.
+ *
+ * Returns false, and leaves *verdict unchanged: *check is invalid.
+ */
+bool swd_check_verdict(const struct swd_check *check, struct swd_verdict *verdict);
+
+/*
+ * A rule in the words of the standard, as `swd check` prints it.
+ */
+static inline const char *swd_rule_name(uint8_t rule)
+{
+	static const char *const names[] = {
+		"none",
+		"after a line reset only a read of DPIDR is answered",
+		"each request is acknowledged",
+		"reads of DPIDR and CTRL/STAT and writes of ABORT get neither WAIT nor FAULT",
+		"FAULT is answered while a sticky flag is set, and not else",
+		"an access port without debug power answers FAULT",
+		"FAULT takes precedence over WAIT",
+		"a posted read returns the result of the read before it",
+		"RESEND returns the last returned value again",
+		"CTRL/STAT shows the flags and the powers",
+		"DPIDR reads the same word each time, and its bit 0 is 1",
+		"the parity of a word is even",
+	};
+	return rule < sizeof names / sizeof *names ? names[rule] : "unknown";
+}
+
 /* ---------------------------------------------------------------------------------------- the header ---- */
 
 /*
@@ -427,6 +539,18 @@ struct swd_run_layout {
 };
 
 void swd_run_layout(struct swd_run_layout *layout);
+
+/*
+ * The same for the structs of the checker, with the numbers from 1 on. Each of the worlds of `check` is `world`.
+ */
+struct swd_check_layout {
+	struct swd_world world;
+	struct swd_check check;
+	struct swd_verdict verdict;
+	uint64_t world_size, check_size, verdict_size, layout_size;
+};
+
+void swd_check_layout(struct swd_check_layout *layout);
 
 #ifdef __cplusplus
 }

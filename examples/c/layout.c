@@ -145,6 +145,68 @@ static void check_run_fields(void)
 	same("struct swd_run_layout", sizeof(struct swd_run_layout), layout.layout_size);
 }
 
+static void check_checker_fields(void)
+{
+	static struct swd_check_layout layout;
+	size_t i;
+	memset(&layout, 0xee, sizeof layout);
+	swd_check_layout(&layout);
+	CHECK(world.faults, 1);
+	CHECK(world.buffer.places, 2);
+	CHECK(world.buffer.word, 3);
+	CHECK(world.buffer.kind, 4);
+	CHECK(world.last_returned.places, 5);
+	CHECK(world.last_returned.word, 6);
+	CHECK(world.last_returned.kind, 7);
+	CHECK(world.tar.first, 8);
+	CHECK(world.tar.more, 9);
+	CHECK(world.tar.known, 10);
+	CHECK(world.reset, 11);
+	CHECK(world.sticky_error, 12);
+	CHECK(world.write_error, 13);
+	CHECK(world.read_ok, 14);
+	CHECK(world.debug, 15);
+	CHECK(world.system, 16);
+	CHECK(world.mem_ap, 17);
+	CHECK(world.bank0, 18);
+	CHECK(world.increments, 19);
+	CHECK(world.pending, 20);
+	CHECK(world.awaits, 21);
+	CHECK(check.identification.places, 22);
+	CHECK(check.identification.word, 23);
+	CHECK(check.identification.kind, 24);
+	CHECK(check.began, 25);
+	CHECK(check.faults_before, 26);
+	CHECK(check.gaps, 27);
+	CHECK(check.broken, 28);
+	CHECK(check.crowded, 29);
+	CHECK(check.select, 30);
+	CHECK(check.count, 31);
+	CHECK(check.overfull, 32);
+	CHECK(check.opening, 33);
+	CHECK(check.clean, 34);
+	CHECK(check.has_began, 35);
+	CHECK(check.in_gap, 36);
+	CHECK(check.stray, 37);
+	CHECK(check.rule, 38);
+	CHECK(check.is_crowded, 39);
+	CHECK(verdict.place, 40);
+	CHECK(verdict.began, 41);
+	CHECK(verdict.faults, 42);
+	CHECK(verdict.gaps, 43);
+	CHECK(verdict.kind, 44);
+	CHECK(verdict.rule, 45);
+	CHECK(verdict.has_began, 46);
+	for (i = 0; i < 64; i++) {
+		CHECK(check.worlds[i].faults, 1);
+		CHECK(check.worlds[i].awaits, 21);
+	}
+	same("struct swd_world", sizeof(struct swd_world), layout.world_size);
+	same("struct swd_check", sizeof(struct swd_check), layout.check_size);
+	same("struct swd_verdict", sizeof(struct swd_verdict), layout.verdict_size);
+	same("struct swd_check_layout", sizeof(struct swd_check_layout), layout.layout_size);
+}
+
 static void check_version(void)
 {
 	char version[16];
@@ -357,16 +419,44 @@ static void check_items(void)
 	same("bit", item.bits, 1);
 }
 
+/* A read of CTRL/STAT that is answered WAIT before any line reset. */
+static void check_checks(void)
+{
+	static struct swd_check check;
+	struct swd_verdict verdict;
+	struct swd_item item;
+	memset(&item, 0, sizeof item);
+	item.kind = SWD_TRANSACTION;
+	item.request = 0x8d;
+	item.ack = 2;
+	same("no start", swd_check_new(&check, 4, 0), false);
+	same("no checker", swd_check_verdict(&check, &verdict), false);
+	same("SWD_MADE", swd_check_new(&check, SWD_MADE, 0), true);
+	same("verdict", swd_check_verdict(&check, &verdict), true);
+	same("SWD_FITS", verdict.kind, SWD_FITS);
+	same("item", swd_check_watch(&check, &item, 7), true);
+	same("verdict", swd_check_verdict(&check, &verdict), true);
+	same("SWD_BREAKS", verdict.kind, SWD_BREAKS);
+	same("place", verdict.place, 7);
+	same("rule", (uint64_t)strcmp(swd_rule_name(verdict.rule), "after a line reset only a read of DPIDR is answered"), 0);
+	item.ack = 8;
+	same("no item", swd_check_watch(&check, &item, 7), false);
+	same("SWD_AT_REST", swd_check_new(&check, SWD_AT_REST, 0), true);
+	same("SWD_ANY", swd_check_new(&check, SWD_ANY, 1), true);
+}
+
 int main(void)
 {
 	check_fields();
 	check_run_fields();
+	check_checker_fields();
 	check_version();
 	check_cues();
 	check_outcomes();
 	check_runs();
 	check_target();
 	check_items();
+	check_checks();
 	if (!faults)
 		printf("swd.h is that of the archive\n");
 	return faults;

@@ -283,6 +283,67 @@ static void try_target(void)
 	}
 }
 
+static struct swd_item make_item(void)
+{
+	/* A line reset, idle cycles, DPIDR, CTRL/STAT both ways, TAR, DRW and RDBUFF. */
+	static const uint8_t requests[] = { 0xa5, 0x8d, 0xa9, 0x8b, 0xaf, 0x9f, 0xbb, 0xbd, 0x81, 0xb1 };
+	static const uint8_t acks[] = { 1, 1, 1, 1, 1, 2, 4, 7 };
+	struct swd_item item;
+	memset(&item, 0, sizeof item);
+	switch (any() % 8) {
+	case 0:
+		fill(&item, sizeof item);
+		break;
+	case 1:
+		item.kind = (uint8_t)(1 + any() % 6);
+		item.count = item.kind == SWD_CUT ? any() % 52 : item.kind == SWD_RESET || item.kind == SWD_IDLE ? some() : 0;
+		break;
+	default:
+		item.kind = SWD_TRANSACTION;
+		item.request = requests[any() % sizeof requests];
+		item.ack = acks[any() % sizeof acks];
+		item.parity_ok = item.ack == 1 && any() % 16;
+		if (item.ack == 1)
+			item.word = item.request == 0xa5 ? 0x2ba01477 : item.request == 0x8d ? 0xf0000000 : (uint32_t)any();
+		break;
+	}
+	return item;
+}
+
+static struct swd_check make_check(void)
+{
+	struct swd_check check;
+	memset(&check, 0, sizeof check);
+	if (any() % 4 == 0) {
+		fill(&check, sizeof check);
+	} else {
+		uint8_t start = (uint8_t)(1 + any() % 3);
+		swd_check_new(&check, start, (uint8_t)(any() % 2));
+	}
+	return check;
+}
+
+static void try_check(void)
+{
+	struct swd_check check = make_check();
+	int i;
+	for (i = 0; i < 12; i++) {
+		struct swd_check before = check;
+		struct swd_verdict verdict, unwritten_verdict;
+		struct swd_item item = make_item();
+		bool told;
+		count(!swd_check_watch(&check, &item, some()), &before, &check, sizeof check);
+		memset(&verdict, 0x55, sizeof verdict);
+		unwritten_verdict = verdict;
+		told = swd_check_verdict(&check, &verdict);
+		count(!told, &unwritten_verdict, &verdict, sizeof verdict);
+		if (told && (verdict.kind < SWD_FITS || verdict.kind > SWD_CROWDED || verdict.rule > 11))
+			fail("no verdict");
+		if (any() % 8 == 0)
+			spoil(&check, sizeof check);
+	}
+}
+
 int main(int argc, char **argv)
 {
 	unsigned long most = argc > 1 ? strtoul(argv[1], NULL, 10) : 10000000;
@@ -290,6 +351,7 @@ int main(int argc, char **argv)
 		try_run();
 		try_decoder();
 		try_target();
+		try_check();
 	}
 	printf("%lu calls, %lu gave nothing, %lu times a target wanted a transfer first\n", calls, refused, wants);
 	return 0;

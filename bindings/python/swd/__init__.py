@@ -1,4 +1,4 @@
-"""Serial Wire Debug (SWD): a host, a simulated target and a trace decoder, over the library libswd_c.
+"""Serial Wire Debug (SWD): a host, a simulated target, a trace decoder and a checker of traces, over libswd_c.
 
     import swd
 
@@ -34,13 +34,14 @@ The library, libswd_c.so, is searched in this order; `Library` checks it once, f
 from ._accesses import (
     MOST_ACCESSES, Access, Answer, BusFault, End, Read, Report, Value, Write, Written, block,
 )
+from ._checking import Checker, Verdict
 from ._cues import Ask, Cue, Drive, Give, Lead, Pass, Release, Sample, Sequence, Take
 from ._decoding import Bits, Cut, Decoder, Idle, Item, Junk, Reset, Switch, Transaction, decode, trace_bits
 from ._errors import (
     AccessFaulted, BusError, CallbackFailed, ConditionNotMet, DecoderFinished, ImageDiffers, ImageInterrupted,
     ImageStopped, Interrupted, LibraryMismatch, LibraryNotFound, LibraryRefused, LineFailed, NotABit, NotALine,
-    NotAnAccess, NotBytes, NotResumable, OutOfRange, Reentered, RunEnded, RunFailed, RunStopped, SwdError,
-    TooManyAccesses, Unaligned, report_of,
+    NotAnAccess, NotAnItem, NotBytes, NotResumable, OutOfRange, Reentered, RunEnded, RunFailed, RunStopped,
+    SwdError, TooManyAccesses, Unaligned, report_of,
 )
 from ._hosts import Host, Session
 from ._identities import Identification, Opening
@@ -52,11 +53,11 @@ from ._target import Bus, Target
 __version__ = "0.1.0"
 __all__ = [
     "Access", "AccessFaulted", "Answer", "Ask", "Bits", "Bus", "BusError", "BusFault", "CallbackFailed",
-    "ConditionNotMet", "Cue", "Cut", "Decoder", "DecoderFinished", "Drive", "End", "Give", "Host", "Idle",
+    "Checker", "ConditionNotMet", "Cue", "Cut", "Decoder", "DecoderFinished", "Drive", "End", "Give", "Host", "Idle",
     "Identification", "ImageDiffers", "ImageInterrupted", "ImageStopped", "Interrupted", "Item", "Junk", "Lead",
     "Library", "LibraryMismatch", "LibraryNotFound", "LibraryRefused", "Line", "LineFailed", "MOST_ACCESSES",
-    "NotABit", "NotALine", "NotAnAccess", "NotBytes", "NotResumable", "Opening", "OutOfRange", "Pass", "Read",
-    "Reentered", "Release", "Report", "Reset", "Run", "RunEnded", "RunFailed", "RunStopped", "Sample", "Sequence",
+    "NotABit", "NotALine", "NotAnAccess", "NotAnItem", "NotBytes", "NotResumable", "Opening", "OutOfRange", "Pass",
+    "Read", "Reentered", "Release", "Report", "Reset", "Run", "RunEnded", "RunFailed", "RunStopped", "Sample", "Sequence",
     "SequenceLine", "Sequences", "Session", "SwdError", "Switch", "Take", "Target", "TooManyAccesses",
-    "Transaction", "Unaligned", "Value", "Write", "Written", "block", "decode", "report_of", "trace_bits",
+    "Transaction", "Unaligned", "Value", "Verdict", "Write", "Written", "block", "decode", "report_of", "trace_bits",
 ]

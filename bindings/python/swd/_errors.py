@@ -42,6 +42,10 @@ class NotAnAccess(SwdError, TypeError):
     """An element of the list is neither `Read` nor `Write`. The message says which one."""
 
 
+class NotAnItem(SwdError, TypeError):
+    """What a `Checker` was fed is no item of a trace; or it was fed bits and items. The message says which."""
+
+
 class NotBytes(SwdError, TypeError):
     """The data of an image is neither bytes, nor another object with a buffer of bytes."""
 
@@ -64,7 +68,7 @@ class RunEnded(SwdError, RuntimeError):
 
 
 class DecoderFinished(SwdError, RuntimeError):
-    """`Decoder.feed` or `Decoder.finish` was called after `Decoder.finish`."""
+    """`Decoder.feed`, `Decoder.finish` or `Checker.feed` was called after `finish`."""
 
 
 class BusError(Exception):

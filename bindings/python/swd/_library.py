@@ -51,6 +51,21 @@ RunStruct = _struct(
     "RunStruct", ("requests", _u64), ("engine", EngineStruct), ("end", OutcomeStruct), ("answered", _u32),
     *_bytes("begun stage"),
 )
+HeldStruct = _struct("HeldStruct", ("places", _u64), ("word", _u32), ("kind", _u8))
+IntervalStruct = _struct("IntervalStruct", ("first", _u32), *_bytes("more known"))
+WorldStruct = _struct(
+    "WorldStruct", ("faults", _u64), ("buffer", HeldStruct), ("last_returned", HeldStruct), ("tar", IntervalStruct),
+    *_bytes("reset sticky_error write_error read_ok debug system mem_ap bank0 increments pending awaits"),
+)
+CheckStruct = _struct(
+    "CheckStruct", ("worlds", WorldStruct * 64), ("identification", HeldStruct), ("began", _u64),
+    ("faults_before", _u64), ("gaps", _u64), ("broken", _u64), ("crowded", _u64), ("select", _u32),
+    *_bytes("count overfull opening clean has_began in_gap stray rule is_crowded"),
+)
+VerdictStruct = _struct(
+    "VerdictStruct", ("place", _u64), ("began", _u64), ("faults", _u64), ("gaps", _u64),
+    *_bytes("kind rule has_began"),
+)
 _CROSSING = (
     ("engine", EngineStruct), ("cue", CueStruct), ("access", AccessStruct), ("decoder", DecoderStruct),
     ("item", ItemStruct), ("target", TargetStruct), ("transfer", TransferStruct),
@@ -65,7 +80,11 @@ def _layout(crossing: _Crossing) -> Any:
 
 
 # Each function that writes a layout, with its structs and the number of their first field.
-LAYOUTS = (("swd_layout", _CROSSING), ("swd_run_layout", (("run", RunStruct),)))
+LAYOUTS = (
+    ("swd_layout", _CROSSING),
+    ("swd_run_layout", (("run", RunStruct),)),
+    ("swd_check_layout", (("world", WorldStruct), ("check", CheckStruct), ("verdict", VerdictStruct))),
+)
 
 # Kinds of cues.
 REST, LEAD, ASK, TAKE, GIVE, PASS, REFUSED = 0, 1, 2, 3, 4, 5, 255
@@ -84,6 +103,7 @@ _run = ctypes.POINTER(RunStruct)
 _FUNCTIONS: Dict[str, Tuple[Any, Optional[Tuple[Any, ...]]]] = {
     "swd_layout": (None, (ctypes.c_void_p,)),
     "swd_run_layout": (None, (ctypes.c_void_p,)),
+    "swd_check_layout": (None, (ctypes.c_void_p,)),
     "swd_run_new": (None, (_run, _u32)),
     "swd_run_blocks": (None, (_run, _u32)),
     "swd_run_opened": (CueStruct, None),
@@ -99,6 +119,9 @@ _FUNCTIONS: Dict[str, Tuple[Any, Optional[Tuple[Any, ...]]]] = {
     "swd_target_wants": (TransferStruct, (ctypes.POINTER(TargetStruct),)),
     "swd_target_settle": (ctypes.c_bool, (ctypes.POINTER(TargetStruct), _u8, _u32)),
     "swd_target_hold": (ctypes.c_bool, (ctypes.POINTER(TargetStruct), _u8)),
+    "swd_check_new": (ctypes.c_bool, (ctypes.POINTER(CheckStruct), _u8, _u8)),
+    "swd_check_watch": (ctypes.c_bool, (ctypes.POINTER(CheckStruct), ctypes.POINTER(ItemStruct), _u64)),
+    "swd_check_verdict": (ctypes.c_bool, (ctypes.POINTER(CheckStruct), ctypes.POINTER(VerdictStruct))),
 }
 
 
@@ -137,23 +160,38 @@ class Library:
         fields = [leaf for name, _ in crossing for leaf in leaves(name, getattr(layout, name))]
         # The numbers of a run begin with those of its engine.
         fields.sort(key=lambda leaf: not leaf[0].startswith("run.engine."))
-        for number, (path, size, value) in enumerate(fields, 1):
-            if value != int.from_bytes(bytes([number]) * size, "little"):
-                raise LibraryMismatch(f"{self.path}: the field {path} is at another offset")
+        self._check_numbers(fields)
+        for name, _ in crossing:
+            for path, element in _elements(name, getattr(layout, name)):
+                self._check_numbers(list(leaves(path, element)))
         for name, kind in (*crossing, ("layout", struct)):
             size = getattr(layout, f"{name}_size")
             if size != ctypes.sizeof(kind):
                 raise LibraryMismatch(f"{self.path}: struct swd_{name} has {size} bytes, here {ctypes.sizeof(kind)}")
 
+    def _check_numbers(self, fields: List[Tuple[str, int, int]]) -> None:
+        """Compares these fields with the numbers from 1 on."""
+        for number, (path, size, value) in enumerate(fields, 1):
+            if value != int.from_bytes(bytes([number]) * size, "little"):
+                raise LibraryMismatch(f"{self.path}: the field {path} is at another offset")
+
 
 def leaves(path: str, value: Any) -> Iterator[Tuple[str, int, int]]:
-    """Yields the integer fields of a struct, in order: path, size in bytes, value."""
+    """Yields the integer fields of a struct but for those of arrays, in order: path, size in bytes, value."""
     for name, kind in value._fields_:
         field = getattr(value, name)
         if isinstance(field, ctypes.Structure):
             yield from leaves(f"{path}.{name}", field)
-        else:
+        elif not isinstance(field, ctypes.Array):
             yield f"{path}.{name}", ctypes.sizeof(kind), field
+
+
+def _elements(path: str, value: Any) -> Iterator[Tuple[str, Any]]:
+    """Yields the elements of the arrays in a struct, which are structs: path, element."""
+    for name, _ in value._fields_:
+        field = getattr(value, name)
+        if isinstance(field, ctypes.Array):
+            yield from ((f"{path}.{name}[{place}]", element) for place, element in enumerate(field))
 
 
 def _load(path: Union[None, str, "os.PathLike[str]"]) -> Tuple[str, ctypes.PyDLL]:

@@ -568,7 +568,7 @@ class WithoutIo(unittest.TestCase):
     def test_the_asynchronous_program_of_the_page(self):
         """Two runs at once, each over its line."""
         names = {"swd": swd}
-        exec(program_of_the_page("async def"), names)  # pylint: disable=exec-used
+        exec(program_of_the_page("async def perform"), names)  # pylint: disable=exec-used
 
         class Probe(Sequenced):
             """A probe whose calls are awaited."""

@@ -2,6 +2,7 @@
 
 SWD names the program `swd`, which random lists and traces are then compared with. COUNT is how many random lists are
 run, 300 without it, and SEED where they begin."""
+import asyncio
 import concurrent.futures
 import contextlib
 import ctypes
@@ -645,7 +646,7 @@ class Libraries(unittest.TestCase):
     def test_the_names_of_the_fields(self):
         """They are those of the C example that checks the header, in that order. A run has its engine's in it."""
         with open(os.path.join(ROOT, "examples", "c", "layout.c"), encoding="ascii") as source:
-            fields = re.findall(r"\tCHECK\((?!run\.engine)([a-z_.]+), [0-9]+\);", source.read())
+            fields = re.findall(r"\tCHECK\((?!run\.engine)([a-z0-9_.]+), [0-9]+\);", source.read())
         paths = [path for _, structs in bound.LAYOUTS for name, kind in structs for path, _, _ in
                  bound.leaves(name, kind())]
         engine = [path for path in paths if path.startswith("engine.")]
@@ -655,6 +656,22 @@ class Libraries(unittest.TestCase):
     def test_the_version(self):
         with open(os.path.join(ROOT, "include", "swd.h"), encoding="ascii") as header:
             self.assertIn(f'#define SWD_VERSION "{swd.__version__}"', header.read())
+
+
+class EndOfLevels(Exception):
+    """A simulation that is over."""
+
+
+def edges_of(levels, swdio):
+    """Stands in for cocotb's `RisingEdge`: at each edge the line has the next of these levels."""
+    left = iter(levels)
+
+    async def edge(_):
+        swdio.value = next(left, None)
+        if swdio.value is None:
+            raise EndOfLevels
+
+    return edge
 
 
 def programs_of_the_page():
@@ -705,6 +722,20 @@ class Pages(unittest.TestCase):
                     self.assertEqual(session.read(BASE), WORD)
                 self.assertEqual(memory.log, [("w", BASE, WORD), ("r", BASE, WORD)])
 
+    def test_monitor(self):
+        """The monitor of that page, over levels in place of a simulation: of a run, and with an answer before any
+        line reset."""
+        names = {"swd": swd}
+        exec(program_of_the_page("monitor"), names)  # pylint: disable=exec-used
+        line = Damaged(library_target(PlainMemory(BASE, 16, 100)), [])
+        swd.Host(line).run([Write(BASE, WORD), Read(BASE)])
+        wait = [*(0xBD >> place & 1 for place in range(8)), 1, 0, 1, 0, 1]
+        for levels, ended in ((line.levels, EndOfLevels), (wait + [0] * 60, AssertionError)):
+            swclk, swdio = object(), unittest.mock.Mock()
+            names["RisingEdge"] = edges_of(levels, swdio)
+            with self.subTest(ended), self.assertRaises(ended):
+                asyncio.run(names["monitor"](swclk, swdio))
+
     def test_programs(self):
         line = library_target(PlainMemory(BASE, 64, 1000))
         names = {"swd": swd, "MyProbe": lambda: line}
@@ -721,7 +752,8 @@ class Pages(unittest.TestCase):
                 os.chdir(here)
             printed.append(output.getvalue())
         with open(os.path.join(ROOT, "examples", "session.list"), encoding="ascii") as listing:
-            wanted = [listing.read(), "0xdeadbeef\n", "200 of 200\n00010203\n", "", "", "", "", "7\n"]
+            verdict = "breaks @176: FAULT takes precedence over WAIT\n"
+            wanted = [listing.read(), verdict, "", "0xdeadbeef\n", "200 of 200\n00010203\n", "", "", "", "", "7\n"]
         self.assertEqual(printed, wanted)
 
 

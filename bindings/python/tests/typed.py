@@ -72,6 +72,10 @@ def use() -> List[int]:
     for item in swd.decode("000"):
         if isinstance(item, swd.Transaction):
             print(item)
+    checker = swd.Checker("made", clean=True)
+    checker.feed([swd.Reset(50)])
+    verdict: swd.Verdict = checker.verdict
+    print(verdict.kind, verdict.place, verdict.rule, verdict.began, verdict.faults, verdict.gaps)
     target = swd.Target(Ram())
     swd.Host(target).run(accesses)
     swd.Host((lambda bit: None, lambda: 1)).run_block(0x20000000, 4)

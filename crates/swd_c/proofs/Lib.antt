@@ -1,3 +1,5 @@
+mod Checks
 mod Cues
+pub mod Items
 mod Refusals
 pub mod Targets

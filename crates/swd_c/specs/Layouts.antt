@@ -15,9 +15,15 @@ use Rattle.swd_target.specs.declared.fields.ContentFields.{ContentFields}
 use Rattle.swd_target.specs.declared.fields.PendingFields.{PendingFields}
 use Rattle.swd_target.specs.declared.fields.TargetFields.{TargetFields}
 use Rattle.swd_steps.specs.declared.fields.RunFields.{RunFields}
+use Rattle.swd_checker.specs.declared.checker.fields.CheckerFields.{CheckerFields}
+use Rattle.swd_checker.specs.declared.fields.HeldFields.{HeldFields}
+use Rattle.swd_checker.specs.declared.fields.IntervalFields.{IntervalFields}
+use Rattle.swd_checker.specs.declared.fields.WorldFields.{WorldFields}
+use Rattle.swd_c.specs.declared.check.SwdVerdict.{SwdVerdict}
 use Rattle.swd_c.specs.declared.cue.SwdCue.{SwdCue}
 use Rattle.swd_c.specs.declared.access.SwdAccess.{SwdAccess}
 use Rattle.swd_c.specs.declared.item.SwdItem.{SwdItem}
+use Rattle.swd_c.specs.declared.layout.SwdCheckLayout.{SwdCheckLayout}
 use Rattle.swd_c.specs.declared.layout.SwdLayout.{SwdLayout}
 use Rattle.swd_c.specs.declared.target.SwdTransfer.{SwdTransfer}
 
@@ -122,6 +128,36 @@ abbrev pub c_run_layout : RunFields → List CStructField
 c_run_layout run =
     c_engine_layout run.engine ++ (double run.requests ∷ (c_outcome_layout run.end ++
     (word run.answered ∷ byte run.begun ∷ byte run.stage ∷ [])))
+
+abbrev pub c_held_layout : HeldFields → List CStructField
+c_held_layout held = double held.places ∷ word held.word ∷ byte held.kind ∷ []
+
+abbrev pub c_interval_layout : IntervalFields → List CStructField
+c_interval_layout tar = word tar.first ∷ byte tar.more ∷ byte tar.known ∷ []
+
+abbrev pub c_world_layout : WorldFields → List CStructField
+c_world_layout world =
+    double world.faults ∷ (c_held_layout world.buffer ++ (c_held_layout world.last_returned ++
+    (c_interval_layout world.tar ++ (byte world.reset ∷ byte world.sticky_error ∷ byte world.write_error ∷
+    byte world.read_ok ∷ byte world.debug ∷ byte world.system ∷ byte world.mem_ap ∷ byte world.bank0 ∷
+    byte world.increments ∷ byte world.pending ∷ byte world.awaits ∷ []))))
+
+-- without its worlds
+abbrev pub c_checker_layout : CheckerFields → List CStructField
+c_checker_layout check = c_held_layout check.identification ++ (double check.began ∷ double check.faults_before ∷
+    double check.gaps ∷ double check.broken ∷ double check.crowded ∷ word check.select ∷ byte check.count ∷
+    byte check.overfull ∷ byte check.opening ∷ byte check.clean ∷ byte check.has_began ∷ byte check.in_gap ∷
+    byte check.stray ∷ byte check.rule ∷ byte check.is_crowded ∷ [])
+
+abbrev pub c_verdict_layout : SwdVerdict → List CStructField
+c_verdict_layout verdict =
+    double verdict.place ∷ double verdict.began ∷ double verdict.faults ∷ double verdict.gaps ∷ byte verdict.kind ∷
+    byte verdict.rule ∷ byte verdict.has_began ∷ []
+
+-- a world, a checker without its worlds, and a verdict
+abbrev pub c_check_layout : SwdCheckLayout → List CStructField
+c_check_layout layout =
+    c_world_layout layout.world ++ (c_checker_layout layout.check ++ c_verdict_layout layout.verdict)
 
 -- all structs of a layout
 abbrev pub c_whole_layout : SwdLayout → List CStructField

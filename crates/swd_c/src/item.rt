@@ -1,9 +1,12 @@
 //! The items of a trace as integers.
-ghost use Rattle.std.specs.Prelude.{◌≡◌};
+ghost use Rattle.std.specs.Prelude.{◌≡◌, ◌<◌, ◌≤◌, ◌^◌, Some, None, IfSome};
+ghost use Rattle.swd_trace.specs.declared.item.Item.{Item as ItemType};
+ghost use Rattle.swd_trace.specs.Listed.{IsEncodableItem};
 ghost use Rattle.swd_c.specs.Items.{c_api_item_of_kind, c_api_item, c_api_tx_item};
+ghost use Rattle.swd_c.specs.Items.{c_api_end_from, c_api_tx_by, c_api_item_by, CApiReadsTransaction, CApiReadsCut};
 
 use crate::cue::bits_of;
-use swd_bits::{Tx, TxEnd};
+use swd_bits::{Request, Tx, TxBits, TxEnd};
 use swd_trace::Item;
 
 /// An item of a trace, by `kind`: 1 a line reset; 2 the switch from JTAG to serial wire; 3 idle cycles; 4 a
@@ -84,4 +87,92 @@ impl SwdItem {
         }
         item
     }
+
+    /// Returns the item with these integers, or `None` if no item has them: none of the kinds, a number that isn't 0
+    /// where the kind has none, eight bits that are no request, an acknowledgement of more than three bits, or an
+    /// incomplete item of more than 49 bits.
+    pub fn item(&self) -> Option<Item>
+        ensures found { (item : ItemType) → IsEncodableItem item → c_api_item item ≡ self.now → result ≡ Some item }
+        ensures same { IfSome result (λ item. IsEncodableItem item × (c_api_item item ≡ self.now)) }
+    {
+        let item = self.read()?;
+        if SwdItem::of(&item) == *self {
+            Some(item)
+        } else {
+            None
+        }
+    }
+
+    // Returns an item of this kind. One of other integers may be any item: `item` rejects it.
+    fn read(&self) -> Option<Item>
+        ensures found { (item : ItemType) → IsEncodableItem item → c_api_item item ≡ self.now → result ≡ Some item }
+        ensures is { IfSome result IsEncodableItem }
+    {
+        self.read_as(self.read_transaction(), cut_of(self.count, self.bits))
+    }
+
+    // The same where this is what it is as a transaction, and as an incomplete item.
+    fn read_as(&self, transaction: Option<Item>, cut: Option<Item>) -> Option<Item>
+        ensures { result ≡ c_api_item_by self.now transaction cut }
+    {
+        match self.kind {
+            1 => Some(Item::Reset(self.count)),
+            2 => Some(Item::Switch),
+            3 => Some(Item::Idle(self.count)),
+            4 => transaction,
+            5 => Some(Item::Junk(self.bits == 1)),
+            6 => cut,
+            _ => None,
+        }
+    }
+
+    fn read_transaction(&self) -> Option<Item>
+        ensures found { CApiReadsTransaction self.now result }
+        ensures is { IfSome result IsEncodableItem }
+    {
+        transaction_of(
+            Request::of(self.request),
+            end_of(self.ack, self.word, self.parity_ok),
+        )
+    }
+}
+
+// Returns the transaction of a request with this end, if there are both.
+fn transaction_of(request: Option<Request>, end: Option<TxEnd>) -> Option<Item>
+    ensures { result ≡ c_api_tx_by request end }
+{
+    match (request, end) {
+        (Some(request), Some(result)) => Some(Item::Tx(Tx { request, result })),
+        _ => None,
+    }
+}
+
+// Returns the end of a transaction with these three bits, this word and this flag of its parity.
+fn end_of(ack: u8, word: u32, parity_ok: u8) -> Option<TxEnd>
+    ensures { result ≡ c_api_end_from ack word parity_ok }
+{
+    match ack {
+        1 => Some(TxEnd::Moved {
+            word,
+            parity_ok: parity_ok == 1,
+        }),
+        2 => Some(TxEnd::Wait),
+        4 => Some(TxEnd::Fault),
+        0 | 3 | 5 | 6 | 7 => Some(TxEnd::NoAck(ack)),
+        _ => None,
+    }
+}
+
+// Returns the incomplete item of these bits, if there are fewer than fifty, and none is set behind them.
+fn cut_of(count: u64, bits: u64) -> Option<Item>
+    ensures none { result ≡ None → count ≤ 49 → bits < 2 ^ count → ⊥ }
+    ensures some { CApiReadsCut count bits result }
+{
+    if count > 49 || bits >> count != 0 {
+        return None;
+    }
+    Some(Item::Cut(TxBits {
+        len: count as u8,
+        bits,
+    }))
 }

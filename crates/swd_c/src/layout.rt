@@ -1,14 +1,18 @@
 //! The layout of the structs, for checks of a C header.
-ghost use Rattle.std.specs.Prelude.{◌≡◌, ◌<◌, ◌^◌};
+ghost use Rattle.std.specs.Prelude.{◌≡◌, ◌<◌, ◌^◌, replicate};
 ghost use Rattle.swd_c.specs.Layouts.{CStructIsNumbered, c_access_layout, c_content_layout, c_cue_layout};
 ghost use Rattle.swd_c.specs.Layouts.{c_decoder_layout, c_engine_layout, c_frame_layout, c_item_layout, c_whole_layout};
 ghost use Rattle.swd_c.specs.Layouts.{c_struct_repeated_byte, c_run_layout, c_target_layout, c_transfer_layout};
+ghost use Rattle.swd_c.specs.Layouts.{c_check_layout, c_checker_layout, c_held_layout, c_verdict_layout};
+ghost use Rattle.swd_c.specs.Layouts.{c_world_layout};
 
 use crate::access::SwdAccess;
+use crate::check::SwdVerdict;
 use crate::cue::SwdCue;
 use crate::item::SwdItem;
 use crate::target::SwdTransfer;
 use std::mem::size_of;
+use swd_checker::{CheckerFields, HeldFields, IntervalFields, WorldFields};
 use swd_clocked::{ClockedFields, FrameFields, LineFields};
 use swd_host::{EngineFields, JobFields, OutcomeFields, StateFields, TarFields, TaskFields};
 use swd_steps::RunFields;
@@ -271,6 +275,115 @@ pub extern "C" fn swd_run_layout(layout: &mut SwdRunLayout)
         },
         run_size: size_of::<RunFields>() as u64,
         layout_size: size_of::<SwdRunLayout>() as u64,
+    };
+}
+
+fn held_numbered(first: u32) -> HeldFields
+    requires { first < 2 ^ 7 }
+    ensures { CStructIsNumbered first (c_held_layout result) }
+{
+    HeldFields {
+        places: double(u64::from(first)),
+        word: word(first + 1),
+        kind: (first + 2) as u8,
+    }
+}
+
+fn world_numbered() -> WorldFields
+    ensures { CStructIsNumbered 1 (c_world_layout result) }
+{
+    WorldFields {
+        faults: double(1),
+        buffer: held_numbered(2),
+        last_returned: held_numbered(5),
+        tar: IntervalFields {
+            first: word(8),
+            more: 9,
+            known: 10,
+        },
+        reset: 11,
+        sticky_error: 12,
+        write_error: 13,
+        read_ok: 14,
+        debug: 15,
+        system: 16,
+        mem_ap: 17,
+        bank0: 18,
+        increments: 19,
+        pending: 20,
+        awaits: 21,
+    }
+}
+
+// The worlds are this one.
+fn check_numbered(world: WorldFields) -> CheckerFields
+    ensures numbered { CStructIsNumbered 22 (c_checker_layout result) }
+    ensures worlds { result.worlds ≡ replicate 64 world }
+{
+    CheckerFields {
+        worlds: [world; 64],
+        identification: held_numbered(22),
+        began: double(25),
+        faults_before: double(26),
+        gaps: double(27),
+        broken: double(28),
+        crowded: double(29),
+        select: word(30),
+        count: 31,
+        overfull: 32,
+        opening: 33,
+        clean: 34,
+        has_began: 35,
+        in_gap: 36,
+        stray: 37,
+        rule: 38,
+        is_crowded: 39,
+    }
+}
+
+fn verdict_numbered() -> SwdVerdict
+    ensures { CStructIsNumbered 40 (c_verdict_layout result) }
+{
+    SwdVerdict {
+        place: double(40),
+        began: double(41),
+        faults: double(42),
+        gaps: double(43),
+        kind: 44,
+        rule: 45,
+        has_began: 46,
+    }
+}
+
+/// A world, the struct of a checker, the verdict, and their sizes in bytes.
+#[repr(C)]
+#[derive(Clone, Copy, Debug, PartialEq, Eq)]
+pub struct SwdCheckLayout {
+    pub world: WorldFields,
+    pub check: CheckerFields,
+    pub verdict: SwdVerdict,
+    pub world_size: u64,
+    pub check_size: u64,
+    pub verdict_size: u64,
+    pub layout_size: u64,
+}
+
+/// Writes a number of its own to each field of a world, of a checker and of a verdict, the same to all of its bytes: 1,
+/// 2 and so on in the order of the fields. Each world of the checker is that world. Also writes the sizes.
+#[unsafe(no_mangle)]
+pub extern "C" fn swd_check_layout(layout: &mut SwdCheckLayout)
+    ensures numbered { CStructIsNumbered 1 (c_check_layout layout.new) }
+    ensures worlds { layout.new.check.worlds ≡ replicate 64 layout.new.world }
+{
+    let world = world_numbered();
+    *layout = SwdCheckLayout {
+        world,
+        check: check_numbered(world),
+        verdict: verdict_numbered(),
+        world_size: size_of::<WorldFields>() as u64,
+        check_size: size_of::<CheckerFields>() as u64,
+        verdict_size: size_of::<SwdVerdict>() as u64,
+        layout_size: size_of::<SwdCheckLayout>() as u64,
     };
 }
 

@@ -1,4 +1,5 @@
 //! The exports as a program in C calls them.
+mod checks;
 mod cues;
 mod driver;
 mod expect;

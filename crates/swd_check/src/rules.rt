@@ -2,13 +2,13 @@
 ghost use Rattle.std.specs.Prelude.{◌≡◌, true, false, IfSome, None, []};
 ghost use Rattle.swd_bits.specs.declared.tx.Tx.{Tx as Transaction};
 ghost use Rattle.swd_trace.specs.declared.item.Item.{Item};
-ghost use Rattle.swd_checker.specs.Standing.{CheckerStarts, CheckerWatches, CheckerLeaves};
+ghost use Rattle.swd_checker.specs.Standing.{CheckerWatches, CheckerLeaves};
 ghost use Rattle.swd_check.specs.Watched.{CheckRulesHold, CheckRulesTake};
 
 use crate::check::CheckOptions;
 use crate::overrun::Overrun;
 use swd_bits::Tx;
-use swd_checker::{CheckStart, Checker, Origins, Reason, Verdict};
+use swd_checker::{Checker, Origins, Reason, Verdict};
 use swd_trace::Item;
 
 /// The rules of the port model, by a checker, and where the session left the model by overrun detection.
@@ -41,7 +41,7 @@ impl Rules {
         ensures unbroken { result.checker.broken ≡ None }
     {
         Rules {
-            checker: checker_of(options.start, options.clean),
+            checker: Checker::of(options.start, options.clean),
             origins: Origins::new(),
             overrun: Overrun::new(options.overrun, options.clean),
             outside: None,
@@ -153,16 +153,5 @@ impl Rules {
         self.origins = Origins::new();
         self.outside = self.outside.or(Some(place));
         self.is_outside = true;
-    }
-}
-
-// Returns a checker before the first item.
-fn checker_of(start: CheckStart, clean: bool) -> Checker
-    ensures { CheckerStarts start clean result }
-{
-    if clean {
-        Checker::clean(start)
-    } else {
-        Checker::new(start)
     }
 }

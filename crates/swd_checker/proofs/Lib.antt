@@ -21,3 +21,5 @@ pub mod OpenLemmas
 pub mod StandingLemmas
 pub mod WholeLemmas
 pub mod ShownLemmas
+pub mod EqualLemmas
+pub mod FieldsLemmas

@@ -1,6 +1,6 @@
 -- A checker that watches a whole trace.
 use Rattle.std.proofs.Common.{◌≡◌, ◌<◌, ◌+◌, ℕ, Bool, refl, sym, ap, subst, ◌∙◌}
-use Rattle.std.proofs.Common.{List, [], ◌∷◌, ◌++◌, length, take, get_or}
+use Rattle.std.proofs.Common.{List, [], ◌∷◌, ◌++◌, length, take, get_or, append_assoc, append-nil}
 use Rattle.std.specs.Prelude.{None}
 use Rattle.std.proofs.lemmas.List.{take_more}
 use Rattle.swd_trace.specs.declared.item.Item.{Item}
@@ -10,7 +10,7 @@ use Rattle.swd_checker.specs.declared.checker.Checker.{Checker}
 use Rattle.swd_checker.specs.Standing.{CheckedGap, CheckedShows, CheckedRuns, CheckedStarts, CheckerHolds}
 use Rattle.swd_checker.specs.Standing.{CheckerStarts, CheckerWatches, checker_gap, checked_gap_after, checked_gap_none}
 use Rattle.swd_checker.specs.Standing.{checked_gap_over}
-use Rattle.swd_checker.specs.Whole.{BreaksIsRight}
+use Rattle.swd_checker.specs.Whole.{BreaksIsRight, CheckersWatch, WatchedBreaksAreRight}
 
 -- the gap after one item more
 pub checked_gap_over_more : (items : List Item) (item : Item) (g : CheckedGap)
@@ -76,3 +76,18 @@ breaks_is_right start clean items index c inside h breaks = record {
   inside = inside;
   never = λ s t starts run. breaks t (h.holds s t starts run);
 }
+
+watched_from : (start : CheckStart) (clean : Bool) (seen items : List Item) (c now : Checker)
+    → CheckerRan start clean seen c → CheckersWatch items c now → CheckerRan start clean (seen ++ items) now
+watched_from start clean seen [] c now ran same = subst (CheckerRan start clean (seen ++ [])) (sym same)
+    (subst (λ l. CheckerRan start clean l c) (sym (append-nil seen)) ran)
+watched_from start clean seen (item ∷ items) c now ran (next, unbroken, watches, rest) =
+    subst (λ l. CheckerRan start clean l now) (append_assoc seen (item ∷ []) items)
+    (watched_from start clean (seen ++ item ∷ []) items next now
+    (ran_more start clean seen item c next watches (record { ran = ran; unbroken = unbroken })) rest)
+
+-- for `laws::watched`
+pub watched_breaks_are_right : WatchedBreaksAreRight
+watched_breaks_are_right start clean items c now h watch broken = λ s t starts run.
+    broken ((watched_from start clean [] items c now (checker_begins start clean [] c h).ran watch).holds s t starts
+    run).unbroken

@@ -13,3 +13,5 @@ pub mod Openings
 pub mod Standing
 pub mod Whole
 pub mod Shown
+pub mod Fields
+pub mod FieldsRead

@@ -12,6 +12,8 @@ ghost use Rattle.swd_checker.specs.Standing.{CheckerKeeps, CheckerKeepsWorlds, C
 ghost use Rattle.swd_checker.specs.Standing.{checker_gap, checked_gap_none, checked_stray_after};
 ghost use Rattle.swd_checker.specs.Standing.{is_checked_broken};
 
+mod fields;
+
 use crate::identification::Identification;
 use crate::near::Near;
 use crate::opening::Opening;
@@ -19,6 +21,7 @@ use crate::rule::{Rule, broken_rule};
 use crate::world::World;
 use crate::worlds::{Kept, MOST_WORLDS, Worlds, copy_of};
 use arrayvec::ArrayVec;
+pub use fields::CheckerFields;
 use swd_bits::{Tx, TxEnd};
 use swd_trace::Item;
 
@@ -85,7 +88,7 @@ impl Checker {
     }
 
     /// Returns a checker for a wire on which nothing is damaged or lost if `clean` is true.
-    pub(crate) fn of(start: CheckStart, clean: bool) -> Checker
+    pub fn of(start: CheckStart, clean: bool) -> Checker
         ensures { CheckerStarts start clean result }
     {
         match start {

@@ -14,7 +14,7 @@ use swd_bits::{Reg4, Request, Tx, TxEnd};
 #[derive(Clone, Copy, Debug, PartialEq, Eq)]
 pub(crate) struct Identification {
     /// One of these words; `None` before the first read.
-    word: Option<Near>,
+    pub(crate) word: Option<Near>,
 }
 
 impl Identification {
@@ -26,7 +26,9 @@ impl Identification {
     }
 
     /// Returns what the word may be, or `None` before the first read.
-    pub(crate) fn word(self) -> Option<Near> {
+    pub(crate) fn word(self) -> Option<Near>
+        ensures { result ≡ self.word }
+    {
         self.word
     }
 

@@ -2,6 +2,7 @@
 ghost use Rattle.swd_checker.specs.Laws.{WorldAtCompletion, WorldAtIdle, WorldAtReset, WorldAtWait, WorldAtFault};
 ghost use Rattle.swd_checker.specs.Laws.{WorldAtDamage, WorldAtMade, WorldAtOkay};
 ghost use Rattle.swd_checker.specs.Shown.{ObservedRunsAreShown};
+ghost use Rattle.swd_checker.specs.Whole.{WatchedBreaksAreRight};
 ghost use Rattle.swd_checker.specs.StepLaws.{WorldAtDpidr, WorldAtResend, WorldAtRdbuff, WorldAtCswRead};
 ghost use Rattle.swd_checker.specs.StepLaws.{WorldAtTarRead};
 ghost use Rattle.swd_checker.specs.StepLaws.{WorldAtDrwRead, WorldAtReadElsewhere, WorldAtCtrlStat, WorldAtSelect};
@@ -76,4 +77,10 @@ pub fn writes()
 /// [`broken_item`](crate::broken_item) finds a broken rule, no such run is one of its items.
 pub fn runs()
     ensures { ObservedRunsAreShown }
+{}
+
+/// States of a checker that is given items one by one, as in C: where it says `Breaks`, no run of the port model shows
+/// the items so far.
+pub fn watched()
+    ensures { WatchedBreaksAreRight }
 {}

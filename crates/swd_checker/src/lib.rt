@@ -17,6 +17,7 @@
 
 mod answer;
 mod checker;
+mod fields;
 mod held;
 mod identification;
 pub mod laws;
@@ -32,7 +33,8 @@ mod whole;
 mod world;
 mod worlds;
 
-pub use checker::{CheckStart, Checker, Verdict};
+pub use checker::{CheckStart, Checker, CheckerFields, Verdict};
+pub use fields::{HeldFields, IntervalFields, WorldFields};
 pub use origins::{Origin, Origins};
 pub use reason::{Cause, Due, Reason};
 pub use rule::Rule;

@@ -16,9 +16,9 @@ const PARITY: u8 = 32;
 /// `word` with the bit at one of `places` changed. The set is never empty.
 #[derive(Clone, Copy, Debug, PartialEq, Eq)]
 pub(crate) struct Near {
-    word: u32,
+    pub(crate) word: u32,
     /// Bit n says that place n may be the one.
-    places: u64,
+    pub(crate) places: u64,
 }
 
 /// Words that a read may return.

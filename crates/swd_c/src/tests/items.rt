@@ -6,7 +6,8 @@ use std::process::Abort;
 use std::test::Fail;
 use swd_trace::{Decoder, DecoderFields};
 
-const NONE: SwdItem = SwdItem {
+/// An item of kind 0, which there isn't.
+pub(super) const NONE: SwdItem = SwdItem {
     count: 0,
     bits: 0,
     word: 0,
@@ -25,14 +26,16 @@ const ZEROS: DecoderFields = DecoderFields {
     len: 0,
 };
 
-fn counted(kind: u8, count: u64) -> SwdItem {
+/// Returns an item of this kind with this number of bits.
+pub(super) fn counted(kind: u8, count: u64) -> SwdItem {
     let mut item = NONE;
     item.kind = kind;
     item.count = count;
     item
 }
 
-fn transaction(request: u8, ack: u8, word: u32, parity_ok: u8) -> SwdItem {
+/// Returns a transaction.
+pub(super) fn transaction(request: u8, ack: u8, word: u32, parity_ok: u8) -> SwdItem {
     let mut item = NONE;
     item.kind = 4;
     item.request = request;
