@@ -64,7 +64,10 @@ impl<'l, L: Line> Wire<'l, L> {
     fn perform(&mut self, cue: &ffi::Cue) -> Result<u64, L::Error> {
         match cue.kind {
             LEAD => {
-                self.opening = Some(Opening::default());
+                // (others are idle cycles alone)
+                if cue.ones > 0 {
+                    self.opening = Some(Opening::default());
+                }
                 self.lead(cue)?;
             }
             ASK => {
