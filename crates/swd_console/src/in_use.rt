@@ -190,7 +190,10 @@ impl InUse {
             }
             (ReadRole::Memory, StreamsInUse::Both) => {
                 let (input, output) = (self.input(files)?, self.output(files)?);
-                let errors = known(files.standard_error(), "standard error is unknown without /proc")?;
+                let errors = known(
+                    files.standard_error(),
+                    "standard error is unknown without /proc",
+                )?;
                 if file == input || file == output || file == errors {
                     return Err(refusal("it is a standard stream"));
                 }
@@ -203,7 +206,10 @@ impl InUse {
     // Returns which file standard input is, if it is in use.
     fn input<F: Files>(&self, files: &F) -> io::Result<Option<Identity>> {
         match self.streams {
-            StreamsInUse::Both => known(files.standard_input(), "standard input is unknown without /proc"),
+            StreamsInUse::Both => known(
+                files.standard_input(),
+                "standard input is unknown without /proc",
+            ),
             StreamsInUse::Output | StreamsInUse::Neither => Ok(None),
         }
     }
@@ -212,7 +218,10 @@ impl InUse {
     fn output<F: Files>(&self, files: &F) -> io::Result<Option<Identity>> {
         match self.streams {
             StreamsInUse::Both | StreamsInUse::Output => {
-                known(files.standard_output(), "standard output is unknown without /proc")
+                known(
+                    files.standard_output(),
+                    "standard output is unknown without /proc",
+                )
             }
             StreamsInUse::Neither => Ok(None),
         }
