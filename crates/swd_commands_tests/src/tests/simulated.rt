@@ -6,10 +6,8 @@ use std::alloc::Global;
 use std::cell::Cell;
 use std::io;
 use std::io::{ErrorKind, Read};
-use std::test::Fail;
 use swd_commands::run_words;
 use swd_console::{Clock, Console, Files, Identity, Opened};
-use swd_words::{CommandLine, ImageAction, line};
 
 // Five bytes from 20000002 on, and two from 20000011 on.
 const PIECES: &[u8] = b":020000042000DA\n:050002001122334455FA\n:02001100AABB88\n:00000001FF\n";
@@ -759,46 +757,4 @@ fn a_file_that_is_refused_changes_nothing(rt: HostRuntime) {
     let errors = b"swd: image.hex: two bytes for address 20000001\n".as_slice();
     expect_eq(&rt, &ran.errors.as_slice(), &errors);
     expect_eq(&rt, &ran.status, &2);
-}
-
-// The address of the memory that these arguments name.
-fn base_in(alloc: Global, words: &[&str]) -> Option<u32> {
-    let Ok(CommandLine::Image(image)) = line(alloc, words) else {
-        return None;
-    };
-    let memory = image.memory?;
-    Some(memory.base)
-}
-
-// The address of a memory, and the file of its plan.
-#[test]
-fn a_base_is_the_address_of_a_word(rt: HostRuntime) -> Result<(), Fail> {
-    for (text, base) in [
-        ("0", Some(0)),
-        ("0x20000004", Some(0x2000_0004)),
-        ("FFFFFFFC", Some(0xffff_fffc)),
-        ("2", None),
-        ("ffffffff", None),
-        ("123456789", None),
-        ("", None),
-        ("base", None),
-    ] {
-        let words = [
-            "swd", "load", "1", "image", "--memory", "ram", "--base", text,
-        ];
-        let found = base_in(rt.alloc(), words.as_slice());
-        expect_eq_at(&rt, &text, &found, &base);
-    }
-    let words = [
-        "swd", "dump", "1", "2", "to", "--plan", "p", "--memory", "ram",
-    ];
-    let Ok(CommandLine::Image(image)) = line(rt.alloc(), words.as_slice()) else {
-        return Err(Fail::from("no command"));
-    };
-    expect_eq(&rt, &image.action, &ImageAction::Dump(2));
-    let memory = image.memory.ok_or("no memory")?;
-    expect_eq(&rt, &memory.file.as_str(), &"ram");
-    expect_eq(&rt, &memory.base, &0x2000_0000);
-    expect_eq(&rt, &memory.plan.ok_or("no plan")?.as_str(), &"p");
-    Ok(())
 }

@@ -334,3 +334,45 @@ fn words_that_are_no_command(rt: HostRuntime) {
         assert!(rt; refused);
     }
 }
+
+// The address of the memory that these arguments name.
+fn base_in(alloc: Global, words: &[&str]) -> Option<u32> {
+    let Ok(CommandLine::Image(image)) = line(alloc, words) else {
+        return None;
+    };
+    let memory = image.memory?;
+    Some(memory.base)
+}
+
+// The address of a memory, and the file of its plan.
+#[test]
+fn a_base_is_the_address_of_a_word(rt: HostRuntime) -> Result<(), Fail> {
+    for (text, base) in [
+        ("0", Some(0)),
+        ("0x20000004", Some(0x2000_0004)),
+        ("FFFFFFFC", Some(0xffff_fffc)),
+        ("2", None),
+        ("ffffffff", None),
+        ("123456789", None),
+        ("", None),
+        ("base", None),
+    ] {
+        let words = [
+            "swd", "load", "1", "image", "--memory", "ram", "--base", text,
+        ];
+        let found = base_in(rt.alloc(), words.as_slice());
+        expect_eq_at(&rt, &text, &found, &base);
+    }
+    let words = [
+        "swd", "dump", "1", "2", "to", "--plan", "p", "--memory", "ram",
+    ];
+    let Ok(CommandLine::Image(image)) = line(rt.alloc(), words.as_slice()) else {
+        return Err(Fail::from("no command"));
+    };
+    expect_eq(&rt, &image.action, &ImageAction::Dump(2));
+    let memory = image.memory.ok_or("no memory")?;
+    expect_eq(&rt, &memory.file.as_str(), &"ram");
+    expect_eq(&rt, &memory.base, &0x2000_0000);
+    expect_eq(&rt, &memory.plan.ok_or("no plan")?.as_str(), &"p");
+    Ok(())
+}
