@@ -7,14 +7,14 @@ _swd() {
     if ((COMP_CWORD == 1)); then
         case $word in
         -*) words='--help --version -h -V' ;;
-        *) words='one decode encode run target draw check info load verify dump help' ;;
+        *) words='one decode encode run target draw check info conform load verify dump help' ;;
         esac
         COMPREPLY=($(compgen -W "$words" -- "$word"))
         return
     fi
     case ${COMP_WORDS[1]} in
     help)
-        ((COMP_CWORD > 2)) || COMPREPLY=($(compgen -W 'one decode encode run target draw check info load verify dump help' -- "$word"))
+        ((COMP_CWORD > 2)) || COMPREPLY=($(compgen -W 'one decode encode run target draw check info conform load verify dump help' -- "$word"))
         return
         ;;
     one)
@@ -27,7 +27,7 @@ _swd() {
         words='--help -h'
         ;;
     run)
-        words='--plan --tries --resume --trace --accesses --strict --remote --report --progress --help -h'
+        words='--plan --tries --resume --trace --accesses --strict --remote --report --progress --check --help -h'
         ;;
     target)
         words='--memory --base --plan --log --trace --idr --help -h'
@@ -40,6 +40,9 @@ _swd() {
         ;;
     info)
         words='--remote --tries --help -h'
+        ;;
+    conform)
+        words='--remote --plain --hole --clean --help -h'
         ;;
     load)
         words='--format --tries --resume --report --progress --remote --memory --base --plan --help -h'
@@ -64,7 +67,7 @@ _swd() {
         mapfile -t COMPREPLY < <(compgen -f -- "$word")
         return
         ;;
-    --base | --idr | --items | --resume | --tries | --plain)
+    --base | --hole | --idr | --items | --resume | --tries | --plain)
         return
         ;;
     --format)

@@ -8,6 +8,7 @@ complete -c swd -n __fish_use_subcommand -a target -d 'Simulate a target for a d
 complete -c swd -n __fish_use_subcommand -a draw -d 'Draw a trace\'s waves as an SVG picture, one row an item'
 complete -c swd -n __fish_use_subcommand -a check -d 'Check whether a trace\'s target keeps the standard'
 complete -c swd -n __fish_use_subcommand -a info -d 'Identify a target, or say how far its opening came'
+complete -c swd -n __fish_use_subcommand -a conform -d 'Check whether a port keeps the standard, by requests'
 complete -c swd -n __fish_use_subcommand -a load -d 'Load a file into a target\'s memory'
 complete -c swd -n __fish_use_subcommand -a verify -d 'Compare a target\'s memory with a file'
 complete -c swd -n __fish_use_subcommand -a dump -d 'Dump a target\'s memory to a file'
@@ -37,6 +38,7 @@ complete -c swd -n '__fish_seen_subcommand_from run' -l strict -d 'Exit with sta
 complete -c swd -n '__fish_seen_subcommand_from run' -l remote -d 'The target is a server on the streams, or =IN,OUT'
 complete -c swd -n '__fish_seen_subcommand_from run' -l report -r -F -d 'With --remote: write the report to FILE, - is stderr'
 complete -c swd -n '__fish_seen_subcommand_from run' -l progress -d 'Print progress to stderr, at most once a second'
+complete -c swd -n '__fish_seen_subcommand_from run' -l check -d 'With --remote: check the session as swd check --rest'
 complete -c swd -n '__fish_seen_subcommand_from run' -s h -l help -d 'Print help'
 complete -c swd -n '__fish_seen_subcommand_from target' -F
 complete -c swd -n '__fish_seen_subcommand_from target' -l memory -r -F -d 'In place of SCRIPT: FILE has the memory (overwrites it)'
@@ -64,6 +66,11 @@ complete -c swd -n '__fish_seen_subcommand_from check' -s h -l help -d 'Print he
 complete -c swd -n '__fish_seen_subcommand_from info' -l remote -d 'The target is a server on the streams, or =IN,OUT'
 complete -c swd -n '__fish_seen_subcommand_from info' -l tries -x -d 'Retries per access, from 0 to 1000 [default: 8]'
 complete -c swd -n '__fish_seen_subcommand_from info' -s h -l help -d 'Print help'
+complete -c swd -n '__fish_seen_subcommand_from conform' -l remote -d 'The target is a server on the streams, or =IN,OUT'
+complete -c swd -n '__fish_seen_subcommand_from conform' -l plain -x -d 'There is memory: WORDS words from BASE on'
+complete -c swd -n '__fish_seen_subcommand_from conform' -l hole -x -d 'There is no memory at ADDR, hexadecimal'
+complete -c swd -n '__fish_seen_subcommand_from conform' -l clean -d 'Nothing is damaged or lost, as in a simulation'
+complete -c swd -n '__fish_seen_subcommand_from conform' -s h -l help -d 'Print help'
 complete -c swd -n '__fish_seen_subcommand_from load' -F
 complete -c swd -n '__fish_seen_subcommand_from load' -l format -x -a 'bin hex srec elf' -d 'bin, hex, srec or elf; by FILE itself without it'
 complete -c swd -n '__fish_seen_subcommand_from load' -l tries -x -d 'Retries per access, from 0 to 1000 [default: 8]'
@@ -97,4 +104,4 @@ complete -c swd -n '__fish_seen_subcommand_from dump' -l memory -r -F -d 'The ta
 complete -c swd -n '__fish_seen_subcommand_from dump' -l base -x -d 'With --memory: its address, hexadecimal; else 20000000'
 complete -c swd -n '__fish_seen_subcommand_from dump' -l plan -r -F -d 'Inject faults by the plan in FILE'
 complete -c swd -n '__fish_seen_subcommand_from dump' -s h -l help -d 'Print help'
-complete -c swd -n '__fish_seen_subcommand_from help' -a 'one decode encode run target draw check info load verify dump help'
+complete -c swd -n '__fish_seen_subcommand_from help' -a 'one decode encode run target draw check info conform load verify dump help'

@@ -9,8 +9,16 @@ readok_at_fault damage_done damage_ignored abort_damage_ignored stkerrclr_nothin
 not_posted rdbuff_zero rdbuff_last resend_buffer resend_zero resend_once fault_executes tar_stays tar_always tar_by_8
 tar_not_by_writes tar_within_256 error_silent error_is_damage reset_clears_flags reset_clears_power reset_clears_tar
 reset_clears_csw reset_no_damage status_swapped readok_always readok_any power_by_ack dpidr_even dpidr_changes bank_ignored
-csw_byte csw_off csw_disabled csw_clears_tar ap8_is_tar tar_low_bits tar_late parity_high clear_forgets_resend""".split()
+csw_byte csw_off csw_disabled csw_clears_tar ap8_is_tar tar_low_bits tar_late parity_high clear_forgets_resend
+status_waits abort_waits resend_no_fault unpowered_writes_ok damage_done_flagged stkerrclr_all rdbuff_transfers
+buffer_kept_in_bank resend_skips_rdbuff resend_moves_tar read_after_fault write_twice status_drops_write fifth_write_lost
+tar_by_1 tar_packed tar_within_4096 tar_stops_at_1024 error_late error_reads_zero error_loses_write error_each_7th
+reset_clears_select reset_drops_transfer reset_clears_readok status_keeps_word status_bit_31 dp_bank_ignored
+ap_bank_ignored ap_ignored dp_c_selects csw_in_progress csw_upper_zero ap8_is_csw tar_16_bits byte_lost aliased
+stale_read zero_sticks""".split()
 EXEMPT = {("dp", 0, "read"), ("dp", 0, "write")}
+FAULTLESS = (("rdbuff_no_fault", ("dp", 12, "read")), ("select_no_fault", ("dp", 8, "write")),
+             ("resend_no_fault", ("dp", 8, "read")))
 
 
 class Target:
@@ -20,48 +28,96 @@ class Target:
         self.powers, self.ups = [False, False], ["unseen", "unseen"]
         self.select, self.single, self.tar, self.buffer, self.last, self.pending = 0, False, 0, None, None, None
         self.awaits, self.ident, self.resets, self.tar_next = False, 0x2BA01477, 0, None
-        self.memory = {}
+        self.memory, self.stale = {}, {}
+        self.transfers, self.kept, self.owed, self.reads_again = 0, 0, False, False
 
     def word(self):
         return self.rng.choice([0, 0xFFFFFFFF, self.rng.getrandbits(32)])
 
     def memap(self):
-        return self.bug == "bank_ignored" or self.select & 0xFF0000F0 == 0
+        seen = {"bank_ignored": 0, "ap_bank_ignored": 0xFF000000, "ap_ignored": 0xF0}.get(self.bug, 0xFF0000F0)
+        return self.select & seen == 0
 
     def bank0(self):
-        return self.bug == "bank_ignored" or self.select & 15 == 0
+        return self.bug in ("bank_ignored", "dp_bank_ignored") or self.select & 15 == 0
+
+    def at(self):
+        """The address of a transfer."""
+        at = self.tar if self.tar is not None else self.rng.getrandbits(32)
+        return at & ~0x400 if self.bug == "aliased" else at
 
     def fails(self):
-        at = self.tar if self.tar is not None else self.rng.getrandbits(32)
-        return not BASE <= at < BASE + 0x1000 or self.rng.random() < 0.02
+        if self.bug == "error_each_7th" and (self.transfers + 1) % 7 == 0:
+            return True
+        if self.bug == {"read": "error_reads_zero", "write": "error_loses_write"}[self.pending[0]]:
+            return False
+        return not BASE <= self.at() < BASE + 0x1000 or self.rng.random() < 0.02
 
     def complete(self, failed=None):
         """The pending transfer takes effect."""
         if self.pending is None:
             return
-        kind, self.pending = self.pending, None
         failed = self.fails() if failed is None else failed
+        kind, self.pending = self.pending, None
+        self.transfers += 1
         if failed:
             if self.bug != "error_silent":
                 self.damaged, self.sticky = (True, self.sticky) if self.bug == "error_is_damage" else (self.damaged, True)
             self.tar, self.buffer = None, None
             return
         if kind[0] == "read":
-            self.buffer = self.memory.get(self.tar, self.word())
-        elif self.tar is not None:
-            self.memory[self.tar] = kind[1]
+            self.buffer = self.fetch()
+        else:
+            self.store(kind[1])
+        self.move_tar(kind[0])
+
+    def fetch(self):
+        """The word of a read that takes effect."""
+        at = self.at()
+        if self.bug == "error_reads_zero" and not BASE <= at < BASE + 0x1000:
+            return 0
+        word = self.memory.get(at, self.word())
+        if self.bug == "stale_read":
+            word, self.stale[at] = self.stale.get(at, word), word
+        return word
+
+    def store(self, word):
+        """A write takes effect."""
+        at = self.at()
+        lost = self.bug == "fifth_write_lost" and self.transfers % 5 == 0
+        if self.tar is None or lost or not BASE <= at < BASE + 0x1000:
+            return
+        old = self.memory.get(at, 0)
+        if self.bug == "byte_lost":
+            word = word & 0xFFFFFF | old & 0xFF000000
+        if not (self.bug == "zero_sticks" and self.memory.get(at) == 0 and at in self.stale):
+            self.memory[at] = word
+        self.stale.setdefault(at, word) if self.bug == "zero_sticks" and word == 0 else None
+        if self.bug == "write_twice" and self.single and at + 4 < BASE + 0x1000:
+            self.memory[at + 4] = word
+
+    def move_tar(self, kind):
+        """TAR after a transfer."""
         if self.tar_next is not None:
             self.tar, self.tar_next = self.tar_next, None
-        grows = self.single or self.bug == "tar_always"
-        if self.bug == "tar_stays" or (self.bug == "tar_not_by_writes" and kind[0] == "write"):
+        packed = self.bug == "tar_packed" and self.kept >> 4 & 3 > 1
+        grows = self.single or self.bug == "tar_always" or packed
+        if self.bug == "tar_stays" or (self.bug == "tar_not_by_writes" and kind == "write"):
             grows = False
         if grows and self.tar is not None:
-            step = 8 if self.bug == "tar_by_8" else 4
-            size = 256 if self.bug == "tar_within_256" else 1024
-            inside = self.tar % size + step < size
-            self.tar = self.tar + step if inside else self.rng.choice([self.tar - self.tar % size, self.tar + step, None])
-            if size == 256 and self.tar is None:
-                self.tar = BASE
+            self.tar = self.next_address()
+
+    def next_address(self):
+        """The address behind TAR's."""
+        step = {"tar_by_8": 8, "tar_by_1": 1}.get(self.bug, 4)
+        size = {"tar_within_256": 256, "tar_within_4096": 4096}.get(self.bug, 1024)
+        if self.tar % size + step < size:
+            return self.tar + step
+        if self.bug == "tar_stops_at_1024":
+            return self.tar
+        if size != 1024:
+            return self.tar - self.tar % size
+        return self.rng.choice([self.tar - self.tar % size, self.tar + step, None])
 
     def answer(self, request, busy):
         """`ok`, `wait`, `fault` or nothing."""
@@ -73,12 +129,17 @@ class Target:
                 return None
         flags = self.sticky or self.damaged
         if request in EXEMPT or status:
+            if busy and self.bug == {4: "status_waits", 0: "abort_waits"}[request[1]] and request != ("dp", 0, "read"):
+                return "wait"
+            if status and bug == "status_drops_write" and self.pending is not None and self.pending[0] == "write":
+                self.pending = None
             name = {"read": "status_faults" if status else "dpidr_faults", "write": "abort_faults"}[request[2]]
             return "fault" if flags and bug == name else "ok"
         sticky, damaged = self.sticky and bug != "sticky_no_fault", self.damaged and bug != "damage_no_fault"
-        if (bug, request) in (("rdbuff_no_fault", ("dp", 12, "read")), ("select_no_fault", ("dp", 8, "write"))):
+        if (bug, request) in FAULTLESS:
             sticky = damaged = False
         dark = request[0] == "ap" and not (self.powers[0] and self.ups[0] != "late") and bug != "unpowered_ok"
+        dark = dark and not (bug == "unpowered_writes_ok" and request[2] == "write")
         if busy and bug == "wait_first":
             return "wait"
         if busy and not (sticky or damaged or dark):
@@ -86,11 +147,12 @@ class Target:
                 self.pending = ("write", 0)
                 self.complete()
             return "wait"
+        before = self.sticky
         self.complete()
         if dark and bug != "unpowered_not_sticky":
             self.sticky = True
-        sticky = self.sticky and bug != "sticky_no_fault" and (bug, request) != ("rdbuff_no_fault", ("dp", 12, "read"))
-        if bug == "select_no_fault" and request == ("dp", 8, "write"):
+        sticky = self.sticky and bug != "sticky_no_fault" and (bug, request) not in FAULTLESS
+        if bug == "error_late" and not before and not dark:
             sticky = False
         return "fault" if sticky or damaged or dark else "ok"
 
@@ -105,6 +167,8 @@ class Target:
             self.readok = self.readok if kept else end == "ok"
         if end == "fault" and self.bug == "fault_executes" and request == ("ap", 12, "write") and self.memap():
             self.pending = ("write", 0)
+        if end == "fault" and self.bug == "read_after_fault" and request == ("ap", 12, "read") and self.memap():
+            self.owed = True
         if end == "ok" and request == ("dp", 0, "read"):
             self.reset = "live"
         if end == "ok" and port == "ap":
@@ -122,7 +186,10 @@ class Target:
         for place in (0, 1):
             word |= self.powers[place] << 28 + 2 * place
             word |= (self.powers[place] and self.ups[place] == "seen") << 29 + 2 * place
-        return word | self.word() & 0x0FFFFF1F
+        if self.bug == "status_bit_31":
+            word = word & 0x7FFFFFFF | (word >> 28 & 1) << 31
+        other = self.kept & 0x00FFFF0D if self.bug == "status_keeps_word" else self.word() & 0x0FFFFF1F
+        return word | other
 
     def read(self, request, busy):
         """The word of a read that was answered OK."""
@@ -135,39 +202,56 @@ class Target:
             if self.bug == "resend_zero":
                 return 0
             kept = self.buffer if self.bug == "resend_buffer" else self.last
+            if self.bug == "resend_moves_tar" and self.single and self.tar is not None:
+                self.tar = self.next_address()
             self.last = 0 if self.bug == "resend_once" else self.last
             return self.word() if kept is None else kept
         word = self.word() if self.buffer is None else self.buffer
         if self.bug == "rdbuff_last" and port == "dp" and self.last is not None:
             word = self.last
-        self.last, held = self.buffer, self.buffer
-        self.buffer = None
+        held, skips = self.buffer, self.bug == "resend_skips_rdbuff" and port == "dp"
+        self.last = self.last if skips else self.buffer
+        if not (self.bug == "buffer_kept_in_bank" and port == "ap" and not self.memap()):
+            self.buffer = None
         if port == "dp":
+            if self.bug == "rdbuff_transfers" and self.reads_again:
+                self.pending = ("read",)
+            self.reads_again = False
             return 0 if self.bug == "rdbuff_zero" else word
         if not self.memap() or address == 8:
             if self.rng.random() < 0.1:
                 self.sticky = True
-            else:
+            elif self.bug == "ap8_is_csw" and self.memap():
+                self.buffer = self.csw()
+            elif self.bug != "buffer_kept_in_bank":
                 self.buffer = self.word()
         elif address == 0:
-            csw = (0 if self.bug == "csw_byte" else 2) | (0 if self.bug == "csw_disabled" else 0x40)
-            self.buffer = csw | (self.single and self.bug != "csw_off") << 4 | self.word() & 0xFFFFFF88
+            self.buffer = self.csw()
         elif address == 4:
             self.buffer = self.tar
         else:
-            self.pending = ("read",)
+            self.pending, self.reads_again = ("read",), True
+        if self.bug == "not_posted" and self.pending is not None:
+            self.complete()
         if self.bug == "not_posted" and self.buffer is not None:
             return self.buffer
         return word if held is not None else self.word()
 
-    def write(self, request, word):
-        """The data of a write arrives, or arrives damaged (None)."""
+    def csw(self):
+        """What CSW reads."""
+        csw = (0 if self.bug == "csw_byte" else 2) | (0 if self.bug == "csw_disabled" else 0x40)
+        other = self.word() & (0x00FFFF08 if self.bug == "csw_upper_zero" else 0xFFFFFF08)
+        return csw | (self.single and self.bug != "csw_off") << 4 | other | (self.bug == "csw_in_progress") << 7
+
+    def write(self, request, word, sent=0):
+        """The data of a write arrives, or arrives damaged: None, and what was sent."""
         port, address, _ = request
-        if word is None and self.bug != "damage_done":
+        if word is None and self.bug not in ("damage_done", "damage_done_flagged"):
             if self.bug != "damage_ignored" and not (self.bug == "abort_damage_ignored" and (port, address) == ("dp", 0)):
                 self.damaged = True
             return
-        word = self.word() if word is None else word
+        self.damaged = self.damaged or word is None and self.bug == "damage_done_flagged"
+        word = sent if word is None else word
         if port == "dp":
             self.write_debug_port(address, word)
             return
@@ -179,9 +263,10 @@ class Target:
                 self.sticky = True
         elif address == 0:
             self.single = word >> 4 & 3 == 1
+            self.kept = word if self.bug == "tar_packed" else self.kept
             self.tar = 0 if self.bug == "csw_clears_tar" else self.tar
         elif address == 4:
-            word &= 0xFFFFFFFC if self.bug == "tar_low_bits" else 0xFFFFFFFF
+            word &= {"tar_low_bits": 0xFFFFFFFC, "tar_16_bits": 0xFFFF}.get(self.bug, 0xFFFFFFFF)
             self.tar, self.tar_next = (self.tar, word) if self.bug == "tar_late" else (word, None)
         else:
             self.pending = ("write", word)
@@ -190,17 +275,19 @@ class Target:
         if address == 0:
             if word & 4 and self.bug != "stkerrclr_nothing" or word & 8 and self.bug == "wderrclr_all":
                 self.sticky = False
-            if word & 8 and self.bug != "wderrclr_nothing":
+            if word & 8 and self.bug != "wderrclr_nothing" or word & 4 and self.bug == "stkerrclr_all":
                 self.damaged = False
             if word & 1 and self.bug == "dapabort_clears":
                 self.sticky = self.damaged = False
             if self.bug == "clear_forgets_resend":
                 self.last = 0
+            if self.owed and not (self.sticky or self.damaged):
+                self.pending, self.owed = ("read",), False
         elif address == 4 and self.bank0():
             shift = 1 if self.bug == "power_by_ack" else 0
             self.powers = [bool(word >> 28 + shift & 1), bool(word >> 30 + shift & 1)]
-            self.ups = ["unseen", "unseen"]
-        elif address == 8:
+            self.ups, self.kept = ["unseen", "unseen"], word
+        elif address == 8 or address == 12 and self.bug == "dp_c_selects":
             self.select = word & 0xFF0000FF
 
     def line_reset(self):
@@ -216,6 +303,12 @@ class Target:
             self.tar = 0
         if self.bug == "reset_clears_csw":
             self.single = False
+        if self.bug == "reset_clears_select":
+            self.select = 0
+        if self.bug == "reset_drops_transfer":
+            self.pending = None
+        if self.bug == "reset_clears_readok":
+            self.readok = False
 
 
 class Host:
@@ -265,7 +358,7 @@ class Host:
             word ^= (1 << place) & 0xFFFFFFFF if hurt else 0
             bad = hurt or (target.bug == "parity_high" and bin(word).count("1") % 2 == 0)
         else:
-            target.write(request, word if bad == hurt else None)
+            target.write(request, word if bad == hurt else None, word)
             if bad and hurt and place < 32:
                 word ^= 1 << place
         self.items.append(("tx", port, address, direction, "bad" if bad else "ok", word))

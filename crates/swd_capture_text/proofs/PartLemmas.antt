@@ -1,8 +1,10 @@
 -- Laws of the parts of a trace text that are given to a sink.
-use Rattle.std.proofs.Common.{◌≡◌, ℕ, ◌+◌, ◌^◌, ◌<◌, Bool, List, ◌++◌, length, ◌∙◌, arith}
+use Rattle.std.proofs.Common.{◌≡◌, ℕ, ◌+◌, ◌^◌, ◌<◌, Bool, List, [], ◌++◌, length, ◌∙◌, arith, subst, sym}
 use Rattle.std.proofs.lemmas.List.{length-append}
 use Rattle.swd_resync.specs.declared.part.Part.{Part}
-use Rattle.swd_capture_text.specs.PartSinks.{PartStart, PartsGather}
+use Rattle.swd_capture_text.specs.PartSinks.{IsFreshPartReader, PartReaderHasTaken, PartStart, PartsGather}
+use Rattle.swd_capture_text.specs.declared.parts.PartReader.{PartReader}
+use Rattle.swd_capture_text.specs.declared.reading.Reading.{Reading}
 use Rattle.swd_capture_text.specs.declared.source.Source.{Source}
 use Rattle.swd_capture_text.specs.Sources.{SourceHas, source_fed}
 
@@ -36,3 +38,18 @@ module _ {K W : Type 0} (led : K × W → List Part → K × W → Type 0) where
         counted = omega arith;
         goes = h.goes;
       }
+
+  -- a reader of parts that took no bits
+  pub part_reader_begins : (reading : Reading) (sink : K) (reader : PartReader K) (writer : W)
+      → ((a : K × W) → led a [] a) → IsFreshPartReader reading sink reader
+      → PartReaderHasTaken led (record { reading = reading; from = (sink, writer) }) (reader, writer) []
+  part_reader_begins reading sink reader writer nowhere fresh = record {
+    parts = [];
+    gathers = record {
+      has = fresh.has;
+      count = fresh.count;
+      counted = omega arith;
+      goes = subst (λ s. led (sink, writer) [] (s, writer)) (sym fresh.is) (nowhere (sink, writer));
+    };
+    decides = fresh.decides;
+  }

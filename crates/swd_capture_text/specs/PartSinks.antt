@@ -1,5 +1,5 @@
 -- The parts of a trace text that are given to a sink as the text is read.
-use Rattle.std.specs.Prelude.{◌≡◌, ℕ, ◌^◌, ◌<◌, Bool, List, ◌++◌, length, Option, Result, Ok, Err}
+use Rattle.std.specs.Prelude.{◌≡◌, ℕ, ◌^◌, ◌<◌, Bool, List, [], ◌++◌, length, Option, Result, Ok, Err}
 use Rattle.std.specs.Io.KnownBytes.{Consumes, IsAtEnd}
 use Rattle.swd_resync.specs.declared.part.Part.{Part}
 use Rattle.swd_text.specs.Sinks.{SinkStopsAfter}
@@ -11,12 +11,20 @@ use Rattle.swd_capture_text.specs.declared.source.Source.{Source}
 use Rattle.swd_capture_text.specs.Captures.{CaptureTextDecides, CaptureTextReadsAs, CaptureTextStopsWith}
 use Rattle.swd_capture_text.specs.Captures.{CaptureTextIsDue}
 use Rattle.swd_capture_text.specs.Readings.{SourceDecides}
-use Rattle.swd_capture_text.specs.Sources.{SourceHas, source_fed}
+use Rattle.swd_capture_text.specs.Sources.{SourceHas, IsSourceReady, source_fed}
 
 -- how the bits are read, and the state of a sink, and of what it writes to, before the first part
 pub record PartStart (C : Type 0) : Type 0 where
   pub reading : Reading
   pub from : C
+
+-- it has this sink, and took no bits
+pub record IsFreshPartReader {K : Type 0} (reading : Reading) (sink : K) (reader : PartReader K) : Type 0 where
+  pub is : reader.sink ≡ sink
+  pub has : SourceHas reading reader.source [] []
+  pub decides : SourceDecides reading [] []
+  pub ready : IsSourceReady reader.source
+  pub count : source_fed reader.source ≡ 0
 
 module _ {K W : Type 0} (led : K × W → List Part → K × W → Type 0) where
   -- a source was fed these bits and returned these parts, and they led the sink, and what it writes to, here

@@ -11,7 +11,7 @@ mod reading;
 mod source;
 
 pub use items::print_items;
-pub use parts::{PartSink, read_parts};
+pub use parts::{PartReader, PartSink, read_parts};
 pub use printing::print_capture;
 pub use reading::Reading;
 pub use source::Source;

@@ -4,8 +4,8 @@ ghost use Rattle.swd_bits.specs.BitLists.{tx_bits_of};
 ghost use Rattle.swd_resync.specs.declared.part.Part.{Part};
 ghost use Rattle.swd_text.specs.Sinks.{LeadsSinkOn, LeadsSinkToStop, sink_takes_nothing, sink_leads_join};
 ghost use Rattle.swd_capture.specs.Printing.{capture_junk_parts};
-ghost use Rattle.swd_capture_text.specs.PartSinks.{PartStart, PartsGather, PartReaderHasTaken, PartReaderStops};
-ghost use Rattle.swd_capture_text.specs.PartSinks.{PartsGoTo};
+ghost use Rattle.swd_capture_text.specs.PartSinks.{IsFreshPartReader, PartStart, PartsGather, PartReaderHasTaken};
+ghost use Rattle.swd_capture_text.specs.PartSinks.{PartReaderStops, PartsGoTo};
 ghost use Rattle.swd_capture_text.specs.Readings.{SourceDecides, source_reading_parts};
 ghost use Rattle.swd_capture_text.specs.Sources.{IsSourceReady, source_fed};
 
@@ -47,11 +47,37 @@ pub trait PartSink<W>: Drop {
         → led a (first ++ next) c };
 }
 
-/// A sink of bits, which gives each part to its own sink as soon as the part is decided.
+/// A sink of bits, which gives each part to its own sink as soon as the part is decided. [`read_parts`] gives it the
+/// bits of a text.
 #[derive(Drop)]
-struct PartReader<K> {
+pub struct PartReader<K> {
     source: Source,
     sink: K,
+}
+
+impl<K> PartReader<K> {
+    /// Returns a reader that took no bits.
+    pub fn new(reading: Reading, sink: K) -> PartReader<K>
+        ensures { IsFreshPartReader reading sink result }
+    {
+        PartReader {
+            source: Source::new(reading),
+            sink,
+        }
+    }
+
+    /// Gives the parts that the end of the bits decides, and returns the sink.
+    pub fn finish<W>(self, writer: &mut W) -> K
+    where
+        K: PartSink<W>,
+        ensures { (start : PartStart (K × W)) (bits : List Bool)
+            → PartReaderHasTaken K.led start (self, writer.old) bits
+            → K.led start.from (source_reading_parts start.reading bits) (result, writer.new) }
+    {
+        let mut reader = self;
+        give_last(&mut reader, writer);
+        reader.sink
+    }
 }
 
 // Gives junk bits that are due.
@@ -147,15 +173,9 @@ pub fn read_parts<R: Read, W, K: PartSink<W>>(
     ensures { PartsGoTo K.led K.stops reading result (R.remaining reader.old) (R.remaining reader.new)
         (sink, writer.old) writer.new }
 {
-    let parts = PartReader {
-        source: Source::new(reading),
-        sink,
-    };
+    let parts = PartReader::new(reading, sink);
     match read_text(reader, writer, parts) {
-        Ok(mut parts) => {
-            give_last(&mut parts, writer);
-            Ok(parts.sink)
-        }
+        Ok(parts) => Ok(parts.finish(writer)),
         Err(fault) => Err(fault),
     }
 }

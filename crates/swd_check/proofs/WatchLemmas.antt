@@ -11,11 +11,18 @@ use Rattle.swd_trace.specs.declared.item.Item.TheVariants.{Reset, Switch, Idle, 
 use Rattle.swd_port.specs.Port.{Port}
 use Rattle.swd_checker.specs.declared.checker.CheckStart.{CheckStart}
 use Rattle.swd_checker.specs.declared.checker.Checker.{Checker}
-use Rattle.swd_checker.specs.Standing.{CheckedGap, CheckedRuns, CheckedShows, CheckedShowsIn, CheckerWatches, CheckerLeaves}
+use Rattle.swd_checker.specs.Standing.{CheckedGap, CheckedRuns, CheckedShows, CheckedShowsIn, CheckerWatches}
+use Rattle.swd_checker.specs.Standing.{CheckerLeaves}
 use Rattle.swd_checker.specs.Standing.{CheckerHolds}
-use Rattle.swd_checker.specs.Standing.{checker_gap, checked_gap_after, checked_gap_none, checked_gap_over, checked_stray_after}
+use Rattle.swd_checker.specs.Standing.{checker_gap, checked_gap_after, checked_gap_none, checked_gap_over}
+use Rattle.swd_checker.specs.Standing.{checked_stray_after}
 use Rattle.swd_checker.proofs.StandingLemmas.{checked_shows_same, checker_holds_in_gap}
 use Rattle.swd_checker.proofs.WholeLemmas.{checked_gap_over_more, checked_last_shown}
+use Rattle.swd_trace.specs.Listed.{AreLegalItems}
+use Rattle.swd_checker.specs.declared.checker.CheckStart.TheVariants.{Made}
+use Rattle.swd_checker.specs.Fitting.{CheckerFollows, CheckerShows, AreGapless, AreShownByRun}
+use Rattle.swd_checker.proofs.FittingLemmas.{checked_gapless_more, checked_gapless_end, legal_items_more}
+use Rattle.swd_checker.proofs.FittingLemmas.{shown_by_run}
 use Rattle.swd_text.specs.Sinks.{sink_leads_join}
 use Rattle.swd_check.specs.declared.rules.Rules.{Rules}
 use Rattle.swd_check.specs.declared.why.Broken.{Broken}
@@ -80,8 +87,9 @@ shows_here c clean item g s t wire (inr same) shows =
 -- RULES
 -- the checker watches an item
 pub check_rules_watch : (item : Item) (r now : Rules) → CheckerWatches item r.checker now.checker
+    → CheckerFollows item r.checker now.checker → now.outside ≡ r.outside
     → (now.is_outside ≡ true → (r.is_outside ≡ true) × ((ones : ℕ) → item ≡ Reset ones → ⊥)) → CheckRulesTake item r now
-check_rules_watch item r now watches outside = λ start clean items unbroken h. record {
+check_rules_watch item r now watches follows place outside = λ start clean items unbroken h. record {
   holds = λ s t starts run.
       let x = checked_last_shown clean checked_gap_none items item s t run in
       watches.holds x.0 t
@@ -93,32 +101,46 @@ check_rules_watch item r now watches outside = λ start clean items unbroken h. 
       let o = outside e in
       ap (λ (g : CheckedGap). g.in_gap) (watches.gap unbroken)
       ∙ gap_stays item (checker_gap r.checker) o.1 (h.outside o.0);
+  left = λ e f. h.left (outside e).0 (sym place ∙ f);
+  fits = λ made inside room whole legal gapless.
+      let l = legal_items_more items item legal in
+      let g = checked_gapless_more checked_gap_none items item gapless in
+      let before : CheckerShows Made items r.checker =
+      h.fits made (sym place ∙ inside) (follows.crowded room) unbroken l.0 g.0 in
+      follows.shows l.1 (ap (λ z. (checked_gap_after item z).in_gap) before.gap ∙ g.1) room whole Made items before;
 }
 
 -- an item that a checker in a gap isn't given
 check_rules_stay : (item : Item) (start : CheckStart) (clean : Bool) (items : List Item) (r now : Rules)
-    → now.checker ≡ r.checker → r.checker.in_gap ≡ true → CheckRulesHold start clean r items
+    → now.checker ≡ r.checker → now.outside ≡ r.outside → now.is_outside ≡ r.is_outside → r.checker.in_gap ≡ true
+    → (r.outside ≡ None → AreGapless checked_gap_none items → ⊥) → CheckRulesHold start clean r items
     → CheckRulesHold start clean now (items ++ item ∷ [])
-check_rules_stay item start clean items r now same gap h =
+check_rules_stay item start clean items r now same place stays gap never h =
     let there : now.checker.in_gap ≡ true = ap (λ (c : Checker). c.in_gap) same ∙ gap in record {
       holds = λ s t starts run.
           let x = checked_last_shown clean checked_gap_none items item s t run in
           subst (λ c. CheckerHolds c t) (sym same) (checker_holds_in_gap r.checker x.0 t gap
-          (checked_shows_same clean (checked_gap_over items checked_gap_none) item x.0 t x.2) (h.holds s x.0 starts x.1));
+          (checked_shows_same clean (checked_gap_over items checked_gap_none) item x.0 t x.2) (h.holds s x.0 starts
+          x.1));
       wire = ap (λ (c : Checker). c.clean) same ∙ h.wire;
       gap = inl there;
       outside = λ e. there;
+      left = λ e f. h.left (sym stays ∙ e) (sym place ∙ f);
+      fits = λ made inside room whole legal gapless. absurd (never (sym place ∙ inside)
+          (checked_gapless_more checked_gap_none items item gapless).0);
     }
 
 -- outside of the model an item isn't looked at
-pub check_rules_outside : (item : Item) (r now : Rules) → now.checker ≡ r.checker → r.is_outside ≡ true
-    → CheckRulesTake item r now
-check_rules_outside item r now same outside = λ start clean items unbroken h.
-    check_rules_stay item start clean items r now same (h.outside outside) h
+pub check_rules_outside : (item : Item) (r now : Rules) → now.checker ≡ r.checker → now.outside ≡ r.outside
+    → now.is_outside ≡ r.is_outside → r.is_outside ≡ true → CheckRulesTake item r now
+check_rules_outside item r now same place stays outside = λ start clean items unbroken h.
+    check_rules_stay item start clean items r now same place stays (h.outside outside)
+    (λ inside gapless. h.left outside inside) h
 
 -- and where a session leaves the model
-pub check_rules_leave : (item : Item) (r now : Rules) → CheckerLeaves r.checker now.checker → CheckRulesTake item r now
-check_rules_leave item r now leaves = λ start clean items unbroken h.
+pub check_rules_leave : (item : Item) (r now : Rules) → CheckerLeaves r.checker now.checker
+    → (now.outside ≡ None → ⊥) → CheckRulesTake item r now
+check_rules_leave item r now leaves left = λ start clean items unbroken h.
     let there : now.checker.in_gap ≡ true = ap (λ (g : CheckedGap). g.in_gap) leaves.gap in record {
       holds = λ s t starts run.
           let x = checked_last_shown clean checked_gap_none items item s t run in
@@ -127,6 +149,8 @@ check_rules_leave item r now leaves = λ start clean items unbroken h.
       wire = leaves.wire ∙ h.wire;
       gap = inl there;
       outside = λ e. there;
+      left = λ e f. left f;
+      fits = λ made inside. absurd (left inside);
     }
 
 -- CHECKS
@@ -147,7 +171,8 @@ broke_more i items next (Some broken) h = λ e.
       never = r.never;
     }
 
-none_broken : (broken : Option Broken) → broken ≡ None → (i : CheckIndex) (items : List Item) → CheckBroke i items broken
+none_broken : (broken : Option Broken) → broken ≡ None → (i : CheckIndex) (items : List Item) → CheckBroke i items
+    broken
 none_broken None e i items = tt
 none_broken (Some broken) e i items = absurd (cc)
 
@@ -200,6 +225,22 @@ check_same i check now items rules broken h = record {
   unbroken = λ e. ap (λ (r : Rules). r.checker.broken) rules ∙ h.unbroken (sym broken ∙ e);
   broke = subst (CheckBroke i items) (sym broken) h.broke;
 }
+
+-- a rule that isn't some is none
+pub no_some : (broken : Option Broken) → ((b : Broken) → broken ≡ Some b → ⊥) → broken ≡ None
+no_some None h = refl
+no_some (Some b) h = absurd (h b refl)
+
+-- where no rule is broken, and all was checked, some run shows the items
+pub check_fits : {A : Type 0} (i : CheckIndex) (check : Check A) (seen : List Item) → check.broken ≡ None
+    → check.rules.outside ≡ None → (check.rules.checker.broken ≡ None → check.rules.checker.crowded ≡ None)
+    → CheckHolds i check seen → i.start ≡ Made → AreLegalItems seen → AreGapless checked_gap_none seen
+    → AreShownByRun Made i.clean seen
+check_fits i check seen none inside room h made legal gapless =
+    let k = h.rules none in
+    let whole = h.unbroken none in
+    subst (λ b. AreShownByRun Made b seen) k.wire
+    (shown_by_run Made seen check.rules.checker (k.fits made inside (room whole) whole legal gapless))
 
 -- SKIPS
 stray_less : (n k : ℕ) → (n == 0) ≡ false → n < suc k → n - 1 < k
@@ -270,12 +311,14 @@ in_gap_after start clean seen r h = elim h.gap as (λ _. r.checker.in_gap ≡ tr
 
 -- and more of them change nothing
 check_rules_junk : (k : ℕ) (start : CheckStart) (clean : Bool) (items : List Item) (r : Rules) → r.checker.in_gap ≡ true
-    → CheckRulesHold start clean r items → CheckRulesHold start clean r (items ++ replicate k (Junk false))
-check_rules_junk zero start clean items r gap h = subst (CheckRulesHold start clean r) (sym (append-nil items)) h
-check_rules_junk (suc k) start clean items r gap h =
+    → (AreGapless checked_gap_none items → ⊥) → CheckRulesHold start clean r items
+    → CheckRulesHold start clean r (items ++ replicate k (Junk false))
+check_rules_junk zero start clean items r gap never h = subst (CheckRulesHold start clean r) (sym (append-nil items)) h
+check_rules_junk (suc k) start clean items r gap never h =
     subst (CheckRulesHold start clean r) (append_assoc items (Junk false ∷ []) (replicate k (Junk false)))
     (check_rules_junk k start clean (items ++ Junk false ∷ []) r gap
-    (check_rules_stay (Junk false) start clean items r r refl gap h))
+    (λ gapless. never (checked_gapless_more checked_gap_none items (Junk false) gapless).0)
+    (check_rules_stay (Junk false) start clean items r r refl refl refl gap (λ inside gapless. never gapless) h))
 
 junk_joined : (seen : List Item) (n : ℕ) → 35 ≤ n
     → (seen ++ replicate 35 (Junk false)) ++ replicate (n - 35) (Junk false) ≡ seen ++ replicate n (Junk false)
@@ -291,7 +334,9 @@ more_junk i check seen n long h =
     let same = junk_joined seen n long in record {
       rules = λ e. let k = h.rules e in subst (CheckRulesHold i.start i.clean check.rules) same
           (check_rules_junk (n - 35) i.start i.clean (seen ++ replicate 35 (Junk false)) check.rules
-          (in_gap_after i.start i.clean seen check.rules k) k);
+          (in_gap_after i.start i.clean seen check.rules k)
+          (λ gapless. absurd (let f : true ≡ false = sym (junk_gap seen)
+          ∙ checked_gapless_end checked_gap_none (seen ++ replicate 35 (Junk false)) gapless in cc)) k);
       unbroken = h.unbroken;
       broke = subst (λ l. CheckBroke i l check.broken) same (broke_more i (seen ++ replicate 35 (Junk false))
           (replicate (n - 35) (Junk false)) check.broken h.broke);

@@ -1,3 +1,5 @@
 pub mod Lines
 pub mod Watched
 pub mod Checks
+pub mod TextChecks
+pub mod Checkings

@@ -4,17 +4,20 @@ use Rattle.swd_bits.specs.declared.tx.Tx.{Tx as Transaction}
 use Rattle.swd_trace.specs.declared.item.Item.{Item}
 use Rattle.swd_trace.specs.declared.item.Item.TheVariants.{Tx}
 use Rattle.swd_port.specs.Port.{Port}
+use Rattle.swd_trace.specs.Listed.{AreLegalItems}
 use Rattle.swd_checker.specs.declared.checker.CheckStart.{CheckStart}
+use Rattle.swd_checker.specs.declared.checker.CheckStart.TheVariants.{Made}
 use Rattle.swd_checker.specs.Standing.{CheckedStarts, CheckedRuns, CheckerHolds}
 use Rattle.swd_checker.specs.Standing.{checker_gap, checked_gap_none, checked_gap_over}
 use Rattle.swd_checker.specs.Whole.{IsShownByNoRun}
+use Rattle.swd_checker.specs.Fitting.{CheckerShows, AreGapless, AreShownByRun}
 use Rattle.swd_check.specs.declared.rules.Rules.{Rules}
 use Rattle.swd_check.specs.declared.why.Why.{Why}
 use Rattle.swd_check.specs.declared.why.Why.TheVariants.{Rule}
 use Rattle.swd_check.specs.declared.why.Broken.{Broken}
 use Rattle.swd_check.specs.declared.check.Check.{Check}
 use Rattle.swd_check.specs.declared.checked.Checked.{Checked}
-use Rattle.swd_check.specs.declared.checked.Checked.TheVariants.{Breaks}
+use Rattle.swd_check.specs.declared.checked.Checked.TheVariants.{Breaks, Fits}
 use Rattle.swd_text.specs.Sinks.{LeadsSinkOn}
 
 -- where a check begins: the state of the target, and whether nothing is damaged or lost
@@ -37,10 +40,14 @@ pub record CheckBreaksAt (start : CheckStart) (clean : Bool) (items : List Item)
   pub is : items ≡ before ++ Tx tx ∷ after
   pub never : IsShownByNoRun start clean (before ++ Tx tx ∷ [])
 
--- What a verdict says of the items: where a rule of the port model is broken, it is so.
+-- What a verdict says of the items: where a rule of the port model is broken, it is so. Where the items fit, of a
+-- target
+-- in its reset state, some run of the model shows them, if no bits hide a part of the session.
 abbrev pub CheckSays : CheckIndex → List Item → Checked → Type 0
 CheckSays i items (Breaks broken) =
     is_check_rule broken.why ≡ true → CheckBreaksAt i.start i.clean items broken.tx
+CheckSays i items (Fits count from faults gaps) = i.start ≡ Made → AreLegalItems items
+    → AreGapless checked_gap_none items → AreShownByRun Made i.clean items
 CheckSays i items checked = Unit {0}
 
 -- Rules that took these items. Outside of the model the checker is in a gap, and the items may be in none.
@@ -50,6 +57,9 @@ pub record CheckRulesHold (start : CheckStart) (clean : Bool) (r : Rules) (items
   pub wire : r.checker.clean ≡ clean
   pub gap : (r.checker.in_gap ≡ true) ⊎ (checker_gap r.checker ≡ checked_gap_over items checked_gap_none)
   pub outside : r.is_outside ≡ true → r.checker.in_gap ≡ true
+  pub left : r.is_outside ≡ true → r.outside ≡ None → ⊥
+  pub fits : start ≡ Made → r.outside ≡ None → r.checker.crowded ≡ None → r.checker.broken ≡ None
+      → AreLegalItems items → AreGapless checked_gap_none items → CheckerShows Made items r.checker
 
 -- rules that take one item more, where none is broken yet
 abbrev pub CheckRulesTake : Item → Rules → Rules → Type 0

@@ -3,6 +3,7 @@ ghost use Rattle.std.specs.Prelude.{◌≡◌, true, false, IfSome, None, []};
 ghost use Rattle.swd_bits.specs.declared.tx.Tx.{Tx as Transaction};
 ghost use Rattle.swd_trace.specs.declared.item.Item.{Item};
 ghost use Rattle.swd_checker.specs.Standing.{CheckerWatches, CheckerLeaves};
+ghost use Rattle.swd_checker.specs.Fitting.{CheckerFollows};
 ghost use Rattle.swd_check.specs.Watched.{CheckRulesHold, CheckRulesTake};
 
 use crate::check::CheckOptions;
@@ -103,12 +104,16 @@ impl Rules {
     }
 
     /// Returns the place at which the session first left the model.
-    pub(crate) fn outside(&self) -> Option<u64> {
+    pub(crate) fn outside(&self) -> Option<u64>
+        ensures { result ≡ self.now.outside }
+    {
         self.outside
     }
 
     /// Returns the place from which on it isn't decided, since there were too many worlds, or too little was known.
-    pub(crate) fn crowded(&self) -> Option<u64> {
+    pub(crate) fn crowded(&self) -> Option<u64>
+        ensures { result ≡ None → self.now.checker.broken ≡ None → self.now.checker.crowded ≡ None }
+    {
         match (self.checker.verdict(), self.checker.began()) {
             (Verdict::Crowded { place }, _) => Some(place),
             (_, None) => Some(0),
@@ -119,7 +124,9 @@ impl Rules {
     // Takes a line reset.
     fn reset(&mut self, item: &Item, place: u64)
         ensures watches { CheckerWatches item.now self.old.checker self.new.checker }
+        ensures follows { CheckerFollows item.now self.old.checker self.new.checker }
         ensures outside { self.new.is_outside ≡ false }
+        ensures place { self.new.outside ≡ self.old.outside }
     {
         self.is_outside = false;
         self.follow(item, place);
@@ -128,7 +135,9 @@ impl Rules {
     // Gives an item to the checker, and notes what it changed.
     fn follow(&mut self, item: &Item, place: u64)
         ensures watches { CheckerWatches item.now self.old.checker self.new.checker }
+        ensures follows { CheckerFollows item.now self.old.checker self.new.checker }
         ensures outside { self.new.is_outside ≡ self.old.is_outside }
+        ensures place { self.new.outside ≡ self.old.outside }
     {
         self.checker.watch(item, place);
         self.note(item, place);
@@ -138,6 +147,7 @@ impl Rules {
     fn note(&mut self, item: &Item, place: u64)
         ensures checker { self.new.checker ≡ self.old.checker }
         ensures outside { self.new.is_outside ≡ self.old.is_outside }
+        ensures place { self.new.outside ≡ self.old.outside }
     {
         if !matches!(self.checker.verdict(), Verdict::Breaks { .. }) {
             self.origins.note(&self.checker, item, place);
@@ -148,6 +158,7 @@ impl Rules {
     fn leave(&mut self, place: u64)
         ensures leaves { CheckerLeaves self.old.checker self.new.checker }
         ensures outside { self.new.is_outside ≡ true }
+        ensures left { self.new.outside ≡ None → ⊥ }
     {
         self.checker.leave();
         self.origins = Origins::new();

@@ -22,9 +22,9 @@ use swd_trace::Item;
 /// A sink of parts, which checks them.
 #[derive(Drop)]
 pub(crate) struct CheckedParts<A: Allocator> {
-    check: Check<A>,
+    pub(crate) check: Check<A>,
     // The number of parts, at most 2^64 - 1.
-    parts: u64,
+    pub(crate) parts: u64,
 }
 
 // Takes a part.

@@ -1,6 +1,7 @@
 //! The tests.
 mod lines;
 mod memory;
+mod pieces;
 
 use std::alloc::Global;
 use std::test::Fail;

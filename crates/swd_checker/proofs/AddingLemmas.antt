@@ -65,17 +65,18 @@ return_status v w debug system adds d s = λ c x ok prompt.
     (found_prompt w.debug debug c.debug_late x.debug_power x.debug_up d p.debug shares.debug).is
     (found_prompt w.system system c.system_late x.system_power x.system_up s p.system shares.system).is h)
 
-posted_plain : (r : Register) → is_port_posted r ≡ true → is_exempt_register r ≡ false
-posted_plain RdbuffRead e = refl
-posted_plain CswRead e = refl
-posted_plain TarRead e = refl
-posted_plain DrwRead e = refl
-posted_plain ApOtherRead e = refl
-posted_plain r e = absurd (cc)
+-- a read that returns the read buffer can be refused
+pub checked_posted_plain : (r : Register) → is_port_posted r ≡ true → is_exempt_register r ≡ false
+checked_posted_plain RdbuffRead e = refl
+checked_posted_plain CswRead e = refl
+checked_posted_plain TarRead e = refl
+checked_posted_plain DrwRead e = refl
+checked_posted_plain ApOtherRead e = refl
+checked_posted_plain r e = absurd (cc)
 
 buffer_held : (w : World) (r : Register) (c : Choice) (x : Target) → is_port_posted r ≡ true → WorldAccepts w r c x
     → CheckedHeld w.buffer x.buffer
-buffer_held w r c x posted ok = (ok.confirmed (posted_plain r posted)).buffer
+buffer_held w r c x posted ok = (ok.confirmed (checked_posted_plain r posted)).buffer
 
 -- a read that returns the read buffer, whatever that is
 pub return_posted : (v : Worlds) (w : World) (r : Register) → is_port_posted r ≡ true → WorldsPost v w r w.buffer
@@ -106,12 +107,14 @@ world_after_plain w ApOtherRead c x p d s ok = absurd (cc)
 -- any other request does nothing at its OK
 pub return_plain : (v : Worlds) (w : World) (r : Register) → WorldIsAdded w v → is_port_posted r ≡ false
     → (r ≡ DpidrRead → ⊥) → (r ≡ CtrlStatRead → ⊥) → WorldsReturn v w r
-return_plain v w r adds posted d s = λ c x ok prompt. adds (port_after_okay c r x) (world_after_plain w r c x posted d s ok)
+return_plain v w r adds posted d s = λ c x ok prompt. adds (port_after_okay c r x) (world_after_plain w r c x posted d s
+    ok)
 
 -- POSTED READS
 -- CSW
 pub post_csw : (v : Worlds) (w u : World) (held : Held)
-    → WorldIsAdded (record u { buffer = HeldCsw u.increments }) v → u ≡ world_posted held w → WorldsPost v w CswRead held
+    → WorldIsAdded (record u { buffer = HeldCsw u.increments }) v → u ≡ world_posted held w → WorldsPost v w CswRead
+    held
 post_csw v w u held adds same = λ c x posted ok is. worlds_hold_as v (record u { buffer = HeldCsw u.increments })
     (record (world_posted held w) { buffer = HeldCsw w.increments }) w.awaits (port_after_okay c CswRead x) adds
     (ap (λ (z : World). record z { buffer = HeldCsw z.increments }) same) refl (world_at_csw_read w held c x ok is)
@@ -144,14 +147,16 @@ post_other v w u held word error same = λ c x posted ok is.
           → WorldsHold v z.awaits y) same error (port_after_okay c ApOtherRead x) h
     ]
 
-only_rdbuff : (r : Register) → is_port_posted r ≡ true → (r ≡ CswRead → ⊥) → (r ≡ TarRead → ⊥) → (r ≡ DrwRead → ⊥)
+-- a register that returns the read buffer, and is none of an access port's, is RDBUFF
+pub checked_only_rdbuff : (r : Register) → is_port_posted r ≡ true → (r ≡ CswRead → ⊥) → (r ≡ TarRead → ⊥) → (r ≡
+    DrwRead → ⊥)
     → (r ≡ ApOtherRead → ⊥) → r ≡ RdbuffRead
-only_rdbuff RdbuffRead e a b d f = refl
-only_rdbuff CswRead e a b d f = absurd (a refl)
-only_rdbuff TarRead e a b d f = absurd (b refl)
-only_rdbuff DrwRead e a b d f = absurd (d refl)
-only_rdbuff ApOtherRead e a b d f = absurd (f refl)
-only_rdbuff r e a b d f = absurd (cc)
+checked_only_rdbuff RdbuffRead e a b d f = refl
+checked_only_rdbuff CswRead e a b d f = absurd (a refl)
+checked_only_rdbuff TarRead e a b d f = absurd (b refl)
+checked_only_rdbuff DrwRead e a b d f = absurd (d refl)
+checked_only_rdbuff ApOtherRead e a b d f = absurd (f refl)
+checked_only_rdbuff r e a b d f = absurd (cc)
 
 rdbuff_posted : (v : Worlds) (w u : World) (held : Held) → WorldIsAdded u v → u ≡ world_posted held w
     → WorldsPost v w RdbuffRead held
@@ -163,7 +168,8 @@ pub post_rdbuff : (v : Worlds) (w u : World) (r : Register) (held : Held) → Wo
     → u ≡ world_posted held w → (r ≡ CswRead → ⊥) → (r ≡ TarRead → ⊥) → (r ≡ DrwRead → ⊥) → (r ≡ ApOtherRead → ⊥)
     → WorldsPost v w r held
 post_rdbuff v w u r held adds same a b d f = λ c x posted ok is.
-    subst (λ z. WorldsPost v w z held) (sym (only_rdbuff r posted a b d f)) (rdbuff_posted v w u held adds same) c x
+    subst (λ z. WorldsPost v w z held) (sym (checked_only_rdbuff r posted a b d f)) (rdbuff_posted v w u held adds same)
+    c x
     posted ok is
 
 -- READS WHOSE WORD WAS SEEN
@@ -177,13 +183,13 @@ value_posted ApOtherRead c x e = refl
 value_posted r c x e = absurd (cc)
 
 -- what is left of the read buffer once its word was seen
-abbrev pub HeldNarrows : Held → Near → Option Held → Type 0
-HeldNarrows held seen left = (value : Option ℕ) (filler : ℕ) → CheckedHeld held value
+abbrev pub HeldIsNarrowed : Held → Near → Option Held → Type 0
+HeldIsNarrowed held seen left = (value : Option ℕ) (filler : ℕ) → CheckedHeld held value
     → IsCheckedNear seen (unwrap_or value filler) → IsSomeHeld left value
 
 -- the read buffer can be the word
 pub read_posted_some : (v : Worlds) (w : World) (r : Register) (seen : Near) (ok : Bool) (held : Held)
-    (left : Option Held) → left ≡ Some held → is_port_posted r ≡ true → HeldNarrows w.buffer seen left
+    (left : Option Held) → left ≡ Some held → is_port_posted r ≡ true → HeldIsNarrowed w.buffer seen left
     → WorldsPost v w r held → WorldsRead v w r seen ok
 read_posted_some v w r seen ok held left is posted narrows posts = λ c x accepts prompt near.
     posts c x posted accepts (subst (λ o. IsSomeHeld o x.buffer) is (narrows x.buffer c.filler
@@ -191,7 +197,7 @@ read_posted_some v w r seen ok held left is posted narrows posts = λ c x accept
 
 -- it can't
 pub read_posted_none : (v : Worlds) (w : World) (r : Register) (seen : Near) (ok : Bool) (left : Option Held)
-    → left ≡ None → is_port_posted r ≡ true → HeldNarrows w.buffer seen left → WorldsRead v w r seen ok
+    → left ≡ None → is_port_posted r ≡ true → HeldIsNarrowed w.buffer seen left → WorldsRead v w r seen ok
 read_posted_none v w r seen ok left none posted narrows = λ c x accepts prompt near.
     absurd (subst (λ o. IsSomeHeld o x.buffer) none (narrows x.buffer c.filler
     (buffer_held w r c x posted accepts) (subst (IsCheckedNear seen) (value_posted r c x posted) near)))
@@ -202,7 +208,7 @@ pub read_plain : (v : Worlds) (w : World) (r : Register) (seen : Near) (ok : Boo
 read_plain v w r seen ok other returns = λ c x accepts prompt near. returns c x accepts (λ e. absurd (other e))
 
 -- RESEND returns the last returned value
-resends : (v : Worlds) (w : World) (seen : Near) (held : Held) → HeldNarrows w.last_returned seen (Some held)
+resends : (v : Worlds) (w : World) (seen : Near) (held : Held) → HeldIsNarrowed w.last_returned seen (Some held)
     → WorldIsAdded (record w { last_returned = held }) v → (c : Choice) (x : Target) → WorldAccepts w ResendRead c x
     → IsCheckedNear seen (port_value_in c ResendRead x)
     → WorldsHold v w.awaits (port_after_okay c ResendRead x)
@@ -215,23 +221,23 @@ WorldsResend v w r seen c x = WorldAccepts w r c x → IsCheckedNear seen (port_
 
 -- the last returned value can be the word
 pub resent_some : (v : Worlds) (w : World) (r : Register) (seen : Near) (held : Held) (left : Option Held)
-    → left ≡ Some held → HeldNarrows w.last_returned seen left → WorldIsAdded (record w { last_returned = held }) v
+    → left ≡ Some held → HeldIsNarrowed w.last_returned seen left → WorldIsAdded (record w { last_returned = held }) v
     → (c : Choice) (x : Target) → r ≡ ResendRead → WorldAccepts w r c x → IsCheckedNear seen (port_value_in c r x)
     → WorldsHold v w.awaits (port_after_okay c r x)
 resent_some v w r seen held left is narrows adds c x named = subst (λ z. WorldsResend v w z seen c x) (sym named)
-    (resends v w seen held (subst (HeldNarrows w.last_returned seen) is narrows) adds c x)
+    (resends v w seen held (subst (HeldIsNarrowed w.last_returned seen) is narrows) adds c x)
 
-resends_never : (v : Worlds) (w : World) (seen : Near) → HeldNarrows w.last_returned seen None → (c : Choice)
+resends_never : (v : Worlds) (w : World) (seen : Near) → HeldIsNarrowed w.last_returned seen None → (c : Choice)
     (x : Target) → WorldsResend v w ResendRead seen c x
 resends_never v w seen narrows c x ok near =
     absurd (narrows x.last_returned c.filler (ok.confirmed refl).last_returned near)
 
 -- there is no such word: nothing is left
 pub resent_none : (v : Worlds) (w : World) (r : Register) (seen : Near) (left : Option Held) → left ≡ None
-    → HeldNarrows w.last_returned seen left → (c : Choice) (x : Target) → r ≡ ResendRead → WorldAccepts w r c x
+    → HeldIsNarrowed w.last_returned seen left → (c : Choice) (x : Target) → r ≡ ResendRead → WorldAccepts w r c x
     → IsCheckedNear seen (port_value_in c r x) → WorldsHold v w.awaits (port_after_okay c r x)
 resent_none v w r seen left none narrows c x named = subst (λ z. WorldsResend v w z seen c x) (sym named)
-    (resends_never v w seen (subst (HeldNarrows w.last_returned seen) none narrows) c x)
+    (resends_never v w seen (subst (HeldIsNarrowed w.last_returned seen) none narrows) c x)
 
 -- CTRL/STAT
 some_near : (left : Option Near) (word : ℕ) → IsSomeNear left word → is_some left ≡ true

@@ -32,9 +32,10 @@ use Rattle.swd_checker.specs.Laws.{WorldAtFault}
 use Rattle.swd_checker.specs.Laws.{WorldAtDamage}
 
 -- COMPLETION
-no_transfer : (drw : Option Drw) → option_map checked_transfer_of drw ≡ None → drw ≡ None
-no_transfer None e = refl
-no_transfer (Some drw) e = grind arith
+-- a target in which no transfer is pending
+pub world_no_transfer : (drw : Option Drw) → option_map checked_transfer_of drw ≡ None → drw ≡ None
+world_no_transfer None e = refl
+world_no_transfer (Some drw) e = grind arith
 
 -- what a world keeps once its transfer succeeded
 pub world_success_pends_nothing : (pending : Option Transfer) (w : World) → w.pending ≡ pending
@@ -54,7 +55,7 @@ or_true false b e = e
 idle_completes : (w : World) (c : Choice) (x : Target) → w.pending ≡ None → IsWorldNow w x
     → IsWorldNow w (port_completion c x)
 idle_completes w c x none h = subst (IsWorldNow w)
-    (sym (no_pending_same_target c x (no_transfer x.pending (h.pending ∙ none)))) h
+    (sym (no_pending_same_target c x (world_no_transfer x.pending (h.pending ∙ none)))) h
 
 next_inside : (first more index : ℕ) → index ≤ more → nat_lt (first % 1024 + 4 * more + 4) 1024 ≡ true
     → nat_lt ((first + 4 * index) % 1024 + 4) 1024 ≡ true
@@ -83,11 +84,11 @@ buffer_moves Reads at m held buffer h = (_, refl)
 buffer_moves (Writes word) at m held buffer h = h
 
 -- the target once its transfer succeeded
-succeeds : (w : World) (c : Choice) (x : Target) (drw : Drw) → IsWorldNow w x → x.pending ≡ Some drw
+pub world_now_succeeds : (w : World) (c : Choice) (x : Target) (drw : Drw) → IsWorldNow w x → x.pending ≡ Some drw
     → w.pending ≡ Some (checked_transfer_of drw)
     → pending_fails x.pending (unwrap_or x.tar c.address) x.memory ≡ false
     → IsWorldNow (world_success_of (Some (checked_transfer_of drw)) w) (port_completion c x)
-succeeds w c x drw h pending known fits = record {
+world_now_succeeds w c x drw h pending known fits = record {
   reset = h.reset;
   sticky_error = or_false _ _ fits ∙ h.sticky_error;
   write_error = h.write_error;
@@ -114,10 +115,10 @@ succeeds w c x drw h pending known fits = record {
 }
 
 -- and once it was a bus error
-fails : (w : World) (c : Choice) (x : Target) → IsWorldNow w x
+pub world_now_fails : (w : World) (c : Choice) (x : Target) → IsWorldNow w x
     → pending_fails x.pending (unwrap_or x.tar c.address) x.memory ≡ true →
     IsWorldNow (world_failed w) (port_completion c x)
-fails w c x h error = record {
+world_now_fails w c x h error = record {
   reset = h.reset;
   sticky_error = or_true _ _ error;
   write_error = h.write_error;
@@ -140,11 +141,11 @@ known_pending w x drw h pending = sym h.pending ∙ ap (option_map checked_trans
 takes_effect : (w : World) (c : Choice) (x : Target) (drw : Drw) (error : Bool) → IsWorldNow w x → x.pending ≡ Some drw
     → pending_fails x.pending (unwrap_or x.tar c.address) x.memory ≡ error → WorldDescribes w (port_completion c x)
 takes_effect w c x drw true h pending e =
-    failed (ap is_some (known_pending w x drw h pending)) (fails w c x h e)
+    failed (ap is_some (known_pending w x drw h pending)) (world_now_fails w c x h e)
 takes_effect w c x drw false h pending e =
     let known : w.pending ≡ Some (checked_transfer_of drw) = known_pending w x drw h pending in
     done (ap is_some known) (subst (λ p. IsWorldNow (world_success_of p w) (port_completion c x)) (sym known)
-    (succeeds w c x drw h pending known e))
+    (world_now_succeeds w c x drw h pending known e))
 
 now_completes : (w : World) (c : Choice) (x : Target) (pending : Option Drw) → x.pending ≡ pending → IsWorldNow w x
     → WorldDescribes w (port_completion c x)
@@ -180,7 +181,7 @@ pub world_at_idle : WorldAtIdle
 world_at_idle w s t leads h = around_lead w w 0 (λ a d. record { target = d.target; awaits = d.awaits }) s t leads h
 
 -- a reset of a target, and of each description of it
-reset_now : (w : World) (awaits : Bool) (x : Target) → awaits ≡ w.awaits → IsWorldNow w x
+pub reset_now : (w : World) (awaits : Bool) (x : Target) → awaits ≡ w.awaits → IsWorldNow w x
     → IsWorldNow (world_after_reset w) (record x { reset = Fresh; write_error = awaits || x.write_error })
 reset_now w awaits x same h = record {
   reset = refl;
@@ -224,7 +225,8 @@ resets w ones some a h = record {
   awaits = rw some refl;
 }
 
-not_zero : (ones : ℕ) → ones ≢ 0 → (ones == 0) ≡ false
+-- a number that isn't zero
+pub not_zero : (ones : ℕ) → ones ≢ 0 → (ones == 0) ≡ false
 not_zero ones some = grind arith
 
 -- the law of line resets
@@ -240,9 +242,10 @@ read_ok_refused true b false e = refl
 read_ok_refused false b true e = e
 read_ok_refused false b false e = e
 
-wait_now : (w : World) (r : Register) (x : Target) → IsWorldNow w x →
+-- after WAIT
+pub world_now_waits : (w : World) (r : Register) (x : Target) → IsWorldNow w x →
     IsWorldNow (world_after_wait r w) (port_after_wait r x)
-wait_now w r x h = record {
+world_now_waits w r x h = record {
   reset = h.reset;
   sticky_error = h.sticky_error;
   write_error = h.write_error;
@@ -265,10 +268,10 @@ wait_success w r (Some transfer) = refl
 
 -- the law of WAIT
 pub world_at_wait : WorldAtWait
-world_at_wait w r x (now h) = now (wait_now w r x h)
+world_at_wait w r x (now h) = now (world_now_waits w r x h)
 world_at_wait w r x (done pends h) = done pends (subst (λ v. IsWorldNow v (port_after_wait r x))
-    (wait_success w r w.pending) (wait_now (world_succeeded w) r x h))
-world_at_wait w r x (failed pends h) = failed pends (wait_now (world_failed w) r x h)
+    (wait_success w r w.pending) (world_now_waits (world_succeeded w) r x h))
+world_at_wait w r x (failed pends h) = failed pends (world_now_waits (world_failed w) r x h)
 
 -- a power is there in a world and in the targets that it describes
 pub checked_power_there : (power : Power) (on : Bool) (up : PowerUp) → CheckedPower power on up
@@ -315,9 +318,10 @@ world_at_fault w r port x none (done pends h) = inl (world_fault_now (world_succ
 world_at_fault w r port x none (failed pends h) = inr (pends, world_fault_now (world_failed w) r port x h)
 
 -- DAMAGED DATA
-damage_now : (w : World) (refuses : Bool) (x : Target) → IsWorldNow w x
+-- data arrived damaged
+pub world_now_damages : (w : World) (refuses : Bool) (x : Target) → IsWorldNow w x
     → IsWorldNow (world_after_damage w) (port_after_bits refuses Damaged x)
-damage_now w refuses x h = record {
+world_now_damages w refuses x h = record {
   reset = h.reset;
   sticky_error = h.sticky_error;
   write_error = refl;
@@ -340,8 +344,8 @@ damage_success w (Some transfer) = refl
 
 -- the law of damaged data
 pub world_at_damage : WorldAtDamage
-world_at_damage w refuses x (now h) = now (damage_now w refuses x h)
+world_at_damage w refuses x (now h) = now (world_now_damages w refuses x h)
 world_at_damage w refuses x (done pends h) =
     done pends (subst (λ v. IsWorldNow v (port_after_bits refuses Damaged x)) (damage_success w w.pending)
-    (damage_now (world_succeeded w) refuses x h))
-world_at_damage w refuses x (failed pends h) = failed pends (damage_now (world_failed w) refuses x h)
+    (world_now_damages (world_succeeded w) refuses x h))
+world_at_damage w refuses x (failed pends h) = failed pends (world_now_damages (world_failed w) refuses x h)

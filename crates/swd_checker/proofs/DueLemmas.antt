@@ -28,11 +28,13 @@ use Rattle.swd_checker.proofs.OkayLemmas.{world_at_okay}
 named_by : (s m : Bool) (d b : Bool) (q : Request) → s ≡ m → d ≡ b → checked_register s d q ≡ checked_register m b q
 named_by s m d b q e f = ap (λ x. checked_register x d q) e ∙ ap (λ x. checked_register m x q) f
 
-register_now : (w : World) (x : Target) (q : Request) → IsWorldNow w x
+-- and names the same registers
+pub register_now : (w : World) (x : Target) (q : Request) → IsWorldNow w x
     → port_register x.select q ≡ world_register w q
 register_now w x q h = named_by _ _ _ _ q h.mem_ap h.bank0
 
-register_success : (w : World) (pending : Option Transfer) (q : Request)
+-- the register stays the same once the transfer succeeded
+pub register_success : (w : World) (pending : Option Transfer) (q : Request)
     → world_register (world_success_of pending w) q ≡ world_register w q
 register_success w None q = refl
 register_success w (Some transfer) q = refl
@@ -77,15 +79,18 @@ answer_same : (a b : Reset) (s t v w u p : Bool) (r n : Register) → a ≡ b �
     → port_answer_by a s v u r ≡ port_answer_by b t w p n
 answer_same a b s t v w u p r n e f g h k = rw (e, f, g, h, k) refl
 
-due_now : (w : World) (x : Target) (q : Request) → IsWorldNow w x → port_answer x q ≡ world_due w q
+-- a target answers what its world is due to
+pub due_now : (w : World) (x : Target) (q : Request) → IsWorldNow w x → port_answer x q ≡ world_due w q
 due_now w x q h = answer_same _ _ _ _ _ _ _ _ _ _ h.reset h.sticky_error h.write_error
     (ap (is_port_unpowered q.ap) (checked_power_there w.debug x.debug_power x.debug_up h.debug)) (register_now w x q h)
 
-due_success : (w : World) (pending : Option Transfer) (q : Request)
+-- and so does the answer
+pub due_success : (w : World) (pending : Option Transfer) (q : Request)
     → world_due (world_success_of pending w) q ≡ world_due w q
 due_success w None q = refl
 due_success w (Some transfer) q = refl
 
+-- the answer by whether a request is answered, exempt, and a flag is set
 abbrev pub by_flags : Bool → Bool → Bool → Reply
 by_flags answered exempt flagged =
     if not answered then Silent else if exempt then Okay else if flagged then Faults else Okay

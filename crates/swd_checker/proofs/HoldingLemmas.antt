@@ -1,5 +1,5 @@
 -- What a list of worlds holds while worlds are added and joined.
-use Rattle.std.proofs.Common.{◌≡◌, ◌<◌, ◌≤◌, ◌+◌, ◌-◌, ℕ, Bool, false, sym, subst, arith, ◌∙◌}
+use Rattle.std.proofs.Common.{◌≡◌, ◌<◌, ◌≤◌, ◌+◌, ◌-◌, ℕ, Bool, false, refl, sym, subst, arith, ◌∙◌}
 use Rattle.std.proofs.Common.{◌⊎◌, inl, inr, List, [], ◌∷◌, ◌++◌, length, get_or}
 use Rattle.std.specs.Prelude.{Some, true, ◌==◌, slice_index_or}
 use Rattle.std.specs.List.{Any, remove}
@@ -12,6 +12,8 @@ use Rattle.swd_checker.specs.declared.worlds.Worlds.{Worlds}
 use Rattle.swd_checker.specs.Worlds.{World}
 use Rattle.swd_checker.specs.Described.{WorldDescribes}
 use Rattle.swd_checker.specs.Holding.{KeptDescribes, WorldsHold, WorldsKeep, WorldsGrow, IsKeptJoined}
+use Rattle.swd_checker.specs.Reaching.{CheckedLink, WorldReaches, WorldsReach, IsReachedJoined}
+use Rattle.swd_checker.proofs.KeptLemmas.{AreAddingReached, adding_reached_first, adding_reached_joined}
 
 -- a target is described by a world of the list, or by the one that is to be added
 pub record HeldOr (v : Worlds) (added : Kept) (awaited : Bool) (x : Target) : Type 0 where
@@ -24,6 +26,19 @@ pub record WorldsAdding (v : Worlds) (w : World) (now : Worlds) (added : Kept) :
   pub few : length now.kept.items ≤ length v.kept.items
   pub kept : (awaited : Bool) (x : Target) → WorldsHold v awaited x → HeldOr now added awaited x
   pub adds : (x : Target) → WorldDescribes w x → HeldOr now added w.awaits x
+  pub reaches : (link : CheckedLink) → WorldsReach link v → WorldReaches link w
+      → AreAddingReached link now.kept.items added
+
+-- before any world is joined with it
+pub worlds_adding_first : (v : Worlds) (w : World) (faults : ℕ)
+    → WorldsAdding v w v (record { world = w; faults = faults })
+worlds_adding_first v w faults = record {
+  crowded = refl;
+  few = omega arith;
+  kept = λ awaited x held. record { held = λ f. inl (held.held f) };
+  adds = λ x described. record { held = λ f. inr (record { awaits = refl; target = described }) };
+  reaches = λ link all reached. adding_reached_first link v w (record { world = w; faults = faults }) refl all reached;
+}
 
 place_cases : (k place : ℕ) → (k < place) ⊎ ((k ≡ place) ⊎ (place < k))
 place_cases k place = grind arith
@@ -84,13 +99,16 @@ fewer items left place most is inside few =
 -- one of the worlds is joined with the added one
 pub worlds_adding_joined : (v : Worlds) (w : World) (now left : Worlds) (added joined : Kept) (place : ℕ)
     → left.crowded ≡ now.crowded → left.kept.items ≡ remove now.kept.items place
-    → IsKeptJoined now.kept.items added (Some (place, joined)) → WorldsAdding v w now added
+    → IsKeptJoined now.kept.items added (Some (place, joined))
+    → IsReachedJoined now.kept.items added (Some (place, joined)) → WorldsAdding v w now added
     → WorldsAdding v w left joined
-worlds_adding_joined v w now left added joined place same items h before = record {
+worlds_adding_joined v w now left added joined place same items h reaches before = record {
   crowded = same ∙ before.crowded;
   few = fewer now.kept.items left.kept.items place (length v.kept.items) items h.0 before.few;
   kept = λ awaited x held. joined_or now left added joined place awaited x same items h (before.kept awaited x held);
   adds = λ x described. joined_or now left added joined place w.awaits x same items h (before.adds x described);
+  reaches = λ link all reached. adding_reached_joined link now.kept.items left.kept.items added joined place items h.0
+      reaches (before.reaches link all reached);
 }
 
 any_first : (P : Kept → Type 0) (items : List Kept) (added : Kept) → Any P items → Any P (items ++ added ∷ [])
@@ -143,7 +161,11 @@ worlds_adding_full v w now last added items full h = let few = h.few in record {
 pub worlds_adding_grows : (v : Worlds) (w : World) (now last : Worlds) (added : Kept) → last.crowded ≡ now.crowded
     → last.kept.items ≡ now.kept.items ++ added ∷ [] → WorldsAdding v w now added → WorldsGrow 1 v last
 worlds_adding_grows v w now last added same items h = let few = h.few in record {
-  few = subst (λ l. length l ≤ length v.kept.items + 1) (sym items) (omega (arith, length_push now.kept.items added, few));
+  few = subst (λ l. length l ≤ length v.kept.items + 1) (sym items) (omega (
+    arith,
+    length_push now.kept.items added,
+    few,
+  ));
   fits = λ room. same ∙ h.crowded;
 }
 

@@ -1,5 +1,8 @@
 pub mod NearLemmas
+pub mod HeldLemmas
 pub mod CoverLemmas
+pub mod JoiningLemmas
+pub mod KeptLemmas
 pub mod HoldingLemmas
 pub mod DescribedLemmas
 pub mod OkayLemmas
@@ -16,6 +19,8 @@ pub mod TransactLemmas
 pub mod EachLemmas
 pub mod KeepingLemmas
 pub mod IdentifyLemmas
+pub mod IdentifyingLemmas
+pub mod OpenedLemmas
 pub mod OpeningLemmas
 pub mod OpenLemmas
 pub mod StandingLemmas
@@ -23,3 +28,16 @@ pub mod WholeLemmas
 pub mod ShownLemmas
 pub mod EqualLemmas
 pub mod FieldsLemmas
+pub mod ReachLemmas
+pub mod SettleLemmas
+pub mod EffectLemmas
+pub mod GoesLemmas
+pub mod MarkLemmas
+pub mod MovesLemmas
+pub mod WrittenLemmas
+pub mod SeenLemmas
+pub mod MovedLemmas
+pub mod LostLemmas
+pub mod LinkLemmas
+pub mod FittingLemmas
+pub mod BeginsLemmas

@@ -59,11 +59,11 @@ powered ApOtherRead late power on up can on_there h = (on_there refl, refl)
 powered ApOtherWrite late power on up can on_there h = (on_there refl, refl)
 
 -- the same of the whole world
-confirmed : (v : World) (r : Register) (late : Bool) (x : Target) → is_exempt_register r ≡ false
+pub world_now_okays : (v : World) (r : Register) (late : Bool) (x : Target) → is_exempt_register r ≡ false
     → (is_access_port_register r ≡ true → x.debug_power ≡ true) → IsWorldNow v x
     → IsWorldNow (record v { debug = if is_access_port_register r then PowerSeen else v.debug })
     (record x { debug_up = debug_up_after late r x.debug_up })
-confirmed v r late x can on h = record {
+world_now_okays v r late x can on h = record {
   reset = h.reset;
   sticky_error = h.sticky_error;
   write_error = h.write_error;
@@ -81,8 +81,8 @@ confirmed v r late x can on h = record {
 
 -- the law of OK to a request that can be refused
 pub world_at_okay : WorldAtOkay
-world_at_okay w r late x can none clear on (now h) = confirmed (world_succeeded w) r late x can on
+world_at_okay w r late x can none clear on (now h) = world_now_okays (world_succeeded w) r late x can on
     (subst (λ p. IsWorldNow (world_success_of p w) x) (sym (world_pends_nothing w x none h)) h)
-world_at_okay w r late x can none clear on (done pends h) = confirmed (world_succeeded w) r late x can on h
+world_at_okay w r late x can none clear on (done pends h) = world_now_okays (world_succeeded w) r late x can on h
 world_at_okay w r late x can none clear on (failed pends h) =
     absurd (let e : true ≡ false = sym h.sticky_error ∙ clear in cc)

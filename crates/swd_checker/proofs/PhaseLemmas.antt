@@ -55,7 +55,8 @@ seen_changed word value place h k inside e = elim (place_cases place inside)
           sym f ∙ sym (ap (checked_changed_at word) last)
           )
       | inr below ↦ changed_back word value place below
-          (sym (low_last word h) ∙ ap (λ z. z % 2 ^ 32) e ∙ low_flipped value place k) ∙ sym (changed_at word place below)
+          (sym (low_last word h) ∙ ap (λ z. z % 2 ^ 32) e ∙ low_flipped value place k) ∙ sym (changed_at word place
+          below)
     ]
 
 -- a word that is seen with right parity is the one that was sent, and no bit was changed
@@ -121,3 +122,41 @@ phase_of_wrong_parity bits h e =
     let small : other < 2 ^ 33 = xor_lt 33 bits (2 ^ 32) h (omega arith) in
     sym (twice bits (2 ^ 32)) ∙ ap (λ z. bit_xor z (2 ^ 32))
     (data_phase_of_found_word other (other % 2 ^ 32) small found)
+
+two_more : (a b c : ℕ) → a % 2 ≡ 0 → b % 2 ≡ (a + 1) % 2 → c % 2 ≡ (b + 1) % 2 → c % 2 ≡ 0
+two_more a b c e f g = omega arith
+
+even_of : (n : ℕ) (even : Bool) (bits word : ℕ) → (n == 0) ≡ even → (if even then Some bits else None) ≡ Some word
+    → n ≡ 0
+even_of n true bits word is e = grind arith
+even_of n false bits word is e = absurd (cc)
+
+found_even : (ones bits word : ℕ) → (if ones % 2 == 0 then Some bits else None) ≡ Some word → ones % 2 ≡ 0
+found_even ones bits word e = even_of (ones % 2) (ones % 2 == 0) bits word refl e
+
+phase_even : (word place : ℕ) → word < 2 ^ 32 → count_ones (bit_xor (checked_phase false word) (2 ^ place)) % 2 ≡ 0
+phase_even word place h =
+    let even : count_ones (data_phase_number word) % 2 ≡ 0 = found_even _ _ word (data_phase_gives_word word h) in
+    let odd : count_ones (checked_phase false word) % 2 ≡ (count_ones (data_phase_number word) + 1) % 2 =
+    bit_flip_changes_parity 32 (data_phase_number word) in
+    let last : count_ones (bit_xor (checked_phase false word) (2 ^ place)) % 2
+    ≡ (count_ones (checked_phase false word) + 1) % 2 = bit_flip_changes_parity place (checked_phase false word) in
+    two_more _ _ _ even odd last
+
+-- a word that is sent with wrong parity arrives with one more bit changed
+pub sent_cured : (word place : ℕ) → word < 2 ^ 32 → place < 33
+    → data_phase_word (port_flipped (Some place) (checked_phase false word)) ≡ Some (checked_changed_at word place)
+sent_cured word place h inside =
+    rw (phase_even word place h) (ap (λ z. Some z) (sent_changed_low word place h inside))
+
+-- and it is what is seen of that word with that bit changed
+pub seen_back : (word place : ℕ) → word < 2 ^ 32 → place < 33
+    → checked_phase false word ≡ port_flipped (Some place) (data_phase_number (checked_changed_at word place))
+seen_back word place h inside =
+    let power : 2 ^ place < 2 ^ 33 = pow-lt inside in
+    let first : data_phase_number word < 2 ^ 33 = omega arith in
+    let small : bit_xor (checked_phase false word) (2 ^ place) < 2 ^ 33 =
+    xor_lt 33 (checked_phase false word) (2 ^ place) (xor_lt 33 (data_phase_number word) (2 ^ 32) first (omega arith))
+    power in
+    sym (twice (checked_phase false word) (2 ^ place)) ∙ ap (λ z. bit_xor z (2 ^ place))
+    (data_phase_of_found_word _ (checked_changed_at word place) small (sent_cured word place h inside))

@@ -34,9 +34,9 @@ world_describes_map F G w x step same success fail (failed pends h) = failed (ap
     (subst (λ v. IsWorldNow v (G x)) fail (step (world_failed w) h))
 
 -- DPIDR
-live_now : (v : World) (c : Choice) (x : Target) → IsWorldNow v x
+pub world_now_lives : (v : World) (c : Choice) (x : Target) → IsWorldNow v x
     → IsWorldNow (world_live v) (port_after_okay c DpidrRead x)
-live_now v c x h = record {
+world_now_lives v c x h = record {
   reset = refl;
   sticky_error = h.sticky_error;
   write_error = h.write_error;
@@ -60,7 +60,7 @@ live_success w (Some transfer) = refl
 -- after DPIDR was read
 pub world_at_dpidr : WorldAtDpidr
 world_at_dpidr w c x h = world_describes_map world_live (λ y. port_after_okay c DpidrRead y) w x
-    (λ v d. live_now v c x d) refl (live_success w) refl (h.exempt refl)
+    (λ v d. world_now_lives v c x d) refl (live_success w) refl (h.exempt refl)
 
 -- RESEND
 -- after RESEND returned a word that was seen
@@ -82,7 +82,8 @@ world_at_resend w held c x h is = let k = h.confirmed refl in now (record {
 })
 
 -- POSTED READS
-posted : (w : World) (x : Target) (last held : Held) (sticky s : Bool) (pending : Option Transfer) (p : Option Drw)
+pub world_now_posts : (w : World) (x : Target) (last held : Held) (sticky s : Bool) (pending : Option Transfer) (p :
+    Option Drw)
     (b l : Option ℕ) → IsWorldNow w x → s ≡ sticky → option_map checked_transfer_of p ≡ pending → CheckedHeld held b
     → CheckedHeld last l
     → IsWorldNow (record w {
@@ -92,7 +93,7 @@ posted : (w : World) (x : Target) (last held : Held) (sticky s : Bool) (pending 
       buffer = held;
       last_returned = last;
     }) (record x { read_ok = true; sticky_error = s; pending = p; buffer = b; last_returned = l })
-posted w x last held sticky s pending p b l h error same is returned = record {
+world_now_posts w x last held sticky s pending p b l h error same is returned = record {
   reset = h.reset;
   sticky_error = error;
   write_error = h.write_error;
@@ -111,34 +112,38 @@ posted w x last held sticky s pending p b l h error same is returned = record {
 -- after RDBUFF was read
 pub world_at_rdbuff : WorldAtRdbuff
 world_at_rdbuff w held c x h is = let k = h.confirmed refl in
-    now (posted w _ held HeldUnknown w.sticky_error x.sticky_error w.pending x.pending None x.buffer k k.sticky_error
+    now (world_now_posts w _ held HeldUnknown w.sticky_error x.sticky_error w.pending x.pending None x.buffer k
+    k.sticky_error
     k.pending tt is)
 
-csw_is : (a b : Bool) (others : ℕ) → a ≡ b → IsCheckedCsw b (csw_read a others)
-csw_is true true others e = let fields = port_csw_reads true others in
+-- the word that CSW reads is one of those
+pub checked_csw_read : (a b : Bool) (others : ℕ) → a ≡ b → IsCheckedCsw b (csw_read a others)
+checked_csw_read true true others e = let fields = port_csw_reads true others in
     record { size = fields.size; addr_inc = fields.addr_inc; device_en = fields.device_en }
-csw_is false false others e = let fields = port_csw_reads false others in
+checked_csw_read false false others e = let fields = port_csw_reads false others in
     record { size = fields.size; addr_inc = fields.addr_inc; device_en = fields.device_en }
-csw_is true false others e = absurd (cc)
-csw_is false true others e = absurd (cc)
+checked_csw_read true false others e = absurd (cc)
+checked_csw_read false true others e = absurd (cc)
 
 -- after CSW was read
 pub world_at_csw_read : WorldAtCswRead
 world_at_csw_read w held c x h is = let k = h.confirmed refl in
-    now (posted w _ held (HeldCsw w.increments) w.sticky_error x.sticky_error w.pending x.pending
+    now (world_now_posts w _ held (HeldCsw w.increments) w.sticky_error x.sticky_error w.pending x.pending
     (Some (csw_read x.increments c.others)) x.buffer k k.sticky_error k.pending
-    (csw_read x.increments c.others, refl, csw_is x.increments w.increments c.others k.increments) is)
+    (csw_read x.increments c.others, refl, checked_csw_read x.increments w.increments c.others k.increments) is)
 
 -- after DRW was read
 pub world_at_drw_read : WorldAtDrwRead
 world_at_drw_read w held c x h is = let k = h.confirmed refl in
-    now (posted w _ held HeldUnknown w.sticky_error x.sticky_error (Some TransferRead) (Some Reads) x.buffer x.buffer k
+    now (world_now_posts w _ held HeldUnknown w.sticky_error x.sticky_error (Some TransferRead) (Some Reads) x.buffer
+    x.buffer k
     k.sticky_error refl tt is)
 
 -- after TAR was read the read buffer is TAR
 pub world_at_tar_read : WorldAtTarRead
 world_at_tar_read w held c x h is = let k = h.confirmed refl in
-    posted w _ held HeldUnknown w.sticky_error x.sticky_error w.pending x.pending x.tar x.buffer k k.sticky_error
+    world_now_posts w _ held HeldUnknown w.sticky_error x.sticky_error w.pending x.pending x.tar x.buffer k
+    k.sticky_error
     k.pending tt is
 
 or_true : (b c : Bool) → c ≡ true → (b || c) ≡ true
@@ -155,11 +160,11 @@ elsewhere : (w : World) (held : Held) (c : Choice) (x : Target) (refuses : Bool)
     → WorldDescribes (record (world_posted held w) { buffer = HeldWord }) (port_after_okay c ApOtherRead x)
     ⊎ WorldDescribes (record (world_posted held w) { sticky_error = true }) (port_after_okay c ApOtherRead x)
 elsewhere w held c x false e k is =
-    inl (now (posted w _ held HeldWord w.sticky_error (x.sticky_error || c.refuses) w.pending x.pending
+    inl (now (world_now_posts w _ held HeldWord w.sticky_error (x.sticky_error || c.refuses) w.pending x.pending
     (if c.refuses then None else Some c.elsewhere) x.buffer k (or_false x.sticky_error c.refuses e ∙ k.sticky_error)
     k.pending (c.elsewhere, ap (λ b. if b then None else Some c.elsewhere) e) is))
 elsewhere w held c x true e k is =
-    inr (now (posted w _ held HeldUnknown true (x.sticky_error || c.refuses) w.pending x.pending
+    inr (now (world_now_posts w _ held HeldUnknown true (x.sticky_error || c.refuses) w.pending x.pending
     (if c.refuses then None else Some c.elsewhere) x.buffer k (or_true x.sticky_error c.refuses e) k.pending tt is))
 
 -- after a register elsewhere was read: it has a word, or is a bus error
@@ -167,8 +172,11 @@ pub world_at_elsewhere : WorldAtReadElsewhere
 world_at_elsewhere w held c x h is = elsewhere w held c x c.refuses refl (h.confirmed refl) is
 
 -- WHETHER DATA IS AWAITED
-awaiting_now : (w : World) (awaits : Bool) (x : Target) → IsWorldNow w x → IsWorldNow (record w { awaits = awaits }) x
-awaiting_now w awaits x h = record {
+pub world_now_awaits : (w : World) (awaits : Bool) (x : Target) → IsWorldNow w x → IsWorldNow (record w {
+  awaits =
+      awaits;
+}) x
+world_now_awaits w awaits x h = record {
   reset = h.reset;
   sticky_error = h.sticky_error;
   write_error = h.write_error;
@@ -195,8 +203,8 @@ pub world_accepts_awaiting : (w : World) (awaits : Bool) (r : Register) (c : Cho
     → WorldAccepts w r c x → WorldAccepts (record w { awaits = awaits }) r c x
 world_accepts_awaiting w awaits r c x h = record {
   exempt = λ e. world_describes_map (λ v. record v { awaits = awaits }) (λ y. y) w x
-      (λ v k. awaiting_now v awaits x k) refl (awaiting_success w awaits) refl (h.exempt e);
-  confirmed = λ e. awaiting_now w awaits (record x { debug_up = debug_up_after c.debug_late r x.debug_up })
+      (λ v k. world_now_awaits v awaits x k) refl (awaiting_success w awaits) refl (h.exempt e);
+  confirmed = λ e. world_now_awaits w awaits (record x { debug_up = debug_up_after c.debug_late r x.debug_up })
       (h.confirmed e);
   settled = h.settled;
 }

@@ -1,6 +1,6 @@
 -- What a checker holds of a state, item by item.
 use Rattle.std.proofs.Common.{◌≡◌, ◌≢◌, ◌<◌, ◌-◌, ℕ, Bool, true, false, refl, sym, ap, subst, arith, ◌∙◌}
-use Rattle.std.proofs.Common.{List, length}
+use Rattle.std.proofs.Common.{List, [], ◌∷◌, length}
 use Rattle.std.specs.Prelude.{Option, Some, None, is_some, not, ◌==◌}
 use Rattle.std.specs.List.{Any}
 use Rattle.swd_bits.specs.declared.tx.Tx.{Tx as Transaction}
@@ -83,7 +83,8 @@ opened_in_gap : (c : Checker) (s t : Port) → c.in_gap ≡ true → CheckerHold
 opened_in_gap c s t gap h = subst (λ o. OpeningHolds o c.worlds t) (sym (h.in_gap gap)) tt
 
 -- a checker in a gap holds what it held
-pub checker_holds_in_gap : (c : Checker) (s t : Port) → c.in_gap ≡ true → IsSameTarget s t → CheckerHolds c s → CheckerHolds c t
+pub checker_holds_in_gap : (c : Checker) (s t : Port) → c.in_gap ≡ true → IsSameTarget s t → CheckerHolds c s →
+    CheckerHolds c t
 checker_holds_in_gap c s t gap same h = holds_at c s t same (opened_in_gap c s t gap h) h
 
 -- ITEMS THAT SHOW NOTHING
@@ -115,7 +116,8 @@ holds_later c s t h k =
 -- an item that is none of those that the checker looks at
 shows_nothing : (c : Checker) (item : Item) (gap : Bool) (s t : Port) → c.in_gap ≡ gap
     → ((b : Bool) → item ≡ Junk b → ⊥) → ((ones : ℕ) → item ≡ Reset ones → ⊥)
-    → ((tx : Transaction) → item ≡ Tx tx → ⊥) → ((bits : TxBits) → item ≡ Cut bits → ⊥) → CheckedShowsIn gap c.clean c.stray item s t → CheckerHolds c s
+    → ((tx : Transaction) → item ≡ Tx tx → ⊥) → ((bits : TxBits) → item ≡ Cut bits → ⊥) → CheckedShowsIn gap c.clean
+    c.stray item s t → CheckerHolds c s
     → CheckerHolds c t
 shows_nothing c item true s t gap junk reset tx cut shows h = checker_holds_in_gap c s t gap shows h
 shows_nothing c (Junk b) false s t gap junk reset tx cut shows h = absurd (junk b refl)
@@ -318,7 +320,8 @@ watches_transaction c mid now tx gap keeps checks identifies left = record {
         identified = subst (IsIdentified now.identification) (sym same) known.0;
         opened = subst (λ o. OpeningHolds o now.worlds t) (sym left.opening)
             (subst (λ v. OpeningHolds mid.opening v t) (sym left.worlds) opened.0);
-        in_gap = λ e. absurd (let f : true ≡ false = sym e ∙ ap (λ (g : CheckedGap). g.in_gap) (left.gap ∙ keeps.gap) ∙ gap in cc);
+        in_gap = λ e. absurd (let f : true ≡ false = sym e ∙ ap (λ (g : CheckedGap). g.in_gap) (left.gap ∙ keeps.gap) ∙
+            gap in cc);
       };
   wire = left.wire ∙ keeps.wire;
   gap = λ e. left.gap ∙ keeps.gap ∙ sym (outside_gap c.in_gap c.stray tx gap);
@@ -328,7 +331,8 @@ watches_transaction c mid now tx gap keeps checks identifies left = record {
 -- a transaction in a gap
 pub watches_in_a_gap : (c : Checker) (tx : Transaction) → c.in_gap ≡ true → CheckerWatches (Tx tx) c c
 watches_in_a_gap c tx gap = record {
-  holds = λ s t shows h. checker_holds_in_gap c s t gap (subst (λ g. CheckedShowsIn g c.clean c.stray (Tx tx) s t) gap shows) h;
+  holds = λ s t shows h. checker_holds_in_gap c s t gap (subst (λ g. CheckedShowsIn g c.clean c.stray (Tx tx) s t) gap
+      shows) h;
   wire = refl;
   gap = λ e. sym (inside_gap c.in_gap c.stray tx gap);
   broken = λ other. refl;
@@ -372,8 +376,16 @@ pub made_holds : (v : Worlds) (w : World) (s : Port) → w ≡ world_made → Wo
 made_holds v w s same adds made =
     let p : WorldDescribesPort world_made s =
     subst (WorldDescribesPort world_made) (sym made.is) (world_at_made made.identification made.bus) in
-    subst (λ b. WorldsHold v b s.target) (sym p.awaits) (worlds_hold_as v w world_made world_made.awaits s.target adds same
+    subst (λ b. WorldsHold v b s.target) (sym p.awaits) (worlds_hold_as v w world_made world_made.awaits s.target adds
+    same
     refl p.target)
+
+-- a world that is alone
+pub one_is_added : (v : Worlds) (w : World) → v.kept.items ≡ (record { world = w; faults = 0 }) ∷ [] → WorldIsAdded w v
+one_is_added v w items = λ x h. record {
+  held = λ f. subst (Any (λ kept. KeptDescribes kept w.awaits x)) (sym items)
+      (0, record { world = w; faults = 0 }, omega arith, refl, record { awaits = refl; target = h });
+}
 
 -- a rule was broken, or none
 pub broken_some : {T : Type 0} → (broken : Option T) (b : Bool) → is_some broken ≡ not b → b ≡ false → broken ≡ None → ⊥

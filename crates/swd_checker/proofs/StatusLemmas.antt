@@ -138,11 +138,12 @@ status_shows w c x debug system h sticky d s =
       system_there = reads.system_bit ∙ s.there;
     }
 
-status_now : (v : World) (c : Choice) (x : Target) (debug system : Power)
+-- after CTRL/STAT was read
+pub world_now_finds : (v : World) (c : Choice) (x : Target) (debug system : Power)
     → CheckedPower debug x.debug_power (power_up_after c.debug_late CtrlStatRead x.debug_up)
     → CheckedPower system x.system_power (power_up_after c.system_late CtrlStatRead x.system_up) → IsWorldNow v x
     → IsWorldNow (record v { debug = debug; system = system }) (port_after_okay c CtrlStatRead x)
-status_now v c x debug system d s h = record {
+world_now_finds v c x debug system d s h = record {
   reset = h.reset;
   sticky_error = h.sticky_error;
   write_error = h.write_error;
@@ -171,7 +172,7 @@ pub world_finds : (w : World) (c : Choice) (x : Target) (debug system : Power)
     → WorldDescribes (record w { debug = debug; system = system }) (port_after_okay c CtrlStatRead x)
 world_finds w c x debug system d s h =
     world_describes_map (λ v. record v { debug = debug; system = system }) (λ y. port_after_okay c CtrlStatRead y) w x
-    (λ v e. status_now v c x debug system d s e) refl (powers_success w debug system) refl h
+    (λ v e. world_now_finds v c x debug system d s e) refl (powers_success w debug system) refl h
 
 -- and CTRL/STAT returns what it has
 pub world_at_status : WorldAtStatus

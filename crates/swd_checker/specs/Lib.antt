@@ -15,3 +15,9 @@ pub mod Whole
 pub mod Shown
 pub mod Fields
 pub mod FieldsRead
+pub mod Exact
+pub mod Reaching
+pub mod Joining
+pub mod Identifying
+pub mod Reached
+pub mod Fitting

@@ -1,6 +1,7 @@
 //! The checker of a trace.
 
-ghost use Rattle.std.specs.Prelude.{ℕ, ◌≡◌, ◌≤◌, Bool, true, false, length};
+ghost use Rattle.std.specs.Prelude.{ℕ, ◌≡◌, ◌≤◌, Bool, true, false, None, length};
+ghost use Rattle.swd_bits.specs.Transactions.{IsTx};
 ghost use Rattle.arrayvec.specs.ArrayVec.{array_vec_len};
 ghost use Rattle.swd_port.specs.Port.{Port};
 ghost use Rattle.swd_port.specs.Registers.{register_bit};
@@ -11,6 +12,9 @@ ghost use Rattle.swd_checker.specs.Standing.{CheckerHolds, CheckerStarts, Checke
 ghost use Rattle.swd_checker.specs.Standing.{CheckerKeeps, CheckerKeepsWorlds, CheckerChecks, CheckerIdentifies};
 ghost use Rattle.swd_checker.specs.Standing.{checker_gap, checked_gap_none, checked_stray_after};
 ghost use Rattle.swd_checker.specs.Standing.{is_checked_broken};
+ghost use Rattle.swd_checker.specs.Fitting.{CheckerBegins, CheckerFollows, CheckerStays, CheckerSettles, CheckerSteps};
+ghost use Rattle.swd_checker.specs.Fitting.{CheckerFirst, CheckerOpens, CheckerBeginsBy};
+ghost use Rattle.swd_checker.specs.Reaching.{IdentificationNarrows};
 
 mod fields;
 
@@ -51,10 +55,12 @@ pub enum Verdict {
 }
 
 /// Decides whether some run of the port model explains the items of a trace. It allocates nothing. Where it says
-/// `Breaks`, none does; that some run does where it says `Fits` is only tested.
+/// `Breaks`, none does. Where it says `Fits` of a target in its reset state, some run does, if there was no gap. From
+/// any other start some run explains the items from the one at which the check begins, from some state.
 ///
 /// Junk bits begin a gap, except for up to 34 after a lost acknowledgement. In a gap nothing is checked, up to the next
-/// line reset, and so it is behind a cut end. After a gap, after `Crowded`, and where the target's first state is unknown, the worlds may be too many
+/// line reset, and so it is behind a cut end. After a gap, after `Crowded`, and where the target's first state is
+/// unknown, the worlds may be too many
 /// to be held. So the check begins later there: at the first read of CTRL/STAT of a target at rest, and else at the
 /// first OK to a request that can be refused, next to a write of SELECT.
 #[derive(Clone, Debug, Drop)]
@@ -89,12 +95,13 @@ impl Checker {
 
     /// Returns a checker for a wire on which nothing is damaged or lost if `clean` is true.
     pub fn of(start: CheckStart, clean: bool) -> Checker
-        ensures { CheckerStarts start clean result }
+        ensures starts { CheckerStarts start clean result }
+        ensures begins { start ≡ CheckStart.Made → CheckerBegins result }
+        ensures first { CheckerFirst start result }
     {
         match start {
             CheckStart::Made => {
-                let mut worlds = Worlds::none();
-                worlds.add(World::made(), 0);
+                let worlds = Worlds::one(World::made());
                 Checker::at(Opening::Over, worlds, Some(0), clean)
             }
             CheckStart::Rest => Checker::at(Opening::Resting, Worlds::none(), None, clean),
@@ -109,6 +116,11 @@ impl Checker {
         ensures unbroken { result.broken ≡ None }
         ensures wire { result.clean ≡ clean }
         ensures gapless { checker_gap result ≡ checked_gap_none }
+        ensures opening { result.opening ≡ opening }
+        ensures worlds { result.worlds ≡ worlds }
+        ensures began { result.began ≡ began }
+        ensures word { result.identification.word ≡ None }
+        ensures crowded { result.crowded ≡ None }
     {
         Checker {
             worlds,
@@ -127,7 +139,9 @@ impl Checker {
 
     /// Takes the next item. `place` is the number of bits before it. After `Breaks` it does nothing.
     pub fn watch(&mut self, item: &Item, place: u64)
-        ensures { CheckerWatches item.now self.old self.new }
+        ensures watches { CheckerWatches item.now self.old self.new }
+        ensures follows { CheckerFollows item.now self.old self.new }
+        ensures begins { CheckerBeginsBy item.now place self.old self.new }
     {
         if self.broken.is_none() {
             self.take(item, place);
@@ -136,7 +150,10 @@ impl Checker {
 
     /// Leaves the model up to the next line reset: nothing before it is checked. It is no gap that is counted.
     pub fn leave(&mut self)
-        ensures { CheckerLeaves self.old self.new }
+        ensures leaves { CheckerLeaves self.old self.new }
+        ensures crowded { self.new.crowded ≡ self.old.crowded }
+        ensures began { self.new.began ≡ self.old.began }
+        ensures known { self.new.identification ≡ self.old.identification }
     {
         self.in_gap = true;
         self.forget();
@@ -146,6 +163,7 @@ impl Checker {
     pub fn verdict(&self) -> Verdict
         ensures breaks { is_checked_broken result ≡ true → self.now.broken ≡ None → ⊥ }
         ensures goes_on { is_checked_broken result ≡ false → self.now.broken ≡ None }
+        ensures fits { result ≡ Verdict.Fits → (self.now.broken ≡ None) × (self.now.crowded ≡ None) }
     {
         if let Some((place, rule)) = self.broken {
             return Verdict::Breaks { place, rule };
@@ -157,7 +175,9 @@ impl Checker {
     }
 
     /// Returns the place of the first item that was checked, or `None` if none was yet.
-    pub fn began(&self) -> Option<u64> {
+    pub fn began(&self) -> Option<u64>
+        ensures { result ≡ self.now.began }
+    {
         self.began
     }
 
@@ -183,7 +203,9 @@ impl Checker {
 
     // Takes an item where no rule was broken.
     fn take(&mut self, item: &Item, place: u64)
-        ensures { CheckerWatches item.now self.old self.new }
+        ensures watches { CheckerWatches item.now self.old self.new }
+        ensures follows { CheckerFollows item.now self.old self.new }
+        ensures begins { CheckerBeginsBy item.now place self.old self.new }
     {
         match *item {
             Item::Junk(_) => self.skip(),
@@ -196,7 +218,9 @@ impl Checker {
 
     // Takes a transaction, in a gap or outside of one.
     fn take_transaction(&mut self, tx: &Tx, place: u64)
-        ensures { CheckerWatches (Item.Tx tx.now) self.old self.new }
+        ensures watches { CheckerWatches (Item.Tx tx.now) self.old self.new }
+        ensures follows { CheckerFollows (Item.Tx tx.now) self.old self.new }
+        ensures begins { CheckerBeginsBy (Item.Tx tx.now) place self.old self.new }
     {
         if !self.in_gap {
             self.transact(tx, place);
@@ -205,7 +229,10 @@ impl Checker {
 
     // Takes a junk bit.
     fn skip(&mut self)
-        ensures { (b : Bool) → CheckerWatches (Item.Junk b) self.old self.new }
+        ensures watches { (b : Bool) → CheckerWatches (Item.Junk b) self.old self.new }
+        ensures follows { (b : Bool) → CheckerFollows (Item.Junk b) self.old self.new }
+        ensures began { self.new.began ≡ self.old.began }
+        ensures known { self.new.identification ≡ self.old.identification }
     {
         if self.stray > 0 {
             self.stray -= 1;
@@ -216,7 +243,10 @@ impl Checker {
 
     // Begins a gap, if none has begun.
     fn begin_gap(&mut self)
-        ensures { self.old.stray ≡ 0 → (b : Bool) → CheckerWatches (Item.Junk b) self.old self.new }
+        ensures watches { self.old.stray ≡ 0 → (b : Bool) → CheckerWatches (Item.Junk b) self.old self.new }
+        ensures crowded { self.new.crowded ≡ self.old.crowded }
+        ensures began { self.new.began ≡ self.old.began }
+        ensures known { self.new.identification ≡ self.old.identification }
     {
         if !self.in_gap {
             self.in_gap = true;
@@ -230,6 +260,8 @@ impl Checker {
         ensures keeps { CheckerKeeps self.old self.new }
         ensures opening { self.new.opening ≡ Opening.Anything }
         ensures broken { self.new.broken ≡ self.old.broken }
+        ensures crowded { self.new.crowded ≡ self.old.crowded }
+        ensures began { self.new.began ≡ self.old.began }
     {
         self.faults_before = self.faults();
         self.worlds.empty();
@@ -238,7 +270,10 @@ impl Checker {
 
     // Takes a line reset.
     fn reset(&mut self)
-        ensures { (ones : ℕ) → CheckerWatches (Item.Reset ones) self.old self.new }
+        ensures watches { (ones : ℕ) → CheckerWatches (Item.Reset ones) self.old self.new }
+        ensures follows { (ones : ℕ) → CheckerFollows (Item.Reset ones) self.old self.new }
+        ensures began { self.new.began ≡ self.old.began }
+        ensures known { self.new.identification ≡ self.old.identification }
     {
         self.in_gap = false;
         self.stray = 0;
@@ -247,7 +282,9 @@ impl Checker {
 
     // Takes a transaction outside of a gap.
     fn transact(&mut self, tx: &Tx, place: u64)
-        ensures { self.old.in_gap ≡ false → CheckerWatches (Item.Tx tx.now) self.old self.new }
+        ensures watches { self.old.in_gap ≡ false → CheckerWatches (Item.Tx tx.now) self.old self.new }
+        ensures follows { self.old.in_gap ≡ false → CheckerFollows (Item.Tx tx.now) self.old self.new }
+        ensures begins { self.old.in_gap ≡ false → CheckerBeginsBy (Item.Tx tx.now) place self.old self.new }
     {
         self.stray = stray_after(tx.result);
         self.check(tx, place);
@@ -258,6 +295,8 @@ impl Checker {
     fn check(&mut self, tx: &Tx, place: u64)
         ensures keeps { CheckerKeeps self.old self.new }
         ensures checks { CheckerChecks tx.now self.old self.new }
+        ensures steps { CheckerSteps tx.now self.old self.new }
+        ensures opens { CheckerOpens tx.now place self.old self.new }
     {
         if self.opening.is_over() {
             self.step(tx, place);
@@ -271,6 +310,8 @@ impl Checker {
     fn begin(&mut self, tx: &Tx, place: u64)
         ensures keeps { CheckerKeeps self.old self.new }
         ensures checks { (self.old.opening ≡ Opening.Over → ⊥) → CheckerChecks tx.now self.old self.new }
+        ensures stays { CheckerStays self.old self.new }
+        ensures opens { CheckerOpens tx.now place self.old self.new }
     {
         if self.worlds.begin(self.opening, tx) {
             self.opening = Opening::Over;
@@ -285,6 +326,7 @@ impl Checker {
     fn step(&mut self, tx: &Tx, place: u64)
         ensures keeps { CheckerKeeps self.old self.new }
         ensures checks { self.old.opening ≡ Opening.Over → CheckerChecks tx.now self.old self.new }
+        ensures steps { CheckerSteps tx.now self.old self.new }
     {
         let count = self.worlds.kept.len();
         if count <= 1 {
@@ -303,6 +345,7 @@ impl Checker {
         requires few { array_vec_len self.old.worlds.kept ≤ MOST }
         ensures keeps { CheckerKeeps self.old self.new }
         ensures checks { self.old.opening ≡ Opening.Over → CheckerChecks tx.now self.old self.new }
+        ensures steps { CheckerSteps tx.now self.old self.new }
     {
         let before: ArrayVec<Kept, MOST> = copy_of(self.worlds.kept.as_slice());
         self.worlds.empty();
@@ -316,6 +359,7 @@ impl Checker {
         ensures keeps { CheckerKeeps self.old self.new }
         ensures settles { (t : Port) → self.old.opening ≡ Opening.Over → WorldsHoldPort self.old.worlds t
             → OpeningHolds self.new.opening self.new.worlds t × (self.new.broken ≡ self.old.broken) }
+        ensures left { CheckerSettles self.old self.new }
     {
         if self.worlds.crowded {
             self.worlds.restore(before);
@@ -331,6 +375,7 @@ impl Checker {
         ensures keeps { CheckerKeeps self.old self.new }
         ensures opening { self.new.opening ≡ Opening.Anything }
         ensures broken { self.new.broken ≡ self.old.broken }
+        ensures crowded { self.new.crowded ≡ None → ⊥ }
     {
         self.crowded = self.crowded.or(Some(place));
         self.forget();
@@ -364,6 +409,11 @@ impl Checker {
     // Narrows DPIDR's word by a read of it.
     fn identify(&mut self, tx: &Tx, place: u64)
         ensures identifies { CheckerIdentifies tx.now self.old self.new }
+        ensures narrows { IsTx tx.now → self.new.broken ≡ None → (self.old.broken ≡ None)
+            × IdentificationNarrows tx.now self.old.identification self.new.identification }
+        ensures crowded { self.new.crowded ≡ self.old.crowded }
+        ensures began { self.new.began ≡ self.old.began }
+        ensures unbroken { self.new.broken ≡ None → self.old.broken ≡ None }
         ensures keeps { CheckerKeepsWorlds self.old self.new }
     {
         if self.identification.narrow(tx) {

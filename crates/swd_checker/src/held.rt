@@ -1,7 +1,10 @@
 //! What is known of a word that the target holds: the read buffer, or the last returned value.
-ghost use Rattle.std.specs.Prelude.{ℕ, ◌≡◌, Option, Some, unwrap_or, true};
+ghost use Rattle.std.specs.Prelude.{ℕ, ◌≡◌, Option, Some, unwrap_or, true, IfSome};
 ghost use Rattle.swd_checker.specs.Described.{IsCheckedNear, CheckedHeld};
 ghost use Rattle.swd_checker.specs.Words.{IsSomeHeld, IsSomeNear, HeldIncludes};
+ghost use Rattle.swd_checker.specs.Exact.{IsNearSound};
+ghost use Rattle.swd_checker.specs.Reaching.{HeldNarrows, IsHeldOfNear};
+ghost use Rattle.swd_checker.specs.Joining.{HeldCovers};
 
 use crate::near::{Near, Words};
 
@@ -21,8 +24,9 @@ pub(crate) enum Held {
 impl Held {
     /// Returns what is known once the word was seen, or `None` if it can't be what was seen.
     pub(crate) fn narrowed(self, seen: Near) -> Option<Held>
-        ensures { (value : Option ℕ) (filler : ℕ) → CheckedHeld self value → IsCheckedNear seen (unwrap_or value filler)
-            → IsSomeHeld result value }
+        ensures all { (value : Option ℕ) (filler : ℕ) → CheckedHeld self value
+            → IsCheckedNear seen (unwrap_or value filler) → IsSomeHeld result value }
+        ensures exact { IsNearSound seen → IfSome result (λ held. HeldNarrows self seen held) }
     {
         match self {
             Held::Unknown => Some(Held::Unknown),
@@ -34,7 +38,9 @@ impl Held {
 
     // Returns that it is one of these words, if there are any.
     fn of(seen: Option<Near>) -> Option<Held>
-        ensures { (value : Option ℕ) (word : ℕ) → value ≡ Some word → IsSomeNear seen word → IsSomeHeld result value }
+        ensures all { (value : Option ℕ) (word : ℕ) → value ≡ Some word → IsSomeNear seen word
+            → IsSomeHeld result value }
+        ensures exact { IfSome result (λ held. IsHeldOfNear seen held) }
     {
         match seen {
             Some(near) => Some(Held::Seen(near)),
@@ -44,7 +50,8 @@ impl Held {
 
     /// Returns whether all that the other explains is explained by this.
     pub(crate) fn covers(self, other: Held) -> bool
-        ensures { result ≡ true → HeldIncludes self other }
+        ensures includes { result ≡ true → HeldIncludes self other }
+        ensures has { result ≡ true → HeldCovers self other }
     {
         match (self, other) {
             (Held::Unknown, _) => true,

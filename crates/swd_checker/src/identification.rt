@@ -1,11 +1,14 @@
 //! What is known of the word that DPIDR returns.
-ghost use Rattle.std.specs.Prelude.{ℕ, ◌≡◌, Bool, true, IfSome};
+ghost use Rattle.std.specs.Prelude.{ℕ, ◌≡◌, Bool, true, None, IfSome};
 ghost use Rattle.swd_port.specs.Registers.{register_bit};
 ghost use Rattle.swd_port.specs.Port.{Port};
 ghost use Rattle.swd_checker.specs.Checked.{CheckedTransacts};
 ghost use Rattle.swd_checker.specs.Described.{IsCheckedNear};
 ghost use Rattle.swd_checker.specs.Words.{IsSomeNear};
+ghost use Rattle.swd_bits.specs.Transactions.{IsTx};
 ghost use Rattle.swd_checker.specs.Standing.{IsIdentified, IsSeenIn, checked_reads_dpidr};
+ghost use Rattle.swd_checker.specs.Reaching.{IdentificationNarrows};
+ghost use Rattle.swd_checker.specs.Identifying.{IsMovedIn, IsReadIn, NearIdentifies, IsNearOdd, IdentificationLeaves};
 
 use crate::near::{Near, Words};
 use swd_bits::{Reg4, Request, Tx, TxEnd};
@@ -20,7 +23,8 @@ pub(crate) struct Identification {
 impl Identification {
     /// Returns that nothing is known of it.
     pub(crate) fn unknown() -> Identification
-        ensures { (n : ℕ) → IsIdentified result n }
+        ensures may { (n : ℕ) → IsIdentified result n }
+        ensures word { result.word ≡ None }
     {
         Identification { word: None }
     }
@@ -34,9 +38,10 @@ impl Identification {
 
     /// Narrows it by a transaction. Returns false if no word is left.
     pub(crate) fn narrow(&mut self, tx: &Tx) -> bool
-        ensures { (clean : Bool) (s t : Port) → CheckedTransacts clean tx.now.result tx.now.request s t
+        ensures narrows { (clean : Bool) (s t : Port) → CheckedTransacts clean tx.now.result tx.now.request s t
             → register_bit 0 s.target.identification ≡ true → IsIdentified self.old s.target.identification
             → (result ≡ true) × IsIdentified self.new s.target.identification }
+        ensures exact { result ≡ true → IsTx tx.now → IdentificationNarrows tx.now self.old self.new }
     {
         match seen_in(tx) {
             Some(seen) => self.narrow_by(seen),
@@ -46,8 +51,9 @@ impl Identification {
 
     // Narrows it by a read that may have returned these words.
     fn narrow_by(&mut self, seen: Near) -> bool
-        ensures { (n : ℕ) → register_bit 0 n ≡ true → IsCheckedNear seen n → IsIdentified self.old n
+        ensures narrows { (n : ℕ) → register_bit 0 n ≡ true → IsCheckedNear seen n → IsIdentified self.old n
             → (result ≡ true) × IsIdentified self.new n }
+        ensures leaves { result ≡ true → IdentificationLeaves seen self.old self.new }
     {
         match self.narrowed(seen) {
             Some(word) => {
@@ -60,8 +66,10 @@ impl Identification {
 
     // Returns what is left once a read may have returned these words, or `None` if nothing is.
     fn narrowed(self, seen: Near) -> Option<Near>
-        ensures { (n : ℕ) → register_bit 0 n ≡ true → IsCheckedNear seen n → IsIdentified self n
+        ensures all { (n : ℕ) → register_bit 0 n ≡ true → IsCheckedNear seen n → IsIdentified self n
             → IsSomeNear result n }
+        ensures exact { IfSome result (λ near. NearIdentifies seen self near) }
+        ensures odd { IfSome result (λ near. IsNearOdd near) }
     {
         match seen.among(Words::Odd) {
             Some(odd) => self.narrowed_to(odd),
@@ -71,7 +79,8 @@ impl Identification {
 
     // Returns those of the words that it may be.
     fn narrowed_to(self, words: Near) -> Option<Near>
-        ensures { (n : ℕ) → IsCheckedNear words n → IsIdentified self n → IsSomeNear result n }
+        ensures all { (n : ℕ) → IsCheckedNear words n → IsIdentified self n → IsSomeNear result n }
+        ensures exact { IfSome result (λ near. NearIdentifies words self near) }
     {
         match self.word {
             Some(before) => words.among(Words::Near(before)),
@@ -82,8 +91,9 @@ impl Identification {
 
 // Returns the words of which one is DPIDR's, if the transaction read it.
 fn seen_in(tx: &Tx) -> Option<Near>
-    ensures { (clean : Bool) (s t : Port) → CheckedTransacts clean tx.now.result tx.now.request s t
+    ensures all { (clean : Bool) (s t : Port) → CheckedTransacts clean tx.now.result tx.now.request s t
         → IfSome result (λ near. IsCheckedNear near s.target.identification) }
+    ensures exact { IsReadIn tx.now result }
 {
     if reads_identification(tx.request) {
         moved_in(tx.result)
@@ -94,7 +104,8 @@ fn seen_in(tx: &Tx) -> Option<Near>
 
 // Returns the words that a data phase may have had.
 fn moved_in(end: TxEnd) -> Option<Near>
-    ensures { IsSeenIn end result }
+    ensures all { IsSeenIn end result }
+    ensures exact { IsMovedIn end result }
 {
     match end {
         TxEnd::Moved { word, parity_ok } => Some(Near::seen(word, parity_ok)),

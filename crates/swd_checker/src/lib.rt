@@ -15,6 +15,7 @@
 //! ```
 #![tactic(auto)]
 
+mod after;
 mod answer;
 mod checker;
 mod fields;
@@ -38,4 +39,4 @@ pub use fields::{HeldFields, IntervalFields, WorldFields};
 pub use origins::{Origin, Origins};
 pub use reason::{Cause, Due, Reason};
 pub use rule::Rule;
-pub use whole::broken_item;
+pub use whole::{ShownPart, broken_item, shown_from, shown_items};

@@ -1,8 +1,9 @@
 //! A word of which one bit of its data phase may have been changed.
-ghost use Rattle.std.specs.Prelude.{ℕ, ◌≡◌, ◌<◌, ◌↔◌, IsTrue, Some, None, true, false};
+ghost use Rattle.std.specs.Prelude.{ℕ, ◌≡◌, ◌<◌, ◌↔◌, IfSome, IsTrue, Some, None, true, false};
 ghost use Rattle.swd_port.specs.Registers.{register_bit};
 ghost use Rattle.swd_checker.specs.Described.{IsCheckedNear, checked_near_at, checked_changed_at};
 ghost use Rattle.swd_checker.specs.Words.{IsCheckedWord, IsSomeNear, NearIncludes, IsCheckedNearAt};
+ghost use Rattle.swd_checker.specs.Reaching.{checked_near_of, checked_near_seen, NearNarrows};
 
 use crate::world::World;
 use swd_port::Csw;
@@ -62,7 +63,8 @@ pub(crate) fn bit(word: u32, n: u8) -> bool
 impl Near {
     /// Returns exactly this word.
     pub(crate) fn of(word: u32) -> Near
-        ensures { IsCheckedNear result word }
+        ensures near { IsCheckedNear result word }
+        ensures exact { result ≡ checked_near_of word }
     {
         Near {
             word,
@@ -75,6 +77,7 @@ impl Near {
         ensures same { parity_ok ≡ true → IsCheckedNear result word }
         ensures changed { parity_ok ≡ false → (place : ℕ) → place < 33
             → IsCheckedNear result (checked_changed_at word place) }
+        ensures exact { result ≡ checked_near_seen word parity_ok }
     {
         if parity_ok {
             Near::of(word)
@@ -115,7 +118,8 @@ impl Near {
 
     /// Returns those of its words that are among these, or `None` if there are none.
     pub(crate) fn among(self, words: Words) -> Option<Near>
-        ensures { (word : ℕ) → IsCheckedNear self word → IsCheckedWord words word → IsSomeNear result word }
+        ensures all { (word : ℕ) → IsCheckedNear self word → IsCheckedWord words word → IsSomeNear result word }
+        ensures exact { IfSome result (λ near. NearNarrows self words near) }
     {
         let mut places = 0;
         let mut count: u8 = 0;

@@ -6,13 +6,15 @@ ghost use Rattle.swd_port.specs.Port.{Target};
 ghost use Rattle.swd_checker.specs.declared.world.Power.{Power};
 ghost use Rattle.swd_checker.specs.Described.{WorldDescribes};
 ghost use Rattle.swd_checker.specs.Holding.{WorldsHold, WorldsKeep, WorldsGrow};
+ghost use Rattle.swd_checker.specs.Exact.{IsWorldSound};
+ghost use Rattle.swd_checker.specs.Reaching.{AreKeptSound};
 ghost use Rattle.swd_checker.specs.Openings.{OpeningLeads, WorldsOpen, IsOpenedAtStatus, IsOpenedAtOkay, world_unknown};
 ghost use Rattle.swd_checker.specs.Openings.{checked_passes, checked_may_be_refused, checked_leaves_rest};
 ghost use Rattle.swd_checker.specs.Openings.{checked_reads_status, checked_selects, is_checked_moved, is_opening_over};
 
+use crate::after::selecting;
 use crate::held::Held;
 use crate::near::bit;
-use crate::step::selecting;
 use crate::tar::Tar;
 use crate::world::{Power, World};
 use crate::worlds::Worlds;
@@ -131,7 +133,8 @@ fn after_resting(request: Request) -> Opening
 impl Worlds {
     /// Holds the worlds before this transaction, if they are few enough. Returns whether they are.
     pub(crate) fn begin(&mut self, opening: Opening, tx: &Tx) -> bool
-        ensures { result ≡ true → WorldsOpen opening tx.now.result tx.now.request self.new }
+        ensures opens { result ≡ true → WorldsOpen opening tx.now.result tx.now.request self.new }
+        ensures sound { result ≡ true → AreKeptSound self.new.kept.items }
     {
         match opening {
             Opening::Resting => self.open_resting(tx),
@@ -142,7 +145,8 @@ impl Worlds {
 
     // The same of a target at rest.
     fn open_resting(&mut self, tx: &Tx) -> bool
-        ensures { result ≡ true → WorldsOpen Opening.Resting tx.now.result tx.now.request self.new }
+        ensures opens { result ≡ true → WorldsOpen Opening.Resting tx.now.result tx.now.request self.new }
+        ensures sound { result ≡ true → AreKeptSound self.new.kept.items }
     {
         match tx.result {
             TxEnd::Moved { word, parity_ok } => self.open_moved(tx.request, word, parity_ok),
@@ -152,7 +156,8 @@ impl Worlds {
 
     // The same of a target at rest that answered OK.
     fn open_moved(&mut self, request: Request, word: u32, parity_ok: bool) -> bool
-        ensures { result ≡ true → WorldsOpen Opening.Resting (TxEnd.Moved word parity_ok) request self.new }
+        ensures opens { result ≡ true → WorldsOpen Opening.Resting (TxEnd.Moved word parity_ok) request self.new }
+        ensures sound { result ≡ true → AreKeptSound self.new.kept.items }
     {
         if parity_ok {
             self.open_reading(request, word)
@@ -163,8 +168,9 @@ impl Worlds {
 
     // The same where the word's parity was right.
     fn open_reading(&mut self, request: Request, word: u32) -> bool
-        ensures { result ≡ true → (ok : Bool) → ok ≡ true
+        ensures opens { result ≡ true → (ok : Bool) → ok ≡ true
             → WorldsOpen Opening.Resting (TxEnd.Moved word ok) request self.new }
+        ensures sound { result ≡ true → AreKeptSound self.new.kept.items }
     {
         if reads_status(request) {
             self.open_at_status(word);
@@ -176,7 +182,8 @@ impl Worlds {
 
     // The same where the last write was SELECT.
     fn open_selected(&mut self, tx: &Tx, select: u32) -> bool
-        ensures { result ≡ true → WorldsOpen (Opening.Selected select) tx.now.result tx.now.request self.new }
+        ensures opens { result ≡ true → WorldsOpen (Opening.Selected select) tx.now.result tx.now.request self.new }
+        ensures sound { result ≡ true → AreKeptSound self.new.kept.items }
     {
         if is_moved(tx.result) {
             self.open_refusable(tx, select)
@@ -187,8 +194,9 @@ impl Worlds {
 
     // The same where the target answered OK.
     fn open_refusable(&mut self, tx: &Tx, select: u32) -> bool
-        ensures { result ≡ true → is_checked_moved tx.now.result ≡ true
+        ensures opens { result ≡ true → is_checked_moved tx.now.result ≡ true
             → WorldsOpen (Opening.Selected select) tx.now.result tx.now.request self.new }
+        ensures sound { result ≡ true → AreKeptSound self.new.kept.items }
     {
         if may_be_refused(tx.request) {
             self.open_at_okay(select);
@@ -202,6 +210,7 @@ impl Worlds {
     fn open_at_status(&mut self, word: u32)
         ensures crowded { self.new.crowded ≡ false }
         ensures opens { (x : Target) → IsOpenedAtStatus word x → WorldsHold self.new false x }
+        ensures sound { AreKeptSound self.new.kept.items }
     {
         self.empty();
         self.add_any(World {
@@ -217,6 +226,7 @@ impl Worlds {
     fn open_at_okay(&mut self, select: u32)
         ensures crowded { self.new.crowded ≡ false }
         ensures opens { (x : Target) → IsOpenedAtOkay select x → WorldsHold self.new false x }
+        ensures sound { AreKeptSound self.new.kept.items }
     {
         let world = selecting(unknown(), select);
         self.empty();
@@ -234,6 +244,7 @@ impl Worlds {
     fn add_any(&mut self, world: World)
         ensures keeps { WorldsKeep self.old self.new }
         ensures grows { WorldsGrow 18 self.old self.new }
+        ensures sound { AreKeptSound self.old.kept.items → IsWorldSound world → AreKeptSound self.new.kept.items }
         ensures adds { (debug system : Power) (increments : Bool) (x : Target) → (debug ≡ Power.Seen → ⊥)
             → (system ≡ Power.Seen → ⊥)
             → WorldDescribes (record world { debug = debug; system = system; increments = increments }) x
@@ -257,6 +268,7 @@ impl Worlds {
     fn add_any_system(&mut self, world: World)
         ensures keeps { WorldsKeep self.old self.new }
         ensures grows { WorldsGrow 6 self.old self.new }
+        ensures sound { AreKeptSound self.old.kept.items → IsWorldSound world → AreKeptSound self.new.kept.items }
         ensures adds { (system : Power) (increments : Bool) (x : Target) → (system ≡ Power.Seen → ⊥)
             → WorldDescribes (record world { system = system; increments = increments }) x
             → WorldsHold self.new world.awaits x }
@@ -279,6 +291,7 @@ impl Worlds {
     fn add_any_increment(&mut self, world: World)
         ensures keeps { WorldsKeep self.old self.new }
         ensures grows { WorldsGrow 2 self.old self.new }
+        ensures sound { AreKeptSound self.old.kept.items → IsWorldSound world → AreKeptSound self.new.kept.items }
         ensures adds { (increments : Bool) (x : Target) → WorldDescribes (record world { increments = increments }) x
             → WorldsHold self.new world.awaits x }
     {

@@ -1,6 +1,6 @@
 //! The worlds after a transaction.
-ghost use Rattle.std.specs.Prelude.{ℕ, ◌≡◌, ◌<◌, ◌+◌, ◌*◌, ◌^◌, ◌&&◌, ◌||◌, Bool, true, false, not, None, Some};
-ghost use Rattle.std.specs.Prelude.{is_some, IfSome};
+ghost use Rattle.std.specs.Prelude.{ℕ, ◌≡◌, ◌<◌, ◌+◌, ◌&&◌, ◌||◌, Bool, true, false, not, None, Some};
+ghost use Rattle.std.specs.Prelude.{◌↔◌, is_some, IfSome};
 ghost use Rattle.swd_port.specs.Registers.{register_bit};
 ghost use Rattle.swd_port.specs.Port.{Port, Target};
 ghost use Rattle.swd_port.specs.Choices.{Choice};
@@ -13,24 +13,35 @@ ghost use Rattle.swd_checker.specs.Described.{IsWorldNow, WorldDescribes, IsChec
 ghost use Rattle.swd_checker.specs.Described.{checked_near_at};
 ghost use Rattle.swd_checker.specs.Holding.{WorldsHold, WorldsKeep, WorldsHoldPort};
 ghost use Rattle.swd_checker.specs.Laws.{WorldDescribesPort};
-ghost use Rattle.swd_checker.specs.Steps.{WorldAccepts, world_due};
-ghost use Rattle.swd_checker.specs.Steps.{world_live, world_posted, world_selecting, world_cleared};
-ghost use Rattle.swd_checker.specs.Steps.{world_powered, world_written};
+ghost use Rattle.swd_checker.specs.Steps.{WorldAccepts, world_due, world_cleared};
 ghost use Rattle.swd_checker.specs.Asking.{IsAskedBy, IsAskedAlike, IsAskedAccepted, IsAskedTo};
 ghost use Rattle.swd_checker.specs.declared.step.Asked.{Asked};
 ghost use Rattle.swd_checker.specs.Adding.{WorldsReturn, WorldsPost, WorldsRead, WorldsFind, WorldsFindPowers};
 ghost use Rattle.swd_checker.specs.Adding.{WorldsArrive, WorldsDamage, WorldsLose, IsCheckedPrompt};
 ghost use Rattle.swd_checker.specs.Adding.{is_debug_late, is_system_late};
 ghost use Rattle.swd_checker.specs.Checked.{CheckedTransacts, CheckedHasMoved, WasCheckedLost};
+ghost use Rattle.swd_checker.specs.Worlds.{Power, world_after_damage, world_failed};
+ghost use Rattle.swd_checker.specs.Words.{IsCheckedStatus};
+ghost use Rattle.swd_checker.specs.Steps.{checked_power_found};
+ghost use Rattle.swd_checker.specs.Exact.{IsNearSound};
+ghost use Rattle.swd_checker.specs.Reaching.{CheckedLink, WorldReaches, WorldsReach, HeldNarrows, LinkSteps, LinkHas};
+ghost use Rattle.swd_checker.specs.Reaching.{checked_near_changed};
+ghost use Rattle.swd_checker.specs.Reached.{MayFault, WorldsRefuse, WorldsDefer, world_accepted, WorldsPostTar};
+ghost use Rattle.swd_checker.specs.Reached.{WorldsPostHeld, WorldsReturnAny, WorldsFindAll, WorldsReadStatus};
+ghost use Rattle.swd_checker.specs.Reached.{WorldsReadSeen, WorldsArriveAt, WorldsTransfer, WorldsMove};
+ghost use Rattle.swd_checker.specs.Reached.{WorldsLoseAny, WorldsLoseSeen};
 
+use crate::after::{
+    at_tar, cleared, live, may_clear, may_show, posted, powered, selecting, written,
+};
 use crate::held::Held;
-use crate::near::{Near, Words, bit};
+use crate::near::{Near, Words};
 use crate::register::{is_exempt, is_posted};
 use crate::tar::Tar;
-use crate::world::{Power, Transfer, World};
+use crate::world::{Transfer, World};
 use crate::worlds::Worlds;
 use swd_bits::{Request, Tx, TxEnd};
-use swd_port::{Csw, Register, Reply, Reset, Select};
+use swd_port::{Csw, Register, Reply};
 
 /// The number that is seen where nobody drives an acknowledgement.
 const UNDRIVEN: u8 = 7;
@@ -54,6 +65,8 @@ impl Worlds {
         ensures keeps { WorldsKeep self.old self.new }
         ensures steps { (s t : Port) → CheckedTransacts clean tx.now.result tx.now.request s t
             → WorldDescribesPort world s → WorldsHoldPort self.new t }
+        ensures reaches { (link : CheckedLink) → WorldsReach link self.old
+            → LinkSteps link clean tx.now → LinkHas link world → WorldsReach link self.new }
     {
         let request = tx.request;
         let asked = Asked {
@@ -76,6 +89,8 @@ impl Worlds {
     fn add_if(&mut self, condition: bool, world: World, faults: u64)
         ensures keeps { WorldsKeep self.old self.new }
         ensures adds { condition ≡ true → (x : Target) → WorldDescribes world x → WorldsHold self.new world.awaits x }
+        ensures reaches { (link : CheckedLink) → WorldsReach link self.old
+            → (condition ≡ true → WorldReaches link world) → WorldsReach link self.new }
     {
         if condition {
             self.add(world, faults);
@@ -88,6 +103,8 @@ impl Worlds {
         ensures refuses { (x : Target) → IsAskedBy asked → WorldDescribes asked.world x → x.pending ≡ None
             → port_answer x asked.request ≡ Reply.Faults
             → WorldsHold self.new asked.world.awaits (port_after_fault asked.register asked.request.ap x) }
+        ensures reaches { (link : CheckedLink) → WorldsReach link self.old
+            → IsAskedBy asked → WorldsRefuse link asked.world asked.request asked.register → WorldsReach link self.new }
     {
         let world = asked.world;
         let (register, ap) = (asked.register, asked.request.ap);
@@ -109,6 +126,8 @@ impl Worlds {
         ensures defers { (x : Target) → IsAskedBy asked → WorldDescribes asked.world x
             → port_answer x asked.request ≡ Reply.Okay → is_exempt_register asked.register ≡ false
             → WorldsHold self.new asked.world.awaits (port_after_wait asked.register x) }
+        ensures reaches { (link : CheckedLink) → WorldsReach link self.old
+            → IsAskedBy asked → WorldsDefer link asked.world asked.request asked.register → WorldsReach link self.new }
     {
         self.add_if(
             asked.may_wait(),
@@ -124,6 +143,10 @@ impl Worlds {
         ensures moves { (s t : Port) → IsAskedBy asked
             → CheckedHasMoved asked.clean asked.request word parity_ok s t → WorldDescribesPort asked.world s
             → WorldsHoldPort self.new t }
+        ensures reaches { (link : CheckedLink) → WorldsReach link self.old
+            → IsAskedBy asked
+            → WorldsMove link asked.world asked.request asked.register asked.clean word parity_ok → WorldsReach link
+            self.new }
     {
         match asked.accepted(false) {
             Some(now) => self.transfer(now, word, parity_ok),
@@ -139,6 +162,9 @@ impl Worlds {
             → IsAskedTo asked now.world → IsAskedBy asked
             → CheckedHasMoved asked.clean asked.request word parity_ok s t → WorldDescribesPort asked.world s
             → WorldsHoldPort self.new t }
+        ensures reaches { (link : CheckedLink) → WorldsReach link self.old
+            → WorldsTransfer link now.world now.register now.request.read now.clean word parity_ok → WorldsReach link
+            self.new }
     {
         match (now.request.read, parity_ok) {
             (false, true) => self.write(now, word),
@@ -153,6 +179,10 @@ impl Worlds {
         ensures keeps { WorldsKeep self.old self.new }
         ensures loses { (s t : Port) → IsAskedBy asked → WasCheckedLost asked.clean asked.request seen s t
             → WorldDescribesPort asked.world s → WorldsHoldPort self.new t }
+        ensures reaches { (link : CheckedLink) → WorldsReach link self.old
+            → IsAskedBy asked
+            → WorldsLoseSeen link asked.world asked.request asked.register asked.clean seen
+            → WorldsReach link self.new }
     {
         if asked.is_quiet(seen) {
             self.add(asked.world, asked.faults);
@@ -165,6 +195,8 @@ impl Worlds {
     fn lose_any(&mut self, lost: Asked)
         ensures keeps { WorldsKeep self.old self.new }
         ensures loses { IsAskedBy lost → WorldsLose self.new lost.world lost.request lost.register }
+        ensures reaches { (link : CheckedLink) → WorldsReach link self.old
+            → IsAskedBy lost → WorldsLoseAny link lost.world lost.request lost.register → WorldsReach link self.new }
     {
         self.add(lost.world, lost.faults);
         self.refuse(lost);
@@ -178,6 +210,10 @@ impl Worlds {
             → (is_exempt_register lost.register ≡ false → x.pending ≡ None)
             → port_answer x lost.request ≡ Reply.Okay → IsCheckedPrompt c
             → WorldsHold self.new (not lost.request.read) (port_after_okay c lost.register x) }
+        ensures reaches { (link : CheckedLink) → WorldsReach link self.old
+            → IsAskedBy lost → (world_due lost.world lost.request ≡ Reply.Okay → WorldsReturnAny link
+            (world_accepted (not lost.request.read) lost.register lost.request.ap lost.world) lost.register) →
+            WorldsReach link self.new }
     {
         match lost.accepted(!lost.request.read) {
             Some(now) => self.return_unseen(now),
@@ -190,6 +226,8 @@ impl Worlds {
     fn read(&mut self, now: Asked, seen: Near, parity_ok: bool)
         ensures keeps { WorldsKeep self.old self.new }
         ensures reads { WorldsRead self.new now.world now.register seen parity_ok }
+        ensures reaches { (link : CheckedLink) → WorldsReach link self.old
+            → IsNearSound seen → WorldsReadSeen link now.world now.register seen parity_ok → WorldsReach link self.new }
     {
         match now.register {
             Register::CtrlStatRead => self.read_status(now, seen, parity_ok),
@@ -203,6 +241,10 @@ impl Worlds {
         ensures keeps { WorldsKeep self.old self.new }
         ensures reads { (parity_ok : Bool) → (now.register ≡ Register.CtrlStatRead → ⊥)
             → WorldsRead self.new now.world now.register seen parity_ok }
+        ensures reaches { (link : CheckedLink) → WorldsReach link self.old
+            → IsNearSound seen → (now.register ≡ Register.CtrlStatRead → ⊥)
+            → (now.register ≡ Register.ResendRead → ⊥) → (ok : Bool)
+            → WorldsReadSeen link now.world now.register seen ok → WorldsReach link self.new }
     {
         if is_posted(now.register) {
             self.read_posted(now, seen);
@@ -216,6 +258,10 @@ impl Worlds {
         ensures keeps { WorldsKeep self.old self.new }
         ensures reads { (parity_ok : Bool) → is_port_posted now.register ≡ true
             → WorldsRead self.new now.world now.register seen parity_ok }
+        ensures reaches { (link : CheckedLink) → WorldsReach link self.old
+            → IsNearSound seen → ((held : Held) → HeldNarrows now.world.buffer seen held
+            → WorldsPostHeld link now.world now.register held) → is_port_posted now.register ≡ true → WorldsReach link
+            self.new }
     {
         match now.world.buffer.narrowed(seen) {
             Some(buffer) => self.post(now, buffer),
@@ -230,6 +276,10 @@ impl Worlds {
             → WorldAccepts now.world now.register c x → IsCheckedPrompt c
             → port_value_in c now.register x ≡ checked_changed_at word place
             → WorldsHold self.new now.world.awaits (port_after_okay c now.register x) }
+        ensures reaches { (link : CheckedLink) → WorldsReach link self.old
+            → (now.clean ≡ false
+            → WorldsReadSeen link now.world now.register (checked_near_changed word) false)
+            → WorldsReach link self.new }
     {
         if !now.clean {
             self.read(now.with_fault(), Near::seen(word, false), false);
@@ -242,6 +292,9 @@ impl Worlds {
         ensures resends { (c : Choice) (x : Target) → now.register ≡ Register.ResendRead
             → WorldAccepts now.world now.register c x → IsCheckedNear seen (port_value_in c now.register x)
             → WorldsHold self.new now.world.awaits (port_after_okay c now.register x) }
+        ensures reaches { (link : CheckedLink) → WorldsReach link self.old
+            → IsNearSound seen → ((held : Held) → HeldNarrows now.world.last_returned seen held
+            → WorldReaches link (record now.world { last_returned = held })) → WorldsReach link self.new }
     {
         match now.world.last_returned.narrowed(seen) {
             Some(last_returned) => self.add(
@@ -259,6 +312,8 @@ impl Worlds {
     fn return_unseen(&mut self, now: Asked)
         ensures keeps { WorldsKeep self.old self.new }
         ensures returns { WorldsReturn self.new now.world now.register }
+        ensures reaches { (link : CheckedLink) → WorldsReach link self.old
+            → WorldsReturnAny link now.world now.register → WorldsReach link self.new }
     {
         match now.register {
             Register::DpidrRead => self.add(live(now.world), now.faults),
@@ -279,6 +334,9 @@ impl Worlds {
         ensures keeps { WorldsKeep self.old self.new }
         ensures returns { (now.register ≡ Register.DpidrRead → ⊥) → (now.register ≡ Register.CtrlStatRead → ⊥)
             → WorldsReturn self.new now.world now.register }
+        ensures reaches { (link : CheckedLink) → WorldsReach link self.old
+            → (now.register ≡ Register.DpidrRead → ⊥) → (now.register ≡ Register.CtrlStatRead → ⊥)
+            → WorldsReturnAny link now.world now.register → WorldsReach link self.new }
     {
         if is_posted(now.register) {
             self.post(now, now.world.buffer);
@@ -292,6 +350,9 @@ impl Worlds {
     fn post(&mut self, now: Asked, buffer: Held)
         ensures keeps { WorldsKeep self.old self.new }
         ensures posts { WorldsPost self.new now.world now.register buffer }
+        ensures reaches { (link : CheckedLink) → WorldsReach link self.old
+            → is_port_posted now.register ≡ true → WorldsPostHeld link now.world now.register buffer → WorldsReach link
+            self.new }
     {
         let world = posted(now.world, buffer);
         match now.register {
@@ -322,6 +383,9 @@ impl Worlds {
             → WorldsHold self.new world.awaits x }
         ensures error { (x : Target) → WorldDescribes (record world { sticky_error = true }) x
             → WorldsHold self.new world.awaits x }
+        ensures reaches { (link : CheckedLink) → WorldsReach link self.old
+            → WorldReaches link (record world { buffer = HeldWord })
+            → WorldReaches link (record world { sticky_error = true }) → WorldsReach link self.new }
     {
         self.add(
             World {
@@ -343,6 +407,8 @@ impl Worlds {
     fn post_tar(&mut self, world: World, faults: u64)
         ensures keeps { WorldsKeep self.old self.new }
         ensures posts { (x : Target) → IsWorldNow world x → x.buffer ≡ x.tar → WorldsHold self.new world.awaits x }
+        ensures reaches { (link : CheckedLink) → WorldsReach link self.old
+            → WorldsPostTar link world → WorldsReach link self.new }
     {
         let Tar::From { first, more } = world.tar else {
             self.add(world, faults);
@@ -359,6 +425,8 @@ impl Worlds {
         ensures keeps { WorldsKeep self.old self.new }
         ensures reads { (c : Choice) (x : Target) → (may_be_late ≡ false → IsCheckedPrompt c)
             → WorldsFind self.new now.world seen c x }
+        ensures reaches { (link : CheckedLink) → WorldsReach link self.old
+            → IsNearSound seen → WorldsReadStatus link now.world seen may_be_late → WorldsReach link self.new }
     {
         self.find_powers(now.world, now.faults, seen, may_be_late);
         if may_show(now.world) {
@@ -371,6 +439,8 @@ impl Worlds {
         ensures keeps { WorldsKeep self.old self.new }
         ensures finds { (c : Choice) (x : Target) → (may_be_late ≡ false → IsCheckedPrompt c)
             → WorldsFindPowers self.new world seen c x }
+        ensures reaches { (link : CheckedLink) → WorldsReach link self.old
+            → IsNearSound seen → WorldsFindAll link world seen may_be_late → WorldsReach link self.new }
     {
         self.find(world, faults, seen, (false, false));
         if may_be_late {
@@ -383,6 +453,8 @@ impl Worlds {
         ensures keeps { WorldsKeep self.old self.new }
         ensures finds { (c : Choice) (x : Target) → (is_debug_late c x || is_system_late c x) ≡ true
             → WorldsFindPowers self.new world seen c x }
+        ensures reaches { (link : CheckedLink) → WorldsReach link self.old
+            → IsNearSound seen → WorldsFindAll link world seen true → WorldsReach link self.new }
     {
         self.find(world, faults, seen, (false, true));
         self.find(world, faults, seen, (true, false));
@@ -394,6 +466,11 @@ impl Worlds {
         ensures keeps { WorldsKeep self.old self.new }
         ensures finds { (c : Choice) (x : Target) → late.0 ≡ is_debug_late c x → late.1 ≡ is_system_late c x
             → WorldsFindPowers self.new world seen c x }
+        ensures reaches { (link : CheckedLink) → WorldsReach link self.old
+            → IsNearSound seen → ((debug system : Power) → checked_power_found world.debug late.0 ≡ Some debug
+            → checked_power_found world.system late.1 ≡ Some system → (word : ℕ) → IsCheckedNear seen word
+            → IsCheckedStatus (record world { debug = debug; system = system }) word
+            → WorldReaches link (record world { debug = debug; system = system })) → WorldsReach link self.new }
     {
         let Some(debug) = world.debug.found(late.0) else {
             return;
@@ -415,6 +492,9 @@ impl Worlds {
         ensures keeps { WorldsKeep self.old self.new }
         ensures arrives { WorldsArrive self.new now.world now.register word }
         ensures damages { now.clean ≡ false → WorldsDamage self.new now.world }
+        ensures reaches { (link : CheckedLink) → WorldsReach link self.old
+            → (now.clean ≡ false → WorldReaches link (world_after_damage now.world))
+            → WorldsArriveAt link now.world now.register word → WorldsReach link self.new }
     {
         self.add_if(
             !now.clean,
@@ -430,6 +510,9 @@ impl Worlds {
         ensures damages { WorldsDamage self.new now.world }
         ensures cures { now.clean ≡ false → (place : ℕ) → place < 33
             → WorldsArrive self.new now.world now.register (checked_changed_at word place) }
+        ensures reaches { (link : CheckedLink) → WorldsReach link self.old
+            → WorldReaches link (world_after_damage now.world) → (now.clean ≡ false → (place : ℕ) → place < 33
+            → WorldsArriveAt link now.world now.register (checked_changed_at word place)) → WorldsReach link self.new }
     {
         self.add(now.world.after_damage(), now.faults);
         if !now.clean {
@@ -441,6 +524,9 @@ impl Worlds {
     fn cure(&mut self, now: Asked, sent: Near)
         ensures keeps { WorldsKeep self.old self.new }
         ensures cures { (word : ℕ) → IsCheckedNear sent word → WorldsArrive self.new now.world now.register word }
+        ensures reaches { (link : CheckedLink) → WorldsReach link self.old
+            → ((place : ℕ) → place < 33 → WorldsArriveAt link now.world now.register (checked_near_at sent place)) →
+            WorldsReach link self.new }
     {
         for place in 0..33 {
             self.cure_at(now, sent, place);
@@ -453,6 +539,8 @@ impl Worlds {
         ensures keeps { WorldsKeep self.old self.new }
         ensures cures { register_bit place sent.places ≡ true
             → WorldsArrive self.new now.world now.register (checked_near_at sent place) }
+        ensures reaches { (link : CheckedLink) → WorldsReach link self.old
+            → WorldsArriveAt link now.world now.register (checked_near_at sent place) → WorldsReach link self.new }
     {
         match sent.at(place) {
             Some(word) => self.arrive(now, word),
@@ -465,6 +553,8 @@ impl Worlds {
     fn arrive(&mut self, now: Asked, word: u32)
         ensures keeps { WorldsKeep self.old self.new }
         ensures arrives { WorldsArrive self.new now.world now.register word }
+        ensures reaches { (link : CheckedLink) → WorldsReach link self.old
+            → WorldsArriveAt link now.world now.register word → WorldsReach link self.new }
     {
         match now.register {
             Register::AbortWrite => self.abort(now.world, now.faults, word),
@@ -502,6 +592,9 @@ impl Worlds {
         ensures nothing { (x : Target) → WorldDescribes world x → WorldsHold self.new world.awaits x }
         ensures error { (x : Target) → WorldDescribes (record world { sticky_error = true }) x
             → WorldsHold self.new world.awaits x }
+        ensures reaches { (link : CheckedLink) → WorldsReach link self.old
+            → WorldReaches link world → WorldReaches link (record world { sticky_error = true }) → WorldsReach link
+            self.new }
     {
         self.add(world, faults);
         self.add(
@@ -518,6 +611,10 @@ impl Worlds {
         ensures keeps { WorldsKeep self.old self.new }
         ensures aborts { (refuses : Bool) (x : Target) → WorldDescribes world x
             → WorldsHold self.new world.awaits (port_after_bits refuses (Arrives Register.AbortWrite word) x) }
+        ensures reaches { (link : CheckedLink) → WorldsReach link self.old
+            → WorldReaches link (world_cleared word world)
+            → ((is_some world.pending && register_bit 2 word) ≡ true
+            → WorldReaches link (world_cleared word (world_failed world))) → WorldsReach link self.new }
     {
         self.add(cleared(world, word), faults);
         self.add_if(
@@ -537,6 +634,8 @@ impl Asked {
         ensures world { (c : Choice) (x : Target) → IsAskedBy self → WorldDescribes self.world x
             → (is_exempt_register self.register ≡ false → x.pending ≡ None)
             → port_answer x self.request ≡ Reply.Okay → IsAskedAccepted result self.register c x }
+        ensures exact { IfSome result (λ now. (world_due self.world self.request ≡ Reply.Okay) × (now.world
+            ≡ world_accepted awaits self.register self.request.ap self.world)) }
     {
         match self.world.due(self.request) {
             Reply::Okay => Some(self.okayed(awaits)),
@@ -552,6 +651,7 @@ impl Asked {
         ensures world { (c : Choice) (x : Target) → IsAskedBy self → WorldDescribes self.world x
             → (is_exempt_register self.register ≡ false → x.pending ≡ None)
             → port_answer x self.request ≡ Reply.Okay → WorldAccepts result.world self.register c x }
+        ensures exact { result.world ≡ world_accepted awaits self.register self.request.ap self.world }
     {
         if is_exempt(self.register) {
             Asked {
@@ -576,13 +676,14 @@ impl Asked {
     fn is_quiet(self, seen: u8) -> bool
         ensures quiet { result ≡ true → world_due self.world self.request ≡ Reply.Silent }
         ensures other { result ≡ false → world_due self.world self.request ≡ Reply.Silent → seen ≡ UNDRIVEN → ⊥ }
+        ensures undriven { result ≡ true → seen ≡ UNDRIVEN }
     {
         self.world.due(self.request) == Reply::Silent && seen == UNDRIVEN
     }
 
     // Returns whether FAULT is due.
     fn is_refused(self) -> bool
-        ensures { world_due self.world self.request ≡ Reply.Faults → result ≡ true }
+        ensures { (result ≡ true) ↔ (world_due self.world self.request ≡ Reply.Faults) }
     {
         self.world.due(self.request) == Reply::Faults
     }
@@ -594,14 +695,15 @@ impl Asked {
             → result ≡ true }
         ensures okay { is_some self.world.pending ≡ true → world_due self.world self.request ≡ Reply.Okay
             → is_exempt_register self.register ≡ false → result ≡ true }
+        ensures due { result ≡ true → MayFault self.world self.request self.register }
     {
         self.world.pending.is_some() && (self.is_refused() || self.may_wait())
     }
 
     // Returns whether WAIT may replace the answer, OK.
     fn may_wait(self) -> bool
-        ensures { world_due self.world self.request ≡ Reply.Okay → is_exempt_register self.register ≡ false
-            → result ≡ true }
+        ensures { (result ≡ true) ↔ ((world_due self.world self.request ≡ Reply.Okay)
+            × (is_exempt_register self.register ≡ false)) }
     {
         self.world.due(self.request) == Reply::Okay && !is_exempt(self.register)
     }
@@ -615,106 +717,5 @@ impl Asked {
             faults: self.faults.saturating_add(1),
             ..self
         }
-    }
-}
-
-// Returns whether a bus error that didn't show yet may show in STICKYERR.
-fn may_show(world: World) -> bool
-    ensures { result ≡ (is_some world.pending && not world.sticky_error) }
-{
-    world.pending.is_some() && !world.sticky_error
-}
-
-// Returns the world after a read of DPIDR.
-fn live(world: World) -> World
-    ensures { result ≡ world_live world }
-{
-    World {
-        reset: Reset::Live,
-        ..world
-    }
-}
-
-// Returns the world after the read buffer was returned, of which this is known.
-#[inline(always)]
-fn posted(world: World, buffer: Held) -> World
-    ensures { result ≡ world_posted buffer world }
-{
-    World {
-        read_ok: true,
-        last_returned: buffer,
-        buffer: Held::Unknown,
-        ..world
-    }
-}
-
-// Returns the world in which TAR, and the read buffer, is the address at this index.
-fn at_tar(world: World, first: u32, index: u16) -> World
-    requires { index < 2 ^ 9 }
-    ensures tar { (x : Target) → IsWorldNow world x → x.tar ≡ Some (first + 4 * index) → x.buffer ≡ x.tar
-        → IsWorldNow result x }
-    ensures awaits { result.awaits ≡ world.awaits }
-{
-    match first.checked_add(4 * u32::from(index)) {
-        Some(address) => World {
-            tar: Tar::at(address),
-            buffer: Held::Seen(Near::of(address)),
-            ..world
-        },
-        // no address: the kilobytes end at 2^32
-        None => world,
-    }
-}
-
-// Returns the world after CTRL/STAT was written.
-fn powered(world: World, word: u32) -> World
-    ensures { result ≡ world_powered word world }
-{
-    World {
-        debug: Power::requested(bit(word, 28)),
-        system: Power::requested(bit(word, 30)),
-        ..world
-    }
-}
-
-// Returns the world after SELECT was written.
-pub(crate) fn selecting(world: World, word: u32) -> World
-    ensures { result ≡ world_selecting word world }
-{
-    let select = Select::of(word);
-    World {
-        mem_ap: select.apsel == 0 && select.apbanksel == 0,
-        bank0: select.dpbanksel == 0,
-        ..world
-    }
-}
-
-// Returns the world after a word arrived at an access port: the read buffer and the last returned value are unknown.
-#[inline(always)]
-fn written(world: World) -> World
-    ensures { result ≡ world_written world }
-{
-    World {
-        buffer: Held::Unknown,
-        last_returned: Held::Unknown,
-        ..world
-    }
-}
-
-// Returns whether ABORT with this word clears STICKYERR where a bus error may not have shown.
-fn may_clear(world: World, word: u32) -> bool
-    ensures { is_some world.pending ≡ true → register_bit 2 word ≡ true → result ≡ true }
-{
-    world.pending.is_some() && bit(word, 2)
-}
-
-// Returns the world after ABORT with this word: STKERRCLR is bit 2, WDERRCLR bit 3.
-fn cleared(world: World, word: u32) -> World
-    ensures { result ≡ world_cleared word world }
-{
-    World {
-        sticky_error: world.sticky_error && !bit(word, 2),
-        write_error: world.write_error && !bit(word, 3),
-        ..world
     }
 }

@@ -2,6 +2,7 @@
 ghost use Rattle.std.specs.Prelude.{◌≡◌, true};
 ghost use Rattle.swd_checker.specs.Worlds.{checked_tar_incremented, TarFrom};
 ghost use Rattle.swd_checker.specs.Covering.{IsTarWithin, AreTarsJoined};
+ghost use Rattle.swd_checker.specs.Joining.{AreTarsWhole};
 
 /// The number of bytes across whose end a transfer address isn't known to be incremented.
 const KILOBYTE: u32 = 1024;
@@ -63,7 +64,8 @@ impl Tar {
 
     /// Returns exactly the addresses of both, if they are neighbours or overlap in one kilobyte.
     pub(crate) fn joined(self, other: Tar) -> Option<Tar>
-        ensures { AreTarsJoined self other result }
+        ensures joined { AreTarsJoined self other result }
+        ensures whole { AreTarsWhole self other result }
     {
         match self.followed_by(other) {
             Some(joined) => Some(joined),
@@ -73,7 +75,8 @@ impl Tar {
 
     // The same where the other doesn't begin before this one.
     fn followed_by(self, other: Tar) -> Option<Tar>
-        ensures { AreTarsJoined self other result }
+        ensures joined { AreTarsJoined self other result }
+        ensures whole { AreTarsWhole self other result }
     {
         let (
             Tar::From { first, more },
@@ -102,7 +105,8 @@ fn are_among(from: u32, count: u8, first: u32, more: u8) -> bool
 // Returns the addresses of both, if they are neighbours or overlap in one kilobyte, and the second doesn't begin before
 // the first.
 fn together(first: u32, more: u8, from: u32, count: u8) -> Option<Tar>
-    ensures { AreTarsJoined (TarFrom first more) (TarFrom from count) result }
+    ensures joined { AreTarsJoined (TarFrom first more) (TarFrom from count) result }
+    ensures whole { AreTarsWhole (TarFrom first more) (TarFrom from count) result }
 {
     if from < first || first / KILOBYTE != from / KILOBYTE || (from - first) % 4 != 0 {
         return None;

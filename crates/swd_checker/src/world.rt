@@ -7,6 +7,8 @@ ghost use Rattle.swd_checker.specs.Words.{IsCheckedStatus, is_checked_power_on, 
 ghost use Rattle.swd_checker.specs.Steps.{checked_power_requested, checked_power_found};
 ghost use Rattle.swd_checker.specs.Covering.{PowerIncludes, WorldIncludes, AreWorldsJoined, IsWorldAlike, IsWorldWider};
 ghost use Rattle.swd_checker.specs.Covering.{IsWorldWithTar};
+ghost use Rattle.swd_checker.specs.Reaching.{AreReachedJoined};
+ghost use Rattle.swd_checker.specs.Joining.{WorldCovers, AreWorldsAlike};
 
 use crate::held::Held;
 use crate::near::bit;
@@ -242,7 +244,8 @@ impl World {
     /// Returns a world that explains exactly what these two do, if one of them explains all that the other does, or
     /// they differ in neighbouring addresses of TAR alone.
     pub(crate) fn joined(self, other: World) -> Option<World>
-        ensures { AreWorldsJoined self other result }
+        ensures joined { AreWorldsJoined self other result }
+        ensures reaches { AreReachedJoined self other result }
     {
         if self.covers(other) {
             return Some(self);
@@ -269,14 +272,16 @@ impl World {
 
     // Returns whether the two may differ in TAR alone.
     fn is_same_but_tar(self, other: World) -> bool
-        ensures { result ≡ true → IsWorldWider self other }
+        ensures wider { result ≡ true → IsWorldWider self other }
+        ensures alike { result ≡ true → AreWorldsAlike self other }
     {
         self.is_wider(other) && other.is_wider(self)
     }
 
     // Returns whether all that the other explains, but for TAR, is explained by this.
     fn is_wider(self, other: World) -> bool
-        ensures { result ≡ true → IsWorldWider self other }
+        ensures wider { result ≡ true → IsWorldWider self other }
+        ensures covers { result ≡ true → WorldCovers self other }
     {
         self.is_alike(other)
             && self.debug.covers(other.debug)

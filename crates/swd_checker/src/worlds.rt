@@ -1,11 +1,14 @@
 //! The list of worlds.
-ghost use Rattle.std.specs.Prelude.{ℕ, ◌≡◌, ◌≢◌, ◌≤◌, [], false, length};
+ghost use Rattle.std.specs.Prelude.{ℕ, ◌≡◌, ◌≢◌, ◌≤◌, ◌<◌, [], ◌∷◌, Bool, false, length};
+ghost use Rattle.swd_trace.specs.declared.item.Item.{Item};
 ghost use Rattle.swd_port.specs.Port.{Port, Target};
 ghost use Rattle.swd_port.specs.Leading.{PortLeads};
 ghost use Rattle.swd_checker.specs.Described.{WorldDescribes};
 ghost use Rattle.swd_checker.specs.Holding.{WorldsHold, WorldsKeep, WorldsGrow, IsKeptJoined, WorldsHoldPort};
 ghost use Rattle.swd_checker.specs.Holding.{AnyKeptHolds};
 ghost use Rattle.swd_checker.specs.Checked.{CheckedTransacts};
+ghost use Rattle.swd_checker.specs.Reaching.{CheckedLink, WorldReaches, WorldsReach, LinkSteps, IsReachedJoined};
+ghost use Rattle.swd_checker.specs.Reaching.{AreKeptSound, checked_link};
 
 use crate::world::World;
 use arrayvec::ArrayVec;
@@ -62,6 +65,16 @@ impl Worlds {
         }
     }
 
+    /// Returns this world alone.
+    pub(crate) fn one(world: World) -> Worlds
+        ensures kept { result.kept.items ≡ (record { world = world; faults = 0 }) ∷ [] }
+        ensures crowded { result.crowded ≡ false }
+    {
+        let mut worlds = Worlds::none();
+        worlds.kept.push(Kept { world, faults: 0 });
+        worlds
+    }
+
     /// Forgets the worlds.
     pub(crate) fn empty(&mut self)
         ensures empty { self.new.kept.items ≡ [] }
@@ -86,6 +99,9 @@ impl Worlds {
         ensures keeps { WorldsKeep self.old self.new }
         ensures adds { (x : Target) → WorldDescribes world x → WorldsHold self.new world.awaits x }
         ensures grows { WorldsGrow 1 self.old self.new }
+        ensures some { 0 < length self.new.kept.items }
+        ensures reaches { (link : CheckedLink) → WorldsReach link self.old → WorldReaches link world
+            → WorldsReach link self.new }
     {
         let mut added = Kept { world, faults };
         for _ in 0..MOST_WORLDS {
@@ -108,6 +124,9 @@ impl Worlds {
         ensures resets { (ones : ℕ) (s t : Port) → ones ≢ 0 → PortLeads s ones t → self.old.crowded ≡ false
             → WorldsHoldPort self.old s → WorldsHoldPort self.new t }
         ensures crowded { self.new.crowded ≡ false }
+        ensures some { 0 < length self.old.kept.items → 0 < length self.new.kept.items }
+        ensures reaches { (clean : Bool) (n ones : ℕ) → ones ≢ 0 → AreKeptSound self.old.kept.items
+            → WorldsReach (checked_link self.old.kept.items clean n (Item.Reset ones)) self.new }
     {
         let mut before = Worlds::none();
         before.restore(self.kept.as_slice());
@@ -120,6 +139,10 @@ impl Worlds {
         ensures resets { (ones : ℕ) (s t : Port) → ones ≢ 0 → PortLeads s ones t → AnyKeptHolds before.now s
             → WorldsHoldPort self.new t }
         ensures grows { WorldsGrow (length before.now) self.old self.new }
+        ensures some { 0 < length before.now → 0 < length self.new.kept.items }
+        ensures reaches { (clean : Bool) (n ones : ℕ) → ones ≢ 0 → AreKeptSound before.now
+            → WorldsReach (checked_link before.now clean n (Item.Reset ones)) self.old
+            → WorldsReach (checked_link before.now clean n (Item.Reset ones)) self.new }
     {
         for kept in before {
             self.add(kept.world.after_reset(), kept.faults);
@@ -129,8 +152,10 @@ impl Worlds {
     /// Takes a transaction in each of these worlds: adds the worlds after it. Where `clean` is true, nothing is damaged
     /// or lost.
     pub(crate) fn step_each(&mut self, before: &[Kept], tx: &Tx, clean: bool)
-        ensures { (s t : Port) → CheckedTransacts clean tx.now.result tx.now.request s t
+        ensures steps { (s t : Port) → CheckedTransacts clean tx.now.result tx.now.request s t
             → AnyKeptHolds before.now s → WorldsHoldPort self.new t }
+        ensures reaches { (link : CheckedLink) → link.from ≡ before.now → LinkSteps link clean tx.now
+            → AreKeptSound before.now → WorldsReach link self.old → WorldsReach link self.new }
     {
         for kept in before {
             self.step(kept.world, kept.faults, tx, clean);
@@ -149,7 +174,8 @@ impl Worlds {
     // Returns the first world that joins with this one, and what they are together.
     #[inline]
     fn joining(&self, added: &Kept) -> Option<(usize, Kept)>
-        ensures { IsKeptJoined self.now.kept.items added.now result }
+        ensures joined { IsKeptJoined self.now.kept.items added.now result }
+        ensures reaches { IsReachedJoined self.now.kept.items added.now result }
     {
         for place in 0..self.kept.len() {
             let kept = self.kept[place];

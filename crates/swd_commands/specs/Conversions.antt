@@ -17,9 +17,9 @@ use Rattle.swd_check.specs.Checks.{WritesChecked}
 use Rattle.swd_check.specs.Watched.{CheckSays, check_index}
 use Rattle.swd_check.specs.declared.checked.Checked.{Checked}
 use Rattle.swd_check.specs.declared.checked.Checked.TheVariants.{Fits, Breaks, Crowded, Outside}
-use Rattle.swd_words.specs.declared.command.CheckLine.{CheckLine}
-use Rattle.swd_words.specs.declared.command.DecodeLine.{DecodeLine}
-use Rattle.swd_words.specs.declared.command.DrawLine.{DrawLine}
+use Rattle.swd_command_line.specs.declared.command.CheckLine.{CheckLine}
+use Rattle.swd_command_line.specs.declared.command.DecodeLine.{DecodeLine}
+use Rattle.swd_command_line.specs.declared.command.DrawLine.{DrawLine}
 use Rattle.swd_console.specs.Statuses.{CommandNotOpened, command_status_of}
 use Rattle.swd_commands.specs.declared.conversion.Conversion.{Conversion}
 use Rattle.swd_commands.specs.declared.conversion.Conversion.TheVariants.{One, Encode, Listing, Print, Draw, Check}

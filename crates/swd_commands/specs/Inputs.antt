@@ -2,11 +2,12 @@
 use Rattle.std.specs.Prelude.{ℕ, ◌≡◌, ◌≢◌, ◌⊎◌, List, [], Option, Some, None, IsSomeAnd, codes}
 use Rattle.std.specs.Option.{option_map}
 use Rattle.std.specs.String.{string_bytes}
-use Rattle.swd_words.specs.declared.command.CommandLine.{CommandLine}
-use Rattle.swd_words.specs.declared.command.ServedMemory.{ServedMemory}
-use Rattle.swd_words.specs.declared.command.ServedMemory.TheVariants.{Script, File}
-use Rattle.swd_words.specs.declared.command.CommandLine.TheVariants.{One, Decode, Draw, Check, Encode, Run, Target}
-use Rattle.swd_words.specs.declared.command.CommandLine.TheVariants.{Image, Info}
+use Rattle.swd_command_line.specs.declared.command.CommandLine.{CommandLine}
+use Rattle.swd_command_line.specs.declared.command.ServedMemory.{ServedMemory}
+use Rattle.swd_command_line.specs.declared.command.ServedMemory.TheVariants.{Script, File}
+use Rattle.swd_command_line.specs.declared.command.CommandLine.TheVariants.{One, Decode, Draw, Check, Encode, Run}
+use Rattle.swd_command_line.specs.declared.command.CommandLine.TheVariants.{Target}
+use Rattle.swd_command_line.specs.declared.command.CommandLine.TheVariants.{Image, Info, Conform}
 
 -- the file of a served memory: its script, or its bytes
 abbrev pub command_served_file : ServedMemory → List ℕ
@@ -25,6 +26,8 @@ command_named_file (Target target) = Some (command_served_file target.memory)
 command_named_file (Image image) = Some (string_bytes image.file)
 -- an info reads no file: no file has this name, and standard input hasn't either
 command_named_file (Info info) = Some []
+-- nor does a conformance run
+command_named_file (Conform conform) = Some []
 
 -- standard input is read: no file is named, or `-` is
 abbrev pub IsStandardInput : Option (List ℕ) → Type 0
@@ -33,7 +36,7 @@ IsStandardInput name = (name ≡ None) ⊎ (name ≡ Some (codes "-"))
 abbrev pub CommandReadsStdin : CommandLine → Type 0
 CommandReadsStdin line = IsStandardInput (command_named_file line)
 
--- what leads to the target, if that is remote
+-- what leads to the target, if that is remote; that of a conformance run, which writes its verdict, isn't counted here
 abbrev pub command_remote : CommandLine → Option (List ℕ)
 command_remote (Run run) = option_map string_bytes run.remote
 command_remote (Image image) = option_map string_bytes image.remote

@@ -1,8 +1,9 @@
 -- What a command does, and its status.
 use Rattle.std.specs.Prelude.{ℕ, List, Option, is_some}
-use Rattle.swd_words.specs.declared.command.CommandLine.{CommandLine}
-use Rattle.swd_words.specs.declared.command.CommandLine.TheVariants.{One, Decode, Draw, Check, Encode, Run, Target}
-use Rattle.swd_words.specs.declared.command.CommandLine.TheVariants.{Image, Info}
+use Rattle.swd_command_line.specs.declared.command.CommandLine.{CommandLine}
+use Rattle.swd_command_line.specs.declared.command.CommandLine.TheVariants.{One, Decode, Draw, Check, Encode, Run}
+use Rattle.swd_command_line.specs.declared.command.CommandLine.TheVariants.{Target}
+use Rattle.swd_command_line.specs.declared.command.CommandLine.TheVariants.{Image, Info, Conform}
 use Rattle.swd_console.specs.Statuses.{CommandNotOpened}
 use Rattle.swd_run_commands.specs.Runs.{PerformsRunCommandWhere}
 use Rattle.swd_commands.specs.declared.conversion.Conversion.TheVariants.{One as OneTx, Encode as Bits}
@@ -20,10 +21,13 @@ PerformsCommand (Draw draw) status text left old new =
     ConvertsCommandInput (draw_command_conversion draw) status text left old new
 PerformsCommand (Check check) status text left old new = ChecksCommandInput check status text left old new
 PerformsCommand (Encode file) status text left old new = ConvertsCommandInput Bits status text left old new
-PerformsCommand (Run run) status text left old new = PerformsRunCommandWhere (is_some run.remote) run status text old new
+PerformsCommand (Run run) status text left old new = PerformsRunCommandWhere (is_some run.remote) run status text old
+    new
 -- the script or the memory of a target can't be standard input, which comes from the debugger
 PerformsCommand (Target target) status text left old new = CommandNotOpened status old new
 -- an info reads no file
 PerformsCommand (Info info) status text left old new = CommandNotOpened status old new
+-- nor does a conformance run
+PerformsCommand (Conform conform) status text left old new = CommandNotOpened status old new
 -- nor can the file of an image be, since standard input is the target's
 PerformsCommand (Image image) status text left old new = CommandNotOpened status old new

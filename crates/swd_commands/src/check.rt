@@ -10,8 +10,8 @@ use std::io::{Read, Write};
 use swd_capture_text::Reading;
 use swd_check::{Check, CheckOptions, Checked, PlainMemory, check_to};
 use swd_checker::CheckStart;
+use swd_command_line::{CheckLine, PlainWords};
 use swd_console::{Console, DONE, FAULT, KeepsError, STOPPED, tell};
-use swd_words::{CheckLine, PlainWords};
 
 /// Checks what the reader has, and writes the verdict. `name` is the input's. Returns the status: 0 if the trace fits,
 /// 1 if it breaks a rule, 2 if that isn't decided, or at an error.
@@ -75,8 +75,8 @@ fn start_of(check: &CheckLine) -> CheckStart
     }
 }
 
-// Returns the plain memory of the arguments.
-fn plain_memory<A: Allocator + Copy>(
+/// Returns the plain memory of the arguments.
+pub(crate) fn plain_memory<A: Allocator + Copy>(
     alloc: A,
     words: &[PlainWords],
 ) -> Result<PlainMemory<A>, AllocError>
@@ -89,8 +89,8 @@ fn plain_memory<A: Allocator + Copy>(
     Ok(plain)
 }
 
-// Returns the status of a verdict.
-fn checked_status(checked: &Checked) -> u8
+/// Returns the status of a verdict.
+pub(crate) fn checked_status(checked: &Checked) -> u8
     ensures { result ≡ status_of (Ok checked.now) }
 {
     match checked {

@@ -14,13 +14,13 @@ use std::io::{Read, Write};
 use swd_bits::one_text;
 use swd_capture::{LineForm, Printed};
 use swd_capture_text::{Reading, print_capture};
+use swd_command_line::{CheckLine, DecodeLine, DrawLine};
 use swd_console::{
     Console, Files, INPUT, KeepsError, TrackedReader, Watched, cannot_open, named_file_of,
     status_after,
 };
 use swd_draw::{DrawnForm, draw_capture};
 use swd_text::{decode_text, encode_text};
-use swd_words::{CheckLine, DecodeLine, DrawLine};
 
 /// What an input is converted to.
 #[derive(Clone, Copy)]

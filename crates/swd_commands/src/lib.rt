@@ -5,6 +5,7 @@
 mod arguments;
 mod character;
 mod check;
+mod conform;
 mod conversion;
 mod program;
 mod reached;

@@ -7,12 +7,14 @@ ghost use Rattle.swd_console.specs.Streams.{CommandEndsOver};
 ghost use Rattle.swd_commands.specs.Inputs.{CommandHasLine, CommandReadsStdin, command_remote, command_served_file};
 ghost use Rattle.swd_commands.specs.Statuses.{PerformsCommand};
 
+use crate::conform::carry_out_conform;
 use crate::conversion::{Conversion, convert, decode_conversion, draw_conversion};
 use crate::reached::Reached;
 use crate::usage::tell_usage;
 use clap::Error;
 use std::alloc::Global;
 use std::io::{Read, Write};
+use swd_command_line::{CommandLine, ImageLine, ServedMemory, TargetLine};
 use swd_console::{
     Clock, Console, DONE, FAULT, Files, KeepsError, LineFiles, STOPPED, Stream, Untold, Watched,
     cannot_open, cannot_open_line, line_ends, named_file_of, status_after, tell, tell_failure,
@@ -20,7 +22,7 @@ use swd_console::{
 };
 use swd_image_commands::perform_image;
 use swd_run_commands::{perform_info, perform_run, perform_target};
-use swd_words::{CommandLine, ImageLine, LineFault, ServedMemory, TargetLine, line};
+use swd_words::{LineFault, line};
 
 /// Carries out the arguments, the program's name first, and returns the status. Standard output gets the requested
 /// text and nothing else. The lines on standard error that say how far a run is are spaced by the clock.
@@ -91,7 +93,7 @@ fn print_help<O: Write + KeepsError, E: Write>(error: &Error, output: &mut O, er
     FAULT
 }
 
-const SHOWN: &str = "\
+pub(crate) const SHOWN: &str = "\
 --remote: standard output is a terminal, not a target's line: connect it, as by \
 socat TCP:localhost:4711,nodelay EXEC:'swd ..', or name files, --remote=IN,OUT";
 
@@ -212,6 +214,9 @@ fn carry_out<I: Read + KeepsError, O: Write + KeepsError, F: Files, C: Clock, E:
     ensures line { CommandHasLine line.now → (I.remaining input.new ≡ I.remaining input.old)
         × (O.contents output.new ≡ O.contents output.old) }
 {
+    if let CommandLine::Conform(conform) = line {
+        return carry_out_conform(conform, input, output, console);
+    }
     match line_files(line) {
         Some(files) => carry_out_over(line, files, console),
         None => carry_out_here(line, input, output, console),
@@ -309,6 +314,8 @@ fn perform<I: Read + KeepsError, O: Write + KeepsError, F: Files, C: Clock, E: W
         CommandLine::Run(run) => perform_run(run, input, output, console),
         CommandLine::Target(target) => carry_out_target(target, input, output, console),
         CommandLine::Image(image) => carry_out_image(image, input, output, console),
+        // It is carried out before, since its verdict goes to standard output.
+        CommandLine::Conform(conform) => carry_out_conform(conform, input, output, console),
         CommandLine::Info(info) => {
             let (status, _) = perform_info::<Untold, _, _, _, _, _, _>(
                 info, input, output, console,

@@ -19,6 +19,8 @@ mod accesses;
 mod arguments;
 mod calls;
 mod captures;
+mod checked;
+mod conformance;
 mod drawings;
 mod expect;
 mod image_files;

@@ -5,3 +5,4 @@ pub mod MemoryFiles
 pub mod Roles
 pub mod Statuses
 pub mod Streams
+pub mod Verdicts

@@ -18,6 +18,7 @@ mod reason;
 mod report;
 mod sample;
 mod streams;
+mod verdict;
 mod watched;
 
 pub use clock::Clock;
@@ -45,4 +46,5 @@ pub use streams::{
     ERRORS, INPUT, Stream, conversion_status, name_or_nothing, status_after, streams_status,
     tell_failure, tell_failure_or,
 };
+pub use verdict::verdict_status;
 pub use watched::{KeepsError, Watched};

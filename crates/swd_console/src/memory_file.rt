@@ -17,12 +17,12 @@ use std::alloc::Allocator;
 use std::fmt::{Display, Formatter};
 use std::io::{Read, Write};
 use std::{fmt, io};
+use swd_command_line::MemoryLine;
 use swd_image_ends::{FileFault, memory_bytes, read_file};
 use swd_io::{Unread, send};
 use swd_port::Mark;
 use swd_script::read_plan;
 use swd_target::Memory;
-use swd_words::MemoryLine;
 
 // The length of a file that is no memory: a memory has whole words.
 #[derive(Drop)]

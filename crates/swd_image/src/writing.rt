@@ -17,7 +17,7 @@ use swd_run::Limits;
 use swd_script::Batch;
 
 /// The words that an image covers only in part, as they were read: the first one and the last one.
-#[derive(Clone, Copy, Debug, PartialEq, Eq)]
+#[derive(Clone, Copy)]
 pub(crate) struct Edges {
     pub(crate) head: u32,
     pub(crate) tail: u32,

@@ -14,7 +14,7 @@ use Rattle.swd_image.proofs.DumpLemmas.{dump_bytes_length}
 use Rattle.swd_image_files.specs.declared.format.Format.{Format}
 use Rattle.swd_image_files.specs.Texts.{image_file_of_piece}
 use Rattle.swd_image_ends.specs.Came.{DumpCame}
-use Rattle.swd_words.specs.declared.command.ImageLine.{ImageLine}
+use Rattle.swd_command_line.specs.declared.command.ImageLine.{ImageLine}
 use Rattle.swd_console.specs.Connections.{CommandWentOver}
 use Rattle.swd_image_commands.specs.Images.{IsCommandDumped, IsCommandWritten, PerformsDump, command_limits}
 use Rattle.swd_image_commands.specs.Images.{command_result_reached, makes_command_reports}

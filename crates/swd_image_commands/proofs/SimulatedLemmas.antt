@@ -13,7 +13,7 @@ use Rattle.swd_image_files.specs.Images.{ImageFileBytes}
 use Rattle.swd_image_ends.specs.Came.{DumpCame, LoadCame, image_bench_wire}
 use Rattle.swd_image_ends.specs.Memories.{DumpsSimulatedMemory}
 use Rattle.swd_image_ends.proofs.AddressLemmas.{loaded_there}
-use Rattle.swd_words.specs.declared.command.ImageLine.{ImageLine}
+use Rattle.swd_command_line.specs.declared.command.ImageLine.{ImageLine}
 use Rattle.swd_console.specs.MemoryFiles.{CommandWritesBack}
 use Rattle.swd_image_commands.specs.Images.{IsCommandDumped, command_limits, command_result_reached}
 use Rattle.swd_image_commands.specs.Images.{command_status_loaded, command_status_of_image, makes_command_reports}

@@ -16,9 +16,9 @@ use Rattle.swd_image_files.specs.Files.{IsImageOrElf}
 use Rattle.swd_image_files.specs.Images.{ImageFileBytes, ImageFileContents, image_file_pieces}
 use Rattle.swd_image_files.specs.Texts.{image_file_of_piece}
 use Rattle.swd_image_ends.specs.Came.{DumpCame, LoadCame, VerifyCame}
-use Rattle.swd_words.specs.declared.command.ImageAction.{ImageAction}
-use Rattle.swd_words.specs.declared.command.ImageAction.TheVariants.{Load, Verify, Dump}
-use Rattle.swd_words.specs.declared.command.ImageLine.{ImageLine}
+use Rattle.swd_command_line.specs.declared.command.ImageAction.{ImageAction}
+use Rattle.swd_command_line.specs.declared.command.ImageAction.TheVariants.{Load, Verify, Dump}
+use Rattle.swd_command_line.specs.declared.command.ImageLine.{ImageLine}
 use Rattle.swd_console.specs.Connections.{CommandWentOver}
 use Rattle.swd_run.specs.Wires.{run_story_wire}
 

@@ -15,10 +15,10 @@ use Rattle.swd_image_files.specs.Images.{ImageFileBytes}
 use Rattle.swd_image_ends.specs.Came.{DumpCame, LoadCame, VerifyCame, image_bench_wire}
 use Rattle.swd_image_ends.specs.Memories.{DumpsSimulatedMemory, AreImageEndWholeWords}
 use Rattle.swd_image_ends.specs.Memories.{LoadsSimulatedMemory, VerifiesSimulatedMemory, image_end_words_in}
-use Rattle.swd_words.specs.declared.command.ImageAction.{ImageAction}
-use Rattle.swd_words.specs.declared.command.ImageAction.TheVariants.{Load, Verify, Dump}
-use Rattle.swd_words.specs.declared.command.ImageLine.{ImageLine}
-use Rattle.swd_words.specs.declared.command.MemoryLine.{MemoryLine}
+use Rattle.swd_command_line.specs.declared.command.ImageAction.{ImageAction}
+use Rattle.swd_command_line.specs.declared.command.ImageAction.TheVariants.{Load, Verify, Dump}
+use Rattle.swd_command_line.specs.declared.command.ImageLine.{ImageLine}
+use Rattle.swd_command_line.specs.declared.command.MemoryLine.{MemoryLine}
 use Rattle.swd_console.specs.MemoryFiles.{CommandWritesBack}
 use Rattle.swd_image_commands.specs.Images.{AreCommandPieces, IsCommandDumped, command_limits, command_result_reached}
 use Rattle.swd_image_commands.specs.Images.{makes_command_reports}

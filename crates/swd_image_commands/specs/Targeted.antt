@@ -3,8 +3,8 @@ use Rattle.std.specs.Prelude.{ℕ, List, Option, None, Some}
 use Rattle.swd_port.specs.Port.{Port}
 use Rattle.swd_remote.specs.declared.kept.RemoteStreams.{RemoteStreams}
 use Rattle.swd_remote.specs.WholeRuns.{IsUnusedRemote}
-use Rattle.swd_words.specs.declared.command.ImageLine.{ImageLine}
-use Rattle.swd_words.specs.declared.command.MemoryLine.{MemoryLine}
+use Rattle.swd_command_line.specs.declared.command.ImageLine.{ImageLine}
+use Rattle.swd_command_line.specs.declared.command.MemoryLine.{MemoryLine}
 use Rattle.swd_image_commands.specs.Images.{PerformsAction}
 use Rattle.swd_image_commands.specs.Simulated.{SimulatesImage}
 

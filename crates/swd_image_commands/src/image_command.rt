@@ -8,11 +8,11 @@ use crate::result::{loaded_status, reached, verified_status};
 use crate::simulated_command::perform_simulated;
 use std::alloc::Allocator;
 use std::io::{Read, Write};
+use swd_command_line::{ImageAction, ImageLine};
 use swd_console::{Clock, Console, Files, InUse, KeepsError, Stream, StreamsInUse, WriteRole};
 use swd_image_ends::{DumpJob, LoadJob, VerifyJob, over_line};
 use swd_port::Story;
 use swd_remote::RemoteStreams;
-use swd_words::{ImageAction, ImageLine};
 
 /// Makes the one call of an image, at the target behind the streams or at a simulated one. Prints a line with the
 /// result on standard error. Returns the status and the connection. If the target is simulated, if the image's file

@@ -6,13 +6,13 @@ ghost use Rattle.swd_image_commands.specs.Images.{AreCommandPieces, IsCommandWri
 
 use std::alloc::Allocator;
 use std::io::{Read, Write};
+use swd_command_line::ImageLine;
 use swd_console::{
     Console, DONE, Files, InUse, KeepsError, ReadRole, Stream, Watched, cannot_open, cannot_use,
     streams_status, tell_failure_or,
 };
 use swd_image_ends::read_file;
 use swd_image_files::{ElfChoice, Format, Image, read_image_or_elf, write_image};
-use swd_words::ImageLine;
 
 // Returns the most bytes that the file of an image may have. A binary ends at ffffffff. What may be ELF has its own
 // addresses, and if it is a binary that is too long, it is refused once it was read.

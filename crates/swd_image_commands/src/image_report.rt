@@ -8,10 +8,10 @@ ghost use Rattle.swd_image_commands.specs.Reports.{command_report_contents};
 use std::alloc::Allocator;
 use std::io;
 use std::io::Write;
+use swd_command_line::{ImageAction, ImageLine};
 use swd_console::{Clock, Console, Counted, Files, InUse, Pace, Watched, WriteRole, cut_off};
 use swd_image::Limits;
 use swd_image_files::Image;
-use swd_words::{ImageAction, ImageLine};
 
 /// Where the reports of the calls go, if they are made.
 pub(crate) type ReportTo<M> = Option<CallReport<M>>;

@@ -16,6 +16,7 @@ use crate::image_report::{ReportTo, limits_of, open_report, report_writer, words
 use crate::result::{loaded_status, reached, verified_status};
 use std::alloc::Allocator;
 use std::io::Write;
+use swd_command_line::{ImageAction, ImageLine, MemoryLine};
 use swd_console::{
     Clock, Console, Escaped, Files, HeldMemory, InUse, MemoryFile, Stream, StreamsInUse, WriteRole,
     cannot_use, read_target_files, write_back,
@@ -24,7 +25,6 @@ use swd_image::{ImageFault, dump};
 use swd_image_ends::{load_pieces, simulated_target, verify_pieces};
 use swd_image_files::Image;
 use swd_target::{Bench, Memory};
-use swd_words::{ImageAction, ImageLine, MemoryLine};
 
 /// Reads the memory's file, and performs a command over an image at the simulated target that has it. Returns the
 /// status.

@@ -9,13 +9,13 @@ use swd_port::Cue;
 
 /// An incomplete transaction: its request was acknowledged, and the rest is due.
 #[derive(Clone, Copy)]
-pub(crate) struct InHand {
-    pub(crate) request: Request,
-    pub(crate) ack: Ack,
+pub struct InHand {
+    pub request: Request,
+    pub ack: Ack,
 }
 
 /// Returns the incomplete transaction after a call at which `seen` was seen, if there is one.
-pub(crate) fn in_hand_once(cue: Cue, seen: u64) -> Option<InHand>
+pub fn in_hand_once(cue: Cue, seen: u64) -> Option<InHand>
     requires { IsPortSeen cue seen }
     ensures { result ≡ recorded_in_hand_once cue seen }
 {
@@ -29,7 +29,7 @@ pub(crate) fn in_hand_once(cue: Cue, seen: u64) -> Option<InHand>
 }
 
 /// Returns the acknowledgement with this number, of which the first bit in time is least significant.
-pub(crate) fn ack_seen(seen: u64) -> Option<Ack>
+pub fn ack_seen(seen: u64) -> Option<Ack>
     requires { seen < 8 }
     ensures is { result ≡ recorded_ack_seen seen }
     ensures none { IfNone result (is_recorded_no_ack seen ≡ true) }

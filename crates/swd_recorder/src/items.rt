@@ -167,8 +167,8 @@ fn idle_cycles(item: &Item) -> u64
     }
 }
 
-// Returns the result of a transaction whose data phase has these bits.
-fn moved(bits: u64) -> TxEnd
+/// Returns the result of a transaction whose data phase has these 33 bits, the first in time least significant.
+pub fn moved(bits: u64) -> TxEnd
     requires { bits < 2 ^ 33 }
     ensures is { result ≡ recorded_moved bits }
     ensures end { is_recorded_end result ≡ true }
@@ -180,8 +180,8 @@ fn moved(bits: u64) -> TxEnd
     }
 }
 
-// Returns the result of a transaction that was answered WAIT or FAULT.
-fn refused(ack: Ack) -> TxEnd
+/// Returns the result of a transaction that was answered WAIT or FAULT.
+pub fn refused(ack: Ack) -> TxEnd
     ensures is { result ≡ recorded_refused ack }
     ensures end { is_recorded_end result ≡ true }
 {

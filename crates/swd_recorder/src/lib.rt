@@ -7,4 +7,6 @@ mod items;
 mod recorder;
 mod recording;
 
+pub use in_hand::{InHand, ack_seen, in_hand_once};
+pub use items::{moved, refused};
 pub use recorder::Recorder;

@@ -16,7 +16,7 @@ use swd_port::{Answer, Wire};
 use swd_script::{Batch, Until};
 
 /// The runs of an `until`.
-#[derive(Debug, Drop)]
+#[derive(Drop)]
 pub(crate) struct Performed<A: Allocator> {
     /// How many there were: at most its most reads.
     pub(crate) runs: u32,

@@ -37,7 +37,7 @@ pub trait RunSink: AnswerSink {
 }
 
 /// Keeps the answers and the places. It takes as many answers as there is capacity for.
-#[derive(Debug, Drop)]
+#[derive(Drop)]
 pub(crate) struct KeptAnswers<A: Allocator> {
     pub(crate) answers: Vec<Answer, A>,
     pub(crate) stops: Vec<Stop, A>,

@@ -8,7 +8,7 @@ use Rattle.swd_host.specs.Reports.{host_report_of}
 use Rattle.swd_remote.specs.declared.kept.RemoteStreams.{RemoteStreams}
 use Rattle.swd_remote.specs.declared.remote.Fault.{Fault}
 use Rattle.swd_remote.specs.WholeRuns.{RanOver}
-use Rattle.swd_words.specs.declared.command.InfoLine.{InfoLine}
+use Rattle.swd_command_line.specs.declared.command.InfoLine.{InfoLine}
 use Rattle.swd_console.specs.Statuses.{command_status_of_end}
 
 -- 0 if the target was opened, and 1 if not

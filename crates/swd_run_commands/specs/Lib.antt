@@ -1,3 +1,4 @@
+pub mod Verdicts
 pub mod Infos
 pub mod MemoryTargets
 pub mod Remotes

@@ -15,9 +15,9 @@ use Rattle.swd_bitbang.specs.Sessions.{BitbangServes}
 use Rattle.swd_bitbang.specs.Traces.{is_pins_trace_cut_off}
 use Rattle.swd_ends.specs.Serving.{AreTargetEndPinsAtRest, IsTargetEndMade}
 use Rattle.swd_image_ends.specs.Memories.{ImageEndHasRoom, AreImageEndWholeWords, image_end_words_in}
-use Rattle.swd_words.specs.declared.command.MemoryLine.{MemoryLine}
-use Rattle.swd_words.specs.declared.command.ServedMemory.{ServedMemory}
-use Rattle.swd_words.specs.declared.command.ServedMemory.TheVariants.{Script, File}
+use Rattle.swd_command_line.specs.declared.command.MemoryLine.{MemoryLine}
+use Rattle.swd_command_line.specs.declared.command.ServedMemory.{ServedMemory}
+use Rattle.swd_command_line.specs.declared.command.ServedMemory.TheVariants.{Script, File}
 use Rattle.swd_console.specs.MemoryFiles.{CommandWritesBack}
 use Rattle.swd_console.specs.Statuses.{CommandNotOpened}
 use Rattle.swd_run_commands.specs.Targets.{IsServedCommandStatus, TargetCommandServesHost}

@@ -1,34 +1,48 @@
 -- The status of a run at a remote target.
-use Rattle.std.specs.Prelude.{◌≡◌, ◌⊎◌, ℕ, Bool, false, List, Option, Some, Result, Ok}
+use Rattle.std.specs.Prelude.{◌≡◌, ◌⊎◌, ◌&&◌, ◌||◌, ℕ, Bool, false, List, Option, Some, Result, Ok, is_some}
 use Rattle.swd_port.specs.Port.{Port}
 use Rattle.swd_remote.specs.declared.kept.RemoteStreams.{RemoteStreams}
 use Rattle.swd_remote.specs.declared.remote.Fault.{Fault}
 use Rattle.swd_remote.specs.WholeRuns.{IsUnusedRemote}
+use Rattle.swd_text.specs.declared.fault.TextFault.{TextFault}
+use Rattle.swd_check.specs.declared.checked.Checked.{Checked}
 use Rattle.swd_run.specs.declared.engine.Finished.{Finished}
 use Rattle.swd_run.specs.Records.{RunFiles}
 use Rattle.swd_ends.specs.declared.remote.RemoteFault.{RemoteFault}
 use Rattle.swd_ends.specs.RemoteRuns.{RunsRemote}
-use Rattle.swd_words.specs.declared.command.RunLine.{RunLine}
+use Rattle.swd_command_line.specs.declared.command.RunLine.{RunLine}
 use Rattle.swd_console.specs.Connections.{CommandWentOver}
 use Rattle.swd_console.specs.Statuses.{command_status_of_run}
-use Rattle.swd_run_commands.specs.Runs.{AreRunCommandFiles}
+use Rattle.swd_console.specs.Verdicts.{command_status_checked}
+use Rattle.swd_run_commands.specs.Verdicts.{IsRunVerdict, is_remote_run_made}
 
 -- the status is 1 if the run has a report but the other end is gone, and otherwise that of the run
 abbrev pub remote_command_status : Bool → Option Fault → Result Finished RemoteFault → ℕ
 remote_command_status strict (Some fault) (Ok finished) = 1
 remote_command_status strict _ answer = command_status_of_run strict answer
 
+-- The files that a run writes beside its report are those that are named. Also a trace that is checked, without a file
+-- if none is named.
+pub record AreRemoteCommandFiles (run : RunLine) (files : RunFiles) : Type 0 where
+  pub trace : is_some files.trace ≡ (is_some run.trace || run.check)
+  pub accesses : is_some files.accesses ≡ is_some run.accesses
+  pub reset : files.made ≡ false
+
 -- The script is run over a line. Its report is written to a file or to standard error, and its trace and accesses to
--- the files that are named for them. Nothing else is known of these files. Only tests show that the line is over the
+-- the files that are named for them. Nothing else is known of these files. The status is that of the run, or 1 in place
+-- of 0 if the session is checked and its verdict is that a rule is broken. Only tests show that the line is over the
 -- standard streams.
 abbrev pub PerformsRemoteRun : {R W : Type 0} → (ℕ → Port) → RunLine → ℕ → (R → Option (List ℕ)) → (W → Option (List ℕ))
     → Option (List ℕ) → Option (List ℕ) → RemoteStreams R W → Option (List ℕ) → Type 0
 PerformsRemoteRun story run status remaining contents sent left line script =
     (answer : Result Finished RemoteFault) × (before : Option (List ℕ)) × (after : Option (List ℕ))
-    × (unwritten : RunFiles) × (written : RunFiles) × AreRunCommandFiles run false unwritten
+    × (unwritten : RunFiles) × (written : RunFiles) × AreRemoteCommandFiles run unwritten
     × RunsRemote story run.tries run.resumes (CommandWentOver remaining contents sent left line)
     (IsUnusedRemote remaining contents sent left line)
-    answer script before after unwritten written × (status ≡ remote_command_status run.strict line.fault answer)
+    answer script before after unwritten written
+    × (verdict : Option (Result Checked TextFault))
+    × IsRunVerdict (run.check && is_remote_run_made answer) verdict
+    × (status ≡ command_status_checked verdict (remote_command_status run.strict line.fault answer))
 
 -- or a file can't be opened: the status is 2, and nothing was sent or read
 abbrev pub PerformsRemoteCommand : {R W : Type 0} → (ℕ → Port) → RunLine → ℕ → (R → Option (List ℕ))

@@ -4,7 +4,7 @@ use Rattle.swd_run.specs.declared.engine.Finished.{Finished}
 use Rattle.swd_run.specs.declared.fault.RunFault.{RunFault}
 use Rattle.swd_run.specs.Records.{RunFiles}
 use Rattle.swd_run.specs.Running.{RunsText}
-use Rattle.swd_words.specs.declared.command.RunLine.{RunLine}
+use Rattle.swd_command_line.specs.declared.command.RunLine.{RunLine}
 use Rattle.swd_console.specs.Statuses.{CommandNotOpened, command_status_of_run}
 
 -- whether a file is named that a run writes beside its report

@@ -4,11 +4,11 @@ ghost use Rattle.swd_run_commands.specs.Infos.{PerformsInfo, info_command_status
 
 use std::alloc::Allocator;
 use std::io::{Read, Write};
+use swd_command_line::InfoLine;
 use swd_console::{Console, DONE, KeepsError, STOPPED, engine_status, gone_status, line_streams};
 use swd_host::{End, Refused, Report};
 use swd_port::Story;
 use swd_remote::{RemoteStreams, run_over_line};
-use swd_words::InfoLine;
 
 /// Opens the target behind the streams by a run without accesses. Returns the status, and the streams with the error
 /// that ended the connection, if any. At an error it prints a line.

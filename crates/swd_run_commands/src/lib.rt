@@ -1,6 +1,7 @@
 //! Carries out `swd run`, at a simulated target or at one behind the standard streams, `swd info` and `swd target`.
 #![tactic(auto)]
 
+mod checked_records;
 mod info_command;
 mod memory_target;
 mod paced_run;

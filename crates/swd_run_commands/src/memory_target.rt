@@ -8,6 +8,7 @@ use crate::session::{SessionFiles, are_complete, open_session, served_status, se
 use std::alloc::Allocator;
 use std::io::{Read, Write};
 use swd_bitbang::Pins;
+use swd_command_line::{MemoryLine, TargetLine};
 use swd_console::{
     Console, Files, HeldMemory, InUse, KeepsError, MemoryFile, StreamsInUse, Watched, WriteRole,
     cannot_use, read_target_files, tell_used_up, write_back,
@@ -15,7 +16,6 @@ use swd_console::{
 use swd_ends::{serve_logged, target_pins};
 use swd_image_ends::memory_with;
 use swd_target::Memory;
-use swd_words::{MemoryLine, TargetLine};
 
 /// Reads the memory's file, and serves a host at the target that has it. Then writes the memory to the file. Returns
 /// the status: 0 or 2.

@@ -11,11 +11,11 @@ use std::alloc::Allocator;
 use std::io;
 use std::io::{Read, Write};
 use std::marker::{Brand, PhantomData};
+use swd_command_line::RunLine;
 use swd_console::{Clock, Console};
 use swd_port::Mark;
 use swd_run::{EngineFault, Finished, Limits, Records, RunFault, Texts, read_texts, run_script};
 use swd_script::Script;
-use swd_words::RunLine;
 
 /// The name of a borrow. It is for contracts alone: a caller passes [`Brand`], and its proof gives the name.
 pub(crate) trait Loan {

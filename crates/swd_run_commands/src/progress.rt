@@ -6,10 +6,10 @@ ghost use Rattle.std.specs.Io.KnownBytes.{Keeps, WriteAppends};
 use std::alloc::Allocator;
 use std::io;
 use std::io::Write;
+use swd_command_line::RunLine;
 use swd_console::{Clock, Counted, Pace};
 use swd_run::count_accesses;
 use swd_script::Batch;
-use swd_words::RunLine;
 
 /// Returns the number of accesses of a script, at most 2^64 - 1, if the arguments ask for the progress.
 pub(crate) fn wanted_total<A: Allocator>(run: &RunLine, batches: &[Batch<A>]) -> Option<u64> {

@@ -3,9 +3,9 @@ ghost use Rattle.std.specs.Prelude.{◌≡◌, IfErr, IfOk, is_some, true};
 ghost use Rattle.swd_run_commands.specs.Runs.{run_command_names_file};
 
 use std::io::Write;
+use swd_command_line::RunLine;
 use swd_console::{Console, Files, InUse, Watched, WriteRole, cut_off_named, give_up_named};
 use swd_run::Records;
-use swd_words::RunLine;
 
 /// Opens the files that a run writes beside its report, as far as they are named, and truncates them once both are
 /// open. `made` says that the target begins in its reset state. At an error it prints a line and returns the status 2.

@@ -1,20 +1,26 @@
 //! Performs `swd run --remote`: a run at a remote target on the standard streams.
-ghost use Rattle.std.specs.Prelude.{◌≡◌, IfErr, List, Option, false, ℕ};
+ghost use Rattle.std.specs.Prelude.{◌≡◌, ◌&&◌, IfErr, List, Option, ℕ};
 ghost use Rattle.swd_remote.specs.WholeRuns.{IsUnusedRemote};
 ghost use Rattle.swd_run.specs.Records.{run_files_of};
 ghost use Rattle.swd_ends.specs.RemoteRuns.{RunsRemote};
+ghost use Rattle.swd_check.specs.Checkings.{checking_contents};
 ghost use Rattle.swd_console.specs.Connections.{CommandWentOver};
-ghost use Rattle.swd_run_commands.specs.Remotes.{PerformsRemoteRun, PerformsRemoteCommand, remote_command_status};
-ghost use Rattle.swd_run_commands.specs.Runs.{AreRunCommandFiles};
+ghost use Rattle.swd_console.specs.Streams.{stream_watched};
+ghost use Rattle.swd_run_commands.specs.Remotes.{AreRemoteCommandFiles, PerformsRemoteRun, PerformsRemoteCommand};
+ghost use Rattle.swd_run_commands.specs.Remotes.{remote_command_status};
+ghost use Rattle.swd_run_commands.specs.Verdicts.{IsRunVerdict, is_remote_run_made};
 
+use crate::checked_records::{RecordFile, checked_records, verdict_of};
 use crate::progress::{Progress, wanted_total};
 use crate::records::open_records;
 use std::alloc::Allocator;
 use std::io::{Read, Write};
+use swd_check::Checked;
+use swd_command_line::RunLine;
 use swd_console::{
     Clock, Console, Destination, ERRORS, FAULT, Files, InUse, KeepsError, Seen, Stream,
     TrackedReader, Watched, WriteRole, cannot_open, cut_off, gone_status, line_streams,
-    name_or_nothing, run_status, script_status, tell, tell_failure,
+    name_or_nothing, run_status, script_status, tell, tell_failure, verdict_status,
 };
 use swd_ends::{Line, RemoteFault, run_remote, run_remote_script};
 use swd_host::End;
@@ -22,7 +28,7 @@ use swd_port::Story;
 use swd_remote::RemoteStreams;
 use swd_run::{Finished, Limits, Records};
 use swd_script::read_script;
-use swd_words::RunLine;
+use swd_text::TextFault;
 
 // Opens the file of the report, which isn't truncated yet. `-` is standard error. At an error it prints a line and
 // returns the status 2.
@@ -99,6 +105,7 @@ pub(crate) fn perform_remote<
             return (status, RemoteStreams::unused(input, output));
         }
     };
+    let records = checked_records(console.alloc, run.check, records);
     match report {
         Destination::File(file) => {
             if let Err(status) = cut_off(name.as_str(), &file, console) {
@@ -130,7 +137,7 @@ fn report_to_file<
     I: Read + KeepsError + Drop,
     O: Write + KeepsError + Drop,
     M: Write + KeepsError + Drop,
-    T: Write + KeepsError + Drop,
+    T: Write + Drop,
     A: Allocator + Copy,
     F,
     C: Clock,
@@ -140,10 +147,10 @@ fn report_to_file<
     script: TrackedReader<'_, S>,
     input: I,
     output: O,
-    files: RemoteFiles<M, T>,
+    files: RemoteFiles<M, RecordFile<T, A>>,
     console: &mut Console<'_, A, F, C, E>,
 ) -> (u8, RemoteStreams<I, O>)
-    requires { AreRunCommandFiles run.now false (run_files_of T.contents files.records) }
+    requires { AreRemoteCommandFiles run.now (run_files_of (stream_watched (checking_contents T.contents)) files.records) }
     ensures { PerformsRemoteRun P.at run.now result.0 I.remaining O.contents (O.contents output) (I.remaining input)
         result.1 (S.remaining script.entry.reader) }
 {
@@ -156,8 +163,10 @@ fn report_to_file<
         files,
         console,
     );
-    let report = Stream::written(name_or_nothing(&run.report), &files.report);
-    let streams = remote_streams(run, report, &files.records, &script);
+    let RemoteFiles { report, records } = files;
+    let written = Stream::written(name_or_nothing(&run.report), &report);
+    let streams = remote_streams(run, written, &records, &script);
+    let made = is_made(&answer);
     let status = reached_status(
         console.errors,
         run,
@@ -166,7 +175,8 @@ fn report_to_file<
         streams.as_slice(),
         &script.seen,
     );
-    (status, line)
+    let verdict = run_verdict(run.check, made, records.trace);
+    (verdict_status(console.errors, &verdict, status), line)
 }
 
 // Returns the writer of a report to a file, which says on standard error how far the run is.
@@ -265,7 +275,7 @@ fn report_to_errors<
     S: Read + KeepsError + Drop,
     I: Read + KeepsError + Drop,
     O: Write + KeepsError + Drop,
-    T: Write + KeepsError + Drop,
+    T: Write + Drop,
     A: Allocator + Copy,
     F,
     C,
@@ -275,10 +285,10 @@ fn report_to_errors<
     script: TrackedReader<'_, S>,
     input: I,
     output: O,
-    records: Records<T>,
+    records: Records<RecordFile<T, A>>,
     console: &mut Console<'_, A, F, C, E>,
 ) -> (u8, RemoteStreams<I, O>)
-    requires { AreRunCommandFiles run.now false (run_files_of T.contents records) }
+    requires { AreRemoteCommandFiles run.now (run_files_of (stream_watched (checking_contents T.contents)) records) }
     ensures { PerformsRemoteRun P.at run.now result.0 I.remaining O.contents (O.contents output) (I.remaining input)
         result.1 (S.remaining script.entry.reader) }
 {
@@ -287,7 +297,7 @@ fn report_to_errors<
         tries: run.tries,
         resumes: run.resumes,
     };
-    let mut report = errors_writer::<T, E>(&mut *console.errors);
+    let mut report = errors_writer::<RecordFile<T, A>, E>(&mut *console.errors);
     let (answer, line) = run_remote::<P, _, _, _, _, _, _>(
         console.alloc,
         &mut script,
@@ -302,6 +312,7 @@ fn report_to_errors<
     let written = Stream::written(ERRORS, &report);
     drop(report);
     let streams = remote_streams(run, written, &records, &script);
+    let made = is_made(&answer);
     let status = reached_status(
         console.errors,
         run,
@@ -310,7 +321,33 @@ fn report_to_errors<
         streams.as_slice(),
         &script.seen,
     );
-    (status, line)
+    let verdict = run_verdict(run.check, made, records.trace);
+    (verdict_status(console.errors, &verdict, status), line)
+}
+
+// Returns whether a run was made: its script was read.
+fn is_made(answer: &Result<Finished, RemoteFault>) -> bool
+    ensures { result ≡ is_remote_run_made answer.now }
+{
+    match answer {
+        Ok(_) | Err(RemoteFault::Engine(_)) => true,
+        Err(RemoteFault::Script(_) | RemoteFault::Read) => false,
+    }
+}
+
+// Returns the verdict on the trace of a run, if it was made and checked.
+fn run_verdict<T: Drop, A: Allocator + Copy>(
+    check: bool,
+    made: bool,
+    trace: Option<RecordFile<T, A>>,
+) -> Option<Result<Checked, TextFault>>
+    ensures { IsRunVerdict (check && made) result }
+{
+    if check && made {
+        verdict_of(trace)
+    } else {
+        None
+    }
 }
 
 // Returns the streams of a remote run beside its connection, in the order of their lines.

@@ -10,13 +10,13 @@ use crate::records::open_records;
 use crate::remote_command::perform_remote;
 use std::alloc::Allocator;
 use std::io::{Read, Write};
+use swd_command_line::RunLine;
 use swd_console::{
     Clock, Console, FAULT, Files, INPUT, InUse, KeepsError, ReadRole, Seen, Stream, StreamsInUse,
     TrackedReader, Untold, Watched, named_file_of, run_status, status_after, tell, tell_failure,
     texts_status,
 };
 use swd_run::{Finished, RunFault};
-use swd_words::RunLine;
 
 /// Runs a script, from its file or from standard input, at a simulated target or at one behind the streams. Returns the
 /// status.

@@ -6,12 +6,12 @@ ghost use Rattle.swd_run_commands.specs.Targets.{IsServedCommandStatus};
 use std::alloc::Allocator;
 use std::io::Write;
 use swd_bitbang::{Served, Trace};
+use swd_command_line::TargetLine;
 use swd_console::{
     Console, DONE, FAULT, Files, INPUT, InUse, KeepsError, Stream, Watched, WriteRole,
     cut_off_named, give_up_named, tell_failure_or,
 };
 use swd_ends::LiveFiles;
-use swd_words::TargetLine;
 
 /// The files of a session, as far as they are named.
 #[derive(Drop)]

@@ -7,12 +7,12 @@ use crate::memory_target::perform_memory_target;
 use crate::session::{SessionFiles, are_complete, open_session, served_status, served_streams};
 use std::alloc::Allocator;
 use std::io::{Read, Write};
+use swd_command_line::{ScriptLine, ServedMemory, TargetLine};
 use swd_console::{
     Console, FAULT, Files, InUse, KeepsError, ReadRole, StreamsInUse, TrackedReader, Watched,
     cannot_use, tell, tell_failure, texts_status,
 };
 use swd_ends::{TargetFault, read_target, serve_logged};
-use swd_words::{ScriptLine, ServedMemory, TargetLine};
 
 // What is wrong with a script that has more than the memory of a target.
 const ACCESSES: &str = "a target's script has the lines memory and room alone";

@@ -1,14 +1,16 @@
 -- Laws of a trace text whose bits are given to a sink.
 use Rattle.std.proofs.Common.{◌≡◌, ℕ, ◌+◌, ◌-◌, ◌^◌, min, List, Bool, [], ◌∷◌, ◌++◌, length, take, refl, sym, ap, subst}
-use Rattle.std.proofs.Common.{◌∙◌, append_assoc, Result, Ok, Err}
+use Rattle.std.proofs.Common.{◌∙◌, append_assoc, Result, Ok, Err, arith}
 use Rattle.std.specs.Prelude.{OnOk, IfErr}
 use Rattle.std.proofs.lemmas.List.{take_at, length-append}
 use Rattle.swd_bits.specs.TraceText.{scan_bits_of_text}
-use Rattle.swd_bits.proofs.ScanLemmas.{scan_bits_read_all}
-use Rattle.swd_text.specs.Sinks.{TextStopsAt}
+use Rattle.swd_bits.proofs.ScanLemmas.{scan_bits_no_byte, scan_bits_read_all}
+use Rattle.swd_text.specs.Readers.{IsFreshTextReader}
+use Rattle.swd_text.specs.Sinks.{TextHasFed, TextStopsAt}
 use Rattle.swd_text.specs.TextBits.{TextHasBits, TextStopsWith}
 use Rattle.swd_text.specs.declared.fault.TextFault.{TextFault}
 use Rattle.swd_text.specs.declared.fault.TextFault.TheVariants.{BadChar, TooLong}
+use Rattle.swd_text.specs.declared.reader.TextReader.{TextReader}
 
 -- what follows from what holds of an `Ok`
 pub text_result_ok : {A E P Q : Type 0} (r : Result A E) → (P → Q) → OnOk r P → OnOk r Q
@@ -54,4 +56,21 @@ text_stops_with TooLong seen more byte bits s h =
       has = ap scan_bits_of_text front ∙ scan_bits_read_all (seen ++ byte ∷ []) s.bits s.comment s.reads;
       long = s.long;
       before = before seen (byte ∷ more) bits h;
+    }
+
+-- a reader before its first byte, whose sink was given no bits
+pub text_reader_begins : {S W : Type 0} (led : S × W → List Bool → S × W → Type 0) (fed : S → ℕ) (sink : S)
+    (reader : TextReader S) (writer : W) → ((a : S × W) → led a [] a) → IsFreshTextReader sink reader → fed sink ≡ 0
+    → TextHasFed led fed (sink, writer) (reader, writer) []
+text_reader_begins led fed sink reader writer nowhere fresh count =
+    let place = fresh.place in
+    record {
+      feeds = record {
+        bits = [];
+        reads = scan_bits_no_byte reader.scan fresh.outside;
+        goes = subst (λ s. led (sink, writer) [] (s, writer)) (sym fresh.is) (nowhere (sink, writer));
+        count = ap fed fresh.is ∙ count;
+        counted = omega arith;
+      };
+      place = omega arith;
     }

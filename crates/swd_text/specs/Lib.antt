@@ -1,5 +1,6 @@
 pub mod Outputs
 pub mod TextBits
+pub mod Readers
 pub mod Sinks
 pub mod Listers
 pub mod Decoding

@@ -20,7 +20,7 @@ pub enum TextFault {
 
 /// The error at which a consumer of a trace text stops.
 #[derive(Clone, Copy, Debug, PartialEq, Eq)]
-pub(crate) enum TakeFault {
+pub enum TakeFault {
     /// The trace text is invalid.
     Text(TextFault),
     /// The writer failed, as at `DecodeFault::Write`.

@@ -15,6 +15,6 @@ pub use comment::comment_len;
 pub use decoding::decode_text;
 pub use digits::{Digits, WIDTH, digits_of};
 pub use encoding::{encode_text, put_items, write_items};
-pub use fault::{DecodeFault, EncodeFault, TextFault};
+pub use fault::{DecodeFault, EncodeFault, TakeFault, TextFault};
 pub use output::end_output;
-pub use reader::{BitSink, read_text};
+pub use reader::{BitSink, TextReader, read_text};

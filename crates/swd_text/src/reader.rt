@@ -4,6 +4,7 @@ ghost use Rattle.std.specs.Prelude.{length, take, OnOk, IfErr};
 ghost use Rattle.swd_io.specs.Pieces.{LeadsConsumerOn, LeadsConsumerToEnd};
 ghost use Rattle.swd_io.proofs.PieceLemmas.{consumer_reads_no_byte, consumer_pieces_join, consumer_pieces_fault};
 ghost use Rattle.swd_bits.specs.Bits.{low_bits};
+ghost use Rattle.swd_text.specs.Readers.{IsFreshTextReader, text_reader_sink};
 ghost use Rattle.swd_text.specs.Sinks.{TextStopsAt, TextFeeds, TextHasFed, TextFeedStopsIn, TextFeedEnds, TextGoesTo};
 ghost use Rattle.swd_text.specs.TextBits.{TextBitsAre};
 
@@ -72,13 +73,34 @@ pub trait BitSink<W>: Drop {
         → led a (first ++ next) c };
 }
 
-/// A reader of trace text, which gives each bit to its sink, digits many at once.
+/// A reader of trace text, which gives each bit to its sink, digits many at once. It is a `Consumer`: it takes a text in
+/// pieces, and pauses its sink after each. [`read_text`] gives it what a reader has.
 #[derive(Drop)]
-struct TextReader<S> {
+pub struct TextReader<S> {
     scan: Scan,
     sink: S,
     // The number of bytes taken, at most 2^64 - 1.
     place: u64,
+}
+
+impl<S> TextReader<S> {
+    /// Returns a reader that took no bytes.
+    pub fn new(sink: S) -> TextReader<S>
+        ensures { IsFreshTextReader sink result }
+    {
+        TextReader {
+            scan: Scan::new(),
+            sink,
+            place: 0,
+        }
+    }
+
+    /// Returns the sink.
+    pub fn into_sink(self) -> S
+        ensures { result ≡ text_reader_sink self }
+    {
+        self.sink
+    }
 }
 
 // Takes a bit, unless it is one too many.
@@ -257,13 +279,9 @@ pub fn read_text<R: Read, W, S: BitSink<W>>(
     ensures { TextGoesTo S.led S.stops result (R.remaining reader.old) (R.remaining reader.new)
         (sink, writer.old) writer.new }
 {
-    let mut text = TextReader {
-        scan: Scan::new(),
-        sink,
-        place: 0,
-    };
+    let mut text = TextReader::new(sink);
     match read_pieces(reader, writer, &mut text) {
-        Ok(()) => Ok(text.sink),
+        Ok(()) => Ok(text.into_sink()),
         Err(unread) => Err(DecodeFault::of(unread)),
     }
 }

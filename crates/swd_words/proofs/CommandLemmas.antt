@@ -10,9 +10,9 @@ use Rattle.clap.specs.declared.parser.matches.ArgMatches.TheViews.{out-ArgMatche
 use Rattle.clap.specs.Words.{HasKind, IsAmong, Kinds, kind_of}
 use Rattle.clap.specs.declared.error.Error.{Error}
 use Rattle.clap.specs.declared.error.kind.ErrorKind.TheVariants as kind
-use Rattle.swd_words.specs.declared.command.CommandLine.{CommandLine}
-use Rattle.swd_words.specs.declared.command.LineFault.{LineFault}
-use Rattle.swd_words.specs.declared.command.LineFault.TheVariants.{Clap, Memory}
+use Rattle.swd_command_line.specs.declared.command.CommandLine.{CommandLine}
+use Rattle.swd_words.specs.declared.fault.LineFault.{LineFault}
+use Rattle.swd_words.specs.declared.fault.LineFault.TheVariants.{Clap, Memory}
 use Rattle.swd_words.specs.Commands.{IsArgumentsErrorKind, IsArgumentsRefusal, arguments_spelled_out}
 use Rattle.swd_words.specs.Commands.{swd_app}
 

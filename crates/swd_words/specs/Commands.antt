@@ -5,40 +5,40 @@ use Rattle.std.specs.Option.{option_and_then, option_map}
 use Rattle.std.specs.String.{string_bytes}
 use Rattle.std.specs.Str.{bytes_eq}
 use Rattle.std.specs.Str.Parse.{signed_digits_value}
-use Rattle.clap.specs.Words.{App, HasKind, Kinds, kind_of, Row, all_of, first_of, Rule, Text, new_app, new_rule}
+use Rattle.clap.specs.Words.{App, HasKind, Kinds, kind_of, Row, all_of, first_of, Rule, Text, new_app}
 use Rattle.clap.specs.Words.{with_rule}
 use Rattle.clap.specs.Words.{with_subcommand}
-use Rattle.swd_words.specs.declared.command.CommandLine.{CommandLine}
-use Rattle.swd_words.specs.declared.command.CommandLine.TheVariants.{One, Decode, Draw, Check, Encode, Run, Target}
-use Rattle.swd_words.specs.declared.command.CommandLine.TheVariants.{Info, Image}
-use Rattle.swd_words.specs.declared.command.DecodeLine.{DecodeLine}
-use Rattle.swd_words.specs.declared.command.DrawLine.{DrawLine}
-use Rattle.swd_words.specs.declared.command.CheckLine.{CheckLine}
-use Rattle.swd_words.specs.declared.command.PlainWords.{PlainWords}
-use Rattle.swd_words.specs.declared.command.ImageAction.{ImageAction}
-use Rattle.swd_words.specs.declared.command.ImageAction.TheVariants.{Load, Verify, Dump}
-use Rattle.swd_words.specs.declared.command.ImageLine.{ImageLine}
-use Rattle.swd_words.specs.declared.command.InfoLine.{InfoLine}
-use Rattle.swd_words.specs.declared.command.MemoryLine.{MemoryLine}
-use Rattle.swd_words.specs.declared.command.RunLine.{RunLine}
-use Rattle.swd_words.specs.declared.command.ScriptLine.{ScriptLine}
-use Rattle.swd_words.specs.declared.command.ServedMemory.{ServedMemory}
-use Rattle.swd_words.specs.declared.command.ServedMemory.TheVariants.{Script, File}
-use Rattle.swd_words.specs.declared.command.TargetLine.{TargetLine}
-use Rattle.swd_words.specs.declared.command.LineFault.{LineFault}
-use Rattle.swd_words.specs.declared.command.LineFault.TheVariants.{Clap, Memory}
+use Rattle.swd_command_line.specs.declared.command.CommandLine.{CommandLine}
+use Rattle.swd_command_line.specs.declared.command.CommandLine.TheVariants.{One, Decode, Draw, Check, Encode, Run, Target}
+use Rattle.swd_command_line.specs.declared.command.CommandLine.TheVariants.{Info, Image, Conform}
+use Rattle.swd_command_line.specs.declared.command.DecodeLine.{DecodeLine}
+use Rattle.swd_command_line.specs.declared.command.DrawLine.{DrawLine}
+use Rattle.swd_command_line.specs.declared.command.CheckLine.{CheckLine}
+use Rattle.swd_command_line.specs.declared.command.ConformLine.{ConformLine}
+use Rattle.swd_command_line.specs.declared.command.PlainWords.{PlainWords}
+use Rattle.swd_command_line.specs.declared.command.ImageAction.{ImageAction}
+use Rattle.swd_command_line.specs.declared.command.ImageAction.TheVariants.{Load, Verify, Dump}
+use Rattle.swd_command_line.specs.declared.command.ImageLine.{ImageLine}
+use Rattle.swd_command_line.specs.declared.command.InfoLine.{InfoLine}
+use Rattle.swd_command_line.specs.declared.command.MemoryLine.{MemoryLine}
+use Rattle.swd_command_line.specs.declared.command.RunLine.{RunLine}
+use Rattle.swd_command_line.specs.declared.command.ScriptLine.{ScriptLine}
+use Rattle.swd_command_line.specs.declared.command.ServedMemory.{ServedMemory}
+use Rattle.swd_command_line.specs.declared.command.ServedMemory.TheVariants.{Script, File}
+use Rattle.swd_command_line.specs.declared.command.TargetLine.{TargetLine}
+use Rattle.swd_words.specs.Rules.{flag_rule, number_rule, optional_rule, place_rule, repeated_rule, value_rule}
+use Rattle.swd_words.specs.declared.fault.LineFault.{LineFault}
+use Rattle.swd_words.specs.declared.fault.LineFault.TheVariants.{Clap, Memory}
 use Rattle.swd_image_files.specs.declared.elf.ElfChoice.{ElfChoice}
 use Rattle.swd_image_files.specs.declared.elf.ElfChoice.TheVariants.{Auto, Always, Never}
 use Rattle.swd_image_files.specs.declared.format.Format.{Format}
 use Rattle.swd_image_files.specs.Formats.{image_format_of_name, image_format_of_word}
 use Rattle.swd_script.specs.Numerals.{is_script_hex_prefix, script_decimal_number, script_hex_number}
 use Rattle.clap.specs.declared.error.kind.ErrorKind.{ErrorKind}
-use Rattle.clap.specs.declared.builder.action.ArgAction.TheVariants.{Append, SetTrue}
-use Rattle.clap.specs.declared.builder.value_parser.ValueParser.TheVariants.{Signed}
 
 -- the optional file
 abbrev pub file_rule : Rule
-file_rule = new_rule (codes "FILE")
+file_rule = place_rule (codes "FILE") false
 
 -- a command with an optional file
 abbrev pub file_args_app : Text → App
@@ -47,33 +47,26 @@ file_args_app name = with_rule (new_app name) file_rule
 -- --places: lines begin with their place; --names: registers are printed by name; --count: items are counted;
 -- --accesses: accesses are listed; --made: the target begins in its reset state
 abbrev pub places_rule : Rule
-places_rule = let rule = new_rule (codes "places") in record rule
-    { long = Some (codes "places"); action = Some SetTrue }
+places_rule = flag_rule (codes "places")
 
 abbrev pub names_rule : Rule
-names_rule = let rule = new_rule (codes "names") in record rule
-    { long = Some (codes "names"); action = Some SetTrue }
+names_rule = flag_rule (codes "names")
 
 abbrev pub count_rule : Rule
-count_rule = let rule = new_rule (codes "count") in record rule
-    { long = Some (codes "count"); action = Some SetTrue }
+count_rule = flag_rule (codes "count")
 
 abbrev pub accesses_rule : Rule
-accesses_rule = let rule = new_rule (codes "accesses") in record rule
-    { long = Some (codes "accesses"); action = Some SetTrue }
+accesses_rule = flag_rule (codes "accesses")
 
 abbrev pub made_rule : Rule
-made_rule = let rule = new_rule (codes "made") in record rule
-    { long = Some (codes "made"); action = Some SetTrue }
+made_rule = flag_rule (codes "made")
 
 -- --resync: the trace may begin in mid-session and lose bits; --overrun: a data phase then follows WAIT and FAULT
 abbrev pub resync_rule : Rule
-resync_rule = let rule = new_rule (codes "resync") in record rule
-    { long = Some (codes "resync"); action = Some SetTrue }
+resync_rule = flag_rule (codes "resync")
 
 abbrev pub overrun_rule : Rule
-overrun_rule = let rule = new_rule (codes "overrun") in record rule
-    { long = Some (codes "overrun"); action = Some SetTrue }
+overrun_rule = flag_rule (codes "overrun")
 
 -- the command `decode`: without the flags for accesses, with them, and with the flags for captures
 abbrev pub listing_args_app : App
@@ -87,14 +80,7 @@ decode_args_app = with_rule (with_rule accesses_args_app resync_rule) overrun_ru
 
 -- the most items of a drawing, after --items: 1 to 1,000, and 200 without it
 abbrev pub items_rule : Rule
-items_rule =
-    let rule = new_rule (codes "items") in
-    record rule {
-      long = Some (codes "items");
-      value_names = 1;
-      parser = Some (Signed (pos 1) (pos 1000));
-      defaults = codes "200" ∷ [];
-    }
+items_rule = number_rule (codes "items") 1 (codes "200")
 
 -- the command `draw`: with the option for the most items, and with the flags
 abbrev pub items_args_app : App
@@ -103,14 +89,9 @@ items_args_app = with_rule (file_args_app (codes "draw")) items_rule
 abbrev pub draw_args_app : App
 draw_args_app = with_rule (with_rule (with_rule items_args_app names_rule) resync_rule) overrun_rule
 
--- a flag
-abbrev pub flag_rule : Text → Rule
-flag_rule name = let rule = new_rule name in record rule { long = Some name; action = Some SetTrue }
-
 -- --plain: words of plain memory, each use with an address and a number of words
 abbrev pub plain_rule : Rule
-plain_rule = let rule = new_rule (codes "plain") in record rule
-    { long = Some (codes "plain"); action = Some Append; value_names = 2 }
+plain_rule = repeated_rule (codes "plain") (codes "BASE" ∷ codes "WORDS" ∷ [])
 
 -- the command `check`: without the checks beside the model and the flags for captures, and with them
 abbrev pub checked_args_app : App
@@ -129,57 +110,35 @@ bare_args_app =
 
 -- the required script
 abbrev pub script_rule : Rule
-script_rule = let rule = new_rule (codes "SCRIPT") in record rule { required = true }
+script_rule = place_rule (codes "SCRIPT") true
 
 -- the plan, after --plan
 abbrev pub plan_rule : Rule
-plan_rule = let rule = new_rule (codes "plan") in record rule { long = Some (codes "plan"); value_names = 1 }
+plan_rule = value_rule (codes "plan")
 
 -- the number of tries, after --tries: 0 to 1,000, and 8 without it
 abbrev pub tries_rule : Rule
-tries_rule =
-    let rule = new_rule (codes "tries") in
-    record rule {
-      long = Some (codes "tries");
-      value_names = 1;
-      parser = Some (Signed (pos 0) (pos 1000));
-      defaults = codes "8" ∷ [];
-    }
+tries_rule = number_rule (codes "tries") 0 (codes "8")
 
 -- how often a call is resumed, after --resume: 0 to 1,000, and 0 without it
 abbrev pub resume_rule : Rule
-resume_rule =
-    let rule = new_rule (codes "resume") in
-    record rule {
-      long = Some (codes "resume");
-      value_names = 1;
-      parser = Some (Signed (pos 0) (pos 1000));
-      defaults = codes "0" ∷ [];
-    }
+resume_rule = number_rule (codes "resume") 0 (codes "0")
 
 -- the trace, after --trace
 abbrev pub trace_rule : Rule
-trace_rule = let rule = new_rule (codes "trace") in record rule { long = Some (codes "trace"); value_names = 1 }
+trace_rule = value_rule (codes "trace")
 
 -- the accesses of a run, after --accesses
 abbrev pub accesses_file_rule : Rule
-accesses_file_rule = let rule = new_rule (codes "accesses") in record rule
-    { long = Some (codes "accesses"); value_names = 1 }
+accesses_file_rule = value_rule (codes "accesses")
 
 -- --strict: bus errors fail the run
 abbrev pub strict_rule : Rule
-strict_rule = let rule = new_rule (codes "strict") in record rule
-    { long = Some (codes "strict"); action = Some SetTrue }
+strict_rule = flag_rule (codes "strict")
 
 -- what leads to a remote target, after --remote: at most one value
 abbrev pub remote_rule : Rule
-remote_rule =
-    let rule = new_rule (codes "remote") in
-    record rule {
-      long = Some (codes "remote");
-      range = Some (record { start_inclusive = 0; end_inclusive = 1 });
-      value_names = 1;
-    }
+remote_rule = optional_rule (codes "remote")
 
 -- --remote alone is read as --remote=-, so that the argument after it isn't its value
 abbrev pub remote_spelled_out : Text → Text
@@ -193,12 +152,15 @@ arguments_spelled_out (word ∷ more) = if bytes_eq word (codes "--") then word 
 
 -- the report of a remote run, after --report
 abbrev pub report_rule : Rule
-report_rule = let rule = new_rule (codes "report") in record rule { long = Some (codes "report"); value_names = 1 }
+report_rule = value_rule (codes "report")
 
 -- --progress: lines on standard error say how far the run is
 abbrev pub progress_rule : Rule
-progress_rule = let rule = new_rule (codes "progress") in record rule
-    { long = Some (codes "progress"); action = Some SetTrue }
+progress_rule = flag_rule (codes "progress")
+
+-- --check: a session with a remote target is checked while it goes on
+abbrev pub session_rule : Rule
+session_rule = flag_rule (codes "check")
 
 -- the command `run` with the files that it reads
 abbrev pub script_args_app : App
@@ -212,44 +174,54 @@ run_here_args_app =
 
 -- with the options of a run at a remote target, and of the progress
 abbrev pub run_args_app : App
-run_args_app = with_rule (with_rule (with_rule run_here_args_app remote_rule) report_rule) progress_rule
+run_args_app = with_rule (with_rule (with_rule (with_rule run_here_args_app remote_rule) report_rule) progress_rule)
+    session_rule
 
 -- the command `info`
 abbrev pub info_args_app : App
 info_args_app = with_rule (with_rule (new_app (codes "info")) remote_rule) tries_rule
 
+-- an address without memory, after --hole
+abbrev pub hole_rule : Rule
+hole_rule = value_rule (codes "hole")
+
+-- the command `conform`
+abbrev pub conform_args_app : App
+conform_args_app = with_rule (with_rule (with_rule (with_rule (new_app (codes "conform")) remote_rule) plain_rule) hole_rule)
+    (flag_rule (codes "clean"))
+
 -- the log, after --log
 abbrev pub log_rule : Rule
-log_rule = let rule = new_rule (codes "log") in record rule { long = Some (codes "log"); value_names = 1 }
+log_rule = value_rule (codes "log")
 
 -- the address of an image, the number of its bytes, and its file: each is required
 abbrev pub addr_rule : Rule
-addr_rule = let rule = new_rule (codes "ADDR") in record rule { required = true }
+addr_rule = place_rule (codes "ADDR") true
 
 abbrev pub bytes_rule : Rule
-bytes_rule = let rule = new_rule (codes "BYTES") in record rule { required = true }
+bytes_rule = place_rule (codes "BYTES") true
 
 abbrev pub image_rule : Rule
-image_rule = let rule = new_rule (codes "FILE") in record rule { required = true }
+image_rule = place_rule (codes "FILE") true
 
 -- the format of an image's file, after --format
 abbrev pub format_rule : Rule
-format_rule = let rule = new_rule (codes "format") in record rule { long = Some (codes "format"); value_names = 1 }
+format_rule = value_rule (codes "format")
 
 -- the memory of a simulated target, after --memory, and its address, after --base
 abbrev pub memory_rule : Rule
-memory_rule = let rule = new_rule (codes "memory") in record rule { long = Some (codes "memory"); value_names = 1 }
+memory_rule = value_rule (codes "memory")
 
 abbrev pub base_rule : Rule
-base_rule = let rule = new_rule (codes "base") in record rule { long = Some (codes "base"); value_names = 1 }
+base_rule = value_rule (codes "base")
 
 -- the script of a target, in place of which there may be --memory
 abbrev pub served_script_rule : Rule
-served_script_rule = new_rule (codes "SCRIPT")
+served_script_rule = place_rule (codes "SCRIPT") false
 
 -- the IDR of a target, after --idr
 abbrev pub idr_rule : Rule
-idr_rule = let rule = new_rule (codes "idr") in record rule { long = Some (codes "idr"); value_names = 1 }
+idr_rule = value_rule (codes "idr")
 
 -- the command `target`: with the options for its memory, and with the files of a session
 abbrev pub memory_args_app : App
@@ -289,9 +261,9 @@ with_image_args_apps app = with_subcommand (with_subcommand (with_subcommand app
 abbrev pub swd_app : App
 swd_app =
     with_image_args_apps (with_subcommand (with_subcommand (with_subcommand (with_subcommand (with_subcommand
-    (with_subcommand (with_subcommand (with_subcommand bare_args_app (file_args_app (codes "one")).top)
+    (with_subcommand (with_subcommand (with_subcommand (with_subcommand bare_args_app (file_args_app (codes "one")).top)
     decode_args_app.top) (file_args_app (codes "encode")).top) run_args_app.top) target_args_app.top) draw_args_app.top)
-    check_args_app.top) info_args_app.top)
+    check_args_app.top) info_args_app.top) conform_args_app.top)
 
 -- the arguments have this command, and this file or no file
 abbrev pub HasFileArgument : Text → Option Text → Option (Text × List Row) → Type 0
@@ -373,6 +345,7 @@ pub record AreRunArguments (run : RunLine) (rows : List Row) : Type 0 where
   pub remote : option_map string_bytes run.remote ≡ first_of (codes "remote") rows
   pub report : option_map string_bytes run.report ≡ first_of (codes "report") rows
   pub progress : (run.progress ≡ true) ↔ (first_of (codes "progress") rows ≡ Some (codes "true"))
+  pub check : (run.check ≡ true) ↔ (first_of (codes "check") rows ≡ Some (codes "true"))
 
 -- a number of bytes in units of this size: 1 to 10 decimal digits are the number of units
 abbrev pub AreBytesInUnits : ℕ → ℕ → Text → Type 0
@@ -460,6 +433,13 @@ pub record AreTargetArguments (target : TargetLine) (rows : List Row) : Type 0 w
   pub trace : option_map string_bytes target.trace ≡ first_of (codes "trace") rows
   pub idr : IsIdrArgument target.idr (first_of (codes "idr") rows)
 
+-- what leads to the remote target, the one memory, the address without memory, and the flag
+pub record AreConformArguments (conform : ConformLine) (rows : List Row) : Type 0 where
+  pub remote : Some (string_bytes conform.remote) ≡ first_of (codes "remote") rows
+  pub plain : ArePlainArguments (conform.plain ∷ []) (unwrap_or (all_of (codes "plain") rows) [])
+  pub hole : IsIdrArgument conform.hole (first_of (codes "hole") rows)
+  pub clean : (conform.clean ≡ true) ↔ (first_of (codes "clean") rows ≡ Some (codes "true"))
+
 -- Exactly one of --remote and --memory is given: the target is remote, or has this memory. Only with --memory there may
 -- be --base and --plan.
 abbrev pub IsTargetArgument : Option MemoryLine → List Row → Type 0
@@ -504,4 +484,6 @@ IsLineOfArguments (Encode file) rows = HasFileArgument (codes "encode") (option_
 IsLineOfArguments (Run run) rows = IsSomeAnd rows (λ p. (p.0 ≡ codes "run") × AreRunArguments run p.1)
 IsLineOfArguments (Target target) rows = IsSomeAnd rows (λ p. (p.0 ≡ codes "target") × AreTargetArguments target p.1)
 IsLineOfArguments (Info info) rows = IsSomeAnd rows (λ p. (p.0 ≡ codes "info") × AreInfoArguments info p.1)
+IsLineOfArguments (Conform conform) rows =
+    IsSomeAnd rows (λ p. (p.0 ≡ codes "conform") × AreConformArguments conform p.1)
 IsLineOfArguments (Image image) rows = IsSomeAnd rows (λ p. AreImageArguments image p.0 p.1)

@@ -1,19 +1,17 @@
 //! The arguments of `swd check`.
-ghost use Rattle.std.specs.Prelude.{◌≡◌, ◌++◌, List, IfOk, IfSome, codes, false, map, unwrap_or, []};
-ghost use Rattle.clap.specs.Words.{all_of, app_of, found_of, rows_of, rule_of};
-ghost use Rattle.clap.specs.declared.builder.command.Command.TheViews.{out-Command};
-ghost use Rattle.swd_words.specs.declared.command.PlainWords.{PlainWords};
-ghost use Rattle.swd_words.specs.Commands.{check_args_app, checked_args_app, flag_rule, plain_rule};
+ghost use Rattle.std.specs.Prelude.{◌≡◌, ◌++◌, List, IfOk, IfSome, codes, map, unwrap_or, []};
+ghost use Rattle.clap.specs.Words.{all_of, found_of, rows_of};
+ghost use Rattle.swd_command_line.specs.declared.command.PlainWords.{PlainWords};
 ghost use Rattle.swd_words.specs.Commands.{AreCheckArguments, ArePlainArguments, IsPlainArgument};
 
-use crate::command::{CheckLine, LineFault, PlainWords};
-use crate::words::{file_arg, invalid, is_asked_for, owned, refused, with_arg};
+use crate::argument::{Argument, CommandRow, Form};
+use crate::fault::LineFault;
+use crate::words::{FILE, invalid, is_asked_for, owned, refused};
+use clap::ArgMatches;
 use clap::error::ErrorKind;
-use clap::{Arg, ArgAction, ArgMatches, Command};
-use std::alloc::{AllocError, Global};
+use std::alloc::Global;
+use swd_command_line::{CheckLine, PlainWords};
 use swd_script::{decimal_of, hex_of};
-
-const CHECK_ABOUT: &str = "Check whether a trace's target keeps the standard";
 
 const CHECK_AFTER: &str = "\
 Prints the verdict, one line:
@@ -44,18 +42,6 @@ hexadecimal digits, after an optional 0x, and a multiple of 4. WORDS is decimal.
 
 Status: 0 fits, 1 breaks, 2 crowded, outside or an error.";
 
-const MADE: &str = "The target begins in its reset state";
-
-const REST: &str = "It begins at rest: SELECT is 0, nothing is pending";
-
-const CLEAN: &str = "Nothing is damaged or lost, as in a simulation";
-
-const EXACT: &str = "CSW and CTRL/STAT are those of swd target";
-
-const RESYNC: &str = "The capture begins in mid-session or lost bits";
-
-const OVERRUN: &str = "As --resync; WAIT and FAULT have a data phase";
-
 const TWO_STARTS: &str = "--made goes without --rest";
 
 const PLAIN_OPTION: &str = "--plain <BASE> <WORDS>";
@@ -64,59 +50,59 @@ const PLAIN_BASE: &str = "it is not 1 to 8 hexadecimal digits of a multiple of 4
 
 const PLAIN_WORDS: &str = "it is not a number of words, at least 1 and none past ffffffff";
 
-const PLAIN_NAMES: [&str; 2] = ["BASE", "WORDS"];
-
 /// How many bytes there are below the address `1_0000_0000`.
 const BYTES: u64 = 1 << 32;
 
-// Returns a flag.
-fn flag_arg<'a>(alloc: Global, name: &'a str, help: &'a str) -> Arg<'a>
-    ensures rule { rule_of result ≡ flag_rule name.now }
-    ensures local { result.global ≡ false }
-{
-    Arg::new(alloc, name)
-        .long(name)
-        .action(ArgAction::SetTrue)
-        .help(help)
-}
+/// The flag for a line without damage.
+pub(crate) const CLEAN: Argument = Argument {
+    name: "clean",
+    form: Form::Flag,
+    help: "Nothing is damaged or lost, as in a simulation",
+};
 
-// Returns the option for words of plain memory, with an address and a number of words at each use.
-fn plain_arg<'a>(alloc: Global) -> Arg<'a>
-    ensures rule { rule_of result ≡ plain_rule }
-    ensures local { result.global ≡ false }
-{
-    Arg::new(alloc, "plain")
-        .long("plain")
-        .value_names(PLAIN_NAMES.as_slice())
-        .action(ArgAction::Append)
-        .help("There is memory: WORDS words from BASE on")
-}
+/// The option for words of plain memory.
+pub(crate) const PLAIN: Argument = Argument {
+    name: "plain",
+    form: Form::Repeated(&["BASE", "WORDS"]),
+    help: "There is memory: WORDS words from BASE on",
+};
 
-// Returns the command `check` without the checks beside the model and the flags for captures.
-fn checked_command<'a>(alloc: Global) -> Result<Command<'a>, AllocError>
-    ensures app { IfOk result (λ c. app_of c ≡ checked_args_app) }
-    ensures local { IfOk result (λ c. (out-Command c).has_globals ≡ false) }
-{
-    let bare = Command::new(alloc, "check")
-        .about(CHECK_ABOUT)
-        .after_help(CHECK_AFTER);
-    let file = with_arg(bare, file_arg(alloc))?;
-    let made = with_arg(file, flag_arg(alloc, "made", MADE))?;
-    let rest = with_arg(made, flag_arg(alloc, "rest", REST))?;
-    with_arg(rest, flag_arg(alloc, "clean", CLEAN))
-}
-
-/// Returns the command `check`.
-pub(crate) fn check_command<'a>(alloc: Global) -> Result<Command<'a>, AllocError>
-    ensures app { IfOk result (λ c. app_of c ≡ check_args_app) }
-    ensures local { IfOk result (λ c. (out-Command c).has_globals ≡ false) }
-{
-    let checked = checked_command(alloc)?;
-    let plain = with_arg(checked, plain_arg(alloc))?;
-    let exact = with_arg(plain, flag_arg(alloc, "exact-registers", EXACT))?;
-    let resync = with_arg(exact, flag_arg(alloc, "resync", RESYNC))?;
-    with_arg(resync, flag_arg(alloc, "overrun", OVERRUN))
-}
+/// The command `check`.
+pub(crate) const CHECK: CommandRow = CommandRow {
+    name: "check",
+    about: "Check whether a trace's target keeps the standard",
+    after: Some(CHECK_AFTER),
+    arguments: &[
+        FILE,
+        Argument {
+            name: "made",
+            form: Form::Flag,
+            help: "The target begins in its reset state",
+        },
+        Argument {
+            name: "rest",
+            form: Form::Flag,
+            help: "It begins at rest: SELECT is 0, nothing is pending",
+        },
+        CLEAN,
+        PLAIN,
+        Argument {
+            name: "exact-registers",
+            form: Form::Flag,
+            help: "CSW and CTRL/STAT are those of swd target",
+        },
+        Argument {
+            name: "resync",
+            form: Form::Flag,
+            help: "The capture begins in mid-session or lost bits",
+        },
+        Argument {
+            name: "overrun",
+            form: Form::Flag,
+            help: "As --resync; WAIT and FAULT have a data phase",
+        },
+    ],
+};
 
 // Returns the words of plain memory of one use of `--plain`, or `None` if its values don't have their form.
 fn words_in(base: &str, words: &str) -> Option<PlainWords>
@@ -162,8 +148,11 @@ fn add_plain(alloc: Global, values: &[&str], plain: &mut Vec<PlainWords>) -> Res
     }
 }
 
-// Returns the words of plain memory that the arguments have.
-fn plain_in(alloc: Global, matches: &ArgMatches<'_>) -> Result<Vec<PlainWords>, LineFault>
+/// Returns the words of plain memory that the arguments have.
+pub(crate) fn plain_in(
+    alloc: Global,
+    matches: &ArgMatches<'_>,
+) -> Result<Vec<PlainWords>, LineFault>
     ensures { IfOk result (λ plain. ArePlainArguments plain.items
         (unwrap_or (all_of (codes "plain") (rows_of (found_of matches.now))) [])) }
 {

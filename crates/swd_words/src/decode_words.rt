@@ -1,18 +1,15 @@
 //! The arguments of `swd decode`.
-ghost use Rattle.std.specs.Prelude.{◌≡◌, IfOk, false};
-ghost use Rattle.clap.specs.Words.{app_of, found_of, rows_of, rule_of};
-ghost use Rattle.clap.specs.declared.builder.command.Command.TheViews.{out-Command};
-ghost use Rattle.swd_words.specs.Commands.{accesses_rule, count_rule, decode_args_app, listing_args_app, made_rule};
-ghost use Rattle.swd_words.specs.Commands.{names_rule, overrun_rule, places_rule, resync_rule, accesses_args_app};
+ghost use Rattle.std.specs.Prelude.{IfOk};
+ghost use Rattle.clap.specs.Words.{found_of, rows_of};
 ghost use Rattle.swd_words.specs.Commands.{AreDecodeArguments};
 
-use crate::command::{DecodeLine, LineFault};
-use crate::words::{file_arg, is_asked_for, owned, refused, with_arg};
+use crate::argument::{Argument, CommandRow, Form};
+use crate::fault::LineFault;
+use crate::words::{FILE, is_asked_for, owned, refused};
+use clap::ArgMatches;
 use clap::error::ErrorKind;
-use clap::{Arg, ArgAction, ArgMatches, Command};
-use std::alloc::{AllocError, Global};
-
-const DECODE_ABOUT: &str = "Decode a trace to a listing, one line an item";
+use std::alloc::Global;
+use swd_command_line::DecodeLine;
 
 const DECODE_AFTER: &str = "\
 With --places each line begins with @N, the number of bits before the item.
@@ -64,116 +61,62 @@ const MADE_WITH_ACCESSES: &str = "--made goes with --accesses";
 /// What is said where `--overrun` stands alone.
 pub(crate) const OVERRUN_WITH_RESYNC: &str = "--overrun goes with --resync";
 
-// Returns the flag for places at the beginning of lines.
-fn places_arg<'a>(alloc: Global) -> Arg<'a>
-    ensures rule { rule_of result ≡ places_rule }
-    ensures local { result.global ≡ false }
-{
-    Arg::new(alloc, "places")
-        .long("places")
-        .action(ArgAction::SetTrue)
-        .help("Begin each line with the item's place in the trace")
-}
+// Whether lines begin with the place of their item.
+const PLACES: Argument = Argument {
+    name: "places",
+    form: Form::Flag,
+    help: "Begin each line with the item's place in the trace",
+};
 
-// Returns the flag for registers by name.
-pub(crate) fn names_arg<'a>(alloc: Global) -> Arg<'a>
-    ensures rule { rule_of result ≡ names_rule }
-    ensures local { result.global ≡ false }
-{
-    Arg::new(alloc, "names")
-        .long("names")
-        .action(ArgAction::SetTrue)
-        .help("Print names of registers, and of flags that are set")
-}
+/// Whether registers are printed by name.
+pub(crate) const NAMES: Argument = Argument {
+    name: "names",
+    form: Form::Flag,
+    help: "Print names of registers, and of flags that are set",
+};
 
-// Returns the flag for counts instead of a listing.
-fn count_arg<'a>(alloc: Global) -> Arg<'a>
-    ensures rule { rule_of result ≡ count_rule }
-    ensures local { result.global ≡ false }
-{
-    Arg::new(alloc, "count")
-        .long("count")
-        .action(ArgAction::SetTrue)
-        .help("Count each kind of item, with no listing")
-}
+// Whether items are counted instead of listed.
+const COUNT: Argument = Argument {
+    name: "count",
+    form: Form::Flag,
+    help: "Count each kind of item, with no listing",
+};
 
-// Returns the flag for accesses, with their effect, instead of a listing.
-fn accesses_arg<'a>(alloc: Global) -> Arg<'a>
-    ensures rule { rule_of result ≡ accesses_rule }
-    ensures local { result.global ≡ false }
-{
-    Arg::new(alloc, "accesses")
-        .long("accesses")
-        .action(ArgAction::SetTrue)
-        .help("List the accesses of memory, with their effect")
-}
+// Whether accesses are listed, with their effect, instead of items.
+const ACCESSES: Argument = Argument {
+    name: "accesses",
+    form: Form::Flag,
+    help: "List the accesses of memory, with their effect",
+};
 
-// Returns the flag for a target in its reset state.
-fn made_arg<'a>(alloc: Global) -> Arg<'a>
-    ensures rule { rule_of result ≡ made_rule }
-    ensures local { result.global ≡ false }
-{
-    Arg::new(alloc, "made")
-        .long("made")
-        .action(ArgAction::SetTrue)
-        .help("With --accesses: the target begins in its reset state")
-}
+// Whether the target begins in its reset state.
+const MADE: Argument = Argument {
+    name: "made",
+    form: Form::Flag,
+    help: "With --accesses: the target begins in its reset state",
+};
 
-/// Returns the flag for a trace that may begin in mid-session and lose bits.
-pub(crate) fn resync_arg<'a>(alloc: Global) -> Arg<'a>
-    ensures rule { rule_of result ≡ resync_rule }
-    ensures local { result.global ≡ false }
-{
-    Arg::new(alloc, "resync")
-        .long("resync")
-        .action(ArgAction::SetTrue)
-        .help("Read a capture that begins in mid-session or lost bits")
-}
+/// Whether the trace may begin in mid-session and lose bits.
+pub(crate) const RESYNC: Argument = Argument {
+    name: "resync",
+    form: Form::Flag,
+    help: "Read a capture that begins in mid-session or lost bits",
+};
 
-/// Returns the flag for overrun detection at the beginning.
-pub(crate) fn overrun_arg<'a>(alloc: Global) -> Arg<'a>
-    ensures rule { rule_of result ≡ overrun_rule }
-    ensures local { result.global ≡ false }
-{
-    Arg::new(alloc, "overrun")
-        .long("overrun")
-        .action(ArgAction::SetTrue)
-        .help("With --resync, WAIT and FAULT have a data phase at first")
-}
+/// Whether there is overrun detection at the beginning.
+pub(crate) const OVERRUN: Argument = Argument {
+    name: "overrun",
+    form: Form::Flag,
+    help: "With --resync, WAIT and FAULT have a data phase at first",
+};
 
-// Returns the command `decode` without the flags for accesses and captures.
-fn listing_command<'a>(alloc: Global) -> Result<Command<'a>, AllocError>
-    ensures app { IfOk result (λ c. app_of c ≡ listing_args_app) }
-    ensures local { IfOk result (λ c. (out-Command c).has_globals ≡ false) }
-{
-    let bare = Command::new(alloc, "decode")
-        .about(DECODE_ABOUT)
-        .after_help(DECODE_AFTER);
-    let file = with_arg(bare, file_arg(alloc))?;
-    let places = with_arg(file, places_arg(alloc))?;
-    let names = with_arg(places, names_arg(alloc))?;
-    with_arg(names, count_arg(alloc))
-}
-
-// Returns the command `decode` without the flags for captures.
-fn telling_command<'a>(alloc: Global) -> Result<Command<'a>, AllocError>
-    ensures app { IfOk result (λ c. app_of c ≡ accesses_args_app) }
-    ensures local { IfOk result (λ c. (out-Command c).has_globals ≡ false) }
-{
-    let listing = listing_command(alloc)?;
-    let accesses = with_arg(listing, accesses_arg(alloc))?;
-    with_arg(accesses, made_arg(alloc))
-}
-
-/// Returns the command `decode`.
-pub(crate) fn decode_command<'a>(alloc: Global) -> Result<Command<'a>, AllocError>
-    ensures app { IfOk result (λ c. app_of c ≡ decode_args_app) }
-    ensures local { IfOk result (λ c. (out-Command c).has_globals ≡ false) }
-{
-    let telling = telling_command(alloc)?;
-    let resync = with_arg(telling, resync_arg(alloc))?;
-    with_arg(resync, overrun_arg(alloc))
-}
+/// The command `decode`.
+pub(crate) const DECODE: CommandRow = CommandRow {
+    name: "decode",
+    about: "Decode a trace to a listing, one line an item",
+    after: Some(DECODE_AFTER),
+    arguments: &[FILE, PLACES, NAMES, COUNT, ACCESSES, MADE, RESYNC, OVERRUN],
+};
 
 /// Returns the arguments of `swd decode`. Rejects flags that exclude each other, and a flag without the one that it
 /// needs.

@@ -1,19 +1,17 @@
 //! The arguments of `swd draw`.
-ghost use Rattle.std.specs.Prelude.{◌≡◌, IfOk, IfSome, false};
+ghost use Rattle.std.specs.Prelude.{IfOk, IfSome};
 ghost use Rattle.std.specs.Option.{option_map};
-ghost use Rattle.clap.specs.Words.{app_of, found_of, rows_of, rule_of};
-ghost use Rattle.clap.specs.declared.builder.command.Command.TheViews.{out-Command};
-ghost use Rattle.swd_words.specs.Commands.{draw_args_app, items_args_app, items_rule};
+ghost use Rattle.clap.specs.Words.{found_of, rows_of};
 ghost use Rattle.swd_words.specs.Commands.{AreDrawArguments, IsItemsArgument};
 
-use crate::command::{DrawLine, LineFault};
-use crate::decode_words::{OVERRUN_WITH_RESYNC, names_arg, overrun_arg, resync_arg};
-use crate::words::{file_arg, invalid, is_asked_for, number_in, owned, refused, with_arg};
+use crate::argument::{Argument, CommandRow, Form};
+use crate::decode_words::{NAMES, OVERRUN, OVERRUN_WITH_RESYNC, RESYNC};
+use crate::fault::LineFault;
+use crate::words::{FILE, invalid, is_asked_for, number_in, owned, refused};
+use clap::ArgMatches;
 use clap::error::ErrorKind;
-use clap::{Arg, ArgMatches, Command, value_parser};
-use std::alloc::{AllocError, Global};
-
-const DRAW_ABOUT: &str = "Draw a trace's waves as an SVG picture, one row an item";
+use std::alloc::Global;
+use swd_command_line::DrawLine;
 
 const DRAW_AFTER: &str = "\
 The picture goes to standard output. A browser shows it:
@@ -39,40 +37,23 @@ pub(crate) const ITEMS_OPTION: &str = "--items <N>";
 
 pub(crate) const ITEMS_RANGE: &str = "it is not in 1..=1000";
 
-// Returns the option for the most items.
-fn items_arg<'a>(alloc: Global) -> Arg<'a>
-    ensures rule { rule_of result ≡ items_rule }
-    ensures local { result.global ≡ false }
-{
-    Arg::new(alloc, "items")
-        .long("items")
-        .value_name("N")
-        .value_parser(value_parser!(u32).range(1..=1000))
-        .default_value("200")
-        .help("The most items that are drawn, from 1 to 1000")
-}
-
-// Returns the command `draw` without its flags.
-fn over_items<'a>(alloc: Global) -> Result<Command<'a>, AllocError>
-    ensures app { IfOk result (λ c. app_of c ≡ items_args_app) }
-    ensures local { IfOk result (λ c. (out-Command c).has_globals ≡ false) }
-{
-    let bare = Command::new(alloc, "draw")
-        .about(DRAW_ABOUT)
-        .after_help(DRAW_AFTER);
-    let file = with_arg(bare, file_arg(alloc))?;
-    with_arg(file, items_arg(alloc))
-}
-
-/// Returns the command `draw`.
-pub(crate) fn draw_command<'a>(alloc: Global) -> Result<Command<'a>, AllocError>
-    ensures app { IfOk result (λ c. app_of c ≡ draw_args_app) }
-    ensures local { IfOk result (λ c. (out-Command c).has_globals ≡ false) }
-{
-    let names = with_arg(over_items(alloc)?, names_arg(alloc))?;
-    let resync = with_arg(names, resync_arg(alloc))?;
-    with_arg(resync, overrun_arg(alloc))
-}
+/// The command `draw`.
+pub(crate) const DRAW: CommandRow = CommandRow {
+    name: "draw",
+    about: "Draw a trace's waves as an SVG picture, one row an item",
+    after: Some(DRAW_AFTER),
+    arguments: &[
+        FILE,
+        Argument {
+            name: "items",
+            form: Form::Number(1, "200"),
+            help: "The most items that are drawn, from 1 to 1000",
+        },
+        NAMES,
+        RESYNC,
+        OVERRUN,
+    ],
+};
 
 // Returns the most items, 200 without an argument. Returns `None` if it isn't a number of 0 to 1,000.
 fn items_in(word: Option<&str>) -> Option<u32>

@@ -1,32 +1,28 @@
 //! The format of an image's file, by an option or by the file's name.
-ghost use Rattle.std.specs.Prelude.{◌≡◌, IfSome, codes, false};
+ghost use Rattle.std.specs.Prelude.{◌≡◌, IfSome, codes};
 ghost use Rattle.std.specs.Option.{option_map};
 ghost use Rattle.std.specs.Str.{bytes_eq};
-ghost use Rattle.clap.specs.Words.{rule_of};
-ghost use Rattle.swd_words.specs.Commands.{format_rule, AreFormatArguments, IsFormatArgument, elf_choice_of_word};
+ghost use Rattle.swd_words.specs.Commands.{AreFormatArguments, IsFormatArgument, elf_choice_of_word};
 ghost use Rattle.swd_words.specs.Commands.{is_image_read as is_read_in};
 
-use crate::command::ImageAction;
-use clap::Arg;
+use crate::argument::{Argument, Form};
 use std::alloc::Global;
+use swd_command_line::ImageAction;
 use swd_image_files::{ElfChoice, Format};
 
-/// The help of `--format` for a file that is read.
-pub(crate) const READ_FORMATS: &str = "bin, hex, srec or elf; by FILE itself without it";
+/// The format of a file that is read.
+pub(crate) const READ_FORMAT: Argument = Argument {
+    name: "format",
+    form: Form::Value("FORMAT"),
+    help: "bin, hex, srec or elf; by FILE itself without it",
+};
 
-/// The help of `--format` for a file that is written.
-pub(crate) const WRITTEN_FORMATS: &str = "bin, hex or srec; by FILE's name without it";
-
-/// Returns the option for the format of an image's file.
-pub(crate) fn format_arg<'a>(alloc: Global, help: &'a str) -> Arg<'a>
-    ensures rule { rule_of result ≡ format_rule }
-    ensures local { result.global ≡ false }
-{
-    Arg::new(alloc, "format")
-        .long("format")
-        .value_name("FORMAT")
-        .help(help)
-}
+/// The format of a file that is written.
+pub(crate) const WRITTEN_FORMAT: Argument = Argument {
+    name: "format",
+    form: Form::Value("FORMAT"),
+    help: "bin, hex or srec; by FILE's name without it",
+};
 
 /// Returns what is said of another word after `--format`.
 pub(crate) fn format_form(action: ImageAction) -> &'static str {

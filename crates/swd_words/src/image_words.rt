@@ -1,32 +1,29 @@
 //! The arguments of `swd load`, `swd verify` and `swd dump`.
-ghost use Rattle.std.specs.Prelude.{◌≡◌, IfOk, IfSome, IsSomeAnd, Some, false};
+ghost use Rattle.std.specs.Prelude.{◌≡◌, IfOk, IfSome, IsSomeAnd, Some};
 ghost use Rattle.std.specs.Option.{option_and_then, option_map};
-ghost use Rattle.clap.specs.Words.{app_of, found_of, rows_of, rule_of};
-ghost use Rattle.clap.specs.declared.builder.command.Command.TheViews.{out-Command};
+ghost use Rattle.clap.specs.Words.{found_of, rows_of};
 ghost use Rattle.swd_script.specs.Numerals.{is_script_hex_prefix, script_hex_number};
-ghost use Rattle.swd_words.specs.Commands.{addr_rule, bytes_rule, dump_args_app, image_rule, image_args_app};
-ghost use Rattle.swd_words.specs.Commands.{with_image_args, with_image_args_apps as images_of, with_report_args};
 ghost use Rattle.swd_words.specs.Commands.{IsActionArgument};
 ghost use Rattle.swd_words.specs.Commands.{AreBytesInUnits, AreImageArguments, IsBytesArgument};
 
-use crate::command::{ImageAction, ImageLine, LineFault};
-use crate::format_words::{READ_FORMATS, WRITTEN_FORMATS, format_arg, format_form, formats_in};
-use crate::memory_words::{target_in, with_target_options};
+use crate::argument::{Argument, CommandRow, Form};
+use crate::fault::LineFault;
+use crate::format_words::{READ_FORMAT, WRITTEN_FORMAT, format_form, formats_in};
+use crate::memory_words::{BASE, MEMORY, target_in};
 use crate::words::{
-    invalid, is_asked_for, numbers_in, owned, progress_arg, refused, report_arg, resume_arg,
-    tries_arg, unknown, why_unpaced, with_arg, with_sub,
+    PLAN, PROGRESS, REMOTE, RESUME, TRIES, invalid, is_asked_for, numbers_in, owned, refused,
+    unknown, why_unpaced,
 };
+use clap::ArgMatches;
 use clap::error::ErrorKind;
-use clap::{Arg, ArgMatches, Command};
-use std::alloc::{AllocError, Global};
+use std::alloc::Global;
+use swd_command_line::{ImageAction, ImageLine};
 use swd_script::{decimal_of, hex_of};
 
 // The bytes that a `k` and an `M` behind a number stand for.
 const KILO: u32 = 1024;
 
 const MEGA: u32 = 1024 * 1024;
-
-const LOAD_ABOUT: &str = "Load a file into a target's memory";
 
 const LOAD_AFTER: &str = "\
 FILE is ELF (elf) if it begins with 7f 45 4c 46. Otherwise it is Intel HEX (hex)
@@ -74,8 +71,6 @@ A line on standard error has the result, or the first error of FILE:
 Status: 0 if all was loaded, 1 if the run ended early, an access met a bus error
 or the other end went away, 2 at an error.";
 
-const VERIFY_ABOUT: &str = "Compare a target's memory with a file";
-
 const VERIFY_AFTER: &str = "\
 FILE and ADDR are as for swd load, and so are --remote and --memory, whose FILE
 is only read. The pieces of FILE are read and compared in its order,
@@ -91,8 +86,6 @@ A line on standard error has the result, or the first byte that differs:
 
 Status: 0 if all bytes are equal, 1 if a byte differs, the run ended early, an
 access met a bus error or the other end went away, 2 at an error.";
-
-const DUMP_ABOUT: &str = "Dump a target's memory to a file";
 
 const DUMP_AFTER: &str = "\
 BYTES is 1 to 10 decimal digits, which k (1024 bytes) or M (1048576 bytes) may
@@ -115,118 +108,97 @@ const ADDR_FORM: &str = "it is not 1 to 8 hexadecimal digits";
 const BYTES_FORM: &str =
     "it is not a number below 2^32: decimal, as 64k or 1M, or hexadecimal behind 0x";
 
-// Returns the required argument for the address.
-fn addr_arg<'a>(alloc: Global, help: &'a str) -> Arg<'a>
-    ensures rule { rule_of result ≡ addr_rule }
-    ensures local { result.global ≡ false }
-{
-    Arg::new(alloc, "ADDR").required(true).help(help)
-}
+// The number of bytes.
+const BYTES: Argument = Argument {
+    name: "BYTES",
+    form: Form::Place(true),
+    help: "The number of bytes, such as 65536, 64k, 1M or 0x10000",
+};
 
-// Returns the required argument for the number of bytes.
-fn bytes_arg<'a>(alloc: Global) -> Arg<'a>
-    ensures rule { rule_of result ≡ bytes_rule }
-    ensures local { result.global ≡ false }
-{
-    Arg::new(alloc, "BYTES")
-        .required(true)
-        .help("The number of bytes, such as 65536, 64k, 1M or 0x10000")
-}
+// The address of a file that is read, and the file.
+const READ_ADDR: Argument = Argument {
+    name: "ADDR",
+    form: Form::Place(true),
+    help: "The address of the first byte, or an offset; hexadecimal",
+};
 
-// Returns the required argument for the file of the bytes.
-fn image_arg<'a>(alloc: Global, help: &'a str) -> Arg<'a>
-    ensures rule { rule_of result ≡ image_rule }
-    ensures local { result.global ≡ false }
-{
-    Arg::new(alloc, "FILE").required(true).help(help)
-}
+const READ_FILE: Argument = Argument {
+    name: "FILE",
+    form: Form::Place(true),
+    help: "The file of the bytes",
+};
 
-// Adds the options for the report of the calls, and how far they are.
-fn with_report_options<'a>(alloc: Global, command: Command<'a>) -> Result<Command<'a>, AllocError>
-    requires local { (out-Command command).has_globals ≡ false }
-    ensures app { IfOk result (λ c. app_of c ≡ with_report_args (app_of command.entry)) }
-    ensures local { IfOk result (λ c. (out-Command c).has_globals ≡ false) }
-{
-    let help = "Write the report of the calls to FILE, - is stderr";
-    let report = with_arg(command, report_arg(alloc, help))?;
-    with_arg(report, progress_arg(alloc))
-}
+// The address of a file that is written, and the file.
+const WRITTEN_ADDR: Argument = Argument {
+    name: "ADDR",
+    form: Form::Place(true),
+    help: "The address of the first byte, hexadecimal",
+};
 
-// Adds the options of each command over an image.
-fn with_options<'a>(
-    alloc: Global,
-    command: Command<'a>,
-    formats: &'a str,
-) -> Result<Command<'a>, AllocError>
-    requires local { (out-Command command).has_globals ≡ false }
-    ensures app { IfOk result (λ c. app_of c ≡ with_image_args (app_of command.entry)) }
-    ensures local { IfOk result (λ c. (out-Command c).has_globals ≡ false) }
-{
-    let format = with_arg(command, format_arg(alloc, formats))?;
-    let tries = with_arg(format, tries_arg(alloc))?;
-    let resume = with_arg(tries, resume_arg(alloc))?;
-    let report = with_report_options(alloc, resume)?;
-    with_target_options(alloc, report)
-}
+const WRITTEN_FILE: Argument = Argument {
+    name: "FILE",
+    form: Form::Place(true),
+    help: "The file to write (overwrites it)",
+};
 
-// Returns the command `load` or `verify`.
-fn over_an_image<'a>(
-    alloc: Global,
-    name: &'a str,
-    about: &'a str,
-    after: &'a str,
-) -> Result<Command<'a>, AllocError>
-    ensures app { IfOk result (λ c. app_of c ≡ image_args_app name.entry.now) }
-    ensures local { IfOk result (λ c. (out-Command c).has_globals ≡ false) }
-{
-    let bare = Command::new(alloc, name).about(about).after_help(after);
-    let addr = with_arg(
-        bare,
-        addr_arg(
-            alloc,
-            "The address of the first byte, or an offset; hexadecimal",
-        ),
-    )?;
-    let file = with_arg(addr, image_arg(alloc, "The file of the bytes"))?;
-    with_options(alloc, file, READ_FORMATS)
-}
+// The file of the reports.
+const REPORT: Argument = Argument {
+    name: "report",
+    form: Form::Value("FILE"),
+    help: "Write the report of the calls to FILE, - is stderr",
+};
 
-// Returns the command `dump`.
-fn dump_command<'a>(alloc: Global) -> Result<Command<'a>, AllocError>
-    ensures app { IfOk result (λ c. app_of c ≡ dump_args_app) }
-    ensures local { IfOk result (λ c. (out-Command c).has_globals ≡ false) }
-{
-    let bare = Command::new(alloc, "dump")
-        .about(DUMP_ABOUT)
-        .after_help(DUMP_AFTER);
-    let addr = with_arg(
-        bare,
-        addr_arg(alloc, "The address of the first byte, hexadecimal"),
-    )?;
-    let bytes = with_arg(addr, bytes_arg(alloc))?;
-    let file = with_arg(bytes, image_arg(alloc, "The file to write (overwrites it)"))?;
-    with_options(alloc, file, WRITTEN_FORMATS)
-}
+// The arguments of `load` and `verify`.
+const READ: &[Argument] = &[
+    READ_ADDR,
+    READ_FILE,
+    READ_FORMAT,
+    TRIES,
+    RESUME,
+    REPORT,
+    PROGRESS,
+    REMOTE,
+    MEMORY,
+    BASE,
+    PLAN,
+];
 
-/// Adds the commands over an image.
-pub(crate) fn with_images<'a>(
-    alloc: Global,
-    command: Command<'a>,
-) -> Result<Command<'a>, AllocError>
-    requires local { (out-Command command).has_globals ≡ false }
-    ensures app { IfOk result (λ c. app_of c ≡ images_of (app_of command.entry)) }
-    ensures local { IfOk result (λ c. (out-Command c).has_globals ≡ false) }
-{
-    let load = with_sub(
-        command,
-        over_an_image(alloc, "load", LOAD_ABOUT, LOAD_AFTER)?,
-    )?;
-    let verify = with_sub(
-        load,
-        over_an_image(alloc, "verify", VERIFY_ABOUT, VERIFY_AFTER)?,
-    )?;
-    with_sub(verify, dump_command(alloc)?)
-}
+/// The command `load`.
+pub(crate) const LOAD: CommandRow = CommandRow {
+    name: "load",
+    about: "Load a file into a target's memory",
+    after: Some(LOAD_AFTER),
+    arguments: READ,
+};
+
+/// The command `verify`.
+pub(crate) const VERIFY: CommandRow = CommandRow {
+    name: "verify",
+    about: "Compare a target's memory with a file",
+    after: Some(VERIFY_AFTER),
+    arguments: READ,
+};
+
+/// The command `dump`.
+pub(crate) const DUMP: CommandRow = CommandRow {
+    name: "dump",
+    about: "Dump a target's memory to a file",
+    after: Some(DUMP_AFTER),
+    arguments: &[
+        WRITTEN_ADDR,
+        BYTES,
+        WRITTEN_FILE,
+        WRITTEN_FORMAT,
+        TRIES,
+        RESUME,
+        REPORT,
+        PROGRESS,
+        REMOTE,
+        MEMORY,
+        BASE,
+        PLAN,
+    ],
+};
 
 // Returns the address of an argument, or `None` if it isn't one.
 fn addr_in(word: Option<&str>) -> Option<u32>

@@ -1,16 +1,15 @@
 //! The arguments of `swd info`.
-ghost use Rattle.std.specs.Prelude.{◌≡◌, IfOk, false};
-ghost use Rattle.clap.specs.Words.{app_of, found_of, rows_of};
-ghost use Rattle.clap.specs.declared.builder.command.Command.TheViews.{out-Command};
-ghost use Rattle.swd_words.specs.Commands.{info_args_app, AreInfoArguments};
+ghost use Rattle.std.specs.Prelude.{IfOk};
+ghost use Rattle.clap.specs.Words.{found_of, rows_of};
+ghost use Rattle.swd_words.specs.Commands.{AreInfoArguments};
 
-use crate::command::{InfoLine, LineFault};
-use crate::words::{numbers_in, owned, refused, remote_arg, tries_arg, with_arg};
+use crate::argument::CommandRow;
+use crate::fault::LineFault;
+use crate::words::{REMOTE, TRIES, numbers_in, owned, refused};
+use clap::ArgMatches;
 use clap::error::ErrorKind;
-use clap::{ArgMatches, Command};
-use std::alloc::{AllocError, Global};
-
-const INFO_ABOUT: &str = "Identify a target, or say how far its opening came";
+use std::alloc::Global;
+use swd_command_line::InfoLine;
 
 const INFO_AFTER: &str = "\
 Opens the target as swd run does, and makes no access. Lines on standard error
@@ -27,17 +26,13 @@ Status: 0 if the target was opened, 1 if it wasn't or the other end went away,
 
 const NO_TARGET: &str = "the target is missing: give --remote";
 
-/// Returns the command `info`.
-pub(crate) fn info_command<'a>(alloc: Global) -> Result<Command<'a>, AllocError>
-    ensures app { IfOk result (λ c. app_of c ≡ info_args_app) }
-    ensures local { IfOk result (λ c. (out-Command c).has_globals ≡ false) }
-{
-    let bare = Command::new(alloc, "info")
-        .about(INFO_ABOUT)
-        .after_help(INFO_AFTER);
-    let remote = with_arg(bare, remote_arg(alloc))?;
-    with_arg(remote, tries_arg(alloc))
-}
+/// The command `info`.
+pub(crate) const INFO: CommandRow = CommandRow {
+    name: "info",
+    about: "Identify a target, or say how far its opening came",
+    after: Some(INFO_AFTER),
+    arguments: &[REMOTE, TRIES],
+};
 
 /// Returns the arguments of `swd info`. Rejects those without `--remote`.
 pub(crate) fn info_line(alloc: Global, matches: &ArgMatches<'_>) -> Result<InfoLine, LineFault>

@@ -1,10 +1,12 @@
 //! Parses the command line of `swd`: its commands with their arguments, the help, and the usage errors.
 #![tactic(auto)]
 
+mod argument;
 mod check_words;
-mod command;
+mod conform_words;
 mod decode_words;
 mod draw_words;
+mod fault;
 mod format_words;
 mod image_words;
 mod info_words;
@@ -13,9 +15,6 @@ mod target_words;
 mod usage;
 mod words;
 
-pub use command::{
-    CheckLine, CommandLine, DecodeLine, DrawLine, ImageAction, ImageLine, InfoLine, LineFault,
-    MemoryLine, PlainWords, RunLine, ScriptLine, ServedMemory, TargetLine,
-};
+pub use fault::LineFault;
 pub use usage::{commands_line, usage_line};
 pub use words::line;

@@ -1,21 +1,21 @@
 //! The options for the target of `swd load`, `swd verify` and `swd dump`: remote, or simulated.
 //! And those for the memory that `swd target` serves.
-ghost use Rattle.std.specs.Prelude.{◌≡◌, ◌%◌, ◌↔◌, IfOk, IfSome, None, false, true};
+ghost use Rattle.std.specs.Prelude.{◌≡◌, ◌%◌, ◌↔◌, IfOk, IfSome, None, true};
 ghost use Rattle.std.specs.Option.{option_map};
-ghost use Rattle.clap.specs.Words.{app_of, found_of, rows_of, rule_of};
-ghost use Rattle.clap.specs.declared.builder.command.Command.TheViews.{out-Command};
-ghost use Rattle.swd_words.specs.Commands.{base_rule, memory_rule, with_target_args as with_options_of};
+ghost use Rattle.clap.specs.Words.{found_of, rows_of};
 ghost use Rattle.swd_words.specs.Commands.{IsBaseArgument, AreMemoryArguments, IsTargetArgument};
 
-use crate::command::{LineFault, MemoryLine};
-use crate::words::{invalid, owned, plan_arg, refused, remote_arg, with_arg};
+use crate::argument::{Argument, Form};
+use crate::fault::LineFault;
+use crate::words::{invalid, owned, refused};
+use clap::ArgMatches;
 use clap::error::ErrorKind;
-use clap::{Arg, ArgMatches, Command};
-use std::alloc::{AllocError, Global};
+use std::alloc::Global;
+use swd_command_line::MemoryLine;
 use swd_script::hex_of;
 
 // The address of a simulated memory without `--base`: where the memory of most microcontrollers begins.
-const BASE: u32 = 0x2000_0000;
+const DEFAULT_BASE: u32 = 0x2000_0000;
 
 const BASE_FORM: &str = "it is not 1 to 8 hexadecimal digits of a multiple of 4";
 
@@ -25,43 +25,19 @@ const TWO_TARGETS: &str = "--remote and --memory FILE are two targets: give one 
 
 const NO_MEMORY: &str = "--base ADDR and --plan FILE go with --memory FILE";
 
-/// Returns the option for the file of a simulated memory.
-pub(crate) fn memory_arg<'a>(alloc: Global, help: &'a str) -> Arg<'a>
-    ensures rule { rule_of result ≡ memory_rule }
-    ensures local { result.global ≡ false }
-{
-    Arg::new(alloc, "memory")
-        .long("memory")
-        .value_name("FILE")
-        .help(help)
-}
+/// The file of a simulated memory.
+pub(crate) const MEMORY: Argument = Argument {
+    name: "memory",
+    form: Form::Value("FILE"),
+    help: "The target is simulated; FILE has its memory",
+};
 
-/// Returns the option for the address of a simulated memory.
-pub(crate) fn base_arg<'a>(alloc: Global) -> Arg<'a>
-    ensures rule { rule_of result ≡ base_rule }
-    ensures local { result.global ≡ false }
-{
-    Arg::new(alloc, "base")
-        .long("base")
-        .value_name("ADDR")
-        .help("With --memory: its address, hexadecimal; else 20000000")
-}
-
-/// Adds the options for the target of an image.
-pub(crate) fn with_target_options<'a>(
-    alloc: Global,
-    command: Command<'a>,
-) -> Result<Command<'a>, AllocError>
-    requires local { (out-Command command).has_globals ≡ false }
-    ensures app { IfOk result (λ c. app_of c ≡ with_options_of (app_of command.entry)) }
-    ensures local { IfOk result (λ c. (out-Command c).has_globals ≡ false) }
-{
-    let remote = with_arg(command, remote_arg(alloc))?;
-    let help = "The target is simulated; FILE has its memory";
-    let memory = with_arg(remote, memory_arg(alloc, help))?;
-    let base = with_arg(memory, base_arg(alloc))?;
-    with_arg(base, plan_arg(alloc))
-}
+/// The address of a simulated memory.
+pub(crate) const BASE: Argument = Argument {
+    name: "base",
+    form: Form::Value("ADDR"),
+    help: "With --memory: its address, hexadecimal; else 20000000",
+};
 
 /// Returns whether an argument isn't given.
 pub(crate) fn is_missing(word: Option<&str>) -> bool
@@ -80,7 +56,7 @@ fn base_in(word: Option<&str>) -> Option<u32>
             Some(base) if base % 4 == 0 => Some(base),
             _ => None,
         },
-        None => Some(BASE),
+        None => Some(DEFAULT_BASE),
     }
 }
 

@@ -1,20 +1,18 @@
 //! The arguments of `swd target`.
-ghost use Rattle.std.specs.Prelude.{◌≡◌, IfOk, IfSome, false};
+ghost use Rattle.std.specs.Prelude.{IfOk, IfSome};
 ghost use Rattle.std.specs.Option.{option_map};
-ghost use Rattle.clap.specs.Words.{app_of, found_of, rows_of, rule_of};
-ghost use Rattle.clap.specs.declared.builder.command.Command.TheViews.{out-Command};
-ghost use Rattle.swd_words.specs.Commands.{idr_rule, log_rule, memory_args_app, served_script_rule, target_args_app};
+ghost use Rattle.clap.specs.Words.{found_of, rows_of};
 ghost use Rattle.swd_words.specs.Commands.{AreServedArguments, AreTargetArguments, IsIdrArgument};
 
-use crate::command::{LineFault, ScriptLine, ServedMemory, TargetLine};
-use crate::memory_words::{base_arg, is_missing, memory_arg, memory_line};
-use crate::words::{invalid, owned, plan_arg, refused, trace_arg, with_arg};
+use crate::argument::{Argument, CommandRow, Form};
+use crate::fault::LineFault;
+use crate::memory_words::{BASE, is_missing, memory_line};
+use crate::words::{PLAN, TRACE, invalid, owned, refused};
+use clap::ArgMatches;
 use clap::error::ErrorKind;
-use clap::{Arg, ArgMatches, Command};
-use std::alloc::{AllocError, Global};
+use std::alloc::Global;
+use swd_command_line::{ScriptLine, ServedMemory, TargetLine};
 use swd_script::hex_of;
-
-const TARGET_ABOUT: &str = "Simulate a target for a debugger on the standard streams";
 
 const TARGET_AFTER: &str = "\
 The debugger speaks OpenOCD's remote_bitbang protocol for SWD: d to g set the
@@ -55,60 +53,37 @@ const NO_BASE: &str = "--base ADDR goes with --memory FILE";
 
 const IDR_FORM: &str = "it is not 1 to 8 hexadecimal digits";
 
-// Returns the argument for the script's file.
-fn served_script_arg<'a>(alloc: Global) -> Arg<'a>
-    ensures rule { rule_of result ≡ served_script_rule }
-    ensures local { result.global ≡ false }
-{
-    Arg::new(alloc, "SCRIPT").help("The script with the memory's size")
-}
-
-// Returns the option for the log's file.
-fn log_arg<'a>(alloc: Global) -> Arg<'a>
-    ensures rule { rule_of result ≡ log_rule }
-    ensures local { result.global ≡ false }
-{
-    Arg::new(alloc, "log")
-        .long("log")
-        .value_name("FILE")
-        .help("Write the log to FILE (overwrites it)")
-}
-
-// Returns the option for the IDR.
-fn idr_arg<'a>(alloc: Global) -> Arg<'a>
-    ensures rule { rule_of result ≡ idr_rule }
-    ensures local { result.global ≡ false }
-{
-    Arg::new(alloc, "idr")
-        .long("idr")
-        .value_name("WORD")
-        .help("IDR of the access port, hexadecimal; else 0")
-}
-
-// Returns the command `target` with the arguments for its memory.
-fn over_memory<'a>(alloc: Global) -> Result<Command<'a>, AllocError>
-    ensures app { IfOk result (λ c. app_of c ≡ memory_args_app) }
-    ensures local { IfOk result (λ c. (out-Command c).has_globals ≡ false) }
-{
-    let bare = Command::new(alloc, "target")
-        .about(TARGET_ABOUT)
-        .after_help(TARGET_AFTER);
-    let script = with_arg(bare, served_script_arg(alloc))?;
-    let help = "In place of SCRIPT: FILE has the memory (overwrites it)";
-    let memory = with_arg(script, memory_arg(alloc, help))?;
-    with_arg(memory, base_arg(alloc))
-}
-
-/// Returns the command `target`.
-pub(crate) fn target_command<'a>(alloc: Global) -> Result<Command<'a>, AllocError>
-    ensures app { IfOk result (λ c. app_of c ≡ target_args_app) }
-    ensures local { IfOk result (λ c. (out-Command c).has_globals ≡ false) }
-{
-    let plan = with_arg(over_memory(alloc)?, plan_arg(alloc))?;
-    let log = with_arg(plan, log_arg(alloc))?;
-    let trace = with_arg(log, trace_arg(alloc))?;
-    with_arg(trace, idr_arg(alloc))
-}
+/// The command `target`.
+pub(crate) const TARGET: CommandRow = CommandRow {
+    name: "target",
+    about: "Simulate a target for a debugger on the standard streams",
+    after: Some(TARGET_AFTER),
+    arguments: &[
+        Argument {
+            name: "SCRIPT",
+            form: Form::Place(false),
+            help: "The script with the memory's size",
+        },
+        Argument {
+            name: "memory",
+            form: Form::Value("FILE"),
+            help: "In place of SCRIPT: FILE has the memory (overwrites it)",
+        },
+        BASE,
+        PLAN,
+        Argument {
+            name: "log",
+            form: Form::Value("FILE"),
+            help: "Write the log to FILE (overwrites it)",
+        },
+        TRACE,
+        Argument {
+            name: "idr",
+            form: Form::Value("WORD"),
+            help: "IDR of the access port, hexadecimal; else 0",
+        },
+    ],
+};
 
 // Returns the memory that the arguments name.
 fn served_memory(alloc: Global, matches: &ArgMatches<'_>) -> Result<ServedMemory, LineFault>
@@ -135,8 +110,8 @@ fn served_memory(alloc: Global, matches: &ArgMatches<'_>) -> Result<ServedMemory
     Ok(ServedMemory::Script(ScriptLine { script, plan }))
 }
 
-// Returns the IDR of an argument, or `None` if it isn't a word.
-fn idr_in(word: Option<&str>) -> Option<Option<u32>>
+/// Returns the word of an option for IDR or another word, or `None` if it isn't one.
+pub(crate) fn idr_in(word: Option<&str>) -> Option<Option<u32>>
     ensures { IfSome result (λ idr. IsIdrArgument idr (option_map (λ s. s.now) word.entry)) }
 {
     match word {

@@ -3,26 +3,27 @@ ghost use Rattle.std.specs.Prelude.{◌≡◌, ◌↔◌, IfOk, IfErr, IfSome, S
 ghost use Rattle.std.specs.Str.{bytes_eq};
 ghost use Rattle.std.specs.Option.{option_map};
 ghost use Rattle.std.specs.String.{string_bytes};
-ghost use Rattle.clap.specs.Words.{app_of, found_of, rows_of, subcommand_of, subcommand_rows_of, rule_of, shape_of};
-ghost use Rattle.clap.specs.Words.{fault_of, first_of, kind_of, with_rule, with_subcommand};
+ghost use Rattle.clap.specs.Words.{app_of, found_of, rows_of, subcommand_of, subcommand_rows_of};
+ghost use Rattle.clap.specs.Words.{fault_of, first_of, kind_of};
 ghost use Rattle.clap.specs.declared.builder.command.Command.TheViews.{out-Command};
-ghost use Rattle.swd_words.specs.Commands.{file_rule, plan_rule, resume_rule, script_rule, strict_rule, trace_rule};
-ghost use Rattle.swd_words.specs.Commands.{accesses_file_rule, tries_rule, progress_rule, remote_rule, report_rule};
 ghost use Rattle.swd_words.specs.Commands.{arguments_spelled_out, remote_spelled_out};
-ghost use Rattle.swd_words.specs.Commands.{run_here_args_app, bare_args_app, script_args_app, file_args_app};
-ghost use Rattle.swd_words.specs.Commands.{run_args_app, swd_app, IsResumeArgument, IsTriesArgument, IsLineOfArguments};
+ghost use Rattle.swd_words.specs.Commands.{bare_args_app, swd_app};
+ghost use Rattle.swd_words.specs.Commands.{IsResumeArgument, IsTriesArgument, IsLineOfArguments};
 ghost use Rattle.swd_words.specs.Commands.{IsArgumentsErrorKind, AreRunArguments, IsArgumentsRefusal};
 
-use crate::check_words::{check_command, check_line};
-use crate::command::{CommandLine, LineFault, RunLine};
-use crate::decode_words::{decode_command, decode_line};
-use crate::draw_words::{ITEMS_OPTION, ITEMS_RANGE, draw_command, draw_line};
-use crate::image_words::{image_line, with_images};
-use crate::info_words::{info_command, info_line};
-use crate::target_words::{target_command, target_line};
+use crate::argument::{Argument, CommandRow, Form, with_commands};
+use crate::check_words::{CHECK, check_line};
+use crate::conform_words::{CONFORM, conform_line};
+use crate::decode_words::{DECODE, decode_line};
+use crate::draw_words::{DRAW, ITEMS_OPTION, ITEMS_RANGE, draw_line};
+use crate::fault::LineFault;
+use crate::image_words::{DUMP, LOAD, VERIFY, image_line};
+use crate::info_words::{INFO, info_line};
+use crate::target_words::{TARGET, target_line};
 use clap::error::ErrorKind;
-use clap::{Arg, ArgAction, ArgMatches, Command, Error, value_parser};
+use clap::{ArgMatches, Command, Error};
 use std::alloc::{AllocError, Global};
+use swd_command_line::{CommandLine, RunLine};
 
 const VERSION: &str = "0.1.0";
 
@@ -58,12 +59,6 @@ it, as if by SIGPIPE, without a line.
 Example, a read of DPIDR, the debug port's identification register:
   echo '10100101 1 100 11101110001010000000010111010100 0 1' | swd decode
   dp 0 read ok 2ba01477";
-
-const ONE_ABOUT: &str = "Decode a trace of exactly one transaction";
-
-const ENCODE_ABOUT: &str = "Encode a listing to a trace, one line an item";
-
-const RUN_ABOUT: &str = "Run a script's accesses at a target";
 
 const RUN_AFTER: &str = "\
 SCRIPT may be - for standard input. The plan, the trace and the accesses must be
@@ -143,6 +138,11 @@ An access is done when its line is in the report, which is written after every
 1024 answers of a call and at its end. The third number is the rate since the
 line before, rounded down. --progress can't be combined with --report -.
 
+With --check and --remote the session is checked while it goes on. At the end a
+line on standard error has the verdict: that of swd check --rest of its trace.
+If it is breaks, the target doesn't keep the standard, or it wasn't at rest
+before, and the status is 1 in place of 0.
+
 The trace has every bit on the line, one item per line: see swd decode. The
 accesses are those of the target's memory that the trace shows, one per line:
 what swd decode --accesses --made prints of the trace, with --remote without
@@ -164,7 +164,7 @@ what was expected there:
   memory          out of memory at this line";
 
 // The number of events that an access may meet: the default and the maximum.
-const TRIES: u32 = 8;
+const DEFAULT_TRIES: u32 = 8;
 
 const MOST_TRIES: i64 = 1000;
 
@@ -188,194 +188,120 @@ pub(crate) fn owned(alloc: Global, text: Option<&str>) -> Result<Option<String>,
     }
 }
 
-// Returns the argument for the file that a command reads. Without it the command reads standard input.
-pub(crate) fn file_arg<'a>(alloc: Global) -> Arg<'a>
-    ensures rule { rule_of result ≡ file_rule }
-    ensures local { result.global ≡ false }
-{
-    Arg::new(alloc, "FILE").help("The file to read; standard input without it, or for -")
-}
+// The file that a command reads. Without it the command reads standard input.
+pub(crate) const FILE: Argument = Argument {
+    name: "FILE",
+    form: Form::Place(false),
+    help: "The file to read; standard input without it, or for -",
+};
 
-// Returns the required argument for the script's file.
-pub(crate) fn script_arg<'a>(alloc: Global) -> Arg<'a>
-    ensures rule { rule_of result ≡ script_rule }
-    ensures local { result.global ≡ false }
-{
-    Arg::new(alloc, "SCRIPT")
-        .required(true)
-        .help("The script to run; - for standard input")
-}
+// The file of the script.
+const SCRIPT: Argument = Argument {
+    name: "SCRIPT",
+    form: Form::Place(true),
+    help: "The script to run; - for standard input",
+};
 
-// Returns the option for the plan's file.
-pub(crate) fn plan_arg<'a>(alloc: Global) -> Arg<'a>
-    ensures rule { rule_of result ≡ plan_rule }
-    ensures local { result.global ≡ false }
-{
-    Arg::new(alloc, "plan")
-        .long("plan")
-        .value_name("FILE")
-        .help("Inject faults by the plan in FILE")
-}
+/// The file of the plan.
+pub(crate) const PLAN: Argument = Argument {
+    name: "plan",
+    form: Form::Value("FILE"),
+    help: "Inject faults by the plan in FILE",
+};
 
-// Returns the option for the trace's file.
-pub(crate) fn trace_arg<'a>(alloc: Global) -> Arg<'a>
-    ensures rule { rule_of result ≡ trace_rule }
-    ensures local { result.global ≡ false }
-{
-    Arg::new(alloc, "trace")
-        .long("trace")
-        .value_name("FILE")
-        .help("Write the trace to FILE (overwrites it)")
-}
+/// The file of the trace.
+pub(crate) const TRACE: Argument = Argument {
+    name: "trace",
+    form: Form::Value("FILE"),
+    help: "Write the trace to FILE (overwrites it)",
+};
 
-// Returns the option for the file of the accesses.
-fn accesses_arg<'a>(alloc: Global) -> Arg<'a>
-    ensures rule { rule_of result ≡ accesses_file_rule }
-    ensures local { result.global ≡ false }
-{
-    Arg::new(alloc, "accesses")
-        .long("accesses")
-        .value_name("FILE")
-        .help("Write the accesses to FILE (overwrites it)")
-}
+// The file of the accesses.
+const ACCESSES: Argument = Argument {
+    name: "accesses",
+    form: Form::Value("FILE"),
+    help: "Write the accesses to FILE (overwrites it)",
+};
 
-// Returns the flag by which bus errors fail the run.
-fn strict_arg<'a>(alloc: Global) -> Arg<'a>
-    ensures rule { rule_of result ≡ strict_rule }
-    ensures local { result.global ≡ false }
-{
-    Arg::new(alloc, "strict")
-        .long("strict")
-        .action(ArgAction::SetTrue)
-        .help("Exit with status 1 if an access met a bus error")
-}
+// Whether bus errors fail the run.
+const STRICT: Argument = Argument {
+    name: "strict",
+    form: Form::Flag,
+    help: "Exit with status 1 if an access met a bus error",
+};
 
-/// Returns the option for a remote target, and for what leads to it.
-pub(crate) fn remote_arg<'a>(alloc: Global) -> Arg<'a>
-    ensures rule { rule_of result ≡ remote_rule }
-    ensures local { result.global ≡ false }
-{
-    Arg::new(alloc, "remote")
-        .long("remote")
-        .num_args(0..=1)
-        .value_name("LINE")
-        .help("The target is a server on the streams, or =IN,OUT")
-}
+/// A remote target, and what leads to it.
+pub(crate) const REMOTE: Argument = Argument {
+    name: "remote",
+    form: Form::Optional("LINE"),
+    help: "The target is a server on the streams, or =IN,OUT",
+};
 
-/// Returns the option for the report's file.
-pub(crate) fn report_arg<'a>(alloc: Global, help: &'a str) -> Arg<'a>
-    ensures rule { rule_of result ≡ report_rule }
-    ensures local { result.global ≡ false }
-{
-    Arg::new(alloc, "report")
-        .long("report")
-        .value_name("FILE")
-        .help(help)
-}
+// The file of the report.
+const REPORT: Argument = Argument {
+    name: "report",
+    form: Form::Value("FILE"),
+    help: "With --remote: write the report to FILE, - is stderr",
+};
 
-/// Returns the flag for the lines on standard error that say how far the run is.
-pub(crate) fn progress_arg<'a>(alloc: Global) -> Arg<'a>
-    ensures rule { rule_of result ≡ progress_rule }
-    ensures local { result.global ≡ false }
-{
-    Arg::new(alloc, "progress")
-        .long("progress")
-        .action(ArgAction::SetTrue)
-        .help("Print progress to stderr, at most once a second")
-}
+/// Whether lines on standard error say how far the run is.
+pub(crate) const PROGRESS: Argument = Argument {
+    name: "progress",
+    form: Form::Flag,
+    help: "Print progress to stderr, at most once a second",
+};
 
-/// Returns the option for the number of events that an access may meet.
-pub(crate) fn tries_arg<'a>(alloc: Global) -> Arg<'a>
-    ensures rule { rule_of result ≡ tries_rule }
-    ensures local { result.global ≡ false }
-{
-    Arg::new(alloc, "tries")
-        .long("tries")
-        .value_name("N")
-        .value_parser(value_parser!(u32).range(0..=1000))
-        .default_value("8")
-        .help("Retries per access, from 0 to 1000")
-}
+// Whether a session with a remote target is checked.
+const SESSION: Argument = Argument {
+    name: "check",
+    form: Form::Flag,
+    help: "With --remote: check the session as swd check --rest",
+};
 
-/// Returns the option for how often a call is resumed.
-pub(crate) fn resume_arg<'a>(alloc: Global) -> Arg<'a>
-    ensures rule { rule_of result ≡ resume_rule }
-    ensures local { result.global ≡ false }
-{
-    Arg::new(alloc, "resume")
-        .long("resume")
-        .value_name("N")
-        .value_parser(value_parser!(u32).range(0..=1000))
-        .default_value("0")
-        .help("Resumptions per call, from 0 to 1000")
-}
+/// The number of events that an access may meet.
+pub(crate) const TRIES: Argument = Argument {
+    name: "tries",
+    form: Form::Number(0, "8"),
+    help: "Retries per access, from 0 to 1000",
+};
 
-pub(crate) fn with_arg<'a>(command: Command<'a>, arg: Arg<'a>) -> Result<Command<'a>, AllocError>
-    requires arg { arg.global ≡ false }
-    requires local { (out-Command command).has_globals ≡ false }
-    ensures app { IfOk result (λ c. app_of c ≡ with_rule (app_of command.entry) (rule_of arg.entry)) }
-    ensures local { IfOk result (λ c. (out-Command c).has_globals ≡ false) }
-{
-    command.arg(arg)
-}
+/// How often a call is resumed.
+pub(crate) const RESUME: Argument = Argument {
+    name: "resume",
+    form: Form::Number(0, "0"),
+    help: "Resumptions per call, from 0 to 1000",
+};
 
-pub(crate) fn with_sub<'a>(
-    command: Command<'a>,
-    sub: Command<'a>,
-) -> Result<Command<'a>, AllocError>
-    requires sub { (out-Command sub).has_globals ≡ false }
-    requires local { (out-Command command).has_globals ≡ false }
-    ensures app { IfOk result (λ c. app_of c ≡ with_subcommand (app_of command.entry) (shape_of sub.entry)) }
-    ensures local { IfOk result (λ c. (out-Command c).has_globals ≡ false) }
-{
-    command.subcommand(sub)
-}
+// The command `one`.
+const ONE: CommandRow = CommandRow {
+    name: "one",
+    about: "Decode a trace of exactly one transaction",
+    after: None,
+    arguments: &[FILE],
+};
 
-// Returns a command with a file as its argument.
-fn over_a_file<'a>(alloc: Global, name: &'a str, about: &'a str) -> Result<Command<'a>, AllocError>
-    ensures app { IfOk result (λ c. app_of c ≡ file_args_app name.entry.now) }
-    ensures local { IfOk result (λ c. (out-Command c).has_globals ≡ false) }
-{
-    let bare = Command::new(alloc, name).about(about);
-    with_arg(bare, file_arg(alloc))
-}
+// The command `encode`.
+const ENCODE: CommandRow = CommandRow {
+    name: "encode",
+    about: "Encode a listing to a trace, one line an item",
+    after: None,
+    arguments: &[FILE],
+};
 
-// Returns the command `run` with the files that it reads.
-fn over_a_script<'a>(alloc: Global) -> Result<Command<'a>, AllocError>
-    ensures app { IfOk result (λ c. app_of c ≡ script_args_app) }
-    ensures local { IfOk result (λ c. (out-Command c).has_globals ≡ false) }
-{
-    let bare = Command::new(alloc, "run")
-        .about(RUN_ABOUT)
-        .after_help(RUN_AFTER);
-    let script = with_arg(bare, script_arg(alloc))?;
-    with_arg(script, plan_arg(alloc))
-}
+// The command `run`.
+const RUN: CommandRow = CommandRow {
+    name: "run",
+    about: "Run a script's accesses at a target",
+    after: Some(RUN_AFTER),
+    arguments: &[
+        SCRIPT, PLAN, TRIES, RESUME, TRACE, ACCESSES, STRICT, REMOTE, REPORT, PROGRESS, SESSION,
+    ],
+};
 
-// Adds the other options of a run at a simulated target.
-fn run_here<'a>(alloc: Global) -> Result<Command<'a>, AllocError>
-    ensures app { IfOk result (λ c. app_of c ≡ run_here_args_app) }
-    ensures local { IfOk result (λ c. (out-Command c).has_globals ≡ false) }
-{
-    let bare = over_a_script(alloc)?;
-    let tries = with_arg(bare, tries_arg(alloc))?;
-    let resume = with_arg(tries, resume_arg(alloc))?;
-    let trace = with_arg(resume, trace_arg(alloc))?;
-    let accesses = with_arg(trace, accesses_arg(alloc))?;
-    with_arg(accesses, strict_arg(alloc))
-}
-
-// Adds the options of a run at a remote target, and of the progress: the whole command `run`.
-fn run_command<'a>(alloc: Global) -> Result<Command<'a>, AllocError>
-    ensures app { IfOk result (λ c. app_of c ≡ run_args_app) }
-    ensures local { IfOk result (λ c. (out-Command c).has_globals ≡ false) }
-{
-    let here = run_here(alloc)?;
-    let remote = with_arg(here, remote_arg(alloc))?;
-    let help = "With --remote: write the report to FILE, - is stderr";
-    let report = with_arg(remote, report_arg(alloc, help))?;
-    with_arg(report, progress_arg(alloc))
-}
+// The commands, in the order of the help.
+const COMMANDS: [CommandRow; 12] = [
+    ONE, DECODE, ENCODE, RUN, TARGET, DRAW, CHECK, INFO, CONFORM, LOAD, VERIFY, DUMP,
+];
 
 // Returns the program without its commands. One of them is required.
 fn bare_command<'a>(alloc: Global) -> Command<'a>
@@ -394,16 +320,7 @@ pub(crate) fn swd_command<'a>(alloc: Global) -> Result<Command<'a>, AllocError>
     ensures app { IfOk result (λ c. app_of c ≡ swd_app) }
     ensures local { IfOk result (λ c. (out-Command c).has_globals ≡ false) }
 {
-    let bare = bare_command(alloc);
-    let one = with_sub(bare, over_a_file(alloc, "one", ONE_ABOUT)?)?;
-    let decode = with_sub(one, decode_command(alloc)?)?;
-    let encode = with_sub(decode, over_a_file(alloc, "encode", ENCODE_ABOUT)?)?;
-    let run = with_sub(encode, run_command(alloc)?)?;
-    let target = with_sub(run, target_command(alloc)?)?;
-    let draw = with_sub(target, draw_command(alloc)?)?;
-    let check = with_sub(draw, check_command(alloc)?)?;
-    let info = with_sub(check, info_command(alloc)?)?;
-    with_images(alloc, info)
+    with_commands(alloc, bare_command(alloc), COMMANDS.as_slice())
 }
 
 // Returns the error of arguments that `clap` accepted and that aren't allowed.
@@ -525,7 +442,7 @@ fn tries_in(word: Option<&str>) -> Option<u32>
 {
     match word {
         Some(word) => number_in(word),
-        None => Some(TRIES),
+        None => Some(DEFAULT_TRIES),
     }
 }
 
@@ -596,6 +513,7 @@ fn run_line(alloc: Global, matches: &ArgMatches<'_>) -> Result<RunLine, LineFaul
         trace,
         accesses,
         strict: is_asked_for(matches.get_str("strict")),
+        check: is_asked_for(matches.get_str("check")),
         remote,
         report,
         progress: is_asked_for(matches.get_str("progress")),
@@ -622,6 +540,8 @@ fn why_unmatched(run: &RunLine) -> Option<&'static str> {
         Some("--remote and --report FILE go together")
     } else if run.remote.is_some() && run.plan.is_some() {
         Some("with --remote there is no --plan")
+    } else if run.check && run.remote.is_none() {
+        Some("--check goes with --remote")
     } else {
         why_unpaced(run.progress, &run.report)
     }
@@ -672,6 +592,10 @@ fn line_of(alloc: Global, matches: &ArgMatches<'_>) -> Result<CommandLine, LineF
         },
         "info" => match info_line(alloc, rest) {
             Ok(info) => Ok(CommandLine::Info(info)),
+            Err(fault) => Err(fault),
+        },
+        "conform" => match conform_line(alloc, rest) {
+            Ok(conform) => Ok(CommandLine::Conform(conform)),
             Err(fault) => Err(fault),
         },
         _ => match image_line(alloc, name, rest) {

@@ -1,7 +1,8 @@
 //! How many worlds there are.
 use super::{UP, watch};
 use std::test::Fail;
-use swd_checker::{CheckStart, Checker, Verdict};
+use swd_checker::{CheckStart, Checker, Verdict, shown_items};
+use swd_trace::read_list;
 
 // The bytes of a checker, with its 64 worlds.
 const CHECKER_BYTES: usize = std::mem::size_of::<Checker>();
@@ -57,5 +58,10 @@ fn a_read_of_seventy_addresses_is_crowded(rt: HostRuntime) -> Result<(), Fail> {
     watch(rt.alloc(), &mut checker, UP, text.as_str())?;
     // 242 bits, 46 of TAR, and 92 of each transfer
     assert_eq!(rt; checker.verdict(), Verdict::Crowded { place: 6636 });
+    let mut whole = String::new(rt.alloc());
+    whole.push_str(UP)?;
+    whole.push_str(text.as_str())?;
+    let items = read_list(rt.alloc(), &mut whole.as_str().as_bytes())?;
+    assert_eq!(rt; shown_items(items.as_slice(), false), None);
     Ok(())
 }

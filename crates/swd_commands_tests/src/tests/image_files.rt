@@ -3,8 +3,9 @@ use super::expect::{expect_eq, expect_eq_at};
 use super::remote::LOST_LINES;
 use super::run_on;
 use std::test::Fail;
+use swd_command_line::CommandLine;
 use swd_image_files::{ElfChoice, Format};
-use swd_words::{CommandLine, line};
+use swd_words::line;
 
 // Only Q is sent for a file without bytes, and a dump of no bytes is the end record alone.
 #[test]

@@ -3,7 +3,8 @@ use super::expect::{expect_at, expect_eq, expect_eq_at};
 use super::remote::LOST_LINES;
 use super::run_on;
 use std::test::Fail;
-use swd_words::{CommandLine, ImageAction, line};
+use swd_command_line::{CommandLine, ImageAction};
+use swd_words::line;
 
 // No bytes take no call: only Q is sent.
 #[test]

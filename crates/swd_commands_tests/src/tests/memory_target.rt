@@ -8,9 +8,10 @@ use std::cell::Cell;
 use std::io;
 use std::io::ErrorKind;
 use std::test::Fail;
+use swd_command_line::{CommandLine, ServedMemory};
 use swd_commands::run_words;
 use swd_console::{Console, Files, Identity, Opened};
-use swd_words::{CommandLine, LineFault, ServedMemory, line};
+use swd_words::{LineFault, line};
 
 // A host in another language, against a target in another language: deadbeef is written at 20000000, and read back.
 const SESSION: &[u8] = b"\

@@ -70,7 +70,7 @@ fn a_lost_acknowledgement_is_no_fault_of_the_line(rt: HostRuntime) {
 // The levels of an opening. Bits are in time order: the acknowledgement OK is 100, and a word's first bit the least
 // significant one. DPIDR is 2ba01477, and CTRL/STAT 0 before power is requested; then the two requests are set, and no
 // acknowledgement, or all four.
-const IDENTIFIED: &[u8] = b"100111011100010100000000101110101000";
+pub(super) const IDENTIFIED: &[u8] = b"100111011100010100000000101110101000";
 
 const NO_FLAGS: &[u8] = b"100000000000000000000000000000000000";
 
@@ -212,7 +212,7 @@ fn its_trace_goes_to_a_file_of_its_own(rt: HostRuntime) {
 
 #[test]
 fn what_does_not_go_with_it_is_refused(rt: HostRuntime) {
-    let rows: [&[&str]; 6] = [
+    let rows: [&[&str]; 7] = [
         &["swd", "run", "script", "--remote"],
         &["swd", "run", "script", "--report", "traced"],
         &[
@@ -231,6 +231,7 @@ fn what_does_not_go_with_it_is_refused(rt: HostRuntime) {
             "-",
             "--progress",
         ],
+        &["swd", "run", "script", "--check"],
     ];
     for words in rows {
         let ran = run_on(rt.alloc(), words, b"".as_slice());

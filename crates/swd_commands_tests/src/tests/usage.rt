@@ -3,7 +3,7 @@ use super::expect::expect_eq_at;
 use super::run_on;
 
 // The arguments, and all lines.
-const ROWS: [(&[&str], &[u8]); 24] = [
+const ROWS: [(&[&str], &[u8]); 27] = [
     (
         &["swd", "run", "s", "--remote"],
         b"error: --remote and --report FILE go together\n\nUsage: swd run [OPTIONS] <SCRIPT>\n\n\
@@ -50,6 +50,23 @@ const ROWS: [(&[&str], &[u8]); 24] = [
           past ffffffff\n\nUsage: swd check [OPTIONS] [FILE]\n\nFor more information, try '--help'.\n",
     ),
     (
+        &["swd", "conform", "--remote"],
+        b"error: give the memory that may be overwritten: --plain BASE WORDS, once\n\n\
+          Usage: swd conform [OPTIONS]\n\nFor more information, try '--help'.\n",
+    ),
+    (
+        &["swd", "conform", "--plain", "20000000", "80"],
+        b"error: the target is missing: give --remote\n\n\
+          Usage: swd conform [OPTIONS]\n\nFor more information, try '--help'.\n",
+    ),
+    (
+        &[
+            "swd", "conform", "--remote", "--plain", "20000000", "80", "--hole", "none",
+        ],
+        b"error: invalid value 'none' for '--hole <ADDR>': it is not 1 to 8 hexadecimal digits\n\n\
+          Usage: swd conform [OPTIONS]\n\nFor more information, try '--help'.\n",
+    ),
+    (
         &["swd", "load", "0", "image", "--remote", "--resume", "-3"],
         b"error: invalid value '-3' for '--resume <N>': it is not in 0..=1000\n\n\
           Usage: swd load [OPTIONS] <ADDR> <FILE>\n\nFor more information, try '--help'.\n",
@@ -87,7 +104,7 @@ const ROWS: [(&[&str], &[u8]); 24] = [
     (
         &["swd", "rnu"],
         b"error: unrecognized subcommand 'rnu'\n\
-          \x20 [subcommands: one, decode, encode, run, target, draw, check, info, load, verify, dump, help]\n\n\
+          \x20 [subcommands: one, decode, encode, run, target, draw, check, info, conform, load, verify, dump, help]\n\n\
           Usage: swd <COMMAND>\n\nFor more information, try '--help'.\n",
     ),
     (

@@ -3,7 +3,8 @@ use super::expect::{expect_at, expect_eq_at};
 use super::{DPIDR_READ, run_on};
 use std::alloc::Global;
 use std::test::Fail;
-use swd_words::{CheckLine, CommandLine, PlainWords, line};
+use swd_command_line::{CheckLine, CommandLine, PlainWords};
+use swd_words::line;
 
 // A session up to a write of CSW, 242 bits: a line reset, DPIDR, power, and AddrInc single.
 const UP: &[u8] =

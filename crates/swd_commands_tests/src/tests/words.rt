@@ -2,7 +2,8 @@
 use super::expect::{expect_eq, expect_eq_at};
 use std::alloc::Global;
 use std::test::Fail;
-use swd_words::{CommandLine, DecodeLine, ImageAction, LineFault, line};
+use swd_command_line::{CommandLine, DecodeLine, ImageAction};
+use swd_words::{LineFault, line};
 
 // What `clap` says of the words: its help, or what is wrong with them.
 fn said_of(alloc: Global, words: &[&str]) -> Result<String, Fail> {

@@ -1,28 +1,16 @@
-use Rattle.std.proofs.Common.{◌≡◌, ℕ, List, [], Option, Err, inl, inr, refl, arith}
+use Rattle.std.proofs.Common.{ℕ, List, [], Option, Err, inl, inr, refl}
 use Rattle.swd_resync.specs.declared.part.Part.{Part}
 use Rattle.swd_text.specs.Sinks.{LeadsSinkOn, LeadsSinkToStop, SinkStopsAfter, TextGoesTo}
 use Rattle.swd_text.specs.TextBits.{TextBitsSoFar}
 use Rattle.swd_text.specs.declared.fault.DecodeFault.{DecodeFault}
 use Rattle.swd_text.specs.declared.fault.DecodeFault.TheVariants.{Text, Read, Write}
 use Rattle.swd_capture_text.specs.PartSinks.{PartStart, PartReaderHasTaken, PartReaderStops, PartsGoTo}
-use Rattle.swd_capture_text.specs.Readings.{SourceDecides, source_reading_parts}
-use Rattle.swd_capture_text.specs.Sources.{SourceHas, source_fed}
+use Rattle.swd_capture_text.specs.Readings.{source_reading_parts}
 use Rattle.swd_capture_text.specs.declared.parts.PartReader.{PartReader}
-use Rattle.swd_capture_text.specs.declared.reading.Reading.{Reading}
+use Rattle.swd_capture_text.proofs.PartLemmas.{part_reader_begins}
 use Rattle.swd_capture_text.proofs.parts.read_parts.Goals as goal
 
 module _ {K W : Type 0} (led : K × W → List Part → K × W → Type 0) (stops : K × W → ℕ → K × W → Type 0) where
-  -- a reader of parts that was given no bits
-  begins : (reading : Reading) (reader : PartReader K) (writer : W) → SourceHas reading reader.source [] []
-      → SourceDecides reading [] [] → source_fed reader.source ≡ 0
-      → led (reader.sink, writer) [] (reader.sink, writer)
-      → PartReaderHasTaken led (record { reading = reading; from = (reader.sink, writer) }) (reader, writer) []
-  begins reading reader writer has decides fed none = record {
-    parts = [];
-    gathers = record { has = has; count = fed; counted = omega arith; goes = none };
-    decides = decides;
-  }
-
   unread : (start : PartStart (K × W)) (fault : DecodeFault) (text left : Option (List ℕ)) (before : PartReader K × W)
       (now : W) → PartReaderHasTaken led start before []
       → TextGoesTo (LeadsSinkOn (PartReaderHasTaken led))
@@ -53,14 +41,14 @@ returns-in-Ok g c =
     let r = c.in-Ok.ensures in
     let bits = r.3.0 in
     let start : PartStart _ = record { reading = reading; from = from } in
-    let h = r.3.2 start [] (begins g.K.PartSink.led g.K.PartSink.stops reading _ c.args.writer.now c.new.ensures.has
-    c.new.ensures.decides c.new.ensures.fed (g.met.K.PartSink.led_nowhere from)) in (
+    let h = r.3.2 start [] (part_reader_begins g.K.PartSink.led reading c.args.sink _ c.args.writer.now
+    g.met.K.PartSink.led_nowhere c.new-parts.ensures) in (
       r.0,
       source_reading_parts reading bits,
       r.1,
       r.2,
       (bits, r.3.1, refl),
-      c.give_last.ensures start bits h.parts h.gathers,
+      c.finish.ensures start bits h,
     )
 
 pub returns-in-Err : goal.returns-in-Err
@@ -70,5 +58,5 @@ returns-in-Err g c =
     let text = g.R.Read.remaining c.args.reader.now in
     let left = g.R.Read.remaining c.read_text.new.reader in
     unread g.K.PartSink.led g.K.PartSink.stops (record { reading = reading; from = from }) c.in-Err.fault text left _
-    c.read_text.new.writer (begins g.K.PartSink.led g.K.PartSink.stops reading _ c.args.writer.now c.new.ensures.has
-    c.new.ensures.decides c.new.ensures.fed (g.met.K.PartSink.led_nowhere from)) c.in-Err.ensures
+    c.read_text.new.writer (part_reader_begins g.K.PartSink.led reading c.args.sink _ c.args.writer.now
+    g.met.K.PartSink.led_nowhere c.new-parts.ensures) c.in-Err.ensures

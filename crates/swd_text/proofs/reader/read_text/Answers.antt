@@ -1,29 +1,15 @@
-use Rattle.std.proofs.Common.{◌≡◌, ℕ, List, Bool, [], false, Option, Err, refl, sym, subst, arith}
+use Rattle.std.proofs.Common.{ℕ, List, Bool, [], Option, Err, sym, subst}
 use Rattle.swd_io.specs.Pieces.{ConsumerReads, LeadsConsumerOn, LeadsConsumerToEnd}
 use Rattle.swd_io.specs.declared.pieces.Unread.{Unread}
 use Rattle.swd_io.specs.declared.pieces.Unread.TheVariants.{Reader, Consumer}
-use Rattle.swd_bits.proofs.ScanLemmas.{scan_bits_no_byte, scan_bits_read_all}
+use Rattle.swd_bits.proofs.ScanLemmas.{scan_bits_read_all}
 use Rattle.swd_text.specs.Decoding.{decode_text_fault}
 use Rattle.swd_text.specs.Sinks.{TextHasFed, TextFeedEnds, TextGoesTo}
 use Rattle.swd_text.specs.declared.fault.TakeFault.{TakeFault}
 use Rattle.swd_text.specs.declared.fault.TakeFault.TheVariants.{Text, Write}
 use Rattle.swd_text.specs.declared.reader.TextReader.{TextReader}
+use Rattle.swd_text.proofs.SinkLemmas.{text_reader_begins}
 use Rattle.swd_text.proofs.reader.read_text.Goals as goal
-
--- a reader before its first byte
-begins : {S W : Type 0} (led : S × W → List Bool → S × W → Type 0) (fed : S → ℕ) (reader : TextReader S) (writer : W)
-    → led (reader.sink, writer) [] (reader.sink, writer) → reader.scan ≡ false → reader.place ≡ 0
-    → fed reader.sink ≡ 0 → TextHasFed led fed (reader.sink, writer) (reader, writer) []
-begins led fed reader writer none scan place count = record {
-  feeds = record {
-    bits = [];
-    reads = scan_bits_no_byte reader.scan scan;
-    goes = none;
-    count = count;
-    counted = omega arith;
-  };
-  place = omega arith;
-}
 
 unread : {S W : Type 0} (led : S × W → List Bool → S × W → Type 0) (fed : S → ℕ) (stops : S × W → ℕ → S × W → Type 0)
     (fault : Unread TakeFault) (text left : Option (List ℕ)) (start : S × W) (before after : TextReader S × W)
@@ -55,15 +41,15 @@ returns-in-Err g c =
     (unread g.S.BitSink.led g.S.BitSink.fed g.S.BitSink.stops c.in-Err.unread text left
     (c.args.sink, c.args.writer.now) _
     (c.read_pieces.new.consumer, c.read_pieces.new.writer)
-    (begins g.S.BitSink.led g.S.BitSink.fed _ c.args.writer.now (g.met.S.BitSink.led_nowhere _) c.new.ensures refl
-    c.requires.fresh) c.in-Err.ensures)
+    (text_reader_begins g.S.BitSink.led g.S.BitSink.fed c.args.sink _ c.args.writer.now g.met.S.BitSink.led_nowhere
+    c.new-text.ensures c.requires.fresh) c.in-Err.ensures)
 
 pub returns-in-Ok : goal.returns-in-Ok
 returns-in-Ok g c =
     let r = c.in-Ok.ensures in
     let feeds = (r.3 (c.args.sink, c.args.writer.now) []
-    (begins g.S.BitSink.led g.S.BitSink.fed _ c.args.writer.now (g.met.S.BitSink.led_nowhere _) c.new.ensures refl
-    c.requires.fresh)).feeds in (
+    (text_reader_begins g.S.BitSink.led g.S.BitSink.fed c.args.sink _ c.args.writer.now g.met.S.BitSink.led_nowhere
+    c.new-text.ensures c.requires.fresh)).feeds in (
       r.0,
       r.1,
       r.2,
@@ -73,6 +59,7 @@ returns-in-Ok g c =
           has = scan_bits_read_all r.0 feeds.bits c.read_pieces.new.consumer.scan feeds.reads;
           counted = feeds.counted;
         },
-        feeds.goes,
+        subst (λ s. g.S.BitSink.led (c.args.sink, c.args.writer.now) feeds.bits (s, c.read_pieces.new.writer))
+            (sym c.into_sink.ensures) feeds.goes,
       ),
     )

@@ -1,7 +1,7 @@
 use Rattle.std.proofs.Common.{◌≡◌, ◌∙◌, ◌++◌, List, [], Option, Some, None, ap, codes, map, subst, sym, unwrap_or}
 use Rattle.clap.specs.Words.{Text, all_of, found_of, rows_of}
 use Rattle.clap.proofs.WalkLemmas.{raw_values-rows}
-use Rattle.swd_words.specs.declared.command.PlainWords.{PlainWords}
+use Rattle.swd_command_line.specs.declared.command.PlainWords.{PlainWords}
 use Rattle.swd_words.specs.Commands.{ArePlainArguments}
 use Rattle.swd_words.proofs.check_words.plain_in.Goals as goal
 

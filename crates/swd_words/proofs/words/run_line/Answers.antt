@@ -21,7 +21,10 @@ returns c = record {
       ∙ first_value-rows (found_of c.args.matches.now) (codes "remote");
   report = c.in-Ok-owned-3.ensures ∙ c.get_str-5.ensures
       ∙ first_value-rows (found_of c.args.matches.now) (codes "report");
-  progress = subst (λ (word : Option Text). (c.is_asked_for-2.result ≡ true) ↔ (word ≡ Some (codes "true")))
-      (c.get_str-8.ensures ∙ first_value-rows (found_of c.args.matches.now) (codes "progress"))
+  check = subst (λ (word : Option Text). (c.is_asked_for-2.result ≡ true) ↔ (word ≡ Some (codes "true")))
+      (c.get_str-8.ensures ∙ first_value-rows (found_of c.args.matches.now) (codes "check"))
       c.is_asked_for-2.ensures;
+  progress = subst (λ (word : Option Text). (c.is_asked_for-3.result ≡ true) ↔ (word ≡ Some (codes "true")))
+      (c.get_str-9.ensures ∙ first_value-rows (found_of c.args.matches.now) (codes "progress"))
+      c.is_asked_for-3.ensures;
 }

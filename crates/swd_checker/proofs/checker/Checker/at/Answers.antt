@@ -5,7 +5,7 @@ pub returns-clause-holds : goal.returns-clause-holds
 returns-clause-holds c = λ s odd opened. record {
   unbroken = refl;
   odd = odd;
-  identified = c.unknown.ensures s.target.identification;
+  identified = c.unknown.ensures.may s.target.identification;
   opened = opened;
   in_gap = λ e. absurd (let f : false ≡ true = e in cc);
 }

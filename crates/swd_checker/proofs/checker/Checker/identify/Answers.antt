@@ -4,11 +4,14 @@ use Rattle.swd_checker.proofs.checker.Checker.identify.Goals as goal
 
 pub returns-then-narrow-clause-identifies : goal.returns-then-narrow-clause-identifies
 returns-then-narrow-clause-identifies c = record {
-  each = λ clean s t h odd known. ((c.narrow.ensures clean s t h odd known).1, refl);
+  each = λ clean s t h odd known. ((c.narrow.ensures.narrows clean s t h odd known).1, refl);
 }
 
 pub returns-clause-identifies : goal.returns-clause-identifies
 returns-clause-identifies c = record {
   each = λ clean s t h odd known.
-      not_narrowed c.narrow.result _ c.if-narrow.false (c.narrow.ensures clean s t h odd known).0;
+      not_narrowed c.narrow.result _ c.if-narrow.false (c.narrow.ensures.narrows clean s t h odd known).0;
 }
+
+pub returns-then-narrow-clause-narrows : goal.returns-then-narrow-clause-narrows
+returns-then-narrow-clause-narrows c = λ legal whole. (whole, c.narrow.ensures.exact c.if-narrow.true legal)

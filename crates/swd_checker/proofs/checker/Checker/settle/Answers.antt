@@ -1,5 +1,6 @@
 use Rattle.std.proofs.Common.{refl, sym, subst, ◌∙◌}
 use Rattle.swd_checker.specs.Openings.{OpeningHolds}
+use Rattle.swd_checker.proofs.FittingLemmas.{not_empty}
 use Rattle.swd_checker.proofs.StandingLemmas.{none_left}
 use Rattle.swd_checker.proofs.checker.Checker.settle.Goals as goal
 
@@ -22,3 +23,24 @@ returns-else-is_empty-clause-settles c = λ t over held. (
   subst (λ o. OpeningHolds o c.args.self.now.worlds t) (sym over) (c.if-self.false, held),
   refl,
 )
+
+pub returns-then-self-clause-left : goal.returns-then-self-clause-left
+returns-then-self-clause-left c = record {
+  stays = record {
+    crowded = λ e. absurd (c.crowd.ensures.crowded e);
+    broken = λ e. sym c.crowd.ensures.broken ∙ e;
+  };
+  left = λ room. absurd (c.crowd.ensures.crowded room);
+}
+
+pub returns-then-is_empty-clause-left : goal.returns-then-is_empty-clause-left
+returns-then-is_empty-clause-left c = record {
+  stays = record { crowded = λ e. e; broken = λ e. absurd (cc) };
+  left = λ room whole. absurd (cc);
+}
+
+pub returns-else-is_empty-clause-left : goal.returns-else-is_empty-clause-left
+returns-else-is_empty-clause-left c = record {
+  stays = record { crowded = λ e. e; broken = λ e. e };
+  left = λ room whole. (refl, refl, not_empty _ _ c.is_empty.ensures c.if-is_empty.false, refl);
+}

@@ -1,4 +1,7 @@
-use Rattle.std.proofs.Common.{sym, subst, ◌∙◌}
+use Rattle.std.proofs.Common.{◌<◌, length, sym, subst, ◌∙◌}
+use Rattle.swd_checker.specs.declared.worlds.Worlds.{Worlds}
+use Rattle.swd_checker.specs.Reaching.{WorldsReach, AreKeptSound}
+use Rattle.swd_checker.proofs.KeptLemmas.{none_reached}
 use Rattle.swd_checker.specs.Holding.{AnyKeptHolds}
 use Rattle.swd_checker.specs.Openings.{OpeningHolds}
 use Rattle.swd_checker.proofs.checker.Checker.step_few.Goals as goal
@@ -11,6 +14,23 @@ pub returns-clause-checks : goal.returns-clause-checks
 returns-clause-checks g c = λ over. record {
   each = λ s t x opened.
       let held = subst (λ o. OpeningHolds o c.args.self.now.worlds s) over opened in
-      c.settle.ensures.settles t over (c.step_each.ensures s t x (subst (λ items. AnyKeptHolds items s)
+      c.settle.ensures.settles t over (c.step_each.ensures.steps s t x (subst (λ items. AnyKeptHolds items s)
       (sym (c.as_slice-2.ensures.value ∙ c.copy_of-before.ensures ∙ c.as_slice.ensures.value)) (held.1.held held.0)));
 }
+
+pub returns-clause-steps : goal.returns-clause-steps
+returns-clause-steps g c =
+    let k = c.settle.ensures.left in
+    let same = c.as_slice-2.ensures.value ∙ c.copy_of-before.ensures ∙ c.as_slice.ensures.value in
+    record {
+      stays = record { crowded = λ e. k.stays.crowded e; broken = λ e. k.stays.broken e };
+      over = λ over room whole.
+          let left = k.left room whole in (
+            left.0 ∙ over,
+            subst (λ (v : Worlds). 0 < length v.kept.items) (sym left.1) left.2,
+            λ link from steps sound. subst (WorldsReach link) (sym left.1) (c.step_each.ensures.reaches link
+                (from ∙ sym same) steps (subst AreKeptSound (sym same) sound)
+                (none_reached link c.empty.new.self c.empty.ensures.empty)),
+            left.3,
+          );
+    }

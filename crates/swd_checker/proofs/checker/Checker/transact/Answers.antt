@@ -1,11 +1,33 @@
 use Rattle.std.proofs.Common.{subst}
 use Rattle.swd_checker.specs.Standing.{CheckerKeeps, CheckerChecks}
+use Rattle.swd_checker.specs.Fitting.{CheckerSteps, CheckerOpens}
+use Rattle.swd_checker.proofs.FittingLemmas.{follows_transaction}
 use Rattle.swd_checker.proofs.StandingLemmas.{watches_transaction}
+use Rattle.swd_checker.proofs.BeginsLemmas.{begins_transaction}
 use Rattle.swd_checker.proofs.checker.Checker.transact.Goals as goal
 
-pub returns : goal.returns
-returns c = λ gap. watches_transaction c.args.self.now c.check.new.self c.identify.new.self c.args.tx.now gap
+pub returns-clause-watches : goal.returns-clause-watches
+returns-clause-watches c = λ gap. watches_transaction c.args.self.now c.check.new.self c.identify.new.self c.args.tx.now
+    gap
     (subst (λ n. CheckerKeeps (record c.args.self.now { stray = n }) c.check.new.self) c.stray_after-self.ensures
     c.check.ensures.keeps)
     (subst (λ n. CheckerChecks c.args.tx.now (record c.args.self.now { stray = n }) c.check.new.self)
     c.stray_after-self.ensures c.check.ensures.checks) c.identify.ensures.identifies c.identify.ensures.keeps
+
+pub returns-clause-follows : goal.returns-clause-follows
+returns-clause-follows c = λ outside. follows_transaction c.args.self.now c.check.new.self c.identify.new.self
+    c.args.tx.now outside
+    (subst (λ n. CheckerKeeps (record c.args.self.now { stray = n }) c.check.new.self) c.stray_after-self.ensures
+    c.check.ensures.keeps)
+    (subst (λ n. CheckerSteps c.args.tx.now (record c.args.self.now { stray = n }) c.check.new.self)
+    c.stray_after-self.ensures c.check.ensures.steps) c.identify.ensures.crowded c.identify.ensures.narrows
+    c.identify.ensures.keeps
+
+pub returns-clause-begins : goal.returns-clause-begins
+returns-clause-begins c = λ outside. begins_transaction c.args.self.now c.check.new.self c.identify.new.self
+    c.args.tx.now c.args.place outside
+    (subst (λ n. CheckerKeeps (record c.args.self.now { stray = n }) c.check.new.self) c.stray_after-self.ensures
+    c.check.ensures.keeps)
+    (subst (λ n. CheckerOpens c.args.tx.now c.args.place (record c.args.self.now { stray = n }) c.check.new.self)
+    c.stray_after-self.ensures c.check.ensures.opens) c.identify.ensures.crowded c.identify.ensures.narrows
+    c.identify.ensures.unbroken c.identify.ensures.began c.identify.ensures.keeps

@@ -1,4 +1,4 @@
 use Rattle.swd_checker.proofs.identification.Identification.unknown.Goals as goal
 
-pub returns : goal.returns
-returns c = λ n. tt
+pub returns-clause-may : goal.returns-clause-may
+returns-clause-may c = λ n. tt

@@ -20,3 +20,12 @@ returns-clause-adds c = λ debug system increments x other rest h. power_of_thre
     (c.add_any_system-2.ensures.keeps.each _ _ (c.add_any_system.ensures.adds system increments x rest k)))
     (λ k. c.add_any_system-3.ensures.keeps.each _ _ (c.add_any_system-2.ensures.adds system increments x rest k))
     (λ k. c.add_any_system-3.ensures.adds system increments x rest k) debug other h
+
+pub returns-clause-sound : goal.returns-clause-sound
+returns-clause-sound c = λ all world.
+    let first = c.add_any_system.ensures.sound all
+    (record { tar = world.tar; buffer = world.buffer; last_returned = world.last_returned }) in
+    let second = c.add_any_system-2.ensures.sound first
+    (record { tar = world.tar; buffer = world.buffer; last_returned = world.last_returned }) in
+    c.add_any_system-3.ensures.sound second
+    (record { tar = world.tar; buffer = world.buffer; last_returned = world.last_returned })

@@ -20,3 +20,12 @@ returns-clause-adds c = λ system increments x other h. power_of_three
     (c.add_any_increment-2.ensures.keeps.each _ _ (c.add_any_increment.ensures.adds increments x k)))
     (λ k. c.add_any_increment-3.ensures.keeps.each _ _ (c.add_any_increment-2.ensures.adds increments x k))
     (λ k. c.add_any_increment-3.ensures.adds increments x k) system other h
+
+pub returns-clause-sound : goal.returns-clause-sound
+returns-clause-sound c = λ all world.
+    let first = c.add_any_increment.ensures.sound all
+    (record { tar = world.tar; buffer = world.buffer; last_returned = world.last_returned }) in
+    let second = c.add_any_increment-2.ensures.sound first
+    (record { tar = world.tar; buffer = world.buffer; last_returned = world.last_returned }) in
+    c.add_any_increment-3.ensures.sound second
+    (record { tar = world.tar; buffer = world.buffer; last_returned = world.last_returned })

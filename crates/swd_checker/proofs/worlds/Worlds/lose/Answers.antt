@@ -13,3 +13,7 @@ returns-then-not-asked-clause-loses c = λ s t is lost d. loses_any c.args.asked
 pub returns-else-not-asked-clause-loses : goal.returns-else-not-asked-clause-loses
 returns-else-not-asked-clause-loses c = λ s t is lost d. loses_never c.args.asked c.args.self.now c.args.seen
     c.if-not-asked.false (c.is_quiet.ensures.other c.if-is_quiet.false) s t is lost d
+
+pub returns-then-is_quiet-clause-reaches : goal.returns-then-is_quiet-clause-reaches
+returns-then-is_quiet-clause-reaches c = λ link old is h. c.add.ensures.reaches link old
+    (h.quiet (c.is_quiet.ensures.quiet c.if-is_quiet.true) (c.is_quiet.ensures.undriven c.if-is_quiet.true))

@@ -6,3 +6,6 @@ returns-clause-keeps c = worlds_keep_then _ _ _ c.add.ensures.keeps c.add-2.ensu
 
 pub returns-clause-word : goal.returns-clause-word
 returns-clause-word c = λ x d. c.add-2.ensures.keeps.each _ _ (c.add.ensures.adds x d)
+
+pub returns-clause-reaches : goal.returns-clause-reaches
+returns-clause-reaches c = λ link old a b. c.add-2.ensures.reaches link (c.add.ensures.reaches link old a) b

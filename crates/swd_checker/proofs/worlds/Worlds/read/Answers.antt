@@ -14,3 +14,11 @@ returns-in-ResendRead-clause-reads c = λ chosen x accepts prompt near.
 
 pub returns-in_default-clause-reads : goal.returns-in_default-clause-reads
 returns-in_default-clause-reads c = c.read_other.ensures.reads c.args.parity_ok c.in_default.not-CtrlStatRead
+
+pub returns-in-CtrlStatRead-clause-reaches : goal.returns-in-CtrlStatRead-clause-reaches
+returns-in-CtrlStatRead-clause-reaches c = λ link old sound h. c.read_status.ensures.reaches link old sound (h.status
+    c.in-CtrlStatRead.is)
+
+pub returns-in-ResendRead-clause-reaches : goal.returns-in-ResendRead-clause-reaches
+returns-in-ResendRead-clause-reaches c = λ link old sound h. c.resend.ensures.reaches link old sound (h.resend
+    c.in-ResendRead.is)

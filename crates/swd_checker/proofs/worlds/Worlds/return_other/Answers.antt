@@ -9,3 +9,7 @@ returns-then-is_posted-clause-returns c = λ other status. return_posted c.post.
 pub returns-else-is_posted-clause-returns : goal.returns-else-is_posted-clause-returns
 returns-else-is_posted-clause-returns c = λ other status. return_plain c.add.new.self c.args.now.world
     c.args.now.register c.add.ensures.adds (sym c.is_posted.ensures ∙ c.if-is_posted.false) other status
+
+pub returns-else-is_posted-clause-reaches : goal.returns-else-is_posted-clause-reaches
+returns-else-is_posted-clause-reaches c = λ link old other status h. c.add.ensures.reaches link old
+    (h.other (sym c.is_posted.ensures ∙ c.if-is_posted.false) other status)

@@ -1,7 +1,9 @@
-use Rattle.std.proofs.Common.{subst}
+use Rattle.std.proofs.Common.{subst, sym}
 use Rattle.swd_checker.specs.declared.step.Asked.{Asked}
 use Rattle.swd_checker.specs.Checked.{CheckedTransacts}
 use Rattle.swd_checker.proofs.TransactLemmas.{step_faults, step_waits}
+use Rattle.swd_checker.specs.Reached.{WorldsRefuse, WorldsDefer, WorldsMove, WorldsLoseSeen}
+use Rattle.swd_checker.proofs.LinkLemmas.{link_refuses, link_defers, link_moves, link_loses}
 use Rattle.swd_checker.proofs.worlds.Worlds.step.Goals as goal
 
 pub returns-in-Fault-clause-steps : goal.returns-in-Fault-clause-steps
@@ -35,3 +37,38 @@ returns-in-Moved-clause-steps c = λ s t h d. c.moves.ensures.moves s t (record 
 pub returns-in-NoAck-clause-steps : goal.returns-in-NoAck-clause-steps
 returns-in-NoAck-clause-steps c = λ s t h d. c.lose.ensures.loses s t (record { register = c.register.ensures })
     (subst (λ e. CheckedTransacts c.args.clean e c.args.tx.now.request s t) c.in-NoAck.is h) d
+
+pub returns-in-Fault-clause-reaches : goal.returns-in-Fault-clause-reaches
+returns-in-Fault-clause-reaches c = λ link old steps has. c.refuse.ensures.reaches link old (record {
+  register =
+      c.register.ensures;
+})
+    (subst (λ r. WorldsRefuse link c.args.world c.args.tx.now.request r) (sym c.register.ensures)
+    (link_refuses link c.args.world c.args.clean c.args.tx.now steps has c.in-Fault.is))
+
+pub returns-in-Wait-clause-reaches : goal.returns-in-Wait-clause-reaches
+returns-in-Wait-clause-reaches c = λ link old steps has. c.defer.ensures.reaches link old (record {
+  register =
+      c.register.ensures;
+})
+    (subst (λ r. WorldsDefer link c.args.world c.args.tx.now.request r) (sym c.register.ensures)
+    (link_defers link c.args.world c.args.clean c.args.tx.now steps has c.in-Wait.is))
+
+pub returns-in-Moved-clause-reaches : goal.returns-in-Moved-clause-reaches
+returns-in-Moved-clause-reaches c = λ link old steps has. c.moves.ensures.reaches link old (record {
+  register =
+      c.register.ensures;
+})
+    (subst (λ r. WorldsMove link c.args.world c.args.tx.now.request r c.args.clean c.in-Moved.word c.in-Moved.parity_ok)
+    (sym c.register.ensures)
+    (link_moves link c.args.world c.args.clean c.args.tx.now c.in-Moved.word c.in-Moved.parity_ok steps has
+    c.in-Moved.is))
+
+pub returns-in-NoAck-clause-reaches : goal.returns-in-NoAck-clause-reaches
+returns-in-NoAck-clause-reaches c = λ link old steps has. c.lose.ensures.reaches link old (record {
+  register =
+      c.register.ensures;
+})
+    (subst (λ r. WorldsLoseSeen link c.args.world c.args.tx.now.request r c.args.clean c.in-NoAck.seen) (sym
+    c.register.ensures)
+    (link_loses link c.args.world c.args.clean c.args.tx.now c.in-NoAck.seen steps has c.in-NoAck.is))

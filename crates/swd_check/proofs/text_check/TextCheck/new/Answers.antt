@@ -1,0 +1,7 @@
+use Rattle.std.proofs.Common.{refl}
+use Rattle.swd_check.proofs.TextCheckLemmas.{checked_text_begins}
+use Rattle.swd_check.proofs.text_check.TextCheck.new.Goals as goal
+
+pub returns : goal.returns
+returns g c =
+    checked_text_begins _ c.new-first.result c.new-2.result refl c.new-check.ensures c.new-first.ensures c.new-2.ensures

@@ -1,0 +1,9 @@
+//! The command line of `swd` as types: each command with its arguments.
+#![tactic(auto)]
+
+mod command;
+
+pub use command::{
+    CheckLine, CommandLine, ConformLine, DecodeLine, DrawLine, ImageAction, ImageLine, InfoLine,
+    MemoryLine, PlainWords, RunLine, ScriptLine, ServedMemory, TargetLine,
+};

@@ -1,0 +1,207 @@
+//! `swd conform`: sends the requests of a conformance run to a port, and writes the verdict on what came.
+ghost use Rattle.std.specs.Prelude.{◌≡◌, ◌⊎◌, Ok};
+ghost use Rattle.swd_commands.specs.Conversions.{command_status_of_check as status_of};
+
+use crate::check::{checked_status, plain_memory};
+use crate::program::SHOWN;
+use std::alloc::{Allocator, Global};
+use std::io::{Read, Write};
+use swd_check::{Check, CheckOptions, Checked};
+use swd_checker::CheckStart;
+use swd_command_line::ConformLine;
+use swd_conform::{ConformRun, Conformed, LEAST_WORDS, Plan, Without};
+use swd_console::{
+    Clock, Console, FAULT, Files, KeepsError, STOPPED, Stream, Untold, Watched, cannot_open_line,
+    gone_status, line_ends, line_streams, named_file_of, status_after, tell, tell_failure_or,
+};
+use swd_remote::{RemoteStreams, over_line};
+
+/// Carries out `swd conform`, over the files that lead to its target, or over the standard streams. The verdict goes to
+/// standard output; where that is the target's, it goes to standard error.
+pub(crate) fn carry_out_conform<
+    I: Read + KeepsError,
+    O: Write + KeepsError,
+    F: Files,
+    C: Clock,
+    E: Write,
+>(
+    conform: &ConformLine,
+    input: &mut I,
+    output: &mut O,
+    console: &mut Console<'_, Global, F, C, E>,
+) -> u8 {
+    let run = match begun(conform, console) {
+        Ok(run) => run,
+        Err(status) => return status,
+    };
+    match named_file_of(conform.remote.as_str()) {
+        Some(files) => {
+            let status = conform_over(conform, run, files, output, console);
+            status_after(output.kept_error(), status)
+        }
+        None => {
+            if console.files.shows_output() {
+                return tell(console.errors, SHOWN);
+            }
+            let status = conform_here(conform, run, input, &mut *output, console);
+            status_after(output.kept_error(), status)
+        }
+    }
+}
+
+// Returns a run for the memory of the arguments, and prints that the memory is overwritten. At an error it prints a
+// line and returns the status 2.
+fn begun<A: Allocator + Copy, F, C, E: Write>(
+    conform: &ConformLine,
+    console: &mut Console<'_, A, F, C, E>,
+) -> Result<ConformRun<A>, u8> {
+    let (base, words) = (conform.plain.base, conform.plain.words);
+    let Some(plan) = Plan::new(base, words, conform.hole) else {
+        let _ = writeln!(
+            console.errors,
+            "swd: --plain has to name at least {LEAST_WORDS} words of memory"
+        );
+        return Err(FAULT);
+    };
+    let Ok(plain) = plain_memory(console.alloc, &[conform.plain]) else {
+        return Err(tell(console.errors, "no memory"));
+    };
+    let options = CheckOptions {
+        start: CheckStart::Made,
+        clean: conform.clean,
+        exact_registers: false,
+        overrun: false,
+    };
+    let _ = writeln!(
+        console.errors,
+        "swd: overwrites {words} words from {base:08x} on"
+    );
+    Ok(ConformRun::new(plan, Check::new(options, plain)))
+}
+
+// Performs a run at the target to which these files lead. The verdict goes to `output`.
+fn conform_over<O: Write + KeepsError, F: Files, C, E: Write>(
+    conform: &ConformLine,
+    run: ConformRun<Global>,
+    files: &str,
+    output: &mut O,
+    console: &mut Console<'_, Global, F, C, E>,
+) -> u8 {
+    let (from, to) = line_ends(files);
+    let sender = match console.files.open_line_in(from) {
+        Ok(opened) => Watched::line(opened.file),
+        Err(why) => return cannot_open_line(console.errors, from, &why),
+    };
+    let receiver = match console.files.open_line_out(to) {
+        Ok(opened) => Watched::line(opened.file),
+        Err(why) => return cannot_open_line(console.errors, to, &why),
+    };
+    let (conformed, line) = perform(run, sender, receiver);
+    if let Some(status) = lost_status(&conformed, &line, console) {
+        return status;
+    }
+    tell_run(conform, &conformed, console.errors);
+    if writeln!(output, "{}", conformed.checked.line().as_str()).is_err() {
+        let streams = [Stream::output(output)];
+        return tell_failure_or(console.errors, streams.as_slice(), "write failed");
+    }
+    conformed_status(&conformed)
+}
+
+// Performs a run at the target behind the standard streams. The verdict goes to standard error.
+fn conform_here<I: Read + KeepsError, O: Write + KeepsError, F, C, E: Write>(
+    conform: &ConformLine,
+    run: ConformRun<Global>,
+    input: &mut I,
+    output: &mut O,
+    console: &mut Console<'_, Global, F, C, E>,
+) -> u8 {
+    let (conformed, line) = perform(run, input, output);
+    if let Some(status) = lost_status(&conformed, &line, console) {
+        return status;
+    }
+    tell_run(conform, &conformed, console.errors);
+    let _ = writeln!(console.errors, "{}", conformed.checked.line().as_str());
+    conformed_status(&conformed)
+}
+
+// Performs a run over these streams.
+fn perform<I: Read + Drop, O: Write + Drop>(
+    run: ConformRun<Global>,
+    input: I,
+    output: O,
+) -> (Conformed, RemoteStreams<I, O>) {
+    let mut run = run;
+    over_line::<Untold, _, _, _>(&mut run, input, output)
+}
+
+// Prints why the other end is gone, if it is, and how far the run came. Returns the status 2 then.
+fn lost_status<A, I: KeepsError, O: KeepsError, F, C, E: Write>(
+    conformed: &Conformed,
+    line: &RemoteStreams<I, O>,
+    console: &mut Console<'_, A, F, C, E>,
+) -> Option<u8> {
+    let fault = line.fault?;
+    tell_sent(conformed, console.errors);
+    let _ = gone_status(console.errors, fault, line_streams(line).as_slice());
+    Some(FAULT)
+}
+
+// Prints how many requests and clocks were sent.
+fn tell_sent<E: Write>(conformed: &Conformed, errors: &mut E) {
+    let (requests, clocks) = (conformed.requests, conformed.clocks);
+    let _ = writeln!(errors, "swd: {requests} requests, {clocks} clocks");
+}
+
+// Prints how many requests and clocks were sent, and what the run couldn't reach.
+fn tell_run<E: Write>(conform: &ConformLine, conformed: &Conformed, errors: &mut E) {
+    tell_sent(conformed, errors);
+    if !conformed.waited {
+        let _ = writeln!(
+            errors,
+            "swd: not reached: WAIT, which the port never answered"
+        );
+    }
+    if !has_faults(&conformed.checked) {
+        let _ = writeln!(errors, "swd: not reached: damage and loss on the line");
+    }
+    if conformed.unrefused {
+        let _ = writeln!(errors, "swd: a transfer at HOLE was no bus error");
+    }
+    let plan = Plan::new(conform.plain.base, conform.plain.words, conform.hole);
+    if let Some(plan) = plan {
+        tell_without(plan.without(), errors);
+    }
+}
+
+// Returns whether requests were damaged or lost.
+fn has_faults(checked: &Checked) -> bool {
+    match checked {
+        Checked::Fits { faults, .. } => *faults > 0,
+        _ => false,
+    }
+}
+
+// Returns the status of a run whose other end stayed: that of the verdict, but 1 where a transfer at HOLE was no bus
+// error.
+fn conformed_status(conformed: &Conformed) -> u8
+    ensures { (result ≡ status_of (Ok conformed.now.checked)) ⊎ (result ≡ 1) }
+{
+    if conformed.unrefused && matches!(conformed.checked, Checked::Fits { .. }) {
+        return STOPPED;
+    }
+    checked_status(&conformed.checked)
+}
+
+// Prints what the plan leaves out.
+fn tell_without<E: Write>(without: Without, errors: &mut E) {
+    if without.errors {
+        let _ = writeln!(errors, "swd: not reached: bus errors, without --hole");
+    }
+    if without.page {
+        let _ = writeln!(errors, "swd: not reached: TAR at an end of 256 bytes");
+    }
+    if without.kilobyte {
+        let _ = writeln!(errors, "swd: not reached: TAR at an end of a kilobyte");
+    }
+}

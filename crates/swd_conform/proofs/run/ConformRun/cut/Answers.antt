@@ -1,0 +1,11 @@
+use Rattle.std.proofs.Common.{arith}
+use Rattle.swd_conform.proofs.RunLemmas.{conform_makes_trans}
+use Rattle.swd_conform.proofs.run.ConformRun.cut.Goals as goal
+
+pub returns-then-has_write : goal.returns-then-has_write
+returns-then-has_write g c =
+    conform_makes_trans g.W.Wire.notes 1 1 0 _ _ _ _ _ _ (omega arith) c.request.ensures c.reset.ensures.makes
+
+pub returns : goal.returns
+returns g c =
+    conform_makes_trans g.W.Wire.notes 1 1 0 _ _ _ _ _ _ (omega arith) c.request.ensures c.complete.ensures

@@ -1,0 +1,17 @@
+//! A conformance run: a fixed plan of raw requests that reach each rule of the port model, sent over any wire, and
+//! what a check says of the items that were sent and seen.
+//!
+//! `Plan` is the list of steps, which sends and reads nothing. `conform` sends them.
+#![tactic(auto)]
+
+mod groups;
+mod items;
+mod line;
+mod over_wire;
+mod plan;
+mod rounds;
+mod run;
+
+pub use over_wire::conform;
+pub use plan::{LEAST_WORDS, MOST_STEPS, Plan, Step, Without};
+pub use run::{ConformRun, Conformed, REQUESTS_PER_STEP};

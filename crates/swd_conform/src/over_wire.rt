@@ -1,0 +1,64 @@
+//! A conformance run over a wire, and as a job over a line.
+ghost use Rattle.std.specs.Prelude.{◌≡◌, ◌*◌, ◌<◌, ◌≤◌, true};
+ghost use Rattle.swd_port.specs.Outside.{wire_calls};
+ghost use Rattle.swd_port.specs.declared.wire.Due.TheVariants.{Nothing};
+ghost use Rattle.swd_host.specs.Sent.{HostCalls};
+ghost use Rattle.swd_conform.specs.Plans.{conform_steps_left};
+ghost use Rattle.swd_conform.specs.Runs.{ConformCame, ConformGoes, ConformReports, conform_run_left};
+
+use crate::plan::Plan;
+use crate::run::{ConformRun, Conformed, REQUESTS_PER_STEP};
+use std::alloc::Allocator;
+use swd_check::Check;
+use swd_port::{Story, Tied, Transport, TransportWire, Wire};
+use swd_remote::LineJob;
+
+/// Sends the steps of a plan to the target of a wire, up to the first item that breaks a rule. Returns what the check
+/// says of the items that were sent and seen, in the words of [`Check::checked`]. A target in its reset state is what
+/// `CheckStart::Made` is for.
+///
+/// It makes at most [`REQUESTS_PER_STEP`] requests for each step.
+pub fn conform<W: Wire, A: Allocator + Copy>(wire: &mut W, plan: Plan, check: Check<A>) -> Conformed
+    requires { (W.port wire.old).link.due ≡ Nothing }
+    ensures reports { HostCalls W.notes (ConformReports check result) wire.old wire.new }
+    ensures bound { result.requests ≤ REQUESTS_PER_STEP * conform_steps_left plan }
+{
+    let mut run = ConformRun::new(plan, check);
+    'steps: loop {
+        if !run.turn(wire) {
+            return run.conformed();
+        }
+    }
+}
+
+// Over a line whose other end is gone nothing more is sent.
+impl<A: Allocator + Copy> LineJob for ConformRun<A> {
+    type Answer = Conformed;
+
+    ghost came = { λ story old new answer calls. ConformCame old answer calls };
+
+    fn perform<T: Transport, S: Story>(
+        &mut self,
+        wire: &mut TransportWire<T, S, Tied>,
+    ) -> Conformed {
+        'steps: loop {
+            if !turn_unless_gone(self, wire) {
+                return self.conformed();
+            }
+        }
+    }
+}
+
+// Sends the next step, unless the other end is gone. Returns whether another step follows.
+fn turn_unless_gone<T: Transport, S: Story, A: Allocator + Copy>(
+    run: &mut ConformRun<A>,
+    wire: &mut TransportWire<T, S, Tied>,
+) -> bool
+    ensures goes { ConformGoes (λ calls w. wire_calls w ≡ calls) wire.old run.old wire.new run.new }
+    ensures falls { result ≡ true → conform_run_left run.new < conform_run_left run.old }
+{
+    if wire.is_gone() {
+        return false;
+    }
+    run.turn(wire)
+}

@@ -1,0 +1,278 @@
+//! The plan: a list of steps, made from the tables of groups.
+ghost use Rattle.std.specs.Prelude.{◌≡◌, ◌+◌, ◌≤◌, IfNone, IfSome};
+
+use crate::groups::GROUPS;
+use crate::line::{Group, Line, Needs, Send, Word};
+use swd_bits::Request;
+
+/// The least number of words of memory that a plan is made for.
+pub const LEAST_WORDS: u32 = 80;
+
+/// The most steps of a plan.
+pub const MOST_STEPS: u32 = 2000;
+
+// How many bytes, from the first word that a plan uses on, are in one kilobyte.
+const SPAN: u32 = 64;
+
+// Where the pseudo-random words begin.
+const SEED: u32 = 0x2545_f491;
+
+/// A step of a conformance run.
+#[derive(Clone, Copy, Debug, PartialEq, Eq)]
+pub enum Step {
+    /// Sends a request until it doesn't get WAIT. A write has this word, and wrong parity if `damaged`. On a lost line,
+    /// a line reset and a read of DPIDR come before it.
+    Ask {
+        request: Request,
+        word: u32,
+        damaged: bool,
+    },
+    /// Sends a request once. A write has the word 0. On a lost line, a line reset comes before it.
+    Once(Request),
+    /// Sends a read until it doesn't get WAIT. The transfer before it was at the address without memory, so it has to
+    /// get FAULT.
+    Refused(Request),
+    /// Sends a write once, with a line reset in place of its data phase.
+    Cut(Request),
+    /// Sends a line reset.
+    Reset,
+}
+
+/// What a plan leaves out, since its memory and its addresses don't allow it.
+#[derive(Clone, Copy, Debug, PartialEq, Eq)]
+pub struct Without {
+    /// Bus errors: no address without memory is known.
+    pub errors: bool,
+    /// An end of 256 bytes: none but one of a kilobyte is in the memory.
+    pub page: bool,
+    /// An end of a kilobyte: none is in the memory.
+    pub kilobyte: bool,
+}
+
+/// The steps of a conformance run, in order, for a target in its reset state. It sends and reads nothing.
+///
+/// A target that conforms to the port model makes no transfer at another address than that of one of the words that
+/// the plan was made for, or the one without memory.
+#[derive(Clone, Copy)]
+pub struct Plan {
+    groups: &'static [Group],
+    outer: &'static [Send],
+    inner: &'static [Send],
+    lines: &'static [Line],
+    memory: u32,
+    page: Option<u32>,
+    kilobyte: Option<u32>,
+    hole: Option<u32>,
+    fresh: u32,
+    pub(crate) left: u32,
+    ghost few: { left ≤ 2000 },
+}
+
+impl Plan {
+    ghost use Rattle.swd_conform.specs.Plans.{conform_steps_left};
+
+    /// Returns a plan for this many words of memory from `base` on, a multiple of 4, and an address without memory. The
+    /// words are at least [`LEAST_WORDS`], and none is past `ffffffff`; otherwise it returns `None`.
+    pub fn new(base: u32, words: u32, hole: Option<u32>) -> Option<Plan>
+        ensures { IfSome result (λ plan. conform_steps_left plan ≡ MOST_STEPS) }
+    {
+        let end = u64::from(base) + 4 * u64::from(words);
+        if base % 4 != 0 || words < LEAST_WORDS || end > 1 << 32 {
+            return None;
+        }
+        let mut plan = Plan {
+            groups: &GROUPS,
+            outer: &[],
+            inner: &[],
+            lines: &[],
+            memory: first_of(base),
+            page: page_in(base, end),
+            kilobyte: within(last_of_kilobyte(base), end),
+            hole,
+            fresh: SEED,
+            left: MOST_STEPS,
+        };
+        plan.enter();
+        Some(plan)
+    }
+
+    /// Returns what the plan leaves out.
+    pub fn without(&self) -> Without {
+        Without {
+            errors: self.hole.is_none(),
+            page: self.page.is_none(),
+            kilobyte: self.kilobyte.is_none(),
+        }
+    }
+
+    /// Returns the next step, or `None` after the last one.
+    pub fn next(&mut self) -> Option<Step>
+        ensures some { IfSome result (λ _. conform_steps_left self.new + 1 ≡ conform_steps_left self.old) }
+        ensures none { IfNone result (conform_steps_left self.new ≡ conform_steps_left self.old) }
+    {
+        let line = *self.lines.first()?;
+        let send = self.send_of(line)?;
+        let left = self.left.checked_sub(1)?;
+        let step = self.step_of(send);
+        self.left = left;
+        self.advance();
+        Some(step)
+    }
+
+    // Returns what a line sends in this round.
+    fn send_of(&self, line: Line) -> Option<Send> {
+        match line {
+            Line::The(send) => Some(send),
+            Line::Outer => self.outer.first().copied(),
+            Line::Inner => self.inner.first().copied(),
+        }
+    }
+
+    // Returns the step that sends this.
+    fn step_of(&mut self, send: Send) -> Step
+        ensures { conform_steps_left self.new ≡ conform_steps_left self.old }
+    {
+        match send {
+            Send::Read(request) => Step::Ask {
+                request,
+                word: 0,
+                damaged: false,
+            },
+            Send::Write(request, word) => Step::Ask {
+                request,
+                word: self.number_of(word),
+                damaged: false,
+            },
+            Send::Damaged(request, word) => Step::Ask {
+                request,
+                word: self.number_of(word),
+                damaged: true,
+            },
+            Send::Once(request) => Step::Once(request),
+            Send::Refused(request) => Step::Refused(request),
+            Send::Cut(request) => Step::Cut(request),
+            Send::Reset => Step::Reset,
+        }
+    }
+
+    // Returns a word of a write.
+    fn number_of(&mut self, word: Word) -> u32
+        ensures { conform_steps_left self.new ≡ conform_steps_left self.old }
+    {
+        match word {
+            Word::Is(word) => word,
+            Word::Memory(behind) => self.memory.wrapping_add(behind),
+            Word::Page(behind) => self.page.unwrap_or(self.memory).wrapping_add(behind),
+            Word::Kilobyte(behind) => self.kilobyte.unwrap_or(self.memory).wrapping_add(behind),
+            Word::Hole => self.hole.unwrap_or(self.memory),
+            Word::Fresh => {
+                self.fresh = self
+                    .fresh
+                    .wrapping_mul(1_664_525)
+                    .wrapping_add(1_013_904_223);
+                self.fresh
+            }
+        }
+    }
+
+    // Moves on to the next line.
+    fn advance(&mut self)
+        ensures { conform_steps_left self.new ≡ conform_steps_left self.old }
+    {
+        self.lines = behind_first(self.lines);
+        if self.lines.is_empty() {
+            self.turn();
+        }
+    }
+
+    // Begins the next round of the group, or the next group.
+    fn turn(&mut self)
+        ensures { conform_steps_left self.new ≡ conform_steps_left self.old }
+    {
+        let Some(group) = self.groups.first() else {
+            return;
+        };
+        self.lines = group.lines;
+        self.inner = behind_first(self.inner);
+        if !self.inner.is_empty() {
+            return;
+        }
+        self.inner = group.inner;
+        self.outer = behind_first(self.outer);
+        if self.outer.is_empty() {
+            self.groups = behind_first(self.groups);
+            self.enter();
+        }
+    }
+
+    // Begins the first of the groups that can be sent.
+    fn enter(&mut self)
+        ensures { conform_steps_left self.new ≡ conform_steps_left self.old }
+    {
+        let groups = self.groups;
+        for (index, group) in groups.iter().enumerate() {
+            if self.has(group.needs) {
+                self.groups = &groups[index..];
+                self.outer = group.outer;
+                self.inner = group.inner;
+                self.lines = group.lines;
+                return;
+            }
+        }
+        self.groups = &[];
+        self.lines = &[];
+    }
+
+    // Returns whether what a group needs is there.
+    fn has(&self, needs: Needs) -> bool {
+        match needs {
+            Needs::Nothing => true,
+            Needs::Page => self.page.is_some(),
+            Needs::Kilobyte => self.kilobyte.is_some(),
+            Needs::Hole => self.hole.is_some(),
+        }
+    }
+}
+
+// Returns the items behind the first one.
+fn behind_first<T>(items: &'static [T]) -> &'static [T] {
+    match items {
+        [_, rest @ ..] => rest,
+        [] => items,
+    }
+}
+
+// Returns the address of the first word, from `base` on, that begins `SPAN` bytes of one kilobyte: `base`, or the next
+// kilobyte's first word.
+fn first_of(base: u32) -> u32 {
+    if base % 1024 + SPAN <= 1024 {
+        base
+    } else {
+        last_of_kilobyte(base).wrapping_add(4)
+    }
+}
+
+// Returns the address of the last word of the kilobyte of this address.
+fn last_of_kilobyte(addr: u32) -> u32 {
+    (addr | 0x3ff) & 0xffff_fffc
+}
+
+// Returns the address of a word, if it and the next one are below `end`.
+fn within(word: u32, end: u64) -> Option<u32> {
+    if u64::from(word) + 8 <= end {
+        Some(word)
+    } else {
+        None
+    }
+}
+
+// Returns the address of the last word of 256 bytes which isn't the last of a kilobyte, from `base` on, if it and the
+// next word are below `end`.
+fn page_in(base: u32, end: u64) -> Option<u32> {
+    let last = (base | 0xff) & 0xffff_fffc;
+    if last == last_of_kilobyte(base) {
+        within(last.checked_add(256)?, end)
+    } else {
+        within(last, end)
+    }
+}

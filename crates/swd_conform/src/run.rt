@@ -1,0 +1,434 @@
+//! A conformance run: the calls of a wire, whose items a check takes.
+ghost use Rattle.std.specs.Prelude.{◌≡◌, ◌+◌, ◌*◌, ◌≤◌, ◌<◌, ◌^◌, ◌∷◌, true};
+ghost use Rattle.swd_port.specs.Stories.{PortMayStep, IsPortSeen, port_due_once};
+ghost use Rattle.swd_port.specs.declared.wire.Due.TheVariants.{Nothing, Take, Give, Pass};
+ghost use Rattle.swd_check.specs.Watched.{CheckTakes};
+ghost use Rattle.swd_recorder.specs.Items.{recorded_in_hand_by};
+ghost use Rattle.swd_conform.specs.Calls.{conform_items_of, conform_asked, conform_requests_by, ConformMaySend};
+
+use crate::items::CheckedItems;
+use crate::line::{DPIDR, STATUS};
+use crate::plan::{Plan, Step};
+use std::alloc::Allocator;
+use swd_bits::{Request, SWITCH_BITS, data_bits};
+use swd_check::{Check, Checked};
+use swd_port::{Call, Cue, Due, NotedCalls, Wire};
+use swd_recorder::{InHand, in_hand_once};
+
+// How often a request is sent while it gets WAIT.
+const TRIES: u32 = 8;
+
+/// The most requests of one step: eight tries, each with a read of CTRL/STAT, and as many to bring a lost line back.
+pub const REQUESTS_PER_STEP: u64 = 32;
+
+// The ones of a line reset, which also resets inside a transaction.
+const ONES: u32 = 100;
+
+// The idle cycles after a line reset, and after the last request.
+const ZEROS: u32 = 8;
+
+// The bits of WAIT and FAULT, the first in time least significant.
+const WAITS: u64 = 2;
+
+const FAULTS: u64 = 4;
+
+// The bit of a data phase that is the parity.
+const PARITY: u64 = 1 << 32;
+
+/// What a conformance run found.
+#[derive(Clone, Copy, Debug, PartialEq, Eq)]
+pub struct Conformed {
+    /// What the check says of the items that were sent and seen.
+    pub checked: Checked,
+    /// The number of requests that were sent.
+    pub requests: u64,
+    /// The number of clocks, at most 2^64 - 1.
+    pub clocks: u64,
+    /// Whether a request was answered WAIT.
+    pub waited: bool,
+    /// Whether a transfer at the address without memory was no bus error.
+    pub unrefused: bool,
+}
+
+// A request of a run.
+#[derive(Clone, Copy)]
+struct Asked {
+    request: Request,
+    word: u32,
+    damaged: bool,
+}
+
+/// A conformance run over a wire.
+#[derive(Drop)]
+pub struct ConformRun<A: Allocator> {
+    pub(crate) plan: Plan,
+    pub(crate) items: CheckedItems<A>,
+    in_hand: Option<InHand>,
+    requests: u64,
+    clocks: u64,
+    waited: bool,
+    unrefused: bool,
+    // The three bits that were seen last in answer to a request.
+    answer: u64,
+    pub(crate) noted: NotedCalls,
+    ghost held: { in_hand ≡ recorded_in_hand_by noted.calls },
+    ghost bounded: { requests + 32 * plan.left ≤ 64000 },
+    ghost counted: { requests ≡ conform_requests_by noted.calls },
+}
+
+impl<A: Allocator + Copy> ConformRun<A> {
+    ghost use Rattle.swd_conform.specs.Runs.{ConformBegins, ConformFinds, ConformGoes, ConformMakes};
+    ghost use Rattle.swd_conform.specs.Runs.{ConformHasRoom, ConformSpends, conform_run_left};
+
+    /// Returns a run that made no call yet. The check takes the items of what is sent and seen.
+    pub fn new(plan: Plan, check: Check<A>) -> ConformRun<A>
+        ensures { ConformBegins plan check result }
+    {
+        ConformRun {
+            plan,
+            items: CheckedItems::new(check),
+            in_hand: None,
+            requests: 0,
+            clocks: 0,
+            waited: false,
+            unrefused: false,
+            answer: 0,
+            noted: NotedCalls::new(),
+        }
+    }
+
+    /// Sends the next step of the plan to a target that was in its reset state when the run began. After the last step
+    /// it sends idle cycles. Returns whether another step follows: not after the last one, and not once an item broke a
+    /// rule.
+    pub fn turn<W: Wire>(&mut self, wire: &mut W) -> bool
+        ensures goes { ConformGoes W.notes wire.old self.old wire.new self.new }
+        ensures bound { ConformSpends self.old self.new }
+        ensures falls { result ≡ true → conform_run_left self.new < conform_run_left self.old }
+    {
+        match self.plan.next() {
+            None => {
+                self.rest(wire);
+                false
+            }
+            Some(step) => {
+                self.send(wire, step);
+                !self.items.is_broken()
+            }
+        }
+    }
+
+    /// Returns what was found so far.
+    pub fn conformed(&self) -> Conformed
+        ensures { ConformFinds self.now result }
+    {
+        Conformed {
+            checked: self.items.check.checked(self.items.count()),
+            requests: self.requests,
+            clocks: self.clocks,
+            waited: self.waited,
+            unrefused: self.unrefused,
+        }
+    }
+
+    // Sends a step.
+    fn send<W: Wire>(&mut self, wire: &mut W, step: Step)
+        requires { ConformHasRoom 32 self.old }
+        ensures { ConformMakes W.notes 32 wire.old self.old wire.new self.new }
+    {
+        match step {
+            Step::Ask {
+                request,
+                word,
+                damaged,
+            } => {
+                let asked = Asked {
+                    request,
+                    word,
+                    damaged,
+                };
+                self.ask_live(wire, asked)
+            }
+            Step::Once(request) => {
+                let _ = self.transact(wire, zero_of(request));
+            }
+            Step::Refused(request) => {
+                self.ask_live(wire, zero_of(request));
+                self.unrefused |= self.answer != FAULTS;
+            }
+            Step::Cut(request) => self.cut(wire, request),
+            Step::Reset => self.reset(wire),
+        }
+    }
+
+    // Sends a request until it doesn't get WAIT. A lost line is brought back before.
+    fn ask_live<W: Wire>(&mut self, wire: &mut W, asked: Asked)
+        requires { ConformHasRoom 32 self.old }
+        ensures { ConformMakes W.notes 32 wire.old self.old wire.new self.new }
+    {
+        if self.revive(wire) {
+            self.ask(wire, asked);
+        }
+    }
+
+    // Brings a lost line back by a read of DPIDR. Returns whether no item broke a rule.
+    fn revive<W: Wire>(&mut self, wire: &mut W) -> bool
+        requires { ConformHasRoom 16 self.old }
+        ensures { ConformMakes W.notes 16 wire.old self.old wire.new self.new }
+    {
+        if !is_lost(wire) {
+            return true;
+        }
+        self.ask(wire, zero_of(DPIDR));
+        !self.items.is_broken()
+    }
+
+    // Sends a request until it doesn't get WAIT.
+    fn ask<W: Wire>(&mut self, wire: &mut W, asked: Asked)
+        requires { ConformHasRoom 16 self.old }
+        ensures { ConformMakes W.notes 16 wire.old self.old wire.new self.new }
+    {
+        for tried in 0..TRIES {
+            if !self.ask_once(wire, asked) {
+                return;
+            }
+        }
+    }
+
+    // Sends a request. After WAIT to a read, READOK is 0: now and then CTRL/STAT is read there. Returns whether the
+    // request is to be sent again.
+    fn ask_once<W: Wire>(&mut self, wire: &mut W, asked: Asked) -> bool
+        requires { ConformHasRoom 2 self.old }
+        ensures { ConformMakes W.notes 2 wire.old self.old wire.new self.new }
+    {
+        let waits = self.transact(wire, asked);
+        if !waits || self.items.is_broken() {
+            return false;
+        }
+        if !asked.request.read || self.requests % 3 > 0 {
+            return true;
+        }
+        let _ = self.transact(wire, zero_of(STATUS));
+        !is_lost(wire) && !self.items.is_broken()
+    }
+
+    // Makes a whole transaction. On a lost line, a line reset comes before it. Returns whether it was answered WAIT.
+    fn transact<W: Wire>(&mut self, wire: &mut W, asked: Asked) -> bool
+        requires { ConformHasRoom 1 self.old }
+        ensures { ConformMakes W.notes 1 wire.old self.old wire.new self.new }
+    {
+        let waits = self.request(wire, asked.request);
+        self.complete(wire, asked);
+        waits
+    }
+
+    // Sends a request. On a lost line, a line reset comes before it. Returns whether it was answered WAIT.
+    fn request<W: Wire>(&mut self, wire: &mut W, request: Request) -> bool
+        requires { ConformHasRoom 1 self.old }
+        ensures { ConformMakes W.notes 1 wire.old self.old wire.new self.new }
+    {
+        self.free(wire);
+        let seen = self.step(wire, Cue::Ask(request));
+        self.answer = seen;
+        self.waited |= seen == WAITS;
+        seen == WAITS
+    }
+
+    // Completes a transaction, as far as something is due.
+    fn complete<W: Wire>(&mut self, wire: &mut W, asked: Asked)
+        ensures { ConformMakes W.notes 0 wire.old self.old wire.new self.new }
+    {
+        if has_read(wire) {
+            self.call(wire, Cue::Take);
+            return;
+        }
+        if has_write(wire) {
+            self.call(wire, Cue::Give(phase_of(asked)));
+            return;
+        }
+        if has_refusal(wire) {
+            self.call(wire, Cue::Pass);
+        }
+    }
+
+    // Sends a write, and a line reset in place of its data phase.
+    fn cut<W: Wire>(&mut self, wire: &mut W, request: Request)
+        requires { ConformHasRoom 1 self.old }
+        ensures { ConformMakes W.notes 1 wire.old self.old wire.new self.new }
+    {
+        let _ = self.request(wire, request);
+        if has_write(wire) {
+            self.reset(wire);
+            return;
+        }
+        self.complete(wire, zero_of(request));
+    }
+
+    // Sends a line reset if something is due: then the line is lost.
+    fn free<W: Wire>(&mut self, wire: &mut W)
+        ensures makes { ConformMakes W.notes 0 wire.old self.old wire.new self.new }
+        ensures due { (W.port wire.new).link.due ≡ Nothing }
+    {
+        if is_free(wire) {
+            return;
+        }
+        self.reset(wire);
+    }
+
+    // Sends a line reset, whatever is due.
+    fn reset<W: Wire>(&mut self, wire: &mut W)
+        ensures makes { ConformMakes W.notes 0 wire.old self.old wire.new self.new }
+        ensures due { (W.port wire.new).link.due ≡ Nothing }
+    {
+        let undriven = wire.due().undriven();
+        self.call(
+            wire,
+            Cue::Lead {
+                ones: ONES,
+                undriven,
+                switch: false,
+                zeros: ZEROS,
+            },
+        );
+    }
+
+    // Sends idle cycles, if nothing is due.
+    fn rest<W: Wire>(&mut self, wire: &mut W)
+        ensures { ConformMakes W.notes 0 wire.old self.old wire.new self.new }
+    {
+        if is_free(wire) {
+            self.call(
+                wire,
+                Cue::Lead {
+                    ones: 0,
+                    undriven: 0,
+                    switch: false,
+                    zeros: ZEROS,
+                },
+            );
+        }
+    }
+
+    // Makes a call of the wire at which nothing is asked, whose items the check takes.
+    fn call<W: Wire>(&mut self, wire: &mut W, cue: Cue)
+        requires may { PortMayStep (W.port wire.old).link.due cue }
+        requires sends { ConformMaySend cue }
+        requires none { conform_asked cue ≡ 0 }
+        ensures makes { ConformMakes W.notes 0 wire.old self.old wire.new self.new }
+        ensures due { (W.port wire.new).link.due ≡ Nothing }
+    {
+        let _ = self.step(wire, cue);
+    }
+
+    // Makes a call of the wire, whose items the check takes. Returns what was seen.
+    fn step<W: Wire>(&mut self, wire: &mut W, cue: Cue) -> u64
+        requires may { PortMayStep (W.port wire.old).link.due cue }
+        requires sends { ConformMaySend cue }
+        requires room { ConformHasRoom (conform_asked cue) self.old }
+        ensures makes { ConformMakes W.notes (conform_asked cue) wire.old self.old wire.new self.new }
+        ensures due { (W.port wire.new).link.due ≡ port_due_once cue result }
+    {
+        let seen = wire.step(cue);
+        self.record(cue, seen);
+        seen
+    }
+
+    // Takes a call, and its items.
+    fn record(&mut self, cue: Cue, seen: u64)
+        requires may { ConformMaySend cue }
+        requires seen { IsPortSeen cue seen }
+        requires room { ConformHasRoom (conform_asked cue) self.old }
+        ensures calls { self.new.noted.calls ≡ record { cue = cue; seen = seen } ∷ self.old.noted.calls }
+        ensures takes { CheckTakes (conform_items_of (recorded_in_hand_by self.old.noted.calls) cue seen)
+            self.old.items.check self.new.items.check }
+        ensures asked { self.new.requests ≡ self.old.requests + conform_asked cue }
+        ensures left { conform_run_left self.new ≡ conform_run_left self.old }
+    {
+        self.items.take(self.in_hand, cue, seen);
+        self.clocks = self.clocks.saturating_add(clocks_of(cue));
+        self.requests += requests_of(cue);
+        self.in_hand = in_hand_once(cue, seen);
+        self.noted = self.noted.and(&Call { cue, seen });
+    }
+}
+
+// Returns how many requests a call sends.
+fn requests_of(cue: Cue) -> u64
+    ensures { result ≡ conform_asked cue }
+{
+    match cue {
+        Cue::Ask(_) => 1,
+        _ => 0,
+    }
+}
+
+// Returns how many clocks a call takes.
+fn clocks_of(cue: Cue) -> u64 {
+    match cue {
+        Cue::Lead {
+            ones,
+            switch: true,
+            zeros,
+            ..
+        } => 2 * u64::from(ones) + u64::from(SWITCH_BITS) + u64::from(zeros),
+        Cue::Lead { ones, zeros, .. } => u64::from(ones) + u64::from(zeros),
+        Cue::Ask(_) => 12,
+        Cue::Take | Cue::Give(_) => 34,
+        Cue::Pass => 1,
+    }
+}
+
+// Returns whether no acknowledgement was seen last.
+fn is_lost<W: Wire>(wire: &W) -> bool {
+    matches!(wire.due(), Due::Lost)
+}
+
+// Returns whether nothing is due.
+fn is_free<W: Wire>(wire: &W) -> bool
+    ensures { result ≡ true → (W.port wire.now).link.due ≡ Nothing }
+{
+    matches!(wire.due(), Due::Nothing)
+}
+
+// Returns whether the data phase of a read is due.
+fn has_read<W: Wire>(wire: &W) -> bool
+    ensures { result ≡ true → (W.port wire.now).link.due ≡ Take }
+{
+    matches!(wire.due(), Due::Take)
+}
+
+// Returns whether the data phase of a write is due.
+fn has_write<W: Wire>(wire: &W) -> bool
+    ensures { result ≡ true → (W.port wire.now).link.due ≡ Give }
+{
+    matches!(wire.due(), Due::Give)
+}
+
+// Returns whether the turnaround after WAIT or FAULT is due.
+fn has_refusal<W: Wire>(wire: &W) -> bool
+    ensures { result ≡ true → (W.port wire.now).link.due ≡ Pass }
+{
+    matches!(wire.due(), Due::Pass)
+}
+
+// Returns a request with the word 0.
+fn zero_of(request: Request) -> Asked {
+    Asked {
+        request,
+        word: 0,
+        damaged: false,
+    }
+}
+
+// Returns the bits of a write's data phase.
+fn phase_of(asked: Asked) -> u64
+    ensures { result < 2 ^ 33 }
+{
+    let bits = data_bits(asked.word);
+    if !asked.damaged {
+        bits
+    } else if bits < PARITY {
+        bits + PARITY
+    } else {
+        bits - PARITY
+    }
+}

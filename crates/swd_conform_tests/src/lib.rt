@@ -1,0 +1,5 @@
+//! The tests of conformance runs.
+#![tactic(auto)]
+
+#[cfg(test)]
+mod tests;

@@ -1,0 +1,16 @@
+-- The status of a command over a remote target with the verdict on its session.
+use Rattle.std.specs.Prelude.{◌==◌, ℕ, Option, None, Some, Result, Ok, Err, if◌then◌else◌}
+use Rattle.swd_text.specs.declared.fault.TextFault.{TextFault}
+use Rattle.swd_check.specs.declared.checked.Checked.{Checked}
+use Rattle.swd_check.specs.declared.checked.Checked.TheVariants.{Breaks}
+
+-- 1 in place of 0 if a rule is broken, and otherwise the status without a check
+abbrev pub command_status_by : Checked → ℕ → ℕ
+command_status_by (Breaks broken) status = if status == 0 then 1 else status
+command_status_by checked status = status
+
+-- the same if the session was checked
+abbrev pub command_status_checked : Option (Result Checked TextFault) → ℕ → ℕ
+command_status_checked None status = status
+command_status_checked (Some (Ok checked)) status = command_status_by checked status
+command_status_checked (Some (Err fault)) status = status

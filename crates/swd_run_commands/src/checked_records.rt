@@ -1,0 +1,67 @@
+//! The files of a run at a remote target, whose trace may be checked.
+ghost use Rattle.std.specs.Prelude.{◌≡◌, ◌||◌, is_some};
+ghost use Rattle.swd_run_commands.specs.Verdicts.{AreCheckedRecords};
+
+use std::alloc::Allocator;
+use std::io::Write;
+use swd_check::{Checked, Checking};
+use swd_console::Watched;
+use swd_run::Records;
+use swd_text::TextFault;
+
+/// A file that a run writes beside its report. That of the trace may be checked.
+pub(crate) type RecordFile<W, A> = Watched<Checking<W, A>>;
+
+// Returns the writer of the trace, if it is wanted: for a file, or for a check.
+fn checked_trace<W, A: Allocator + Copy>(
+    alloc: A,
+    check: bool,
+    trace: Option<W>,
+) -> Option<RecordFile<W, A>>
+    ensures { is_some result ≡ (is_some trace || check) }
+{
+    if check {
+        return Some(Watched::new(Checking::new(alloc, trace)));
+    }
+    unchecked(trace)
+}
+
+// Returns a writer that isn't checked, if there is a file.
+fn unchecked<W, A: Allocator + Copy>(file: Option<W>) -> Option<RecordFile<W, A>>
+    ensures { is_some result ≡ is_some file }
+{
+    match file {
+        Some(file) => Some(Watched::new(Checking::unchecked(file))),
+        None => None,
+    }
+}
+
+/// Returns the writers of these files. If `check`, there is one for the trace, which is checked.
+pub(crate) fn checked_records<W, A: Allocator + Copy>(
+    alloc: A,
+    check: bool,
+    records: Records<W>,
+) -> Records<RecordFile<W, A>>
+    ensures { AreCheckedRecords check records result }
+{
+    let Records {
+        trace,
+        accesses,
+        made,
+    } = records;
+    Records {
+        trace: checked_trace(alloc, check, trace),
+        accesses: unchecked(accesses),
+        made,
+    }
+}
+
+/// Returns the verdict on the trace that was written, if it was checked.
+pub(crate) fn verdict_of<W: Drop, A: Allocator + Copy>(
+    trace: Option<RecordFile<W, A>>,
+) -> Option<Result<Checked, TextFault>> {
+    match trace {
+        Some(trace) => trace.stream.finish(),
+        None => None,
+    }
+}

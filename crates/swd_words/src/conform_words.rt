@@ -1,0 +1,106 @@
+//! The arguments of `swd conform`.
+ghost use Rattle.std.specs.Prelude.{◌≡◌, ◌∷◌, [], IfOk, IfSome};
+ghost use Rattle.clap.specs.Words.{found_of, rows_of};
+ghost use Rattle.swd_words.specs.Commands.{AreConformArguments};
+
+use crate::argument::{Argument, CommandRow, Form};
+use crate::check_words::{CLEAN, PLAIN, plain_in};
+use crate::fault::LineFault;
+use crate::target_words::idr_in;
+use crate::words::{REMOTE, invalid, is_asked_for, owned, refused};
+use clap::ArgMatches;
+use clap::error::ErrorKind;
+use std::alloc::Global;
+use swd_command_line::{ConformLine, PlainWords};
+
+const CONFORM_AFTER: &str = "\
+Sends some 1,600 requests that reach each rule to a port in its reset state, and
+prints the verdict on what came, as swd check --made does. It stops at the first
+item that breaks a rule.
+
+It overwrites the memory that --plain names, once and at least 80 words. BASE is
+1 to 8 hexadecimal digits, after an optional 0x, and a multiple of 4. WORDS is
+decimal. It also writes CTRL/STAT, SELECT, CSW and TAR, and the same addresses
+in other banks and in access ports 1 and ff, where it reads address c, too. It
+ends without power.
+
+With --hole there are bus errors, at ADDR, 1 to 8 hexadecimal digits; without,
+this part is left out. All other transfers are in the memory.
+
+--remote is as for swd run. Without =IN,OUT standard output is the line's, and
+the verdict is on standard error. For a server on a socket:
+  socat TCP:localhost:4711,nodelay EXEC:'swd conform --remote ..'
+Lines on standard error say how many requests and clocks were sent, and what was
+not reached: WAIT, if the port never answered it, and damage on the line.
+
+Status: 0 fits; 1 breaks, or a transfer at ADDR was no bus error; 2 crowded, an
+error, or the other end went away.";
+
+const NO_TARGET: &str = "the target is missing: give --remote";
+
+const ONE_MEMORY: &str = "give the memory that may be overwritten: --plain BASE WORDS, once";
+
+const HOLE_FORM: &str = "it is not 1 to 8 hexadecimal digits";
+
+/// The command `conform`.
+pub(crate) const CONFORM: CommandRow = CommandRow {
+    name: "conform",
+    about: "Check whether a port keeps the standard, by requests",
+    after: Some(CONFORM_AFTER),
+    arguments: &[
+        REMOTE,
+        PLAIN,
+        Argument {
+            name: "hole",
+            form: Form::Value("ADDR"),
+            help: "There is no memory at ADDR, hexadecimal",
+        },
+        CLEAN,
+    ],
+};
+
+/// Returns the arguments of `swd conform`. Rejects those without `--remote`, and without `--plain` or with several.
+pub(crate) fn conform_line(
+    alloc: Global,
+    matches: &ArgMatches<'_>,
+) -> Result<ConformLine, LineFault>
+    ensures { IfOk result (λ conform. AreConformArguments conform (rows_of (found_of matches.now))) }
+{
+    let Ok(remote) = owned(alloc, matches.get_str("remote")) else {
+        return Err(LineFault::Memory);
+    };
+    let Some(remote) = remote else {
+        let kind = ErrorKind::MissingRequiredArgument;
+        return Err(refused(alloc, kind, NO_TARGET));
+    };
+    let given = matches.get_str("hole");
+    let Some(hole) = idr_in(given) else {
+        let kind = ErrorKind::InvalidValue;
+        return Err(invalid(alloc, kind, given, "--hole <ADDR>", HOLE_FORM));
+    };
+    let clean = is_asked_for(matches.get_str("clean"));
+    let plain = match plain_in(alloc, matches) {
+        Ok(plain) => plain,
+        Err(fault) => return Err(fault),
+    };
+    let Some(plain) = only_one(plain.as_slice()) else {
+        let kind = ErrorKind::MissingRequiredArgument;
+        return Err(refused(alloc, kind, ONE_MEMORY));
+    };
+    Ok(ConformLine {
+        remote,
+        plain,
+        hole,
+        clean,
+    })
+}
+
+// Returns the one use of `--plain`, or `None` if there is none or there are several.
+fn only_one(plain: &[PlainWords]) -> Option<PlainWords>
+    ensures { IfSome result (λ one. plain.now ≡ one ∷ []) }
+{
+    match plain {
+        [one] => Some(*one),
+        _ => None,
+    }
+}
