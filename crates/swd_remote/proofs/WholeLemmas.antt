@@ -4,10 +4,11 @@ use Rattle.std.proofs.Math.Logic.{∥∥₁_map, ∥∥₁_elim, ∥∥₁_prop}
 use Rattle.std.specs.Prelude.{Result, Ok, Err, IfErr}
 use Rattle.swd_port.specs.declared.call.Call.{Call}
 use Rattle.swd_port.specs.Transports.{PortAttempt, PortTransportHasOver}
+use Rattle.swd_remote.specs.declared.call_sink.WatchedTransport.{WatchedTransport}
 use Rattle.swd_remote.specs.declared.kept.RemoteTransport.{RemoteTransport}
 use Rattle.swd_remote.specs.declared.kept.RemoteStreams.{RemoteStreams}
 use Rattle.swd_remote.specs.Kept.{AreRemoteCallsSent, RemoteHangsUp}
-use Rattle.swd_remote.specs.WholeRuns.{GoesOver}
+use Rattle.swd_remote.specs.WholeRuns.{GoesOver, GoesOverWatched}
 
 -- a wire without calls that is unchanged at an error has none then
 pub remote_still_no_calls : {X F W : Type 0} (result : Result X F) (calls : W → List Call) (new old : W)
@@ -31,4 +32,20 @@ remote_connection_went_over remaining contents sent left calls gone kept line we
       fetched = went.fetched;
       of = went.of;
       hangs = hangs;
+    }))
+
+-- the same, and what a sink got of it
+pub remote_watched_went_over : {R W B K : Type 0} (got : List PortAttempt → K → Type 0)
+    (remaining : R → Option (List ℕ)) (contents : W → Option (List ℕ)) (sent left : Option (List ℕ))
+    (calls : List Call) (gone : Bool) (watched : WatchedTransport (RemoteTransport R W B) K) (line : RemoteStreams R W)
+    → ∥ PortTransportHasOver (λ made (w : WatchedTransport (RemoteTransport R W B) K).
+    ∥ AreRemoteCallsSent remaining contents sent left made w.transport.transport ∥₁ × got made w.sink) calls gone
+    watched ∥₁
+    → ((made : List PortAttempt) → ∥ AreRemoteCallsSent remaining contents sent left made
+    watched.transport.transport ∥₁ → ∥ RemoteHangsUp remaining contents sent left made line ∥₁)
+    → ∥ GoesOverWatched got remaining contents sent left line calls watched.sink ∥₁
+remote_watched_went_over got remaining contents sent left calls gone watched line went hangs_up =
+    ∥∥₁_elim went ∥∥₁_prop (λ went. ∥∥₁_map (hangs_up went.made went.told.0) (λ hangs. record {
+      over = record { made = went.made; gone = gone; fetched = went.fetched; of = went.of; hangs = hangs };
+      watched = went.told.1;
     }))

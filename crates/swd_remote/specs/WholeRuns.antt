@@ -25,6 +25,13 @@ pub record GoesOver {R W : Type 0} (remaining : R → Option (List ℕ)) (conten
   pub of : PortTransportMade calls made gone fetched
   pub hangs : RemoteHangsUp remaining contents sent left made line
 
+-- the same, and what a sink states of the calls that it got: those that were made of the transport
+pub record GoesOverWatched {R W K : Type 0} (got : List PortAttempt → K → Type 0) (remaining : R → Option (List ℕ))
+    (contents : W → Option (List ℕ)) (sent left : Option (List ℕ)) (line : RemoteStreams R W) (calls : List Call)
+    (sink : K) : Type 0 where
+  pub over : GoesOver remaining contents sent left line calls
+  pub watched : got over.made sink
+
 -- a connection over which nothing was sent or read
 abbrev pub IsUnusedRemote : {R W : Type 0} → (R → Option (List ℕ)) → (W → Option (List ℕ)) → Option (List ℕ)
     → Option (List ℕ) → RemoteStreams R W → Type 0

@@ -2,6 +2,7 @@
 //! serial wire.
 #![tactic(auto)]
 
+mod call_sink;
 mod kept;
 pub mod laws;
 mod levels;
@@ -12,8 +13,9 @@ mod probe_transport;
 mod remote;
 mod whole_run;
 
+pub use call_sink::CallSink;
 pub use kept::{InitialStreams, RemoteStreams, RemoteTransport};
-pub use line_job::{LineJob, over_line};
+pub use line_job::{LineJob, over_line, over_watched_line};
 pub use probe::Probe;
 pub use probe_transport::ProbeTransport;
 pub use remote::{Fault, Remote};

@@ -3,8 +3,9 @@ ghost use Rattle.std.specs.Prelude.{◌≡◌, ℕ, List, []};
 ghost use Rattle.swd_port.specs.declared.call.Call.{Call};
 ghost use Rattle.swd_port.specs.Outside.{wire_calls};
 ghost use Rattle.swd_port.specs.Port.{Port};
-ghost use Rattle.swd_remote.specs.WholeRuns.{GoesOver};
+ghost use Rattle.swd_remote.specs.WholeRuns.{GoesOver, GoesOverWatched};
 
+use crate::call_sink::{CallSink, WatchedTransport};
 use crate::kept::{InitialStreams, RemoteStreams, RemoteTransport};
 use std::io::{Read, Write};
 use std::marker::Brand;
@@ -43,23 +44,46 @@ pub fn over_line<P: Story, J: LineJob, R: Read, W: Write>(
     ensures { (calls : List Call) × J.came P.at job.old job.new result.0 calls
         × ∥ GoesOver R.remaining W.contents (W.contents writer) (R.remaining reader) result.1 calls ∥₁ }
 {
-    over_begun::<P, Brand, J, R, W>(job, reader, writer)
+    let (answer, line, ()) = over_watched_line::<P, J, R, W, ()>(job, reader, writer, ());
+    (answer, line)
 }
 
-// Does a job over a connection whose beginning contracts know.
-fn over_begun<P: Story, B: InitialStreams, J: LineJob, R: Read, W: Write>(
+/// Does a job as [`over_line`] does. A sink gets the calls that the job's calls make of the connection, up to the first
+/// one that fails, each as soon as its result is there.
+pub fn over_watched_line<P: Story, J: LineJob, R: Read, W: Write, K: CallSink>(
     job: &mut J,
     reader: R,
     writer: W,
-) -> (J::Answer, RemoteStreams<R, W>)
+    sink: K,
+) -> (J::Answer, RemoteStreams<R, W>, K)
+    requires { K.got [] sink }
+    ensures { (calls : List Call) × J.came P.at job.old job.new result.0 calls
+        × ∥ GoesOverWatched K.got R.remaining W.contents (W.contents writer) (R.remaining reader) result.1 calls
+        result.2 ∥₁ }
+{
+    over_begun::<P, Brand, J, R, W, K>(job, reader, writer, sink)
+}
+
+// Does a job over a connection whose beginning contracts know.
+fn over_begun<P: Story, B: InitialStreams, J: LineJob, R: Read, W: Write, K: CallSink>(
+    job: &mut J,
+    reader: R,
+    writer: W,
+    sink: K,
+) -> (J::Answer, RemoteStreams<R, W>, K)
     requires sent { B.sent ≡ W.contents writer }
     requires left { B.left ≡ R.remaining reader }
+    requires got { K.got [] sink }
     ensures { (calls : List Call) × J.came P.at job.old job.new result.0 calls
-        × ∥ GoesOver R.remaining W.contents B.sent B.left result.1 calls ∥₁ }
+        × ∥ GoesOverWatched K.got R.remaining W.contents B.sent B.left result.1 calls result.2 ∥₁ }
 {
-    let mut wire: TransportWire<RemoteTransport<R, W, B>, P, Tied> = TransportWire::begun(
-        RemoteTransport::new(reader, writer),
-    );
+    let transport = WatchedTransport {
+        transport: RemoteTransport::<R, W, B>::new(reader, writer),
+        sink,
+    };
+    let mut wire: TransportWire<WatchedTransport<RemoteTransport<R, W, B>, K>, P, Tied> =
+        TransportWire::begun(transport);
     let answer = job.perform(&mut wire);
-    (answer, wire.into_transport().hang_up())
+    let WatchedTransport { transport, sink } = wire.into_transport();
+    (answer, transport.hang_up(), sink)
 }
