@@ -2,3 +2,4 @@ pub mod WatchLemmas
 pub mod JunkLemmas
 pub mod SaidLemmas
 pub mod TextCheckLemmas
+pub mod ItemLemmas

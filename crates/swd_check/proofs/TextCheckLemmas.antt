@@ -23,10 +23,10 @@ use Rattle.swd_capture_text.proofs.PartLemmas.{part_reader_begins}
 use Rattle.swd_check.specs.declared.checked.Checked.{Checked}
 use Rattle.swd_check.specs.declared.text.CheckedParts.{CheckedParts}
 use Rattle.swd_check.specs.Checks.{CheckHasTaken, IsCheckedCount, check_never_stops}
-use Rattle.swd_check.specs.Watched.{CheckHolds, CheckSays}
+use Rattle.swd_check.specs.Watched.{CheckHolds, CheckSays, checked_rest}
 use Rattle.swd_check.specs.TextChecks.{CheckedBitsLed, CheckedPartsLed, CheckedReader, CheckedTextFeeds, CheckedTextSays}
 use Rattle.swd_check.specs.TextChecks.{CheckedTextHas, CheckedTextStops}
-use Rattle.swd_check.specs.TextChecks.{checked_fed, checked_rest}
+use Rattle.swd_check.specs.TextChecks.{checked_fed}
 
 -- a reader before its first byte
 pub checked_text_begins : {A : Type 0} (parts : CheckedParts A) (first : PartReader (CheckedParts A))

@@ -1,4 +1,5 @@
 pub mod Lines
+pub mod Calls
 pub mod Watched
 pub mod Checks
 pub mod TextChecks

@@ -1,5 +1,5 @@
 -- What is known of a check of a trace whose text comes in pieces.
-use Rattle.std.specs.Prelude.{◌≡◌, ℕ, Bool, false, List, [], ◌++◌, Option, None, Some, Result, Ok, Err}
+use Rattle.std.specs.Prelude.{◌≡◌, ℕ, Bool, List, [], ◌++◌, Option, None, Some, Result, Ok, Err}
 use Rattle.std.proofs.Props.{props}
 use Rattle.swd_resync.specs.declared.part.Part.{Part}
 use Rattle.swd_resync.specs.AsItems.{resync_items}
@@ -13,15 +13,10 @@ use Rattle.swd_capture_text.specs.declared.source.Source.TheVariants.{Trace as O
 use Rattle.swd_capture_text.specs.Captures.{CaptureTextReadsAs, CaptureTextStopsWith}
 use Rattle.swd_capture_text.specs.PartSinks.{IsFreshPartReader, PartReaderHasTaken}
 use Rattle.swd_capture_text.specs.Sources.{IsSourceReady, source_fed}
-use Rattle.swd_checker.specs.declared.checker.CheckStart.TheVariants.{Rest}
 use Rattle.swd_check.specs.declared.checked.Checked.{Checked}
 use Rattle.swd_check.specs.declared.text.CheckedParts.{CheckedParts}
 use Rattle.swd_check.specs.Checks.{CheckHasTaken, IsCheckedCount, check_count}
-use Rattle.swd_check.specs.Watched.{CheckIndex, CheckHolds, CheckSays, check_index}
-
--- the target begins at rest, and data may be damaged or lost
-abbrev pub checked_rest : CheckIndex
-checked_rest = check_index Rest false
+use Rattle.swd_check.specs.Watched.{CheckHolds, CheckSays, checked_rest}
 
 -- the reader of a check's text
 abbrev pub CheckedReader : Type 0 → Type 0

@@ -6,7 +6,7 @@ use Rattle.swd_trace.specs.declared.item.Item.TheVariants.{Tx}
 use Rattle.swd_port.specs.Port.{Port}
 use Rattle.swd_trace.specs.Listed.{AreLegalItems}
 use Rattle.swd_checker.specs.declared.checker.CheckStart.{CheckStart}
-use Rattle.swd_checker.specs.declared.checker.CheckStart.TheVariants.{Made}
+use Rattle.swd_checker.specs.declared.checker.CheckStart.TheVariants.{Made, Rest}
 use Rattle.swd_checker.specs.Standing.{CheckedStarts, CheckedRuns, CheckerHolds}
 use Rattle.swd_checker.specs.Standing.{checker_gap, checked_gap_none, checked_gap_over}
 use Rattle.swd_checker.specs.Whole.{IsShownByNoRun}
@@ -27,6 +27,10 @@ pub record CheckIndex : Type 0 where
 
 abbrev pub check_index : CheckStart → Bool → CheckIndex
 check_index start clean = record { start = start; clean = clean }
+
+-- of a session: the target is at rest, and data may be damaged or lost
+abbrev pub checked_rest : CheckIndex
+checked_rest = check_index Rest false
 
 -- A rule of the port model, and none of the checks beside it.
 abbrev pub is_check_rule : Why → Bool

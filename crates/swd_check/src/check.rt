@@ -3,7 +3,8 @@ ghost use Rattle.std.specs.Prelude.{◌≡◌, false, None, List, [], ◌∷◌,
 ghost use Rattle.swd_bits.specs.declared.tx.Tx.{Tx as Transaction};
 ghost use Rattle.swd_trace.specs.declared.item.Item.{Item};
 ghost use Rattle.swd_check.specs.Checks.{IsCheckedCount};
-ghost use Rattle.swd_check.specs.Watched.{CheckIndex, CheckHolds, CheckTakes, CheckSays, CheckJudges, check_index};
+ghost use Rattle.swd_check.specs.Watched.{CheckIndex, CheckHolds, CheckTakes, CheckSays, CheckJudges};
+ghost use Rattle.swd_check.specs.Watched.{check_index, checked_rest};
 
 use crate::beside::Beside;
 use crate::checked::Checked;
@@ -55,6 +56,20 @@ impl<A: Allocator + Copy> Check<A> {
             beside,
             broken: None,
         }
+    }
+
+    /// Returns a check of a session, which took no items. The target is at rest before it: SELECT is 0, and no transfer is
+    /// pending and no data phase due. On the wire data may be damaged, and requests lost.
+    pub fn of_session(alloc: A) -> Check<A>
+        ensures { CheckHolds checked_rest result [] }
+    {
+        let options = CheckOptions {
+            start: CheckStart::Rest,
+            clean: false,
+            exact_registers: false,
+            overrun: false,
+        };
+        Check::new(options, PlainMemory::new(alloc))
     }
 
     /// Takes the next item.

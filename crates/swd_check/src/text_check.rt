@@ -3,21 +3,18 @@ ghost use Rattle.std.specs.Prelude.{ℕ, List, [], ◌++◌, None};
 ghost use Rattle.swd_check.specs.TextChecks.{CheckedTextFeeds, CheckedTextHas, CheckedTextMayTake, CheckedTextSays};
 ghost use Rattle.swd_check.specs.TextChecks.{checked_text_may_take-prop};
 
-use crate::check::{Check, CheckOptions};
+use crate::check::Check;
 use crate::checked::Checked;
-use crate::plain::PlainMemory;
 use crate::text::CheckedParts;
 use std::alloc::Allocator;
 use swd_capture_text::{PartReader, Reading};
-use swd_checker::CheckStart;
 use swd_io::Consumer;
 use swd_text::{TakeFault, TextFault, TextReader};
 
 type CheckedReader<A> = TextReader<PartReader<CheckedParts<A>>>;
 
-/// A check of a trace whose text comes in pieces. Its verdict is that of [`check_text`](crate::check_text) for all of
-/// the text, wherever this is cut. The target is at rest before the first item: SELECT is 0, and no transfer is pending
-/// and no data phase due. On the wire data may be damaged, and requests lost.
+/// A check of a trace whose text comes in pieces, as [`Check::of_session`] is. Its verdict is that of
+/// [`check_text`](crate::check_text) for all of the text, wherever this is cut.
 #[derive(Drop)]
 pub struct TextCheck<A: Allocator> {
     reader: CheckedReader<A>,
@@ -65,14 +62,10 @@ impl<A: Allocator + Copy> TextCheck<A> {
     pub fn new(alloc: A) -> TextCheck<A>
         ensures { TextCheckHas result [] }
     {
-        let options = CheckOptions {
-            start: CheckStart::Rest,
-            clean: false,
-            exact_registers: false,
-            overrun: false,
+        let parts = CheckedParts {
+            check: Check::of_session(alloc),
+            parts: 0,
         };
-        let check = Check::new(options, PlainMemory::new(alloc));
-        let parts = CheckedParts { check, parts: 0 };
         let first = PartReader::new(Reading::Trace, parts);
         TextCheck {
             reader: TextReader::new(first),

@@ -1,2 +1,2 @@
-pub mod ItemLemmas
+pub mod SessionLemmas
 pub mod RunLemmas

@@ -7,7 +7,8 @@ use Rattle.swd_trace.specs.declared.item.Item.{Item}
 use Rattle.swd_check.specs.declared.check.Check.{Check}
 use Rattle.swd_check.specs.Watched.{CheckHolds, CheckSays, CheckTakes}
 use Rattle.swd_recorder.specs.Items.{recorded_in_hand_by}
-use Rattle.swd_conform.specs.Calls.{conform_asked, conform_items_by, conform_items_of, conform_requests_by}
+use Rattle.swd_check.specs.Calls.{checked_call_items, checked_items_by}
+use Rattle.swd_conform.specs.Calls.{conform_asked, conform_requests_by}
 use Rattle.swd_host.specs.Sent.{HostCalls}
 use Rattle.swd_conform.specs.Runs.{ConformCame}
 use Rattle.swd_conform.specs.Runs.{ConformBegins, ConformFinds, ConformGoes, ConformMakes, ConformReports}
@@ -32,8 +33,8 @@ module _ {A W : Type 0} (notes : List Call → W → Type 0) where
     noted = λ calls n. n;
     calls = e;
     takes = λ i seen x.
-        subst (λ (check : Check A). CheckHolds i check (seen ++ conform_items_by t.noted.calls)) (sym f)
-        (subst (λ (calls : List Call). CheckHolds i r.items.check (seen ++ conform_items_by calls)) (sym e) x);
+        subst (λ (check : Check A). CheckHolds i check (seen ++ checked_items_by t.noted.calls)) (sym f)
+        (subst (λ (calls : List Call). CheckHolds i r.items.check (seen ++ checked_items_by calls)) (sym e) x);
   }
 
   -- calls, and others after them
@@ -51,17 +52,17 @@ module _ {A W : Type 0} (notes : List Call → W → Type 0) where
   pub conform_goes_step : (cue : Cue) (seen : ℕ) (u v : W) (r t : ConformRun A)
       → ((calls : List Call) → notes calls u → notes (record { cue = cue; seen = seen } ∷ calls) v)
       → t.noted.calls ≡ record { cue = cue; seen = seen } ∷ r.noted.calls
-      → CheckTakes (conform_items_of (recorded_in_hand_by r.noted.calls) cue seen) r.items.check t.items.check
+      → CheckTakes (checked_call_items (recorded_in_hand_by r.noted.calls) cue seen) r.items.check t.items.check
       → ConformGoes notes u r v t
   conform_goes_step cue seen u v r t h e takes = record {
     made = record { cue = cue; seen = seen } ∷ [];
     noted = λ calls n. h calls n;
     calls = e;
     takes = λ i before x.
-        let items = conform_items_by r.noted.calls in
-        let more = conform_items_of (recorded_in_hand_by r.noted.calls) cue seen in
+        let items = checked_items_by r.noted.calls in
+        let more = checked_call_items (recorded_in_hand_by r.noted.calls) cue seen in
         subst (λ (l : List Item). CheckHolds i t.items.check l)
-        (append_assoc before items more ∙ ap (λ (l : List Call). before ++ conform_items_by l) (sym e))
+        (append_assoc before items more ∙ ap (λ (l : List Call). before ++ checked_items_by l) (sym e))
         (takes i (before ++ items) x);
   }
 
@@ -104,12 +105,12 @@ module _ {A W : Type 0} (notes : List Call → W → Type 0) where
         g.noted calls n,
         record {
           says = λ i seen x.
-              let first : CheckHolds i r.items.check (seen ++ conform_items_by r.noted.calls) =
-              subst (λ (l : List Call). CheckHolds i r.items.check (seen ++ conform_items_by l)) (sym b.calls)
+              let first : CheckHolds i r.items.check (seen ++ checked_items_by r.noted.calls) =
+              subst (λ (l : List Call). CheckHolds i r.items.check (seen ++ checked_items_by l)) (sym b.calls)
               (subst (λ (l : List Item). CheckHolds i r.items.check l) (sym (append-nil seen))
               (subst (λ (check : Check A). CheckHolds i check seen) (sym b.check_of) x)) in
-              subst (λ (l : List Call). CheckSays i (seen ++ conform_items_by l) told.checked) all
-              (f.says i (seen ++ conform_items_by t.noted.calls) (g.takes i seen first));
+              subst (λ (l : List Call). CheckSays i (seen ++ checked_items_by l) told.checked) all
+              (f.says i (seen ++ checked_items_by t.noted.calls) (g.takes i seen first));
           requests = f.requests ∙ t.counted ∙ ap conform_requests_by all;
         },
       )

@@ -4,7 +4,8 @@ use Rattle.swd_port.specs.declared.call.Call.{Call}
 use Rattle.swd_check.specs.declared.check.Check.{Check}
 use Rattle.swd_check.specs.Watched.{CheckIndex, CheckHolds, CheckSays}
 use Rattle.swd_trace.specs.declared.item.Item.{Item}
-use Rattle.swd_conform.specs.Calls.{conform_items_by, conform_requests_by}
+use Rattle.swd_check.specs.Calls.{checked_items_by}
+use Rattle.swd_conform.specs.Calls.{conform_requests_by}
 use Rattle.swd_conform.specs.Plans.{conform_steps_left}
 use Rattle.swd_conform.specs.declared.plan.Plan.{Plan}
 use Rattle.swd_conform.specs.declared.run.Conformed.{Conformed}
@@ -14,7 +15,7 @@ use Rattle.swd_conform.specs.declared.run.ConformRun.{ConformRun}
 -- those of these calls.
 pub record ConformReports {A : Type 0} (check : Check A) (told : Conformed) (calls : List Call) : Type 0 where
   pub says : (i : CheckIndex) (seen : List Item) → CheckHolds i check seen
-      → CheckSays i (seen ++ conform_items_by calls) told.checked
+      → CheckSays i (seen ++ checked_items_by calls) told.checked
   pub requests : told.requests ≡ conform_requests_by calls
 
 -- a run of this plan, with this check, that made no call
@@ -43,9 +44,9 @@ pub record ConformGoes {A W : Type 0} (notes : List Call → W → Type 0) (u : 
   pub made : List Call
   pub noted : (calls : List Call) → notes calls u → notes (made ++ calls) v
   pub calls : now.noted.calls ≡ made ++ run.noted.calls
-  pub takes : (i : CheckIndex) (seen : List Item) → CheckHolds i run.items.check (seen ++ conform_items_by
+  pub takes : (i : CheckIndex) (seen : List Item) → CheckHolds i run.items.check (seen ++ checked_items_by
       run.noted.calls)
-      → CheckHolds i now.items.check (seen ++ conform_items_by now.noted.calls)
+      → CheckHolds i now.items.check (seen ++ checked_items_by now.noted.calls)
 
 -- it did so with at most so many requests, and no step of the plan
 pub record ConformMakes {A W : Type 0} (notes : List Call → W → Type 0) (most : ℕ) (u : W) (run : ConformRun A) (v : W)

@@ -5,13 +5,14 @@
 #![tactic(auto)]
 
 mod groups;
-mod items;
 mod line;
 mod over_wire;
 mod plan;
 mod rounds;
 mod run;
+mod session;
 
 pub use over_wire::conform;
 pub use plan::{LEAST_WORDS, MOST_STEPS, Plan, Step, Without};
 pub use run::{ConformRun, Conformed, REQUESTS_PER_STEP};
+pub use session::{SessionCheck, over_checked_line};

@@ -2,16 +2,16 @@
 ghost use Rattle.std.specs.Prelude.{◌≡◌, ◌+◌, ◌*◌, ◌≤◌, ◌<◌, ◌^◌, ◌∷◌, true};
 ghost use Rattle.swd_port.specs.Stories.{PortMayStep, IsPortSeen, port_due_once};
 ghost use Rattle.swd_port.specs.declared.wire.Due.TheVariants.{Nothing, Take, Give, Pass};
+ghost use Rattle.swd_check.specs.Calls.{IsCheckedCue, checked_call_items};
 ghost use Rattle.swd_check.specs.Watched.{CheckTakes};
 ghost use Rattle.swd_recorder.specs.Items.{recorded_in_hand_by};
-ghost use Rattle.swd_conform.specs.Calls.{conform_items_of, conform_asked, conform_requests_by, ConformMaySend};
+ghost use Rattle.swd_conform.specs.Calls.{conform_asked, conform_requests_by};
 
-use crate::items::CheckedItems;
 use crate::line::{DPIDR, STATUS};
 use crate::plan::{Plan, Step};
 use std::alloc::Allocator;
 use swd_bits::{Request, SWITCH_BITS, data_bits};
-use swd_check::{Check, Checked};
+use swd_check::{Check, Checked, CheckedItems};
 use swd_port::{Call, Cue, Due, NotedCalls, Wire};
 use swd_recorder::{InHand, in_hand_once};
 
@@ -122,7 +122,7 @@ impl<A: Allocator + Copy> ConformRun<A> {
         ensures { ConformFinds self.now result }
     {
         Conformed {
-            checked: self.items.check.checked(self.items.count()),
+            checked: self.items.checked(),
             requests: self.requests,
             clocks: self.clocks,
             waited: self.waited,
@@ -311,7 +311,7 @@ impl<A: Allocator + Copy> ConformRun<A> {
     // Makes a call of the wire at which nothing is asked, whose items the check takes.
     fn call<W: Wire>(&mut self, wire: &mut W, cue: Cue)
         requires may { PortMayStep (W.port wire.old).link.due cue }
-        requires sends { ConformMaySend cue }
+        requires sends { IsCheckedCue cue }
         requires none { conform_asked cue ≡ 0 }
         ensures makes { ConformMakes W.notes 0 wire.old self.old wire.new self.new }
         ensures due { (W.port wire.new).link.due ≡ Nothing }
@@ -322,7 +322,7 @@ impl<A: Allocator + Copy> ConformRun<A> {
     // Makes a call of the wire, whose items the check takes. Returns what was seen.
     fn step<W: Wire>(&mut self, wire: &mut W, cue: Cue) -> u64
         requires may { PortMayStep (W.port wire.old).link.due cue }
-        requires sends { ConformMaySend cue }
+        requires sends { IsCheckedCue cue }
         requires room { ConformHasRoom (conform_asked cue) self.old }
         ensures makes { ConformMakes W.notes (conform_asked cue) wire.old self.old wire.new self.new }
         ensures due { (W.port wire.new).link.due ≡ port_due_once cue result }
@@ -334,11 +334,11 @@ impl<A: Allocator + Copy> ConformRun<A> {
 
     // Takes a call, and its items.
     fn record(&mut self, cue: Cue, seen: u64)
-        requires may { ConformMaySend cue }
+        requires may { IsCheckedCue cue }
         requires seen { IsPortSeen cue seen }
         requires room { ConformHasRoom (conform_asked cue) self.old }
         ensures calls { self.new.noted.calls ≡ record { cue = cue; seen = seen } ∷ self.old.noted.calls }
-        ensures takes { CheckTakes (conform_items_of (recorded_in_hand_by self.old.noted.calls) cue seen)
+        ensures takes { CheckTakes (checked_call_items (recorded_in_hand_by self.old.noted.calls) cue seen)
             self.old.items.check self.new.items.check }
         ensures asked { self.new.requests ≡ self.old.requests + conform_asked cue }
         ensures left { conform_run_left self.new ≡ conform_run_left self.old }

@@ -1,6 +1,7 @@
 use Rattle.std.proofs.Common.{sym, subst}
 use Rattle.swd_capture_text.specs.PartSinks.{PartReaderHasTaken}
-use Rattle.swd_check.specs.TextChecks.{CheckedPartsLed, checked_rest}
+use Rattle.swd_check.specs.TextChecks.{CheckedPartsLed}
+use Rattle.swd_check.specs.Watched.{checked_rest}
 use Rattle.swd_check.proofs.TextCheckLemmas.{checked_text_verdict}
 use Rattle.swd_check.proofs.text_check.verdict.Goals as goal
 

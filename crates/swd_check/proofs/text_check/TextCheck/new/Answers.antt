@@ -4,4 +4,4 @@ use Rattle.swd_check.proofs.text_check.TextCheck.new.Goals as goal
 
 pub returns : goal.returns
 returns g c =
-    checked_text_begins _ c.new-first.result c.new-2.result refl c.new-check.ensures c.new-first.ensures c.new-2.ensures
+    checked_text_begins _ c.new-first.result c.new.result refl c.of_session.ensures c.new-first.ensures c.new.ensures
