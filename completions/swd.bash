@@ -45,15 +45,15 @@ _swd() {
         words='--remote --plain --hole --clean --help -h'
         ;;
     load)
-        words='--format --tries --resume --report --progress --remote --memory --base --plan --help -h'
+        words='--format --tries --resume --report --progress --remote --check --memory --base --plan --help -h'
         formats='bin hex srec elf'
         ;;
     verify)
-        words='--format --tries --resume --report --progress --remote --memory --base --plan --help -h'
+        words='--format --tries --resume --report --progress --remote --check --memory --base --plan --help -h'
         formats='bin hex srec elf'
         ;;
     dump)
-        words='--format --tries --resume --report --progress --remote --memory --base --plan --help -h'
+        words='--format --tries --resume --report --progress --remote --check --memory --base --plan --help -h'
         formats='bin hex srec'
         ;;
     esac

@@ -29,7 +29,7 @@ pub enum CommandLine {
     /// `swd conform --remote[=IN,OUT] --plain BASE WORDS [--hole ADDR] [--clean]`.
     Conform(ConformLine),
     /// `swd load ADDR FILE TARGET [--format FORMAT] [--tries N] [--resume N] [--report FILE] [--progress]`, the same
-    /// with `verify`, or with `dump ADDR BYTES FILE`. TARGET is `--remote[=IN,OUT]` or
+    /// with `verify`, or with `dump ADDR BYTES FILE`. TARGET is `--remote[=IN,OUT] [--check]` or
     /// `--memory FILE [--base ADDR] [--plan FILE]`.
     Image(ImageLine),
 }
@@ -225,6 +225,8 @@ pub struct ImageLine {
     pub report: Option<String>,
     /// Whether lines on standard error say how far the command is.
     pub progress: bool,
+    /// Whether a remote session is checked while it goes on.
+    pub check: bool,
     /// What leads to a remote target: `-` for the standard streams, two files as `IN,OUT`, or one that does both. `None`
     /// for a simulated target.
     pub remote: Option<String>,

@@ -10,6 +10,11 @@ command_status_by (Breaks broken) status = if status == 0 then 1 else status
 command_status_by checked status = status
 
 -- the same if the session was checked
+abbrev pub command_status_of_session : Option Checked → ℕ → ℕ
+command_status_of_session None status = status
+command_status_of_session (Some checked) status = command_status_by checked status
+
+-- the same if the trace of the session was checked
 abbrev pub command_status_checked : Option (Result Checked TextFault) → ℕ → ℕ
 command_status_checked None status = status
 command_status_checked (Some (Ok checked)) status = command_status_by checked status

@@ -1,6 +1,6 @@
 //! Prints the verdict on a session, and returns the status with it.
-ghost use Rattle.std.specs.Prelude.{◌≡◌, Some, Ok};
-ghost use Rattle.swd_console.specs.Verdicts.{command_status_checked};
+ghost use Rattle.std.specs.Prelude.{◌≡◌};
+ghost use Rattle.swd_console.specs.Verdicts.{command_status_by, command_status_checked, command_status_of_session};
 
 use crate::report::{DONE, STOPPED};
 use std::io::Write;
@@ -9,6 +9,16 @@ use swd_text::TextFault;
 
 /// Prints the line of a verdict on standard error, if a session was checked. Returns the status: 1 in place of 0 if a
 /// rule is broken, and otherwise `status`, that of the command without a check.
+pub fn session_status<E: Write>(errors: &mut E, verdict: &Option<Checked>, status: u8) -> u8
+    ensures { result ≡ command_status_of_session verdict.now status }
+{
+    match verdict {
+        Some(checked) => checked_status(errors, checked, status),
+        None => status,
+    }
+}
+
+/// Does so for a session whose trace was checked. Prints why the trace is invalid, if it is.
 pub fn verdict_status<E: Write>(
     errors: &mut E,
     verdict: &Option<Result<Checked, TextFault>>,
@@ -17,10 +27,7 @@ pub fn verdict_status<E: Write>(
     ensures { result ≡ command_status_checked verdict.now status }
 {
     match verdict {
-        Some(Ok(checked)) => {
-            let _ = writeln!(errors, "{}", checked.line().as_str());
-            status_with(checked, status)
-        }
+        Some(Ok(checked)) => checked_status(errors, checked, status),
         Some(Err(fault)) => {
             let _ = writeln!(errors, "swd: {fault}");
             status
@@ -29,10 +36,11 @@ pub fn verdict_status<E: Write>(
     }
 }
 
-// Returns the status with this verdict.
-fn status_with(checked: &Checked, status: u8) -> u8
-    ensures { result ≡ command_status_checked (Some (Ok checked.now)) status }
+// Prints the line of a verdict, and returns the status with it.
+fn checked_status<E: Write>(errors: &mut E, checked: &Checked, status: u8) -> u8
+    ensures { result ≡ command_status_by checked.now status }
 {
+    let _ = writeln!(errors, "{}", checked.line().as_str());
     match checked {
         Checked::Breaks(_) if status == DONE => STOPPED,
         _ => status,

@@ -15,7 +15,9 @@ use Rattle.swd_image_files.specs.declared.format.Format.{Format}
 use Rattle.swd_image_files.specs.Texts.{image_file_of_piece}
 use Rattle.swd_image_ends.specs.Came.{DumpCame}
 use Rattle.swd_command_line.specs.declared.command.ImageLine.{ImageLine}
-use Rattle.swd_console.specs.Connections.{CommandWentOver}
+use Rattle.swd_check.specs.declared.checked.Checked.{Checked}
+use Rattle.swd_conform.specs.Sessions.{GoesOverChecked}
+use Rattle.swd_console.specs.Verdicts.{command_status_of_session}
 use Rattle.swd_image_commands.specs.Images.{IsCommandDumped, IsCommandWritten, PerformsDump, command_limits}
 use Rattle.swd_image_commands.specs.Images.{command_result_reached, makes_command_reports}
 use Rattle.swd_run.specs.Wires.{run_story_wire}
@@ -72,21 +74,26 @@ pub dump_command_performed : {V R W : Type 0} (list : V → List ℕ) (story : �
     (calls : List Call) → limits ≡ command_limits image → is_some before ≡ makes_command_reports image
     → DumpCame (run_story_wire story) limits image.addr count answer list [] calls before after
     → (remaining : R → Option (List ℕ)) (contents : W → Option (List ℕ)) (sent left : Option (List ℕ))
-    (line : RemoteStreams R W) → CommandWentOver remaining contents sent left line calls → (status : ℕ)
+    (line : RemoteStreams R W) (verdict : Option Checked)
+    → ∥ GoesOverChecked image.check remaining contents sent left line calls verdict ∥₁ → (unchecked status : ℕ)
+    → status ≡ command_status_of_session verdict unchecked
     → IsCommandDumped image.format image.addr
-    (command_result_reached line.fault (dump_command_as_list list answer)) status
+    (command_result_reached line.fault (dump_command_as_list list answer)) unchecked
     → PerformsDump story image status remaining contents sent left line count
 dump_command_performed list story image limits count answer before after calls same named came remaining contents sent
-    left line over status dumped = inr (
+    left line verdict over unchecked status reached dumped = inr (
       dump_command_as_list list answer,
       before,
       after,
       named,
       calls,
+      verdict,
       subst (λ own. DumpCame (run_story_wire story) own image.addr count (dump_command_as_list list answer)
           (λ bytes. bytes) [] calls before after) same
           (dump_command_came_list list (run_story_wire story) limits image.addr count answer [] calls before after
           came),
       over,
+      unchecked,
       dumped,
+      reached,
     )

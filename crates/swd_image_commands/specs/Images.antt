@@ -16,10 +16,12 @@ use Rattle.swd_image_files.specs.Files.{IsImageOrElf}
 use Rattle.swd_image_files.specs.Images.{ImageFileBytes, ImageFileContents, image_file_pieces}
 use Rattle.swd_image_files.specs.Texts.{image_file_of_piece}
 use Rattle.swd_image_ends.specs.Came.{DumpCame, LoadCame, VerifyCame}
+use Rattle.swd_check.specs.declared.checked.Checked.{Checked}
+use Rattle.swd_conform.specs.Sessions.{GoesOverChecked}
 use Rattle.swd_command_line.specs.declared.command.ImageAction.{ImageAction}
 use Rattle.swd_command_line.specs.declared.command.ImageAction.TheVariants.{Load, Verify, Dump}
 use Rattle.swd_command_line.specs.declared.command.ImageLine.{ImageLine}
-use Rattle.swd_console.specs.Connections.{CommandWentOver}
+use Rattle.swd_console.specs.Verdicts.{command_status_of_session}
 use Rattle.swd_run.specs.Wires.{run_story_wire}
 
 -- what each call may meet
@@ -89,6 +91,10 @@ module _ {R W : Type 0} (story : ℕ → Port) (image : ImageLine) (status : ℕ
   abbrev pub IsLeft : Type 0
   IsLeft = (status ≡ 2) × IsUnusedRemote remaining contents sent left line
 
+  -- what went over the line, and the verdict on it if the session is checked
+  abbrev pub WentOverChecked : List Call → Option Checked → Type 0
+  WentOverChecked calls verdict = ∥ GoesOverChecked image.check remaining contents sent left line calls verdict ∥₁
+
   -- The pieces of a file are loaded over a line. The reports of the calls are written if a file is named for them.
   -- Nothing else is known of this file. Only tests show that the line is over the standard streams.
   abbrev pub PerformsLoad : Type 0
@@ -97,10 +103,11 @@ module _ {R W : Type 0} (story : ℕ → Port) (image : ImageLine) (status : ℕ
       ⊎ ((pieces : List ImageFileBytes) × (answer : Result (Unit {0}) ImageFault) × AreCommandPieces image pieces
       × (before : Option (Option (List ℕ))) × (after : Option (Option (List ℕ)))
       × (is_some before ≡ makes_command_reports image)
-      × (calls : List Call)
+      × (calls : List Call) × (verdict : Option Checked)
       × LoadCame (run_story_wire story) (command_limits image) pieces answer [] calls before after
-      × CommandWentOver remaining contents sent left line calls
-      × (status ≡ command_status_of_image command_status_loaded line.fault answer))
+      × WentOverChecked calls verdict
+      × (status ≡ command_status_of_session verdict
+      (command_status_of_image command_status_loaded line.fault answer)))
 
   -- the memory is compared with the pieces of a file
   abbrev pub PerformsVerify : Type 0
@@ -110,10 +117,11 @@ module _ {R W : Type 0} (story : ℕ → Port) (image : ImageLine) (status : ℕ
       × AreCommandPieces image pieces
       × (before : Option (Option (List ℕ))) × (after : Option (Option (List ℕ)))
       × (is_some before ≡ makes_command_reports image)
-      × (calls : List Call)
+      × (calls : List Call) × (verdict : Option Checked)
       × VerifyCame (run_story_wire story) (command_limits image) pieces answer [] calls before after
-      × CommandWentOver remaining contents sent left line calls
-      × (status ≡ command_status_of_image command_status_verified line.fault answer))
+      × WentOverChecked calls verdict
+      × (status ≡ command_status_of_session verdict
+      (command_status_of_image command_status_verified line.fault answer)))
 
   -- `count` bytes of the memory are written to a file
   abbrev pub PerformsDump : ℕ → Type 0
@@ -122,11 +130,12 @@ module _ {R W : Type 0} (story : ℕ → Port) (image : ImageLine) (status : ℕ
       ⊎ ((answer : Result (List ℕ) ImageFault)
       × (before : Option (Option (List ℕ))) × (after : Option (Option (List ℕ)))
       × (is_some before ≡ makes_command_reports image)
-      × (calls : List Call)
+      × (calls : List Call) × (verdict : Option Checked)
       × DumpCame (run_story_wire story) (command_limits image) image.addr count answer (λ bytes. bytes) [] calls
       before after
-      × CommandWentOver remaining contents sent left line calls
-      × IsCommandDumped image.format image.addr (command_result_reached line.fault answer) status)
+      × WentOverChecked calls verdict
+      × (unchecked : ℕ) × IsCommandDumped image.format image.addr (command_result_reached line.fault answer) unchecked
+      × (status ≡ command_status_of_session verdict unchecked))
 
   -- what the arguments ask for
   abbrev pub PerformsAction : ImageAction → Type 0

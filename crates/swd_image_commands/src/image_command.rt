@@ -9,8 +9,11 @@ use crate::simulated_command::perform_simulated;
 use std::alloc::Allocator;
 use std::io::{Read, Write};
 use swd_command_line::{ImageAction, ImageLine};
-use swd_console::{Clock, Console, Files, InUse, KeepsError, Stream, StreamsInUse, WriteRole};
-use swd_image_ends::{DumpJob, LoadJob, VerifyJob, over_line};
+use swd_conform::over_checked_line;
+use swd_console::{
+    Clock, Console, Files, InUse, KeepsError, Stream, StreamsInUse, WriteRole, session_status,
+};
+use swd_image_ends::{DumpJob, LoadJob, VerifyJob};
 use swd_port::Story;
 use swd_remote::RemoteStreams;
 
@@ -85,7 +88,13 @@ fn perform_load<
         limits: limits_of(image),
         report: report_writer(image, opened, words, &mut *console.errors, console.clock),
     };
-    let (answer, line) = over_line::<P, _, _, _>(&mut job, input, output);
+    let (answer, line, verdict) = over_checked_line::<P, _, _, _, _>(
+        console.alloc,
+        image.check,
+        &mut job,
+        input,
+        output,
+    );
     let streams = call_streams(image, &job.report, &line);
     drop(job);
     let streams = streams.as_slice();
@@ -97,7 +106,7 @@ fn perform_load<
         image.addr,
         &whole,
     );
-    (status, line)
+    (session_status(console.errors, &verdict, status), line)
 }
 
 // Compares the memory with the file's pieces.
@@ -134,7 +143,13 @@ fn perform_verify<
         limits: limits_of(image),
         report: report_writer(image, opened, words, &mut *console.errors, console.clock),
     };
-    let (answer, line) = over_line::<P, _, _, _>(&mut job, input, output);
+    let (answer, line, verdict) = over_checked_line::<P, _, _, _, _>(
+        console.alloc,
+        image.check,
+        &mut job,
+        input,
+        output,
+    );
     let streams = call_streams(image, &job.report, &line);
     drop(job);
     let streams = streams.as_slice();
@@ -146,7 +161,7 @@ fn perform_verify<
         image.addr,
         &whole,
     );
-    (status, line)
+    (session_status(console.errors, &verdict, status), line)
 }
 
 // Opens the file, and reads bytes of the memory. Then replaces the file by the bytes.
@@ -188,18 +203,24 @@ fn perform_dump<
         limits: limits_of(image),
         report: report_writer(image, opened, words, &mut *console.errors, console.clock),
     };
-    let (answer, line) = over_line::<P, _, _, _>(&mut job, input, output);
+    let (answer, line, verdict) = over_checked_line::<P, _, _, _, _>(
+        console.alloc,
+        image.check,
+        &mut job,
+        input,
+        output,
+    );
     let streams = call_streams(image, &job.report, &line);
     drop(job);
     match reached(console.errors, answer, line.fault, streams.as_slice()) {
         Ok(bytes) => {
             let status = write_image_file(image, bytes.as_slice(), &mut file, console);
             keep_or_give_up(image, status, &mut file, console);
-            (status, line)
+            (session_status(console.errors, &verdict, status), line)
         }
         Err(status) => {
             keep_or_give_up(image, status, &mut file, console);
-            (status, line)
+            (session_status(console.errors, &verdict, status), line)
         }
     }
 }

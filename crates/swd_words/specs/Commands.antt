@@ -230,9 +230,10 @@ memory_args_app = with_rule (with_rule (with_rule (new_app (codes "target")) ser
 abbrev pub target_args_app : App
 target_args_app = with_rule (with_rule (with_rule (with_rule memory_args_app plan_rule) log_rule) trace_rule) idr_rule
 
--- the options for the target of an image
+-- the options for the target of an image: remote, with the check of its session, or simulated
 abbrev pub with_target_args : App → App
-with_target_args app = with_rule (with_rule (with_rule (with_rule app remote_rule) memory_rule) base_rule) plan_rule
+with_target_args app = with_rule (with_rule (with_rule (with_rule (with_rule app remote_rule) session_rule) memory_rule)
+    base_rule) plan_rule
 
 -- the options for the report of an image's calls, and how far they are
 abbrev pub with_report_args : App → App
@@ -333,7 +334,7 @@ IsResumeArgument resumes None = resumes ≡ 0
 IsResumeArgument resumes (Some text) = (resumes ≤ 1000) × (pos resumes ≡ signed_digits_value 10 text)
 
 -- the script, the plan, the two numbers, the trace, the accesses, what leads to a remote target, and the report that the
--- arguments name, and whether the run is strict, and says how far it is
+-- arguments name, and whether the run is strict, says how far it is, and checks its session
 pub record AreRunArguments (run : RunLine) (rows : List Row) : Type 0 where
   pub script : Some (string_bytes run.script) ≡ first_of (codes "SCRIPT") rows
   pub plan : option_map string_bytes run.plan ≡ first_of (codes "plan") rows
@@ -450,7 +451,7 @@ IsTargetArgument (Some memory) rows = (first_of (codes "remote") rows ≡ None) 
 
 -- the action, the address of 1 to 8 hexadecimal digits after an optional 0x, the file with its format, the two numbers,
 -- the report, what leads to a remote target, and the target that the arguments name, and whether the command says how
--- far it is
+-- far it is, and checks its session
 pub record AreImageArguments (image : ImageLine) (name : Text) (rows : List Row) : Type 0 where
   pub action : IsActionArgument image.action name rows
   pub addr : Some image.addr ≡ option_and_then (λ text. script_hex_number text) (first_of (codes "ADDR") rows)
@@ -459,6 +460,7 @@ pub record AreImageArguments (image : ImageLine) (name : Text) (rows : List Row)
   pub resumes : IsResumeArgument image.resumes (first_of (codes "resume") rows)
   pub report : option_map string_bytes image.report ≡ first_of (codes "report") rows
   pub progress : (image.progress ≡ true) ↔ (first_of (codes "progress") rows ≡ Some (codes "true"))
+  pub check : (image.check ≡ true) ↔ (first_of (codes "check") rows ≡ Some (codes "true"))
   pub remote : option_map string_bytes image.remote ≡ first_of (codes "remote") rows
   pub target : IsTargetArgument image.memory rows
   pub format : AreFormatArguments image.action image.format image.elf (string_bytes image.file)

@@ -11,8 +11,8 @@ use crate::fault::LineFault;
 use crate::format_words::{READ_FORMAT, WRITTEN_FORMAT, format_form, formats_in};
 use crate::memory_words::{BASE, MEMORY, target_in};
 use crate::words::{
-    PLAN, PROGRESS, REMOTE, RESUME, TRIES, invalid, is_asked_for, numbers_in, owned, refused,
-    unknown, why_unpaced,
+    PLAN, PROGRESS, REMOTE, RESUME, SESSION, TRIES, invalid, is_asked_for, numbers_in, owned,
+    refused, unknown, why_unchecked, why_unpaced,
 };
 use clap::ArgMatches;
 use clap::error::ErrorKind;
@@ -62,6 +62,11 @@ With - it is appended to standard error.
 --progress is as for swd run, but counts the words that are written:
   swd: 12288 of 16384 words, 4096 a second
 
+With --check and --remote the session is checked while it goes on. At the end a
+line on standard error has the verdict: that of swd check --rest of its items.
+If it is breaks, the target doesn't keep the standard, or it wasn't at rest
+before.
+
 A line on standard error has the result, or the first error of FILE:
   swd: loaded 65536 bytes at 20000000
   swd: loaded 1234 bytes in 3 pieces
@@ -69,15 +74,16 @@ A line on standard error has the result, or the first error of FILE:
   swd: a.elf: ELF: machine 62, not 40 (Arm)
 
 Status: 0 if all was loaded, 1 if the run ended early, an access met a bus error
-or the other end went away, 2 at an error.";
+or the other end went away, 2 at an error. With --check it is 1 in place of 0 if
+the verdict is breaks.";
 
 const VERIFY_AFTER: &str = "\
 FILE and ADDR are as for swd load, and so are --remote and --memory, whose FILE
 is only read. The pieces of FILE are read and compared in its order,
 up to the first one that differs.
 
---report FILE is as for swd load. A call has up to 65,536 reads. --progress
-counts the words that are read.
+--report FILE is as for swd load, and so is --check. A call has up to 65,536
+reads. --progress counts the words that are read.
 
 A line on standard error has the result, or the first byte that differs:
   swd: verified 65536 bytes at 20000000
@@ -85,15 +91,16 @@ A line on standard error has the result, or the first byte that differs:
   swd: 20000010 has 3f, not 00
 
 Status: 0 if all bytes are equal, 1 if a byte differs, the run ended early, an
-access met a bus error or the other end went away, 2 at an error.";
+access met a bus error or the other end went away, 2 at an error. With --check
+it is 1 in place of 0 if the verdict is breaks.";
 
 const DUMP_AFTER: &str = "\
 BYTES is 1 to 10 decimal digits, which k (1024 bytes) or M (1048576 bytes) may
 follow, or 1 to 8 hexadecimal digits after 0x. ADDR is 1 to 8 hexadecimal
-digits, after an optional 0x. --remote and --memory are as for swd load; the
-memory's FILE is only read. --report and --progress are as for swd verify. FILE
-is hex, srec or bin by its name, as for swd load, or by --format. In a hex or
-srec file the addresses are the target's.
+digits, after an optional 0x. --remote and --memory are as for swd load, and so
+is --check; the memory's FILE is only read. --report and --progress are as for
+swd verify. FILE is hex, srec or bin by its name, as for swd load, or by
+--format. In a hex or srec file the addresses are the target's.
 
 FILE is replaced once all bytes are read, by a new file beside it that gets its
 name. At an error it is unchanged, or isn't created. A line on standard error
@@ -101,7 +108,8 @@ has the result:
   swd: dumped 65536 bytes at 20000000
 
 Status: 0 if all was dumped, 1 if the run ended early, an access met a bus error
-or the other end went away, 2 at an error.";
+or the other end went away, 2 at an error. With --check it is 1 in place of 0 if
+the verdict is breaks.";
 
 const ADDR_FORM: &str = "it is not 1 to 8 hexadecimal digits";
 
@@ -158,6 +166,7 @@ const READ: &[Argument] = &[
     REPORT,
     PROGRESS,
     REMOTE,
+    SESSION,
     MEMORY,
     BASE,
     PLAN,
@@ -194,6 +203,7 @@ pub(crate) const DUMP: CommandRow = CommandRow {
         REPORT,
         PROGRESS,
         REMOTE,
+        SESSION,
         MEMORY,
         BASE,
         PLAN,
@@ -303,12 +313,13 @@ pub(crate) fn image_line(
         return Err(LineFault::Memory);
     };
     let progress = is_asked_for(matches.get_str("progress"));
-    if let Some(why) = why_unpaced(progress, &report) {
-        return Err(refused(alloc, ErrorKind::ArgumentConflict, why));
-    }
     let Ok(remote) = owned(alloc, matches.get_str("remote")) else {
         return Err(LineFault::Memory);
     };
+    let check = is_asked_for(matches.get_str("check"));
+    if let Some(why) = why_unchecked(check, &remote).or(why_unpaced(progress, &report)) {
+        return Err(refused(alloc, ErrorKind::ArgumentConflict, why));
+    }
     let memory = target_in(alloc, matches)?;
     let word = matches.get_str("format");
     let Some(formats) = formats_in(action, word, file.as_str()) else {
@@ -324,6 +335,7 @@ pub(crate) fn image_line(
         resumes: numbers.1,
         report,
         progress,
+        check,
         remote,
         memory,
     })

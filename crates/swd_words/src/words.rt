@@ -251,8 +251,8 @@ pub(crate) const PROGRESS: Argument = Argument {
     help: "Print progress to stderr, at most once a second",
 };
 
-// Whether a session with a remote target is checked.
-const SESSION: Argument = Argument {
+/// Whether a session with a remote target is checked.
+pub(crate) const SESSION: Argument = Argument {
     name: "check",
     form: Form::Flag,
     help: "With --remote: check the session as swd check --rest",
@@ -540,10 +540,17 @@ fn why_unmatched(run: &RunLine) -> Option<&'static str> {
         Some("--remote and --report FILE go together")
     } else if run.remote.is_some() && run.plan.is_some() {
         Some("with --remote there is no --plan")
-    } else if run.check && run.remote.is_none() {
+    } else {
+        why_unchecked(run.check, &run.remote).or(why_unpaced(run.progress, &run.report))
+    }
+}
+
+/// Returns why a session can't be checked, if it can't: only that with a remote target is.
+pub(crate) fn why_unchecked(check: bool, remote: &Option<String>) -> Option<&'static str> {
+    if check && remote.is_none() {
         Some("--check goes with --remote")
     } else {
-        why_unpaced(run.progress, &run.report)
+        None
     }
 }
 

@@ -3,10 +3,30 @@ use super::expect::expect_eq_at;
 use super::run_on;
 
 // The arguments, and all lines.
-const ROWS: [(&[&str], &[u8]); 27] = [
+const ROWS: [(&[&str], &[u8]); 31] = [
     (
         &["swd", "run", "s", "--remote"],
         b"error: --remote and --report FILE go together\n\nUsage: swd run [OPTIONS] <SCRIPT>\n\n\
+          For more information, try '--help'.\n",
+    ),
+    (
+        &["swd", "run", "s", "--check"],
+        b"error: --check goes with --remote\n\nUsage: swd run [OPTIONS] <SCRIPT>\n\n\
+          For more information, try '--help'.\n",
+    ),
+    (
+        &["swd", "load", "0", "image", "--memory", "ram", "--check"],
+        b"error: --check goes with --remote\n\nUsage: swd load [OPTIONS] <ADDR> <FILE>\n\n\
+          For more information, try '--help'.\n",
+    ),
+    (
+        &["swd", "verify", "0", "image", "--check"],
+        b"error: --check goes with --remote\n\nUsage: swd verify [OPTIONS] <ADDR> <FILE>\n\n\
+          For more information, try '--help'.\n",
+    ),
+    (
+        &["swd", "dump", "0", "4", "out", "--check", "--memory", "ram"],
+        b"error: --check goes with --remote\n\nUsage: swd dump [OPTIONS] <ADDR> <BYTES> <FILE>\n\n\
           For more information, try '--help'.\n",
     ),
     (

@@ -110,12 +110,14 @@ fn help_tells_each_word(rt: HostRuntime) -> Result<(), Fail> {
         "--remote ",
         "--report ",
         "--progress ",
+        "--check ",
     ] {
         assert!(rt; has_line(said.as_str(), start));
     }
     for command in ["load", "verify", "dump"] {
         let said = said_of(rt.alloc(), ["swd", command, "--help"].as_slice())?;
         assert!(rt; has_line(said.as_str(), "--report "));
+        assert!(rt; has_line(said.as_str(), "--check "));
     }
     Ok(())
 }
@@ -330,10 +332,50 @@ fn words_that_are_no_command(rt: HostRuntime) {
         ["swd", "run", "a", "--accesses"].as_slice(),
         ["swd", "run", "a", "--strict=yes"].as_slice(),
         ["swd", "run", "a", "--progress=yes"].as_slice(),
+        ["swd", "load", "0", "a", "--remote", "--check=yes"].as_slice(),
     ] {
         let refused = matches!(line(rt.alloc(), words), Err(LineFault::Clap(_)));
         assert!(rt; refused);
     }
+}
+
+// Whether these arguments ask for a check of the session with an image.
+fn is_checked(alloc: Global, words: &[&str]) -> Option<bool> {
+    match line(alloc, words) {
+        Ok(CommandLine::Image(image)) => Some(image.check),
+        _ => None,
+    }
+}
+
+// Only a remote session is checked, and only with `--check`.
+#[test]
+fn a_session_with_an_image_is_checked_where_it_is_asked_for(rt: HostRuntime) -> Result<(), Fail> {
+    let commands: [&[&str]; 3] = [
+        &["swd", "load", "0", "image"],
+        &["swd", "verify", "0", "image"],
+        &["swd", "dump", "0", "4", "to"],
+    ];
+    let rows: [(&[&str], Option<bool>); 9] = [
+        (&["--remote"], Some(false)),
+        (&["--remote", "--check"], Some(true)),
+        (&["--check", "--remote"], Some(true)),
+        (&["--remote=in,out", "--check"], Some(true)),
+        (&["--remote", "--progress"], Some(false)),
+        (&["--memory", "ram"], Some(false)),
+        (&["--memory", "ram", "--check"], None),
+        (&["--check"], None),
+        (&["--remote", "--memory", "ram", "--check"], None),
+    ];
+    for command in commands {
+        for (more, check) in rows {
+            let mut words = Vec::new(rt.alloc());
+            words.extend_from_slice(command)?;
+            words.extend_from_slice(more)?;
+            let found = is_checked(rt.alloc(), words.as_slice());
+            expect_eq_at(&rt, &words.as_slice(), &found, &check);
+        }
+    }
+    Ok(())
 }
 
 // The address of the memory that these arguments name.

@@ -21,6 +21,9 @@ returns c = record {
   progress = subst (λ (word : Option Text). (c.is_asked_for-progress.result ≡ true) ↔ (word ≡ Some (codes "true")))
       (c.get_str-3.ensures ∙ first_value-rows (found_of c.args.matches.now) (codes "progress"))
       c.is_asked_for-progress.ensures;
+  check = subst (λ (word : Option Text). (c.is_asked_for-check.result ≡ true) ↔ (word ≡ Some (codes "true")))
+      (c.get_str-5.ensures ∙ first_value-rows (found_of c.args.matches.now) (codes "check"))
+      c.is_asked_for-check.ensures;
   remote = c.in-Ok-owned.ensures ∙ c.get_str-4.ensures
       ∙ first_value-rows (found_of c.args.matches.now) (codes "remote");
   target = c.in_ok-memory.ensures;
