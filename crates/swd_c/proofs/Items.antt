@@ -24,7 +24,8 @@ use Rattle.swd_c.specs.Items.{CApiReadsTransaction, CApiReadsCut}
 abbrev end_in : SwdItem → Option TxEnd
 end_in f = c_api_end_from f.ack f.word f.parity_ok
 
-no_ack_back : (q : Request) (seen : ℕ) → IsTxEnd (NoAck seen) → end_in (c_api_tx_item q (NoAck seen)) ≡ Some (NoAck seen)
+no_ack_back : (q : Request) (seen : ℕ) → IsTxEnd (NoAck seen)
+    → end_in (c_api_tx_item q (NoAck seen)) ≡ Some (NoAck seen)
 no_ack_back q seen h = elim h [
   | inl e ↦ rw e refl
   | inr h ↦ elim h [
@@ -60,11 +61,13 @@ no_ack_sound : (n : ℕ) → IfSome (c_api_no_ack_from n) IsTxEnd
 no_ack_sound n =
     if_end (n == 0) _ _ (λ e. inl (eqb-true n 0 e)) (if_end (n == 3) _ _ (λ e. inr (inl (eqb-true n 3 e)))
     (if_end (n == 5) _ _ (λ e. inr (inr (inl (eqb-true n 5 e)))) (if_end (n == 6) _ _
-    (λ e. inr (inr (inr (inl (eqb-true n 6 e))))) (if_end (n == 7) _ _ (λ e. inr (inr (inr (inr (eqb-true n 7 e))))) tt))))
+    (λ e. inr (inr (inr (inl (eqb-true n 6 e))))) (if_end (n == 7) _ _ (λ e. inr (inr (inr (inr (eqb-true n 7 e)))))
+    tt))))
 
 end_sound : (ack word parity_ok : ℕ) → word < 2 ^ 32 → IfSome (c_api_end_from ack word parity_ok) IsTxEnd
 end_sound ack word parity_ok w =
-    if_end (ack == 1) _ _ (λ e. w) (if_end (ack == 2) _ _ (λ e. tt) (if_end (ack == 4) _ _ (λ e. tt) (no_ack_sound ack)))
+    if_end (ack == 1) _ _ (λ e. w) (if_end (ack == 2) _ _ (λ e. tt)
+    (if_end (ack == 4) _ _ (λ e. tt) (no_ack_sound ack)))
 
 tx_sound : (q : Option Request) (end : Option TxEnd) → IfSome end IsTxEnd → IfSome (c_api_tx_by q end) IsEncodableItem
 tx_sound (Some q) (Some end) h = h
@@ -152,5 +155,6 @@ if_item false x y h k = k
 pub c_api_item_is : (f : SwdItem) (tx cut : Option Item) → IfSome tx IsEncodableItem → CApiReadsCut f.count f.bits cut
     → IfSome (c_api_item_by f tx cut) IsEncodableItem
 c_api_item_is f tx cut t k =
-    if_item (f.kind == 1) _ _ tt (if_item (f.kind == 2) _ _ tt (if_item (f.kind == 3) _ _ tt (if_item (f.kind == 4) _ _ t
+    if_item (f.kind == 1) _ _ tt (if_item (f.kind == 2) _ _ tt
+    (if_item (f.kind == 3) _ _ tt (if_item (f.kind == 4) _ _ t
     (if_item (f.kind == 5) _ _ tt (if_item (f.kind == 6) _ _ (cut_sound f.count f.bits cut k) tt)))))

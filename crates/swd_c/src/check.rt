@@ -60,8 +60,8 @@ pub extern "C" fn swd_check_new(check: &mut CheckerFields, start: u8, clean: u8)
     true
 }
 
-/// Takes the next item. `place` is the number of bits before it. Returns false, and leaves the fields unchanged, only if
-/// they are those of no checker, or the item's are those of no item.
+/// Takes the next item. `place` is the number of bits before it. Returns false, and leaves the fields unchanged, only
+/// if they are those of no checker, or the item's are those of no item.
 #[unsafe(no_mangle)]
 pub extern "C" fn swd_check_watch(check: &mut CheckerFields, item: &SwdItem, place: u64) -> bool
     ensures is { IsTrue result → IsChecker check.new }

@@ -25,10 +25,11 @@ pub record IsCaptureWatching (run : CaptureRun) (w : Watching) : Type 0 where
   pub idle : w.idle ≡ min run.idle (2 ^ 64 - 1)
 
 -- one that takes these items shows them to its observer, and appends the lines of what they show
-pub record CaptureShows (items : List Item) (run : CaptureRun) (old new : Watching) (before after : List ℕ) : Type 0 where
-  pub keeps : IsCaptureWatching run new
-  pub observer : new.observer ≡ trace_observer_after items old.observer
-  pub bytes : after ≡ before ++ observer_text_of_items items old.observer
+pub record CaptureShows (items : List Item) (run : CaptureRun) (old new : Watching) (before after : List ℕ) : Type 0
+  where
+    pub keeps : IsCaptureWatching run new
+    pub observer : new.observer ≡ trace_observer_after items old.observer
+    pub bytes : after ≡ before ++ observer_text_of_items items old.observer
 
 -- behind these parts lines depend on their bits and what they show of SELECT
 pub record AreCaptureLinesAfter (parts : List Part) (lines : PartLines) : Type 0 where

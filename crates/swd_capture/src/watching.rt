@@ -300,7 +300,8 @@ impl Watching {
     /// | `@PLACE gap` | no access: a gap begins here, which may hide accesses |
     ///
     /// `PLACE` is in decimal: the number of bits before the first bit of the access's request, or of the gap. `ADDR`
-    /// and `WORD` are eight lower-case hexadecimal digits, or `????????` if unknown. Accesses are listed in their order.
+    /// and `WORD` are eight lower-case hexadecimal digits, or `????????` if unknown. Accesses are listed in their
+    /// order.
     pub(crate) fn watch<const N: usize>(&mut self, part: &Part, text: &mut ArrayString<N>)
         requires { array_string_len text.old + 2 * LONGEST_SHOWN ≤ N }
         ensures shows { (run : CaptureRun) → IsCaptureWatching run self.old → CaptureShows

@@ -1,5 +1,6 @@
 -- The items of a call, one after the other.
-use Rattle.std.proofs.Common.{◌≡◌, ◌<◌, ◌-◌, ℕ, Bool, ne_eqb, true, false, [], ◌∷◌, ◌++◌, Option, Some, None, sym, subst, ◌∙◌}
+use Rattle.std.proofs.Common.{◌≡◌, ◌<◌, ◌-◌, ℕ, Bool, ne_eqb, true, false, [], ◌∷◌, ◌++◌, Option, Some, None, sym}
+use Rattle.std.proofs.Common.{subst, ◌∙◌}
 use Rattle.std.proofs.Common.{arith}
 use Rattle.std.specs.Prelude.{◌==◌, if◌then◌else◌}
 use Rattle.swd_bits.specs.declared.ack.Ack.{Ack}

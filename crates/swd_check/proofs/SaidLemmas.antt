@@ -15,7 +15,8 @@ module _ (P Q : List Item → Checked → Type 0) (weaken : (items : List Item) 
   checks_said reading checked text left r = (r.0, r.1, r.2, r.3, r.4, r.5, weaken _ checked r.6)
 
   -- what is written with a verdict that says one thing is written with one that says what follows
-  pub check_writes_said : (reading : Reading) (result : Result Checked DecodeFault) (text left old new : Option (List ℕ))
+  pub check_writes_said : (reading : Reading) (result : Result Checked DecodeFault)
+      (text left old new : Option (List ℕ))
       → WritesChecked reading P result text left old new → WritesChecked reading Q result text left old new
   check_writes_said reading (Ok checked) text left old new h = (checks_said reading checked text left h.0, h.1)
   check_writes_said reading (Err (Text fault)) text left old new h = h

@@ -24,7 +24,8 @@ use Rattle.swd_check.specs.declared.checked.Checked.{Checked}
 use Rattle.swd_check.specs.declared.text.CheckedParts.{CheckedParts}
 use Rattle.swd_check.specs.Checks.{CheckHasTaken, IsCheckedCount, check_never_stops}
 use Rattle.swd_check.specs.Watched.{CheckHolds, CheckSays, checked_rest}
-use Rattle.swd_check.specs.TextChecks.{CheckedBitsLed, CheckedPartsLed, CheckedReader, CheckedTextFeeds, CheckedTextSays}
+use Rattle.swd_check.specs.TextChecks.{CheckedBitsLed, CheckedPartsLed, CheckedReader, CheckedTextFeeds}
+use Rattle.swd_check.specs.TextChecks.{CheckedTextSays}
 use Rattle.swd_check.specs.TextChecks.{CheckedTextHas, CheckedTextStops}
 use Rattle.swd_check.specs.TextChecks.{checked_fed}
 
@@ -89,7 +90,8 @@ CheckedFaultSays (Unwritten told) text = ⊥
 
 abbrev pub CheckedBitsStop : {A : Type 0} → PartReader (CheckedParts A) × Unit {0} → ℕ → PartReader (CheckedParts A)
     × Unit {0} → Type 0
-CheckedBitsStop = LeadsSinkToStop (PartReaderHasTaken CheckedPartsLed) (PartReaderStops CheckedPartsLed check_never_stops)
+CheckedBitsStop = LeadsSinkToStop (PartReaderHasTaken CheckedPartsLed)
+    (PartReaderStops CheckedPartsLed check_never_stops)
 
 -- a text ended with a fault
 pub checked_text_stopped : {A : Type 0} (old new : CheckedReader A) (bytes text : List ℕ) (fault : TakeFault)

@@ -58,14 +58,16 @@ ChecksText reading Says (Err (Write told)) text left = ⊥
 
 -- The same where the line of the verdict is written, of which any text says why an item breaks a rule. At an error of
 -- the text or of the reader nothing was written, and at one of the writer exactly the line's first bytes.
-abbrev pub WritesChecked : Reading → (List Item → Checked → Type 0) → Result Checked DecodeFault → Option (List ℕ) → Option (List ℕ)
+abbrev pub WritesChecked : Reading → (List Item → Checked → Type 0) → Result Checked DecodeFault → Option (List ℕ)
+    → Option (List ℕ)
     → Option (List ℕ) → Option (List ℕ) → Type 0
 WritesChecked reading Says (Ok checked) text left old new =
     ChecksText reading Says (Ok checked) text left
     × ((why : List ℕ) × Appends old new (check_line checked why ++ 10 ∷ []))
 WritesChecked reading Says (Err (Text fault)) text left old new =
     ChecksText reading Says (Err (Text fault)) text left × Appends old new []
-WritesChecked reading Says (Err Read) text left old new = ChecksText reading Says (Err Read) text left × Appends old new []
+WritesChecked reading Says (Err Read) text left old new = ChecksText reading Says (Err Read) text left
+    × Appends old new []
 WritesChecked reading Says (Err (Write told)) text left old new =
     (checked : Checked) × ChecksText reading Says (Ok checked) text left
     × ((why : List ℕ) × OutputStopped told old new (check_line checked why ++ 10 ∷ []))

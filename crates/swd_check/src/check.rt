@@ -58,8 +58,8 @@ impl<A: Allocator + Copy> Check<A> {
         }
     }
 
-    /// Returns a check of a session, which took no items. The target is at rest before it: SELECT is 0, and no transfer is
-    /// pending and no data phase due. On the wire data may be damaged, and requests lost.
+    /// Returns a check of a session, which took no items. The target is at rest before it: SELECT is 0, and no transfer
+    /// is pending and no data phase due. On the wire data may be damaged, and requests lost.
     pub fn of_session(alloc: A) -> Check<A>
         ensures { CheckHolds checked_rest result [] }
     {

@@ -82,8 +82,8 @@ impl<A: Allocator + Copy> PlainMemory<A> {
         self.forgotten = self.forgotten.saturating_add(1);
     }
 
-    /// Takes an access that a trace shows. Returns why it isn't one of a plain memory, if it isn't. Where `clean` is true,
-    /// nothing is damaged on the wire.
+    /// Takes an access that a trace shows. Returns why it isn't one of a plain memory, if it isn't. Where `clean` is
+    /// true, nothing is damaged on the wire.
     pub(crate) fn take(&mut self, told: &ObservedAccess, clean: bool) -> Option<NotPlain> {
         let Some(addr) = told.addr else {
             if !told.read && told.how != How::Not {

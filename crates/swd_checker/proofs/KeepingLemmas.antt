@@ -97,7 +97,8 @@ refused_keeps : (P : Target → Type 0) (R : Register → Type 0) (clean : Bool)
 refused_keeps P R clean q s t seen h keeps first = passed_keeps P h.asked t keeps.completes h.passes
     (asked_keeps P R clean q s h.asked seen h.asks keeps first)
 
-moved_by : (P : Target → Type 0) (R : Register → Type 0) (clean : Bool) (q : Request) (word : ℕ) (ok : Bool) (s t : Port)
+moved_by : (P : Target → Type 0) (R : Register → Type 0) (clean : Bool) (q : Request) (word : ℕ) (ok : Bool)
+    (s t : Port)
     (read : Bool) → q.read ≡ read → CheckedHasMoved clean q word ok s t → KeepsFact P R q → P s.target → P t.target
 moved_by P R clean q word ok s t true e h keeps first =
     taken_keeps P h.asked t (checked_phase ok word) keeps.completes
@@ -107,9 +108,11 @@ moved_by P R clean q word ok s t false e h keeps first =
     let k = checked_okay_seen clean s q h.asked r h.asks refl in
     let x : P h.asks.before.target =
     port_completion_keeps_fact P keeps.completes s h.asks.before h.asks.completes first in
-    given_leads P P r (port_flip_of h.asks.mark) h.asks.after h.asked t (checked_phase ok word) keeps.completes keeps.completes
+    given_leads P P r (port_flip_of h.asks.mark) h.asks.after h.asked t (checked_phase ok word) keeps.completes
+    keeps.completes
     (λ refuses y z. keeps.writes refuses r _ y e (keeps.names h.asks.before.target x) z)
-    (k.line ∙ phase_written q.read r (port_flip_of h.asks.mark) _ e) h.asks.then (gives q.read h.asked t (checked_phase ok word) e h.moves)
+    (k.line ∙ phase_written q.read r (port_flip_of h.asks.mark) _ e) h.asks.then
+    (gives q.read h.asked t (checked_phase ok word) e h.moves)
     (answered_keeps P R clean q s h.asked 1 h.asks keeps first)
 
 -- what a transaction keeps

@@ -110,7 +110,8 @@ status_opened : (clean : Bool) (q : Request) (word : ℕ) (s t : Port) → q.ap 
 status_opened clean q word s t plain read at h rests =
     let same : h.asks.before ≡ s = no_pending_same s h.asks.before rests.pending h.asks.completes in
     let x : Target = h.asks.before.target in
-    let bank : (x.select.dpbanksel == 0) ≡ true = subst (λ (p : Port). (p.target.select.dpbanksel == 0) ≡ true) (sym same)
+    let bank : (x.select.dpbanksel == 0) ≡ true = subst (λ (p : Port). (p.target.select.dpbanksel == 0) ≡ true)
+    (sym same)
     rests.bank0 in
     let named : port_register x.select q ≡ CtrlStatRead = status_named q x.select plain read at bank in
     let k : CheckedOkayed h.asks.mark h.asks.choice q CtrlStatRead h.asks.before h.asks.after =
@@ -154,10 +155,13 @@ okay_opened clean q select word ok s t may h selected =
     let clear = checked_clear_by (port_is_answered x.reset r) (is_exempt_register r) _ k.answer plain in
     let write : x.write_error ≡ false = observed_second_clear x.sticky_error x.write_error
     (is_port_unpowered q.ap (port_has_power x)) clear in
-    let before : IsCheckedSelected select x = subst (λ (p : Port). IsCheckedSelected select p.target) (sym same) selected in
+    let before : IsCheckedSelected select x = subst (λ (p : Port). IsCheckedSelected select p.target) (sym same)
+    selected in
     subst (λ (p : Port). IsOpenedAtOkay select p.target) same (record {
-      live = live_by x.reset r (checked_answered_by (port_is_answered x.reset r) _ _ k.answer) (plain_not_dpidr r plain);
-      sticky_error = observed_first_clear x.sticky_error x.write_error (is_port_unpowered q.ap (port_has_power x)) clear;
+      live = live_by x.reset r (checked_answered_by (port_is_answered x.reset r) _ _ k.answer)
+          (plain_not_dpidr r plain);
+      sticky_error = observed_first_clear x.sticky_error x.write_error (is_port_unpowered q.ap (port_has_power x))
+          clear;
       write_error = write;
       select = arrived_whole select x before.arrived write;
       pending = before.pending;

@@ -15,7 +15,8 @@ use Rattle.swd_observer.specs.Runs.{ObservedEvent, Moves, Lifts, ObservedRuns}
 use Rattle.swd_observer.specs.Transacts.{ObservedMoves, ObservedHasMoved, ObservedTransacts}
 use Rattle.swd_checker.specs.Checked.{CheckedAsks, CheckedHasMoved, CheckedTransacts}
 use Rattle.swd_checker.specs.Shown.{IsEndShown, IsLeadShown, AreEventsShown, ObservedRunsAreShown}
-use Rattle.swd_checker.specs.Standing.{CheckedRuns, CheckedShows, checked_gap_at, checked_gap_after, checked_stray_after}
+use Rattle.swd_checker.specs.Standing.{CheckedRuns, CheckedShows, checked_gap_at, checked_gap_after}
+use Rattle.swd_checker.specs.Standing.{checked_stray_after}
 use Rattle.swd_checker.proofs.PhaseLemmas.{phase_of_wrong_parity}
 
 shown_asks : (s t : Port) (q : Request) (seen : ℕ) → PortAsks s q seen t → CheckedAsks false s q seen t

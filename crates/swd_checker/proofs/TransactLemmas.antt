@@ -46,7 +46,8 @@ use Rattle.swd_checker.proofs.DescribedLemmas.{world_completes, world_at_complet
 use Rattle.swd_checker.proofs.AddingLemmas.{world_after_plain}
 use Rattle.swd_checker.proofs.PhaseLemmas.{seen_whole, seen_unchanged, seen_changed, seen_undamaged, sent_changed}
 use Rattle.swd_checker.proofs.CheckedLemmas.{CheckedOkayed, CheckedFaulted, CheckedWaited, CheckedUnseen, ignored}
-use Rattle.swd_checker.proofs.CheckedLemmas.{accepted, refused, checked_okay_seen, checked_wait_seen, checked_fault_seen}
+use Rattle.swd_checker.proofs.CheckedLemmas.{accepted, refused, checked_okay_seen, checked_wait_seen}
+use Rattle.swd_checker.proofs.CheckedLemmas.{checked_fault_seen}
 use Rattle.swd_checker.proofs.CheckedLemmas.{checked_unseen}
 use Rattle.swd_checker.proofs.AddedLemmas.{WorldIsAdded}
 use Rattle.swd_checker.proofs.DueLemmas.{world_names, world_due_okay, world_due_silent, world_never_faults}
@@ -97,7 +98,8 @@ line_later s t line h e = ap (λ l. l.line) (port_kept s t h).link ∙ e
 pub bits_taken : (b asked t : Port) (bits sent : ℕ) → b.link.line ≡ Drives sent → PortCompletes b asked
     → PortTakes asked bits t → bits ≡ sent
 bits_taken b asked t bits sent line first (d, e, before, takes, last) =
-    takes.gets ∙ ap port_bits_driven (line_later asked d (Drives sent) before (line_later b asked (Drives sent) first line))
+    takes.gets ∙ ap port_bits_driven (line_later asked d (Drives sent) before
+    (line_later b asked (Drives sent) first line))
 
 -- THE DATA PHASE OF A WRITE
 pub hold_given : (v : Worlds) (w : World) (r : Register) (flip : Option ℕ) (b asked t : Port) (bits : ℕ)
@@ -115,7 +117,8 @@ hold_given v w r flip b asked t bits line first (d, e, before, gives, last) desc
     (subst (λ a. WorldsHold v false (port_after_bits gives.refuses a d.target))
     (sym (ap (λ l. port_arrival l bits) on))
     (subst (λ z. WorldsHold v z (port_after_bits gives.refuses
-    (port_arrival_of r (data_phase_word (port_flipped flip bits))) d.target)) idle (arrives gives.refuses d.target later))))
+    (port_arrival_of r (data_phase_word (port_flipped flip bits))) d.target)) idle
+    (arrives gives.refuses d.target later))))
 
 -- WAIT AND FAULT
 pub hold_passed : (v : Worlds) (b asked t : Port) → PortCompletes b asked → PortPasses asked t → WorldsHoldPort v b
@@ -366,8 +369,10 @@ moves_read asked now v seen word ok s t read right same idle accepts reads near 
     (ap (λ b. checked_phase b word) (sym right) ∙ p.bits) in
     let h : WorldsHold v now.world.awaits (port_after_okay c asked.register x) =
     subst (λ r. WorldsRead v now.world r seen true) same.register reads c x
-    (accepts c x is k.described k.okayed.settled k.okayed.answer) (λ f. absurd (cc)) (subst (IsCheckedNear seen) e near) in
-    read_holds asked v word ok s t moved read k (subst (λ a. WorldsHold v a (port_after_okay c asked.register x)) idle h)
+    (accepts c x is k.described k.okayed.settled k.okayed.answer) (λ f. absurd (cc)) (subst (IsCheckedNear seen) e near)
+    in
+    read_holds asked v word ok s t moved read k (subst (λ a. WorldsHold v a (port_after_okay c asked.register x)) idle
+    h)
 
 -- a read with wrong parity
 pub moves_read_damaged : (asked now : Asked) (v : Worlds) (word : ℕ) (ok : Bool) (s t : Port)
@@ -391,7 +396,8 @@ moves_read_damaged asked now v word ok s t read wrong same idle accepts reads is
     → port_value_in c r x ≡ checked_changed_at word z.place → WorldsHold v now.world.awaits (port_after_okay c r x))
     same.register (reads (same.clean ∙ z.may) z.place z.inside c x)
     (accepts c x is k.described k.okayed.settled k.okayed.answer) z.prompt z.is in
-    read_holds asked v word ok s t moved read k (subst (λ a. WorldsHold v a (port_after_okay c asked.register x)) idle h)
+    read_holds asked v word ok s t moved read k (subst (λ a. WorldsHold v a (port_after_okay c asked.register x)) idle
+    h)
 
 -- a write
 record WritesOnly (r : Register) : Type 0 where
@@ -402,10 +408,14 @@ record WritesOnly (r : Register) : Type 0 where
 write_names : (ap m b read : Bool) (addr : Reg4) → read ≡ false → (r : Register)
     → (if ap then (if m then mem_ap_register read addr else port_other_ap_register read)
     else port_dp_register read addr b) ≡ r → WritesOnly r
-write_names true true b false R0 e r f = subst WritesOnly f (record { posted = refl; other = λ g. cc; status = λ g. cc })
-write_names true true b false R4 e r f = subst WritesOnly f (record { posted = refl; other = λ g. cc; status = λ g. cc })
-write_names true true b false R8 e r f = subst WritesOnly f (record { posted = refl; other = λ g. cc; status = λ g. cc })
-write_names true true b false RC e r f = subst WritesOnly f (record { posted = refl; other = λ g. cc; status = λ g. cc })
+write_names true true b false R0 e r f = subst WritesOnly f
+    (record { posted = refl; other = λ g. cc; status = λ g. cc })
+write_names true true b false R4 e r f = subst WritesOnly f
+    (record { posted = refl; other = λ g. cc; status = λ g. cc })
+write_names true true b false R8 e r f = subst WritesOnly f
+    (record { posted = refl; other = λ g. cc; status = λ g. cc })
+write_names true true b false RC e r f = subst WritesOnly f
+    (record { posted = refl; other = λ g. cc; status = λ g. cc })
 write_names true false b false addr e r f =
     subst WritesOnly f (record { posted = refl; other = λ g. cc; status = λ g. cc })
 write_names false m b false R0 e r f = subst WritesOnly f (record { posted = refl; other = λ g. cc; status = λ g. cc })
@@ -446,7 +456,8 @@ write_holds : (asked : Asked) (v : Worlds) (w : World) (word : ℕ) (ok : Bool) 
     (data_phase_word (port_flipped (port_flip_of moved.asks.mark) (checked_phase ok word)))) x)) → WorldsHoldPort v t
 write_holds asked v w word ok s t moved write p idle arrives =
     hold_given v w asked.register (port_flip_of moved.asks.mark) moved.asks.after moved.asked t (checked_phase ok word)
-    p.line moved.asks.then (gives asked.request.read moved.asked t (checked_phase ok word) write moved.moves) p.described
+    p.line moved.asks.then (gives asked.request.read moved.asked t (checked_phase ok word) write moved.moves)
+    p.described
     idle arrives
 
 -- a write with right parity
@@ -557,7 +568,8 @@ loses_never asked v seen clean never s t is lost d = loses_by asked v seen s t i
     (λ a h quiet. absurd (never (world_due_silent asked.world a.target asked.request h quiet.1) quiet.0))
 
 -- the same request, of which one more is damaged or lost
-asked_again : (asked lost : Asked) → IsAskedAlike lost asked → lost.world ≡ asked.world → IsAskedBy asked → IsAskedBy lost
+asked_again : (asked lost : Asked) → IsAskedAlike lost asked → lost.world ≡ asked.world → IsAskedBy asked
+    → IsAskedBy lost
 asked_again asked lost same world is = record {
   register = same.register ∙ is.register ∙ ap (λ q. world_register asked.world q) (sym same.request)
       ∙ ap (λ w. world_register w lost.request) (sym world);

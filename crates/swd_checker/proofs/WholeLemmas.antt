@@ -22,7 +22,8 @@ checked_gap_over_more (first ∷ items) item g = checked_gap_over_more items ite
 pub checked_last_shown : (clean : Bool) (g : CheckedGap) (items : List Item) (item : Item) (s t : Port)
     → CheckedRuns clean g (items ++ item ∷ []) s t
     → (m : Port) × CheckedRuns clean g items s m × CheckedShows clean (checked_gap_over items g) item m t
-checked_last_shown clean g [] item s t (m, shows, last) = (s, refl, subst (λ p. CheckedShows clean g item s p) (sym last) shows)
+checked_last_shown clean g [] item s t (m, shows, last) =
+    (s, refl, subst (λ p. CheckedShows clean g item s p) (sym last) shows)
 checked_last_shown clean g (first ∷ items) item s t (m, shows, rest) =
     let r = checked_last_shown clean (checked_gap_after first g) items item m t rest in (r.0, (m, shows, r.1), r.2)
 
@@ -66,7 +67,8 @@ pub checker_ran : (start : CheckStart) (clean : Bool) (items : List Item) (index
     → index < length items → CheckerWatches (get_or items index d) c now → CheckerRuns start clean (take index items) c
     → CheckerRan start clean (take (index + 1) items) now
 checker_ran start clean items index d c now inside h before = subst (λ l. CheckerRan start clean l now)
-    (sym (take_more items index d inside)) (ran_more start clean (take index items) (get_or items index d) c now h before)
+    (sym (take_more items index d inside)) (ran_more start clean (take index items) (get_or items index d) c now h
+    before)
 
 -- the verdict is right
 pub breaks_is_right : (start : CheckStart) (clean : Bool) (items : List Item) (index : ℕ) (c : Checker)

@@ -9,7 +9,8 @@ use Rattle.swd_checker.specs.declared.near.Near.{Near}
 use Rattle.swd_checker.specs.declared.opening.Opening.{Opening}
 use Rattle.swd_checker.specs.declared.opening.Opening.TheVariants.{Anything, Resting, Selected, Over}
 use Rattle.swd_checker.specs.declared.rule.Rule.{Rule}
-use Rattle.swd_checker.specs.declared.rule.Rule.TheVariants.{Silence, Acknowledgement, NeverRefused, Flags, Power as RulePower}
+use Rattle.swd_checker.specs.declared.rule.Rule.TheVariants.{Silence, Acknowledgement, NeverRefused, Flags}
+use Rattle.swd_checker.specs.declared.rule.Rule.TheVariants.{Power as RulePower}
 use Rattle.swd_checker.specs.declared.rule.Rule.TheVariants.{FaultFirst, Posted, Resent, Status, Identification, Parity}
 use Rattle.swd_checker.specs.declared.worlds.Kept.{Kept}
 use Rattle.swd_checker.specs.declared.fields.HeldFields.{HeldFields}

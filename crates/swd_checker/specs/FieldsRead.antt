@@ -7,7 +7,8 @@ use Rattle.swd_checker.specs.declared.near.Near.{Near}
 use Rattle.swd_checker.specs.declared.opening.Opening.{Opening}
 use Rattle.swd_checker.specs.declared.opening.Opening.TheVariants.{Anything, Resting, Selected, Over}
 use Rattle.swd_checker.specs.declared.rule.Rule.{Rule}
-use Rattle.swd_checker.specs.declared.rule.Rule.TheVariants.{Silence, Acknowledgement, NeverRefused, Flags, Power as RulePower}
+use Rattle.swd_checker.specs.declared.rule.Rule.TheVariants.{Silence, Acknowledgement, NeverRefused, Flags}
+use Rattle.swd_checker.specs.declared.rule.Rule.TheVariants.{Power as RulePower}
 use Rattle.swd_checker.specs.declared.rule.Rule.TheVariants.{FaultFirst, Posted, Resent, Status, Identification, Parity}
 use Rattle.swd_checker.specs.declared.worlds.Kept.{Kept}
 use Rattle.swd_checker.specs.declared.fields.HeldFields.{HeldFields}
@@ -23,7 +24,8 @@ abbrev pub checked_reset_from : ℕ → Reset
 checked_reset_from n = if n == 1 then Unreset else if n == 2 then Fresh else Live
 
 abbrev pub checked_power_from : ℕ → Power
-checked_power_from n = if n == 1 then PowerOff else if n == 2 then PowerUnseen else if n == 3 then PowerLate else PowerSeen
+checked_power_from n = if n == 1 then PowerOff else if n == 2 then PowerUnseen else if n == 3 then PowerLate else
+    PowerSeen
 
 abbrev pub checked_transfer_from : ℕ → Option Transfer
 checked_transfer_from n = if n == 1 then Some TransferRead else if n == 2 then Some TransferWrite else None
@@ -62,7 +64,8 @@ checked_world_from f = record {
 
 abbrev pub checker_rule_from : ℕ → Rule
 checker_rule_from n =
-    if n == 1 then Silence else if n == 2 then Acknowledgement else if n == 3 then NeverRefused else if n == 4 then Flags
+    if n == 1 then Silence else if n == 2 then Acknowledgement else if n == 3 then NeverRefused else if n == 4 then
+    Flags
     else if n == 5 then RulePower else if n == 6 then FaultFirst else if n == 7 then Posted else if n == 8 then Resent
     else if n == 9 then Status else if n == 10 then Identification else Parity
 

@@ -119,8 +119,8 @@ pub struct RunLine {
     pub strict: bool,
     /// Whether a remote session is checked while it goes on.
     pub check: bool,
-    /// What leads to a remote target: `-` for the standard streams, two files as `IN,OUT`, or one that does both. `None`
-    /// for a simulated target.
+    /// What leads to a remote target: `-` for the standard streams, two files as `IN,OUT`, or one that does both.
+    /// `None` for a simulated target.
     pub remote: Option<String>,
     /// The file that the report of a remote run is written to.
     pub report: Option<String>,
@@ -227,8 +227,8 @@ pub struct ImageLine {
     pub progress: bool,
     /// Whether a remote session is checked while it goes on.
     pub check: bool,
-    /// What leads to a remote target: `-` for the standard streams, two files as `IN,OUT`, or one that does both. `None`
-    /// for a simulated target.
+    /// What leads to a remote target: `-` for the standard streams, two files as `IN,OUT`, or one that does both.
+    /// `None` for a simulated target.
     pub remote: Option<String>,
     /// The memory of the simulated target, or `None` for a remote target.
     pub memory: Option<MemoryLine>,

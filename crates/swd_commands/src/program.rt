@@ -270,8 +270,8 @@ fn tell_session<I: KeepsError, O: KeepsError, E: Write>(
     }
 }
 
-// Prints that a target that can't be reached gave no reply: an acknowledgement has a 0 and a 1, and all levels that came
-// were this one.
+// Prints that a target that can't be reached gave no reply: an acknowledgement has a 0 and a 1, and all levels that
+// came were this one.
 fn tell_no_reply<E: Write>(errors: &mut E, level: bool) {
     let _ = writeln!(
         errors,

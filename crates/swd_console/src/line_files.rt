@@ -77,8 +77,8 @@ impl<F: Files> Files for LineFiles<'_, F> {
     }
 }
 
-/// Returns the names of the two files of a line, `IN,OUT`: of that to read, and of that to write. They are parted by the
-/// first comma. A name without a comma is that of both.
+/// Returns the names of the two files of a line, `IN,OUT`: of that to read, and of that to write. They are parted by
+/// the first comma. A name without a comma is that of both.
 pub fn line_ends(files: &str) -> (&str, &str)
     ensures from { result.0.now ≡ line_file_from files.now }
     ensures to { result.1.now ≡ line_file_to files.now }

@@ -99,8 +99,8 @@ impl Sample {
         self.found.other = self.found.other || bytes.is_empty();
     }
 
-    // Notes bytes that were written, unless they are a host's characters. All of them are looked at only where a line of
-    // a stray bit is among the first, and until enough were found.
+    // Notes bytes that were written, unless they are a host's characters. All of them are looked at only where a line
+    // of a stray bit is among the first, and until enough were found.
     pub(crate) fn note_written(&mut self, bytes: &[u8]) {
         self.clocks.pass(bytes);
         let looks = !self.clocks.are_sent() && self.stray < ENOUGH;

@@ -11,9 +11,9 @@ use Rattle.swd_bitbang.specs.declared.serving.Served.TheVariants as ends
 use Rattle.swd_bitbang.specs.Sessions.{BitbangEndsAs}
 use Rattle.swd_bitbang.specs.Lines.{ArePinsBetweenClocks, PinsWentBy}
 
--- The characters of a host's calls, as `RemoteWentWell` has them, and `Q` are served as these calls, if serving them ends
--- as `Quit`, whether or not the server begins with SWDIO driven. The target passes exactly the clocks of their sequences, in order, and exactly the levels that they sample
--- are sent.
+-- The characters of a host's calls, as `RemoteWentWell` has them, and `Q` are served as these calls, if serving them
+-- ends as `Quit`, whether or not the server begins with SWDIO driven. The target passes exactly the clocks of their
+-- sequences, in order, and exactly the levels that they sample are sent.
 abbrev pub CallsAreServed : {D : Type 0} → Type 0 → (D → Bus) → Type 0
 CallsAreServed {D} A bus = (calls : List PortAttempt) (more : List ℕ) (old new : Option (List ℕ)) (s t : Pins D A)
     → ArePinsBetweenClocks s → BitbangEndsAs bus ends.Quit old new

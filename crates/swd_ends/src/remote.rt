@@ -75,7 +75,8 @@ pub fn run_remote<
     records: &mut Records<T>,
 ) -> (Result<Finished, RemoteFault>, RemoteStreams<R, W>)
     ensures { RunsRemote P.at limits.tries limits.resumes
-        (λ calls. ∥ GoesOver R.remaining W.contents (W.contents line.writer) (R.remaining line.reader) result.1 calls ∥₁)
+        (λ calls. ∥ GoesOver R.remaining W.contents (W.contents line.writer) (R.remaining line.reader) result.1 calls
+        ∥₁)
         (IsUnusedRemote R.remaining W.contents (W.contents line.writer) (R.remaining line.reader) result.1)
         result.0 (S.remaining script.old) (O.contents report.old) (O.contents report.new)
         (run_files_of T.contents records.old) (run_files_of T.contents records.new) }
@@ -127,7 +128,8 @@ pub fn run_remote_script<
 ) -> (Result<Finished, EngineFault>, RemoteStreams<R, W>)
     requires { IsScriptRunnable (read_script_meaning script.now) }
     ensures { RanRemoteEndScript P.at limits.tries limits.resumes
-        (λ calls. ∥ GoesOver R.remaining W.contents (W.contents line.writer) (R.remaining line.reader) result.1 calls ∥₁)
+        (λ calls. ∥ GoesOver R.remaining W.contents (W.contents line.writer) (R.remaining line.reader) result.1 calls
+        ∥₁)
         (read_script_meaning script.now).batches result.0 (O.contents report.old) (O.contents report.new)
         (run_files_of T.contents records.old) (run_files_of T.contents records.new) }
 {

@@ -25,14 +25,16 @@ pub fn confirmations()
 {}
 
 /// States what the requests show that are never refused. A read of DPIDR shows nothing. After a write of
-/// ABORT the transfer in flight is reported as `May`. A read of CTRL/STAT shows whether the transfer met an error, if its parity is right and DPBANKSEL is known to be 0.
+/// ABORT the transfer in flight is reported as `May`. A read of CTRL/STAT shows whether the transfer met an error, if
+/// its parity is right and DPBANKSEL is known to be 0.
 pub fn exempt_requests()
     ensures dpidr { ObserverAtDpidr }
     ensures abort { ObserverAtAbort }
     ensures status { ObserverAtStatus }
 {}
 
-/// States what is known after a lost acknowledgement. The transfer in flight is reported as `May`. The request itself is reported as `May` if it may be a DRW read.
+/// States what is known after a lost acknowledgement. The transfer in flight is reported as `May`. The request itself
+/// is reported as `May` if it may be a DRW read.
 pub fn lost_requests()
     ensures { ObserverAtLost }
 {}

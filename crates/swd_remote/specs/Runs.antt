@@ -35,8 +35,8 @@ remote_with_clocks (sequence ∷ more) = remote_kept_sequences (probe_has_clocks
 abbrev pub remote_characters_of : Bool → List PortAttempt → List ℕ
 remote_characters_of drives calls = all_sequence_characters drives (remote_with_clocks (remote_all_sequences calls))
 
--- The characters of a connection with these calls, up to its end: the first one says that the host drives SWDIO, whatever
--- the server began with.
+-- The characters of a connection with these calls, up to its end: the first one says that the host drives SWDIO,
+-- whatever the server began with.
 abbrev pub remote_connection_characters : List PortAttempt → List ℕ
 remote_connection_characters calls = alphabet_byte (Drives true) ∷ remote_characters_of true calls
 

@@ -15,8 +15,8 @@ use swd_port::{Access, Story, Tied, TransportWire};
 /// report matches the calls that were made. If the target conforms to the port model and was at rest, the report is
 /// correct, as that of `swd_host::run`. What was received can refute that it conforms, and never show it.
 ///
-/// Up to the first error, exactly `O`, by which the host drives SWDIO, the characters of the calls that the report is of,
-/// and `Q` are written. Up to that error, exactly as many bytes are read as levels were asked for.
+/// Up to the first error, exactly `O`, by which the host drives SWDIO, the characters of the calls that the report is
+/// of, and `Q` are written. Up to that error, exactly as many bytes are read as levels were asked for.
 ///
 /// # Errors
 ///

@@ -224,7 +224,8 @@ starts bits h = ap (λ t. t || has_other_length false (resync_first false Synced
 -- where a trace's reading is never lost, and no write of CTRL/STAT sets overrun detection, the items of that reading
 -- are its parts
 pub resync_parts_are_items : (bits : List Bool) → ResyncNeverLost (reading_of bits)
-    → LeavesOverrunOff (overrun_at_start false) (reading_of bits) → resync_parts_of false bits ≡ map Told (reading_of bits)
+    → LeavesOverrunOff (overrun_at_start false) (reading_of bits)
+    → resync_parts_of false bits ≡ map Told (reading_of bits)
 resync_parts_are_items bits h o =
     ap (λ t. resync_parts (overrun_at_start false) (if t then InStretch Synced else Between) bits) (starts bits h)
     ∙ same_items (length bits) true Synced bits (omega arith) h o

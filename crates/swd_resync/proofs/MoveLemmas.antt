@@ -22,7 +22,8 @@ use Rattle.swd_resync.specs.declared.part.Part.TheVariants.{Item as Told, Phased
 use Rattle.swd_resync.specs.declared.stage.RemovalStage.{RemovalStage}
 use Rattle.swd_resync.specs.declared.stage.RemovalStage.TheVariants.{Start, Stretch, Reset as InReset}
 use Rattle.swd_resync.specs.declared.stage.RemovalStage.TheVariants.{AfterReset as BehindReset}
-use Rattle.swd_resync.specs.declared.stage.RemovalStage.TheVariants.{AfterSwitch as BehindSwitch, AfterPhase, Between as Skipping}
+use Rattle.swd_resync.specs.declared.stage.RemovalStage.TheVariants.{AfterSwitch as BehindSwitch, AfterPhase}
+use Rattle.swd_resync.specs.declared.stage.RemovalStage.TheVariants.{Between as Skipping}
 use Rattle.swd_resync.specs.declared.stage.Move.{Move}
 use Rattle.swd_resync.specs.Parts.{resync_first, resync_with_phase, past_zeros, begins_stretch, stretch_gap}
 use Rattle.swd_resync.specs.Parts.{stretch_at_start, stretch_after_item, in_stretch, InStretch, Between, stretch_item}
@@ -51,7 +52,8 @@ use Rattle.swd_resync.proofs.StageLemmas.{stretch_told, parts_from_bits, junk_be
 -- ---- no step
 
 -- a decoder of captures may wait where it holds fewer than fifty bits and more may follow
-pub stretch_waits_few : (over : Overrun) (ended : Bool) (stage : RemovalStage) (bits : List Bool) → ended ≡ false → length bits < 50
+pub stretch_waits_few : (over : Overrun) (ended : Bool) (stage : RemovalStage) (bits : List Bool) → ended ≡ false
+    → length bits < 50
     → ResyncStill over ended stage bits
 stretch_waits_few over ended stage bits e h = record {
   near = λ f. judged_near_widened 0 92 bits (omega arith) (judged_near_of_few bits h);
@@ -99,8 +101,10 @@ run_passes over ended old new k bit bits back e some short c r s =
     }
 
 -- at the front of a capture, a step may remove up to fifty zeros and count them
-pub resync_start_counts_zeros : (over : Overrun) (ended : Bool) (n k : ℕ) (bits back : List Bool) → bits ≡ replicate k false ++ back
-    → 0 < k → k ≤ 50 → ResyncMove over ended (Start n) bits (record { count = k; over = over; stage = Start (n + k); part = None })
+pub resync_start_counts_zeros : (over : Overrun) (ended : Bool) (n k : ℕ) (bits back : List Bool)
+    → bits ≡ replicate k false ++ back
+    → 0 < k → k ≤ 50 → ResyncMove over ended (Start n) bits
+    (record { count = k; over = over; stage = Start (n + k); part = None })
 resync_start_counts_zeros over ended n k bits back e some short =
     run_passes over ended (Start n) (Start (n + k)) k false bits back e some short (omega arith) (omega arith)
     (resync_start_zeros over n k)
@@ -164,18 +168,22 @@ resync_start_by_first over bits f e i = resync_start_no_zero over bits f
 -- ---- in a stretch
 
 -- in a stretch, a step may remove up to fifty zeros and count them as idle cycles
-pub stretch_counts_idle : (over : Overrun) (ended : Bool) (n k : ℕ) (bits back : List Bool) → bits ≡ replicate k false ++ back
+pub stretch_counts_idle : (over : Overrun) (ended : Bool) (n k : ℕ) (bits back : List Bool)
+    → bits ≡ replicate k false ++ back
     → 0 < k
-    → k ≤ 50 → ResyncMove over ended (Stretch n) bits (record { count = k; over = over; stage = Stretch (n + k); part = None })
+    → k ≤ 50 → ResyncMove over ended (Stretch n) bits
+    (record { count = k; over = over; stage = Stretch (n + k); part = None })
 stretch_counts_idle over ended n k bits back e some short =
     let r = rank_stretch (n + k) in
     run_passes over ended (Stretch n) (Stretch (n + k)) k false bits back e some short (omega arith) (omega arith)
     (stretch_idle_zeros over n k)
 
 -- ones of a reset
-pub stretch_counts_reset_ones : (over : Overrun) (ended : Bool) (n k : ℕ) (bits back : List Bool) → bits ≡ replicate k true ++ back
+pub stretch_counts_reset_ones : (over : Overrun) (ended : Bool) (n k : ℕ) (bits back : List Bool)
+    → bits ≡ replicate k true ++ back
     → 0 < k
-    → k ≤ 50 → ResyncMove over ended (InReset n) bits (record { count = k; over = over; stage = InReset (n + k); part = None })
+    → k ≤ 50 → ResyncMove over ended (InReset n) bits
+    (record { count = k; over = over; stage = InReset (n + k); part = None })
 stretch_counts_reset_ones over ended n k bits back e some short =
     run_passes over ended (InReset n) (InReset (n + k)) k true bits back e some short (omega arith) (omega arith)
     (stretch_reset_ones over n k)
@@ -229,7 +237,13 @@ pub stretch_cut_move : (over : Overrun) (stage : RemovalStage) (mode : Mode) (of
     → bits ≡ tx_bits_of off → IsWellFormedTxBits off → 0 < length bits → length bits < 50
     → resync_first over.phases mode bits ≡ cut_first_item bits
     → ((x : List Bool) → parts_at_stage over stage x ≡ resync_parts over (InStretch mode) x)
-    → ResyncMove over ended stage bits (record { count = off.len; over = over; stage = Stretch 0; part = Some (Told (Cut off)) })
+    → ResyncMove over ended stage bits (record {
+      count = off.len;
+      over = over;
+      stage = Stretch 0;
+      part = Some
+          (Told (Cut off));
+    })
 stretch_cut_move over stage mode off bits ended at_end e spelled some few f s =
     let l : length bits ≡ off.len = ap length e ∙ length-low_bits off.len off.bits in
     let r = resync_stage_rank stage in
@@ -304,7 +318,8 @@ stretch_tx_withdrawn : (over : Overrun) (ended : Bool) (tx : Transaction) (len c
     → IsTxSight over.phases tx len bits → 0 < count → count ≤ len
     → ((more : List Bool) → SightMore ended more
     → in_stretch over (whole_tx_item tx len) (bits ++ more) ≡ skip_bits over count)
-    → ResyncMove over ended (Stretch 0) bits (record { count = count; over = over; stage = Skipping 0; part = Some (Skip count) })
+    → ResyncMove over ended (Stretch 0) bits (record
+    { count = count; over = over; stage = Skipping 0; part = Some (Skip count) })
 stretch_tx_withdrawn over ended tx len count bits seen h k t =
     let some : 12 ≤ len = seen.some in
     let most : len ≤ 46 = seen.most in
@@ -316,7 +331,8 @@ stretch_tx_withdrawn over ended tx len count bits seen h k t =
       fewer = omega arith;
       law = λ more may.
           let l : length (bits ++ more) ≡ length bits + length more = length-append bits more in
-          stretch_tx_first_parts over tx len (skip_bits over count) (bits ++ more) (some_length (bits ++ more) (omega arith))
+          stretch_tx_first_parts over tx len (skip_bits over count) (bits ++ more)
+          (some_length (bits ++ more) (omega arith))
           (seen.first more) (t more may)
           ∙ ap (λ x. Skip count ∷ resync_parts over Between x) (drop-append-le count bits more (omega arith));
     }
@@ -360,7 +376,8 @@ stretch_at_phase over bits h =
     ∙ by_phase over (min 33 (length bits)) bits (synced_step over (drop (min 33 (length bits)) bits)).part
     (synced_step over (drop (min 33 (length bits)) bits)) n
     ∙ ap (λ k. (skip_before_step over 33 (synced_step over (drop k bits)).part (synced_step over (drop k bits))).part
-    ∷ resync_parts (skip_before_step over 33 (synced_step over (drop k bits)).part (synced_step over (drop k bits))).over
+    ∷ resync_parts (skip_before_step over 33 (synced_step over (drop k bits)).part
+    (synced_step over (drop k bits))).over
     (skip_before_step over 33 (synced_step over (drop k bits)).part (synced_step over (drop k bits))).after
     (drop ((skip_before_step over 33 (synced_step over (drop k bits)).part (synced_step over (drop k bits))).taken - 33)
     (drop 33 bits))) n
@@ -549,7 +566,8 @@ switch_read true bits = refl
 
 -- directly after a reset, a switch is removed and reported
 pub stretch_switch_reported : (over : Overrun) (ended : Bool) (bits back : List Bool) → bits ≡ switch_item ++ back
-    → ResyncMove over ended BehindReset bits (record { count = 16; over = over; stage = BehindSwitch; part = Some (Told Switch) })
+    → ResyncMove over ended BehindReset bits (record
+    { count = 16; over = over; stage = BehindSwitch; part = Some (Told Switch) })
 stretch_switch_reported over ended bits back e =
     let l : length bits ≡ 16 + length back = ap length e ∙ length-append switch_item back in
     record {
@@ -601,7 +619,8 @@ lost_behind over (b ∷ bits) a h =
 
 -- directly after a switch, where a zero is among the first fifty bits, the stretch ends with no bit removed
 pub stretch_ends_after_switch : (over : Overrun) (ended : Bool) (front back bits : List Bool) (m : Move)
-    → m ≡ record { count = 0; over = over; stage = Skipping 0; part = None } → bits ≡ front ++ back → trace_all_ones front ≡ false
+    → m ≡ record { count = 0; over = over; stage = Skipping 0; part = None } → bits ≡ front ++ back
+    → trace_all_ones front ≡ false
     → length front ≤ 50 → ResyncMove over ended BehindSwitch bits m
 stretch_ends_after_switch over ended front back bits m e f a h =
     subst (ResyncMove over ended BehindSwitch bits) (sym e) (record {
@@ -639,7 +658,8 @@ skip_reported over ended (suc n) bits m e h t = subst (ResyncMove over ended (Sk
   short = omega arith;
   count = omega arith;
   fewer = omega arith;
-  law = λ more may. skip_ends_as_part over (suc n) (bits ++ more) h (stretch_gap_here over.phases (bits ++ more) (t more may));
+  law = λ more may. skip_ends_as_part over (suc n) (bits ++ more) h
+      (stretch_gap_here over.phases (bits ++ more) (t more may));
 })
 
 -- between stretches, where the next one begins and no bits are counted, the stretch is entered with no bit removed
@@ -657,7 +677,8 @@ stretch_entered over ended zero bits m e h t = subst (ResyncMove over ended (Ski
 })
 
 -- bits before the next stretch, whatever follows
-pub skip_counts_before_stretch : (over : Overrun) (ended : Bool) (n k : ℕ) (front back bits : List Bool) → bits ≡ front ++ back
+pub skip_counts_before_stretch : (over : Overrun) (ended : Bool) (n k : ℕ) (front back bits : List Bool)
+    → bits ≡ front ++ back
     → 0 < k → k ≤ length front → k ≤ 50 → ((x : List Bool) → k ≤ stretch_gap over.phases (front ++ x))
     → ResyncMove over ended (Skipping n) bits (record { count = k; over = over; stage = Skipping (n + k); part = None })
 skip_counts_before_stretch over ended n k front back bits e some fits short far =
@@ -670,7 +691,8 @@ skip_counts_before_stretch over ended n k front back bits e some fits short far 
       fewer = omega arith;
       law = λ more may.
           let joined : bits ++ more ≡ front ++ (back ++ more) = ap (λ x. x ++ more) e ∙ append_assoc front back more in
-          skip_many_more over n k (bits ++ more) (subst (λ x. k ≤ stretch_gap over.phases x) (sym joined) (far (back ++ more)))
+          skip_many_more over n k (bits ++ more) (subst (λ x. k ≤ stretch_gap over.phases x) (sym joined)
+          (far (back ++ more)))
           ∙ ap (skip_rest over (n + k)) (drop-append-le k bits more (omega arith));
     }
 
@@ -686,7 +708,8 @@ skip_counts_bit over ended n b back bits e t =
       count = omega arith;
       fewer = more_left n;
       law = λ more may. ap (λ x. skip_rest over n (x ++ more)) e
-          ∙ skip_one_more over n b (back ++ more) (sym (ap (λ x. begins_stretch over.phases (x ++ more)) e) ∙ t more may)
+          ∙ skip_one_more over n b (back ++ more) (sym (ap (λ x. begins_stretch over.phases (x ++ more)) e) ∙ t more
+          may)
           ∙ ap (λ x. skip_rest over (n + 1) (drop 1 x ++ more)) (sym e);
     }
   where
@@ -702,7 +725,8 @@ resync_window_length bits w back e n =
     ap length (e ∙ ap (λ x. tx_bits_of w ++ x) n ∙ append-nil (tx_bits_of w)) ∙ length-low_bits w.len w.bits
 
 -- a decoder of captures that holds no bits may wait where more may follow
-pub stretch_waits_no_bits : (over : Overrun) (ended : Bool) (stage : RemovalStage) (bits : List Bool) → bits ≡ [] → ended ≡ false
+pub stretch_waits_no_bits : (over : Overrun) (ended : Bool) (stage : RemovalStage) (bits : List Bool) → bits ≡ []
+    → ended ≡ false
     → ResyncStill over ended stage bits
 stretch_waits_no_bits over ended stage bits e f = let l : length bits ≡ 0 = ap length e in
     stretch_waits_few over ended stage bits f (omega arith)

@@ -43,7 +43,8 @@ pub resync_parts_first : (over : Overrun) (place : ResyncPlace) (b : Bool) (bits
     (drop (resync_step over place (b ∷ bits)).taken (b ∷ bits))
 resync_parts_first over place b bits =
     parts_by over place b bits
-    ∙ ap (λ x. (resync_step over place (b ∷ bits)).part ∷ resync_parts (resync_step over place (b ∷ bits)).over (resync_step over place (b ∷ bits)).after x)
+    ∙ ap (λ x. (resync_step over place (b ∷ bits)).part ∷ resync_parts (resync_step over place (b ∷ bits)).over
+    (resync_step over place (b ∷ bits)).after x)
     (resync_drop_one_less (resync_step over place (b ∷ bits)).taken b bits
     (resync_step_takes_bits over place b bits).some)
 

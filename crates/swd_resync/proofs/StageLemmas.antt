@@ -110,12 +110,15 @@ stretch_fifty_ones_reset over mode back =
 -- ---- bits that are skipped
 
 -- after n skipped bits, a bit at which no stretch begins is one more of them
-pub skip_one_more : (over : Overrun) (n : ℕ) (b : Bool) (bits : List Bool) → begins_stretch over.phases (b ∷ bits) ≡ false
+pub skip_one_more : (over : Overrun) (n : ℕ) (b : Bool) (bits : List Bool)
+    → begins_stretch over.phases (b ∷ bits) ≡ false
     → skip_rest over n (b ∷ bits) ≡ skip_rest over (n + 1) bits
 skip_one_more over zero b bits e =
-    let g : stretch_gap over.phases (b ∷ bits) ≡ 1 + stretch_gap over.phases bits = stretch_gap_none over.phases b bits e ∙ omega arith in
+    let g : stretch_gap over.phases (b ∷ bits) ≡ 1 + stretch_gap over.phases bits = stretch_gap_none over.phases b bits
+    e ∙ omega arith in
     let s : resync_step over Between (b ∷ bits) ≡ skip_bits over (1 + stretch_gap over.phases bits) =
-    ap (λ t. if t then stretch_item over (resync_first over.phases Synced (b ∷ bits)) else skip_bits over (stretch_gap over.phases (b ∷ bits)))
+    ap (λ t. if t then stretch_item over (resync_first over.phases Synced (b ∷ bits)) else skip_bits over
+    (stretch_gap over.phases (b ∷ bits)))
     e ∙ ap (skip_bits over) g in
     let one : 1 + stretch_gap over.phases bits ≡ suc (stretch_gap over.phases bits) = omega arith in
     parts_from_step over Between b bits _ s
@@ -253,7 +256,8 @@ stretch_cut_last over mode bits n e =
 -- ---- a transaction in a stretch
 
 -- in a stretch, where a transaction is read first, the parts are that of its step and those after it
-pub stretch_tx_first_parts : (over : Overrun) (tx : Transaction) (len : ℕ) (s : ResyncStep) (bits : List Bool) → bits ≢ []
+pub stretch_tx_first_parts : (over : Overrun) (tx : Transaction) (len : ℕ) (s : ResyncStep) (bits : List Bool)
+    → bits ≢ []
     → resync_first over.phases Synced bits ≡ whole_tx_item tx len → in_stretch over (whole_tx_item tx len) bits ≡ s
     → stretch_idle over 0 bits ≡ s.part ∷ resync_parts s.over s.after (drop s.taken bits)
 stretch_tx_first_parts over tx len s bits n e f =
@@ -270,7 +274,8 @@ pub resync_start_zero : (over : Overrun) (n : ℕ) (bits : List Bool) →
     (false ∷ bits))
     ≡ (if stretch_at_start over.phases bits then stretch_idle over (n + 1) bits else skip_rest over (n + 1) bits)
 resync_start_zero over n bits =
-    ap (λ x. if stretch_at_start over.phases bits then x else skip_rest over n (false ∷ bits)) (stretch_idle_zero over n bits)
+    ap (λ x. if stretch_at_start over.phases bits then x else skip_rest over n (false ∷ bits))
+    (stretch_idle_zero over n bits)
     ∙ ap (λ x. if stretch_at_start over.phases bits then stretch_idle over (n + 1) bits else x)
     (skip_one_more over n false bits (zero_begins_no_stretch over.phases bits))
 

@@ -14,7 +14,8 @@ use Rattle.swd_resync.specs.declared.overrun.Overrun.{Overrun}
 use Rattle.swd_resync.specs.declared.stage.RemovalStage.{RemovalStage}
 use Rattle.swd_resync.specs.declared.stage.RemovalStage.TheVariants.{Start, Stretch, Reset as InReset}
 use Rattle.swd_resync.specs.declared.stage.RemovalStage.TheVariants.{AfterReset as BehindReset}
-use Rattle.swd_resync.specs.declared.stage.RemovalStage.TheVariants.{AfterSwitch as BehindSwitch, AfterPhase, Between as Skipping}
+use Rattle.swd_resync.specs.declared.stage.RemovalStage.TheVariants.{AfterSwitch as BehindSwitch, AfterPhase}
+use Rattle.swd_resync.specs.declared.stage.RemovalStage.TheVariants.{Between as Skipping}
 use Rattle.swd_resync.specs.declared.stage.Move.{Move}
 use Rattle.swd_resync.specs.Parts.{stretch_at_start, stretch_gap, InStretch, Between, resync_parts, synced_step}
 use Rattle.swd_resync.specs.Parts.{skip_before_step, other_tx_len, overrun_turned, overrun_after_tx, resync_told}
@@ -49,7 +50,8 @@ stretch_after_phase over bits =
     s.part ∷ resync_parts s.over s.after (drop (s.taken - 33) bits)
 
 abbrev pub parts_at_stage : Overrun → RemovalStage → List Bool → List Part
-parts_at_stage over (Start n) bits = if stretch_at_start over.phases bits then stretch_idle over n bits else skip_rest over n
+parts_at_stage over (Start n) bits = if stretch_at_start over.phases bits then stretch_idle over n bits else skip_rest
+    over n
     bits
 parts_at_stage over (Stretch n) bits = stretch_idle over n bits
 parts_at_stage over (InReset n) bits = stretch_reset over n bits
@@ -86,13 +88,14 @@ resync_with_part (Some part) others = part ∷ others
 resync_with_part None others = others
 
 -- the step is what the bits decide, whatever may follow
-pub record ResyncMove (over : Overrun) (ended : Bool) (stage : RemovalStage) (bits : List Bool) (m : Move) : Type 0 where
-  pub fits : m.count ≤ length bits
-  pub short : m.count ≤ 50
-  pub count : resync_stage_counted m.stage ≤ resync_stage_counted stage + m.count
-  pub fewer : resync_stage_rank m.stage < resync_stage_rank stage + 8 * m.count
-  pub law : (more : List Bool) → SightMore ended more → parts_at_stage over stage (bits ++ more)
-      ≡ resync_with_part m.part (parts_at_stage m.over m.stage (drop m.count bits ++ more))
+pub record ResyncMove (over : Overrun) (ended : Bool) (stage : RemovalStage) (bits : List Bool) (m : Move) : Type 0
+  where
+    pub fits : m.count ≤ length bits
+    pub short : m.count ≤ 50
+    pub count : resync_stage_counted m.stage ≤ resync_stage_counted stage + m.count
+    pub fewer : resync_stage_rank m.stage < resync_stage_rank stage + 8 * m.count
+    pub law : (more : List Bool) → SightMore ended more → parts_at_stage over stage (bits ++ more)
+        ≡ resync_with_part m.part (parts_at_stage m.over m.stage (drop m.count bits ++ more))
 
 -- few bits are held if more may follow, and nothing is left at the end
 pub record ResyncStill (over : Overrun) (ended : Bool) (stage : RemovalStage) (bits : List Bool) : Type 0 where

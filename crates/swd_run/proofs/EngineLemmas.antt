@@ -1,5 +1,6 @@
 -- The engine's answers, from one account of what ran to another.
-use Rattle.std.proofs.Common.{◌≡◌, ℕ, List, [], ◌++◌, Option, None, Some, Result, Ok, Err, Bool, true, false, inl, inr, refl}
+use Rattle.std.proofs.Common.{◌≡◌, ℕ, List, [], ◌++◌, Option, None, Some, Result, Ok, Err, Bool, true, false, inl, inr}
+use Rattle.std.proofs.Common.{refl}
 use Rattle.std.proofs.Common.{sym, ap, ap₂, ◌∙◌, subst}
 use Rattle.std.proofs.KnownBytes.{Appends-nil}
 use Rattle.std.proofs.lemmas.List.{append-nil}
@@ -122,7 +123,8 @@ pub script_answers_map : {X U Y V : Type 0} (batches : List ScriptListed) (used 
     → ((x : X) (items : List Item) → IsPart x items → IsPartToo (f x) items)
     → ((u : U) (items : List Item) → IsBegun u items → IsBegunToo (e u) items)
     → (answer : Result Finished EngineFault) (old new : Option (List ℕ)) (held now : RunFiles)
-    → Answers {Came = X} {Short = U} batches used (λ x. runs (f x)) (λ u. before (e u)) IsWhole IsPart IsBegun answer old
+    → Answers {Came = X} {Short = U} batches used (λ x. runs (f x)) (λ u. before (e u)) IsWhole IsPart IsBegun answer
+    old
     new held now
     → Answers {Came = Y} {Short = V} batches used runs before IsWholeToo IsPartToo IsBegunToo answer old new held now
 script_answers_map batches used runs before IsWhole IsPart IsBegun IsWholeToo IsPartToo IsBegunToo f e w p b
@@ -337,10 +339,10 @@ pub batch_answers_recorded : {W A : Type 0} {g : Ghosts W} (noted : List Call �
     → (calls : List Call)
     × BatchAnswers (run_wire_seen true g noted) tries resumes batches ([], start) (calls, end) answer old new before
     after
-batch_answers_recorded {g} noted tries resumes batches s t start end begins no_call ends answer old new before after h = (
+batch_answers_recorded {g} noted tries resumes batches s t start end begins none ends answer old new before after h = (
   recorder_calls t,
   answers_by (λ r. (recorder_calls r, recorder_wire_under r)) (run_wire_seen true g noted) tries resumes batches s t
-      ([], start) (recorder_calls t, end) (ap₂ (λ (n : List Call) (w : _). (n, w)) no_call begins)
+      ([], start) (recorder_calls t, end) (ap₂ (λ (n : List Call) (w : _). (n, w)) none begins)
       (ap (λ w. (recorder_calls t, w)) ends) answer old new before after h,
 )
 

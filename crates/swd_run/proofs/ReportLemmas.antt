@@ -219,5 +219,6 @@ pub report_written_or_stopped : (P : Option (List ℕ) → List ℕ → Type 0) 
     → Appends s now a × (told ≡ min (length a) (2 ^ 64 - 1)))
     → IfErr sent (λ told. (s : Option (List ℕ)) (a : List ℕ) → P s a → OutputStopped told s now a)
     → ReportWritesOn sent start now text
-report_written_or_stopped P (Ok told) start now text h ok err = let gone = ok start text h in record { gone = gone.0; count = gone.1 }
+report_written_or_stopped P (Ok told) start now text h ok err = let gone = ok start text h in record
+    { gone = gone.0; count = gone.1 }
 report_written_or_stopped P (Err told) start now text h ok err = err start text h

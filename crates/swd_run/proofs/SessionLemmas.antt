@@ -142,7 +142,8 @@ module _ {W : Type 0} (wire : Ghosts W) (tries resumes : ℕ) (s : W) where
     -- whose marks are among those of a plan
     module _ (marks : List Mark) (planned : wire.plan s ≡ marks)
         (marked : (w : W) → wire.plan w ≡ marks
-        → ((wire.port w).tally.disturbed ≤ port_disturbed_among marks) × ((wire.port w).tally.lost ≤ port_lost_among marks)) where
+        → ((wire.port w).tally.disturbed ≤ port_disturbed_among marks)
+        × ((wire.port w).tally.lost ≤ port_lost_among marks)) where
       pub sessions : (batches : List ScriptListed) (runs : List ScriptRun) (t : W)
           → RunsBatches wire false batch_limit tries resumes s batches runs t → wire.lawful t
           → (wire.plan t ≡ marks) × ScriptSession tries resumes marks (wire.port s).target.memory batches runs
@@ -167,7 +168,8 @@ module _ {W : Type 0} (wire : Ghosts W) (tries resumes : ℕ) (s : W) where
 pub each_batch_at : {X : Type 0} (P : ScriptListed → Type 0) (f : X → ScriptListed) (xs : List X) (i : ℕ) (x : X)
     → Each P (map f xs) → x ≡ get_or xs i x → i < length xs → P (f x)
 each_batch_at P f xs i x each is low =
-    subst P (batch_map_at f xs i x ∙ ap f (sym is)) (each i (f x) (let many = batch_map_length f xs in omega (arith, many, low)))
+    subst P (batch_map_at f xs i x ∙ ap f (sym is))
+    (each i (f x) (let many = batch_map_length f xs in omega (arith, many, low)))
 
 -- ---- a script over a target that was just made
 

@@ -202,7 +202,8 @@ module _ {W : Type 0} (wire : Ghosts W) (tries resumes : ℕ) (s : W)
   -- what explains the log explains the transfers that their reports state
   pub reported : (batches : List ScriptListed) (runs : List ScriptRun) (t : W) (told : List Shown)
       → RunsBatches wire false batch_limit tries resumes s batches runs t → wire.lawful t → AreWholeRuns runs
-      → Accounted (wire.port s).target.memory.log told (wire.port t) → ObservedLog told (report_transfers_in batches runs)
+      → Accounted (wire.port s).target.memory.log told (wire.port t)
+      → ObservedLog told (report_transfers_in batches runs)
   reported batches runs t told all law whole accounted =
       explained_by (wire.port s) (report_accesses_in batches) (report_answers_in runs) (wire.port t) told
       (calls_logged batches runs t all law whole) accounted

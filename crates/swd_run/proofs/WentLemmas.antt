@@ -178,7 +178,8 @@ module _ {W : Type 0} (wire : Ghosts W) {opened : Bool} (limit : ℕ)
   where
     -- what is due after a run is what its end says
     pub due_after : (stops : List Stop) (told : HostReport) (t : W)
-        → ScriptCallsFrom wire opened limit list tries s stops told t → (wire.port t).link.due ≡ host_due_at_end told.ended
+        → ScriptCallsFrom wire opened limit list tries s stops told t
+        → (wire.port t).link.due ≡ host_due_at_end told.ended
     due_after stops told t (ran same closes over says) = closes.due
     due_after stops told t (resumed went lost same goes over says) = goes.closes.due
 
@@ -369,8 +370,10 @@ module _ {W : Type 0} (wire : Ghosts W) {opened : Bool} (limit : ℕ)
       → wire.lawful t → HostKnowsTarget (wire.port t).target
   known stops told t (ran {told = a} {t = u} same closes over says) law =
       resume_target_known a.ended tries (wire.port s) (wire.port u) ((over law).1 starts).ends
-  known stops told t (resumed {stops = before} {earlier = e} {told = a} {t = u} {u = v} went lost same goes over says) law =
-      resume_target_known a.ended tries (wire.port u) (wire.port v) ((over law).1 (known before e u went (over law).0)).ends
+  known stops told t (resumed {stops = before} {earlier = e} {told = a} {t = u} {u = v} went lost same goes over says)
+      law =
+      resume_target_known a.ended tries (wire.port u) (wire.port v)
+      ((over law).1 (known before e u went (over law).0)).ends
 
   -- over a lawful wire, from a target at rest, the count of requests grows by the requests of all calls
   pub asked : (stops : List Stop) (told : HostReport) (t : W)
@@ -378,7 +381,8 @@ module _ {W : Type 0} (wire : Ghosts W) {opened : Bool} (limit : ℕ)
       → (wire.port t).tally.asked ≡ (wire.port s).tally.asked + (script_requests_before stops + told.requests)
   asked stops told t (ran {told = a} {t = u} same closes over says) law = let h = ((over law).1 starts).counted in omega
       (arith, h)
-  asked stops told t (resumed {stops = before} {earlier = e} {told = a} {t = u} {u = v} went lost same goes over says) law =
+  asked stops told t (resumed {stops = before} {earlier = e} {told = a} {t = u} {u = v} went lost same goes over says)
+      law =
       let h = asked before e u went (over law).0 in
       let c = ((over law).1 (known before e u went (over law).0)).counted in
       let r = requests_more before (script_stop_of e) in
@@ -389,20 +393,25 @@ module _ {W : Type 0} (wire : Ghosts W) {opened : Bool} (limit : ℕ)
   pub ending : (stops : List Stop) (told : HostReport) (t : W)
       → ScriptCallsFrom wire opened limit list tries s stops told t → wire.lawful t
       → (recorded_due_count (wire.port t).link.due ≡ 0) × (((wire.port t).link.due ≡ DueLost) ↔ (told.ended ≡ Lost))
-  ending stops told t (ran {told = a} {t = u} same closes over says) law = script_run_end_due a.ended tries (wire.port s) (wire.port u)
+  ending stops told t (ran {told = a} {t = u} same closes over says) law = script_run_end_due a.ended tries
+      (wire.port s) (wire.port u)
       ((over law).1 starts).ends
-  ending stops told t (resumed {stops = before} {earlier = e} {told = a} {t = u} {u = v} went lost same goes over says) law =
-      script_run_end_due a.ended tries (wire.port u) (wire.port v) ((over law).1 (known before e u went (over law).0)).ends
+  ending stops told t (resumed {stops = before} {earlier = e} {told = a} {t = u} {u = v} went lost same goes over says)
+      law =
+      script_run_end_due a.ended tries (wire.port u) (wire.port v)
+      ((over law).1 (known before e u went (over law).0)).ends
 
   lost_more : (stops : List Stop) (told : HostReport) (t : W)
       → ScriptCallsFrom wire opened limit list tries s stops told t → wire.lawful t → told.ended ≡ Lost
       → (wire.port s).tally.lost + length stops < (wire.port t).tally.lost
   lost_more stops told t (ran {told = a} {t = u} same closes over says) law is =
       let h = lost_at a.ended tries (wire.port s) (wire.port u) is ((over law).1 starts).ends in omega (arith, h)
-  lost_more stops told t (resumed {stops = before} {earlier = e} {told = a} {t = u} {u = v} went lost same goes over says)
+  lost_more stops told t (resumed {stops = before} {earlier = e} {told = a} {t = u} {u = v} went lost same goes over
+      says)
       law is =
       let h = lost_more before e u went (over law).0 lost in
-      let g = lost_at a.ended tries (wire.port u) (wire.port v) is ((over law).1 (known before e u went (over law).0)).ends in
+      let g = lost_at a.ended tries (wire.port u) (wire.port v) is
+      ((over law).1 (known before e u went (over law).0)).ends in
       let l = one_more before (script_stop_of e) in
       omega (arith, h, g, l)
 
@@ -410,11 +419,15 @@ module _ {W : Type 0} (wire : Ghosts W) {opened : Bool} (limit : ℕ)
       → wire.lawful t → AreScriptCalls (script_opening_requests opened) (script_most_requests opened tries) limit tries
       (length list) 0 0 stops told
   calls stops told t (ran {told = a} {t = u} same closes over says) law =
-      call_ran opened limit tries list (wire.port s).target.memory a (wire.port u).target.memory _ closes ((over law).1 starts).now
-  calls stops told t (resumed {stops = before} {earlier = e} {told = a} {t = u} {u = v} went lost same goes over says) law =
-      calls_more (script_opening_requests opened) (script_most_requests opened tries) limit tries (length list) 0 0 before
+      call_ran opened limit tries list (wire.port s).target.memory a (wire.port u).target.memory _ closes
+      ((over law).1 starts).now
+  calls stops told t (resumed {stops = before} {earlier = e} {told = a} {t = u} {u = v} went lost same goes over says)
+      law =
+      calls_more (script_opening_requests opened) (script_most_requests opened tries) limit tries (length list) 0 0
+      before
       e a lost (calls before e u went (over law).0)
-      (call_resumed tries list e a _ (wire.port u) (wire.port v) goes ((over law).1 (known before e u went (over law).0)))
+      (call_resumed tries list e a _ (wire.port u) (wire.port v) goes
+      ((over law).1 (known before e u went (over law).0)))
 
   first_within : (stops : List Stop) (told : HostReport) (t : W)
       → ScriptCallsFrom wire opened limit list tries s stops told t
@@ -461,7 +474,8 @@ module _ {W : Type 0} (wire : Ghosts W) {opened : Bool} (limit : ℕ)
         (subst (FitsFrom (script_opening_requests opened) limit list (wire.port s).target.memory a) (sym may.2)
         (((over law).1 starts).later may.0));
   }
-  in_turn stops told t (resumed {stops = before} {earlier = e} {told = a} {t = u} {u = v} went lost same goes over says) law
+  in_turn stops told t (resumed {stops = before} {earlier = e} {told = a} {t = u} {u = v} went lost same goes over says)
+      law
       =
       let h = in_turn before e u went (over law).0 in
       let fits = (over law).1 (known before e u went (over law).0) in
@@ -479,7 +493,8 @@ module _ {W : Type 0} (wire : Ghosts W) {opened : Bool} (limit : ℕ)
       → told.ended ≡ All → HostIsOpen (wire.port t)
   opens stops told t (ran {told = a} {t = u} same closes over says) law all =
       open_at a.ended tries (wire.port s) (wire.port u) all ((over law).1 starts).ends
-  opens stops told t (resumed {stops = before} {earlier = e} {told = a} {t = u} {u = v} went lost same goes over says) law
+  opens stops told t (resumed {stops = before} {earlier = e} {told = a} {t = u} {u = v} went lost same goes over says)
+      law
       all =
       open_at a.ended tries (wire.port u) (wire.port v) all ((over law).1 (known before e u went (over law).0)).ends
 
@@ -491,12 +506,14 @@ module _ {W : Type 0} (wire : Ghosts W) {opened : Bool} (limit : ℕ)
 
   told_in_turn : (stops : List Stop) (told : HostReport) (t : W)
       → ScriptCallsFrom wire opened limit list tries s stops told t
-      → wire.lawful t → ScriptCallsInTurn opened limit stops list (wire.port s).target.memory told (wire.port t).target.memory
+      → wire.lawful t → ScriptCallsInTurn opened limit stops list (wire.port s).target.memory told
+      (wire.port t).target.memory
   told_in_turn stops told t went law =
       in_turn_at opened limit list (wire.port s).target.memory stops told (wire.port t) told.ended refl
       (rests stops told t went law) (in_turn stops told t went law)
 
-  -- over a lawful wire, from a target at rest, the reports of the calls state what `ScriptCallsReport` says of the plain memory
+  -- over a lawful wire, from a target at rest, the reports of the calls state what `ScriptCallsReport` says of the
+  -- plain memory
   pub tell_of : (stops : List Stop) (told : HostReport) (t : W)
       → ScriptCallsFrom wire opened limit list tries s stops told t → wire.lawful t
       → ScriptCallsReport opened limit tries list (wire.port s).target.memory stops told (wire.port t).target.memory
@@ -529,7 +546,8 @@ module _ {W : Type 0} (wire : Ghosts W) {opened : Bool} (limit : ℕ)
     excused_by stops told t (ran {told = a} {t = u} same closes over says) law =
         script_run_end_excused a.ended tries marks (wire.port s) (wire.port u) (bounded u same).0 (bounded u same).1
         ((over law).1 starts).ends
-    excused_by stops told t (resumed {stops = before} {earlier = e} {told = a} {t = u} {u = v} went lost same goes over says)
+    excused_by stops told t (resumed {stops = before} {earlier = e} {told = a} {t = u} {u = v} went lost same goes over
+        says)
         law =
         script_run_end_excused a.ended tries marks (wire.port u) (wire.port v) (bounded v same).0 (bounded v same).1
         ((over law).1 (known before e u went (over law).0)).ends
@@ -538,7 +556,8 @@ module _ {W : Type 0} (wire : Ghosts W) {opened : Bool} (limit : ℕ)
         → ScriptCallsFrom wire opened limit list tries s stops told t → wire.lawful t
         → length stops ≤ port_lost_among marks
     stops_lost stops told t (ran same closes over says) law = omega arith
-    stops_lost stops told t (resumed {stops = before} {earlier = e} {told = a} {t = u} {u = v} went lost same goes over says)
+    stops_lost stops told t (resumed {stops = before} {earlier = e} {told = a} {t = u} {u = v} went lost same goes over
+        says)
         law =
         let h = lost_more before e u went (over law).0 lost in
         let b = (bounded u (plan_kept wire limit list tries s before e u went)).1 in
@@ -559,7 +578,8 @@ module _ {W : Type 0} (wire : Ghosts W) {opened : Bool} (limit : ℕ)
         + 5 * port_disturbed_among marks + length stops * (14 + 6 * length list + 5 * port_disturbed_among marks)
     sends_most stops told t (ran {told = a} {t = u} same closes over says) law =
         let h = ((over law).1 starts).most in let b = (bounded u same).0 in omega (arith, h, b)
-    sends_most stops told t (resumed {stops = before} {earlier = e} {told = a} {t = u} {u = v} went lost same goes over says)
+    sends_most stops told t (resumed {stops = before} {earlier = e} {told = a} {t = u} {u = v} went lost same goes over
+        says)
         law =
         let x : ℕ = 14 + 6 * length list + 5 * port_disturbed_among marks in
         let base : ℕ = script_opening_requests opened + 6 * length list + 5 * port_disturbed_among marks in
@@ -597,7 +617,8 @@ module _ {W : Type 0} (wire : Ghosts W) (opened : Bool)
   pub runs_on : wire.plan s ≡ marks
       → ((w : W) → wire.plan w ≡ marks → ((wire.port w).tally.disturbed ≤ port_disturbed_among marks)
       × ((wire.port w).tally.lost ≤ port_lost_among marks))
-      → RunsOn opened tries resumes batch (wire.port s).target.memory marks run.stops run.told (wire.port t).target.memory
+      → RunsOn opened tries resumes batch (wire.port s).target.memory marks run.stops run.told
+      (wire.port t).target.memory
   runs_on planned marked =
       let stops : List Stop = run.stops in
       let told : HostReport = run.told in
@@ -618,7 +639,8 @@ module _ {W : Type 0} (wire : Ghosts W) (opened : Bool)
       goes.lost is in omega (arith, h, e)) in
       record {
         alone = λ none. (let (closes, over) = alone wire n list tries s starts stops told t went law none in
-            batch_run_under_plan opened tries batch marks told (wire.port s) (wire.port t) _ starts at_start.1 at_end.0 at_end.1 closes
+            batch_run_under_plan opened tries batch marks told (wire.port s) (wire.port t) _ starts at_start.1 at_end.0
+            at_end.1 closes
             over);
         tells = tell_of wire n list tries s starts stops told t went law;
         few = goes.few;

@@ -38,8 +38,8 @@ script_calls_in_all stops told = record told { requests = script_requests_before
 -- THE CALLS A call over a wire from s to t, and the calls of `resume` after it, each after a lost acknowledgement.
 -- `opened` says that the target was open at s; else the call opens it. The other arguments are the places where it was
 -- resumed, and the report of the last call. Whatever came back, `ScriptCallCloses` or `ResumeCloses` holds of each
--- call, and the calls made of the wire meanwhile are those that its report describes. Where the wire is lawful, the theorem
--- of the host holds too.
+-- call, and the calls made of the wire meanwhile are those that its report describes. Where the wire is lawful, the
+-- theorem of the host holds too.
 pub data ScriptCallsFrom {W : Type 0} (wire : Ghosts W) (opened : Bool) (limit : ℕ) (list : List Access) (tries : ℕ)
     (s : W) : List Stop → HostReport → W → Type 0 where
   ran : {told : HostReport} {t : W} → wire.plan t ≡ wire.plan s
@@ -58,9 +58,9 @@ pub data ScriptCallsFrom {W : Type 0} (wire : Ghosts W) (opened : Bool) (limit :
 abbrev pub ScriptCalls : {W : Type 0} → Ghosts W → ℕ → List Access → ℕ → W → List Stop → HostReport → W → Type 0
 ScriptCalls wire limit list tries s stops told t = ScriptCallsFrom wire false limit list tries s stops told t
 
--- These calls, the last one first, are those of a run over a list and of each `resume` after it, as their reports describe:
--- the requests that each counts, and the data phases of the accesses that it answers or leaves begun. The other
--- arguments are the places where it was resumed, and the report of the last call.
+-- These calls, the last one first, are those of a run over a list and of each `resume` after it, as their reports
+-- describe: the requests that each counts, and the data phases of the accesses that it answers or leaves begun. The
+-- other arguments are the places where it was resumed, and the report of the last call.
 pub data ScriptReportsCalls (list : List Access) : List Stop → HostReport → List Call → Type 0 where
   told_once : {told : HostReport} {calls : List Call} → HostReportsCalls list told calls
       → ScriptReportsCalls list [] told calls

@@ -78,5 +78,5 @@ impl<A: Allocator> RunSink for KeptAnswers<A> {
 
     ghost answers_follow = { λ a b kept. run_sink_no_more a.stops.items b.stops.items kept };
 
-    ghost follows_on = { λ a b c first next. run_sink_grows_twice a.stops.items b.stops.items c.stops.items first next };
+    ghost follows_on = { λ a b c one next. run_sink_grows_twice a.stops.items b.stops.items c.stops.items one next };
 }

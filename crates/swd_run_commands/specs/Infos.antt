@@ -22,7 +22,8 @@ info_command_status (Some fault) (Ok report) = 1
 info_command_status None (Ok report) = info_command_status_of_end (host_report_of report).ended
 
 -- a run without accesses was made over a line
-abbrev pub PerformsInfo : {R W : Type 0} → (A : Type 0) → (ℕ → Port) → InfoLine → ℕ → (R → Option (List ℕ)) → (W → Option (List ℕ))
+abbrev pub PerformsInfo : {R W : Type 0} → (A : Type 0) → (ℕ → Port) → InfoLine → ℕ → (R → Option (List ℕ))
+    → (W → Option (List ℕ))
     → Option (List ℕ) → Option (List ℕ) → RemoteStreams R W → Type 0
 PerformsInfo A story info status remaining contents sent left line =
     (answer : Result (Report A) Refused)

@@ -150,7 +150,8 @@ fn report_to_file<
     files: RemoteFiles<M, RecordFile<T, A>>,
     console: &mut Console<'_, A, F, C, E>,
 ) -> (u8, RemoteStreams<I, O>)
-    requires { AreRemoteCommandFiles run.now (run_files_of (stream_watched (checking_contents T.contents)) files.records) }
+    requires { AreRemoteCommandFiles run.now (run_files_of (stream_watched (checking_contents T.contents))
+        files.records) }
     ensures { PerformsRemoteRun P.at run.now result.0 I.remaining O.contents (O.contents output) (I.remaining input)
         result.1 (S.remaining script.entry.reader) }
 {

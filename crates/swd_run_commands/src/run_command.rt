@@ -65,7 +65,8 @@ fn run_standard_input<
     C: Clock,
     E: Write,
 >(run: &RunLine, input: &mut I, output: &mut O, console: &mut Console<'_, A, F, C, E>) -> u8
-    ensures { PerformsRunCommandWhere (is_some run.now.remote) run.now result (I.remaining input.old) (O.contents output.old)
+    ensures { PerformsRunCommandWhere (is_some run.now.remote) run.now result (I.remaining input.old) (O.contents
+        output.old)
         (O.contents output.new) }
 {
     if run.remote.is_some() {

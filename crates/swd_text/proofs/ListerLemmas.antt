@@ -185,7 +185,8 @@ lister_puts_items contents old new before after next law fed sends same = record
 }
 
 -- one more item is returned, and its line is queued
-pub lister_puts_item : {W : Type 0} (contents : W → Option (List ℕ)) (old now new : Decoder) (first before after : Block W)
+pub lister_puts_item : {W : Type 0} (contents : W → Option (List ℕ)) (old now new : Decoder)
+    (first before after : Block W)
     (item : Item) → ListerPuts contents old now first before
     → ((more : List Bool) → decoder_rest now more ≡ item ∷ decoder_rest new more) → decoder_fed new ≡ decoder_fed now
     → BlockQueues contents (item_line item ++ 10 ∷ []) before after

@@ -73,8 +73,8 @@ pub trait BitSink<W>: Drop {
         → led a (first ++ next) c };
 }
 
-/// A reader of trace text, which gives each bit to its sink, digits many at once. It is a `Consumer`: it takes a text in
-/// pieces, and pauses its sink after each. [`read_text`] gives it what a reader has.
+/// A reader of trace text, which gives each bit to its sink, digits many at once. It is a `Consumer`: it takes a text
+/// in pieces, and pauses its sink after each. [`read_text`] gives it what a reader has.
 #[derive(Drop)]
 pub struct TextReader<S> {
     scan: Scan,

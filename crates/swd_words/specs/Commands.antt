@@ -9,7 +9,8 @@ use Rattle.clap.specs.Words.{App, HasKind, Kinds, kind_of, Row, all_of, first_of
 use Rattle.clap.specs.Words.{with_rule}
 use Rattle.clap.specs.Words.{with_subcommand}
 use Rattle.swd_command_line.specs.declared.command.CommandLine.{CommandLine}
-use Rattle.swd_command_line.specs.declared.command.CommandLine.TheVariants.{One, Decode, Draw, Check, Encode, Run, Target}
+use Rattle.swd_command_line.specs.declared.command.CommandLine.TheVariants.{One, Decode, Draw, Check, Encode, Run}
+use Rattle.swd_command_line.specs.declared.command.CommandLine.TheVariants.{Target}
 use Rattle.swd_command_line.specs.declared.command.CommandLine.TheVariants.{Info, Image, Conform}
 use Rattle.swd_command_line.specs.declared.command.DecodeLine.{DecodeLine}
 use Rattle.swd_command_line.specs.declared.command.DrawLine.{DrawLine}
@@ -187,7 +188,8 @@ hole_rule = value_rule (codes "hole")
 
 -- the command `conform`
 abbrev pub conform_args_app : App
-conform_args_app = with_rule (with_rule (with_rule (with_rule (new_app (codes "conform")) remote_rule) plain_rule) hole_rule)
+conform_args_app = with_rule (with_rule (with_rule (with_rule (new_app (codes "conform")) remote_rule) plain_rule)
+    hole_rule)
     (flag_rule (codes "clean"))
 
 -- the log, after --log
@@ -333,8 +335,8 @@ abbrev pub IsResumeArgument : ℕ → Option Text → Type 0
 IsResumeArgument resumes None = resumes ≡ 0
 IsResumeArgument resumes (Some text) = (resumes ≤ 1000) × (pos resumes ≡ signed_digits_value 10 text)
 
--- the script, the plan, the two numbers, the trace, the accesses, what leads to a remote target, and the report that the
--- arguments name, and whether the run is strict, says how far it is, and checks its session
+-- the script, the plan, the two numbers, the trace, the accesses, what leads to a remote target, and the report that
+-- the arguments name, and whether the run is strict, says how far it is, and checks its session
 pub record AreRunArguments (run : RunLine) (rows : List Row) : Type 0 where
   pub script : Some (string_bytes run.script) ≡ first_of (codes "SCRIPT") rows
   pub plan : option_map string_bytes run.plan ≡ first_of (codes "plan") rows
@@ -353,8 +355,8 @@ abbrev pub AreBytesInUnits : ℕ → ℕ → Text → Type 0
 AreBytesInUnits count size digits =
     (units : ℕ) × (Some units ≡ script_decimal_number digits) × (count ≡ units * size) × (count < 2 ^ 32)
 
--- a number of bytes: 1 to 10 decimal digits, or 1 to 8 hexadecimal digits after 0x or 0X, or decimal digits and k (107),
--- for 1,024 bytes each, or M (77), for 1,048,576
+-- a number of bytes: 1 to 10 decimal digits, or 1 to 8 hexadecimal digits after 0x or 0X, or decimal digits and k
+-- (107), for 1,024 bytes each, or M (77), for 1,048,576
 abbrev pub IsBytesArgument : ℕ → Text → Type 0
 IsBytesArgument count text =
     (Some count ≡ script_decimal_number text)

@@ -1,5 +1,5 @@
-//! The checker by the exports, over worked lists of items: those of the rows of `swd_checker_tests`, by the rules of IHI
-//! 0031, B1 to B4 and MEM-AP, and of docs/PROTOCOL.md.
+//! The checker by the exports, over worked lists of items: those of the rows of `swd_checker_tests`, by the rules of
+//! IHI 0031, B1 to B4 and MEM-AP, and of docs/PROTOCOL.md.
 use super::expect::{expect_at, expect_eq_at};
 use super::items::{NONE, counted, transaction};
 use crate::{SwdItem, SwdVerdict, swd_check_new, swd_check_verdict, swd_check_watch};

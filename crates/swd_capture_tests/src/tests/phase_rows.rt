@@ -1,5 +1,5 @@
-//! Worked captures with data phases behind WAIT and FAULT. They stand apart from the others, since the prover goes through a
-//! table at once. What each is read as comes of the same program.
+//! Worked captures with data phases behind WAIT and FAULT. They stand apart from the others, since the prover goes
+//! through a table at once. What each is read as comes of the same program.
 
 use super::part_rows::Row;
 

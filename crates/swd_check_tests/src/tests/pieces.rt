@@ -8,7 +8,8 @@ use swd_text::{TextFault, encode_text};
 
 // A line reset, DPIDR, power and CSW, and then WAIT to a read that may not get it.
 const BREAKS: &[u8] =
-    b"reset 56\nidle 2\ndp 0 read ok 2ba01477\ndp 4 write ok 50000000\ndp 4 read ok f0000000\nap 0 write ok 23000012\ndp 4 read wait\n";
+    b"reset 56\nidle 2\ndp 0 read ok 2ba01477\ndp 4 write ok 50000000\ndp 4 read ok f0000000\nap 0 write ok 23000012\n\
+        dp 4 read wait\n";
 
 const FITS: &[u8] =
     b"reset 56\nidle 2\ndp 0 read ok 2ba01477\ndp 4 write ok 50000000\ndp 4 read ok f0000000\nap 0 write ok 23000012\n";
@@ -29,7 +30,8 @@ const ROWS: [Row; 2] = [
     Row {
         name: "a read of CTRL/STAT is refused",
         listing: BREAKS,
-        said: "breaks @242 dp 4 read wait: reads of DPIDR and CTRL/STAT and writes of ABORT get neither WAIT nor FAULT; expected OK",
+        said: "breaks @242 dp 4 read wait: reads of DPIDR and CTRL/STAT and writes of ABORT get neither WAIT nor \
+            FAULT; expected OK",
     },
 ];
 

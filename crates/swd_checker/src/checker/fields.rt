@@ -18,8 +18,8 @@ use crate::rule::Rule;
 use crate::worlds::{MOST_WORLDS, Worlds};
 
 /// The state of a checker as integers, laid out as in C: less than 5 kB. [`Checker::fields`] returns it, and
-/// [`checker`](CheckerFields::checker) restores the checker. Any values are safe: `checker` rejects those of no checker,
-/// such as zeros.
+/// [`checker`](CheckerFields::checker) restores the checker. Any values are safe: `checker` rejects those of no
+/// checker, such as zeros.
 ///
 /// The meaning of the fields is private to this crate.
 #[repr(C)]

@@ -4,8 +4,8 @@ use super::{REPORT, Ran, run_on};
 use std::alloc::Global;
 use std::test::Fail;
 
-// What the target answers to reads of DPIDR (2ba01477) and CSW (23000052). Bits are in time order: OK is 100, FAULT 001, and
-// a word's first bit the least significant one.
+// What the target answers to reads of DPIDR (2ba01477) and CSW (23000052). Bits are in time order: OK is 100, FAULT
+// 001, and a word's first bit the least significant one.
 const DPIDR: &[u8] = b"100111011100010100000000101110101000";
 
 const CSW: &[u8] = b"100010010100000000000000000110001000";
@@ -49,8 +49,8 @@ const KEEPS: &[u8] = b"100000000000000000000000000000011110";
 
 const BREAKS: &[u8] = b"100000000000000000000000000000001010";
 
-// There are four items up to the first request, 23 transactions and the last idle cycles. The first read of CTRL/STAT is at
-// bit 130 + 46 + 46, the last one behind 21 transactions of 46 bits and one of 13.
+// There are four items up to the first request, 23 transactions and the last idle cycles. The first read of CTRL/STAT
+// is at bit 130 + 46 + 46, the last one behind 21 transactions of 46 bits and one of 13.
 const FITS: &[u8] = b"fits 28 from @222\n";
 
 const BROKEN: &[u8] =
@@ -73,8 +73,8 @@ const BOTH: [&str; 11] = [
     "--check",
 ];
 
-// A session that fits has the status 0, and one that breaks a rule 1. Without a check both have 0, and no line. Beside a
-// check the trace is written as without one.
+// A session that fits has the status 0, and one that breaks a rule 1. Without a check both have 0, and no line. Beside
+// a check the trace is written as without one.
 #[test]
 fn a_session_is_checked(rt: HostRuntime) -> Result<(), Fail> {
     let rows: [(&[u8], &[u8], u8); 2] = [(KEEPS, FITS, 0), (BREAKS, BROKEN, 1)];
@@ -156,8 +156,8 @@ const LOAD: &[&str] = &[
     "swd", "load", "20000000", "image", "--remote", "--tries", "0", "--check",
 ];
 
-// A partial word is read: TAR is written, DRW read, and RDBUFF has the word. Then a call with its own opening: TAR and two
-// words are written, and RDBUFF confirms it.
+// A partial word is read: TAR is written, DRW read, and RDBUFF has the word. Then a call with its own opening: TAR and
+// two words are written, and RDBUFF confirms it.
 const LOADED: &[&[u8]] = &[
     OKAY, ZERO, ZERO, DPIDR, OKAY, READ_OK, OKAY, OKAY, READ_OK, OKAY, ZERO, CSW, OKAY, OKAY, OKAY,
     ZERO,
@@ -186,7 +186,8 @@ struct ImageRow {
     fits: &'static [u8],
 }
 
-// A call has four items up to its first request, nine transactions of the opening, those of the accesses, and idle cycles.
+// A call has four items up to its first request, nine transactions of the opening, those of the accesses, and idle
+// cycles.
 const IMAGES: [ImageRow; 3] = [
     ImageRow {
         words: LOAD,
@@ -208,7 +209,8 @@ const IMAGES: [ImageRow; 3] = [
     },
 ];
 
-// The sixth transaction is behind 130 bits and five of 46 bits. Its word shows powers that were requested as if they weren't.
+// The sixth transaction is behind 130 bits and five of 46 bits. Its word shows powers that were requested as if they
+// weren't.
 const UNASKED: &[u8] =
     b"breaks @360 dp 4 read ok a0000000: CTRL/STAT shows the flags and the powers; ";
 
@@ -224,7 +226,8 @@ fn image_run(alloc: Global, row: &ImageRow, powers: &[u8]) -> Result<Ran, Fail> 
     Ok(run_on(alloc, row.words, levels.as_slice()))
 }
 
-// The session of an image's calls is checked as that of a run is: the line of the verdict comes behind that of the command.
+// The session of an image's calls is checked as that of a run is: the line of the verdict comes behind that of the
+// command.
 #[test]
 fn sessions_of_images_are_checked(rt: HostRuntime) -> Result<(), Fail> {
     for row in &IMAGES {

@@ -329,8 +329,8 @@ fn a_remote_run_says_how_far_it_is(rt: HostRuntime) {
     }
 }
 
-// A load counts the words that were written, of which the first two calls here have none: they read the partial words. A
-// verification and a dump count those that were read.
+// A load counts the words that were written, of which the first two calls here have none: they read the partial words.
+// A verification and a dump count those that were read.
 #[test]
 fn a_command_over_an_image_says_how_far_it_is(rt: HostRuntime) {
     let times = [Some(0), Some(1000), Some(2000), Some(3000)];

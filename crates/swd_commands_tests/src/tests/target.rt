@@ -91,9 +91,9 @@ fn a_record_is_none_of_the_files_that_are_read(rt: HostRuntime) {
     }
 }
 
-// The word of AP bank F at address c, behind a read of DPIDR, the power-up, SELECT, and at the end the word at 8. A host
-// in another language: 0 and 1 are bits that it sends, - is a cycle that it doesn't drive, ? one whose level it asks
-// for, and o and O release and drive SWDIO.
+// The word of AP bank F at address c, behind a read of DPIDR, the power-up, SELECT, and at the end the word at 8. A
+// host in another language: 0 and 1 are bits that it sends, - is a cycle that it doesn't drive, ? one whose level it
+// asks for, and o and O release and drive SWDIO.
 const IDENTIFIES: &[u8] = b"11111111111111111111111111111111111111111111111111\
     00 10100101o-????????????????????????????????????-O\
     10010101o-???-O 00000000000000000000000000001010 0\

@@ -124,7 +124,8 @@ const ROWS: [(&[&str], &[u8]); 31] = [
     (
         &["swd", "rnu"],
         b"error: unrecognized subcommand 'rnu'\n\
-          \x20 [subcommands: one, decode, encode, run, target, draw, check, info, conform, load, verify, dump, help]\n\n\
+          \x20 [subcommands: one, decode, encode, run, target, draw, check, info, conform, load, verify, dump, help]\n\
+          \n\
           Usage: swd <COMMAND>\n\nFor more information, try '--help'.\n",
     ),
     (

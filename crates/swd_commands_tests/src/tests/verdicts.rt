@@ -15,7 +15,8 @@ const DAMAGED: &[u8] = b"ap 4 write ok 20000000\ndp c read fault\ndp 4 read ok f
 
 // A word that is written, and read as another.
 const CHANGED: &[u8] =
-    b"ap 4 write ok 20000000\nap c write ok 0000002a\nap 4 write ok 20000000\nap c read ok 00000000\ndp c read ok 0000002b\n";
+    b"ap 4 write ok 20000000\nap c write ok 0000002a\nap 4 write ok 20000000\nap c read ok 00000000\ndp c read ok \
+        0000002b\n";
 
 // Other bits of CTRL/STAT than those of `swd target`.
 const OTHER_BITS: &[u8] = b"dp 4 read ok f0000f00\n";
@@ -30,7 +31,8 @@ const SELECTED: &[u8] = b"dp 8 write ok 00000000\ndp c read ok 00000000\n";
 type Row<'a> = (&'a [&'a str], &'a [u8], &'a [u8], u8);
 
 const CHANGED_LINE: &[u8] =
-    b"breaks @426 dp c read ok 0000002b: plain memory: the read @380 of 20000000 returned 0000002b; expected 0000002a since @288\n";
+    b"breaks @426 dp c read ok 0000002b: plain memory: the read @380 of 20000000 returned 0000002b; expected 0000002a \
+        since @288\n";
 
 const ROWS: [Row; 17] = [
     (&["swd", "check", "--made"], b"", b"fits 6\n", 0),
@@ -46,7 +48,8 @@ const ROWS: [Row; 17] = [
     (
         &["swd", "check", "--made"],
         b"dp 4 read wait\n",
-        b"breaks @242 dp 4 read wait: reads of DPIDR and CTRL/STAT and writes of ABORT get neither WAIT nor FAULT; expected OK\n",
+        b"breaks @242 dp 4 read wait: reads of DPIDR and CTRL/STAT and writes of ABORT get neither WAIT nor FAULT; \
+            expected OK\n",
         1,
     ),
     (
@@ -58,7 +61,8 @@ const ROWS: [Row; 17] = [
     (
         &["swd", "check", "--clean", "--made"],
         DAMAGED,
-        b"breaks @288 dp c read fault: FAULT is answered while a sticky flag is set, and not else; expected OK or WAIT: no flag is set since the check began, and none is pending\n",
+        b"breaks @288 dp c read fault: FAULT is answered while a sticky flag is set, and not else; expected OK or \
+            WAIT: no flag is set since the check began, and none is pending\n",
         1,
     ),
     (&["swd", "check", "--made"], CHANGED, b"fits 11\n", 0),
@@ -221,7 +225,8 @@ fn what_is_not_checked_has_no_verdict(rt: HostRuntime) {
 #[test]
 fn a_file_is_checked(rt: HostRuntime) {
     let said =
-        b"breaks @0 dp 0 read ok 2ba01477: after a line reset only a read of DPIDR is answered; expected no acknowledgement: there was no line reset\n";
+        b"breaks @0 dp 0 read ok 2ba01477: after a line reset only a read of DPIDR is answered; expected no \
+            acknowledgement: there was no line reset\n";
     for (words, trace) in [
         (["swd", "check", "trace", "--made"], b"".as_slice()),
         (["swd", "check", "-", "--made"], DPIDR_READ),

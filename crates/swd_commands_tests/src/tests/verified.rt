@@ -60,8 +60,8 @@ fn a_call_that_is_lost_is_the_last_one(rt: HostRuntime) {
     assert!(rt; ran.output.as_slice().starts_with(b"end lost "));
 }
 
-// A line says that the room is used up where an access met a bus error, once, and the status stays. A strict run that met
-// one where there is no word has a line, too.
+// A line says that the room is used up where an access met a bus error, once, and the status stays. A strict run that
+// met one where there is no word has a line, too.
 #[test]
 fn a_room_that_is_used_up_takes_one_line(rt: HostRuntime) {
     for (name, script, errors, strict) in [

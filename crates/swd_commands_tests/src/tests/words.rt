@@ -279,8 +279,8 @@ fn words_of_a_run(rt: HostRuntime) -> Result<(), Fail> {
     Ok(())
 }
 
-// What leads to the target of a run: the standard streams where `--remote` stands alone, whatever follows it. After `--`
-// there are no options.
+// What leads to the target of a run: the standard streams where `--remote` stands alone, whatever follows it. After
+// `--` there are no options.
 #[test]
 fn remote_has_a_value_after_an_equals_sign_alone(rt: HostRuntime) -> Result<(), Fail> {
     let rows: [(&[&str], &str, &str); 6] = [

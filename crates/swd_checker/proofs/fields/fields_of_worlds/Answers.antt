@@ -20,7 +20,8 @@ fill_next kept p d lt few =
     ap (λ n. set (done ++ replicate n checked_world_unused) p next) count
     ∙ set_at done checked_world_unused rest next p long in
     let more : map checked_world_fields (take (p + 1) kept) ≡ done ++ next ∷ [] =
-    ap (map checked_world_fields) (take_more kept p d lt) ∙ map_push checked_world_fields (take p kept) (get_or kept p d) in
+    ap (map checked_world_fields) (take_more kept p d lt) ∙ map_push checked_world_fields (take p kept)
+    (get_or kept p d) in
     filled ∙ sym (ap (λ l. l ++ rest) more ∙ append_assoc done (next ∷ []) rest)
 
 pub loop-place-preserved : goal.loop-place-preserved

@@ -15,10 +15,12 @@ returns-in-Ok-check_to g c =
     let new = g.O.Write.contents c.check_to.new.writer in
     let holds : CheckHolds i c.new.result [] =
     subst (λ s. CheckHolds (check_index s c.args.check.now.clean) c.new.result []) c.options.ensures.start
-    (subst (λ b. CheckHolds (check_index c.options.result.start b) c.new.result []) c.options.ensures.clean c.new.ensures) in
+    (subst (λ b. CheckHolds (check_index c.options.result.start b) c.new.result []) c.options.ensures.clean
+    c.new.ensures) in
     inl (
       Ok c.in-Ok-check_to.checked,
-      subst (λ r. WritesChecked r (CheckSays i) (Ok c.in-Ok-check_to.checked) text left old new) c.reading_of-reading.ensures
+      subst (λ r. WritesChecked r (CheckSays i) (Ok c.in-Ok-check_to.checked) text left old new)
+          c.reading_of-reading.ensures
           (check_writes_said (CheckSaysBehind c.new.result) (CheckSays i) (λ items checked h. h i [] holds)
           c.reading_of-reading.result (Ok c.in-Ok-check_to.checked) text left old new c.in-Ok-check_to.ensures),
       c.checked_status.ensures,
@@ -33,7 +35,8 @@ returns-in-Err g c =
     let new = g.O.Write.contents c.check_to.new.writer in
     let holds : CheckHolds i c.new.result [] =
     subst (λ s. CheckHolds (check_index s c.args.check.now.clean) c.new.result []) c.options.ensures.start
-    (subst (λ b. CheckHolds (check_index c.options.result.start b) c.new.result []) c.options.ensures.clean c.new.ensures) in
+    (subst (λ b. CheckHolds (check_index c.options.result.start b) c.new.result []) c.options.ensures.clean
+    c.new.ensures) in
     inl (
       Err c.in-Err.fault,
       subst (λ r. WritesChecked r (CheckSays i) (Err c.in-Err.fault) text left old new) c.reading_of-reading.ensures

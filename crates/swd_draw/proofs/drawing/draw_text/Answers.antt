@@ -37,7 +37,8 @@ pub returns-in-Err : goal.returns-in-Err
 returns-in-Err g c = λ start none.
     let text = g.R.Read.remaining c.args.reader.now in
     let left = g.R.Read.remaining c.read_parts.new.reader in (
-      unread g.W.Write.contents c.args.reading c.args.form c.in-Err.fault text left start (c.new.result, tt) c.args.block.now
+      unread g.W.Write.contents c.args.reading c.args.form c.in-Err.fault text left start (c.new.result, tt)
+          c.args.block.now
           c.in-Err.ensures none,
       refl,
     )

@@ -17,13 +17,15 @@ read_and_ran : {story : ℕ → Port} {tries resumes : ℕ} {Over : List Call �
     (text : List ℕ) (meaning : ScriptMeaning) → IsReaderText script text → script_of text ≡ Ok meaning → answer ≡ told
     → RanRemoteEndScript story tries resumes Over meaning.batches answer old new before after
     → RanRemoteEnd story tries resumes Over told script old new before after
-read_and_ran {story} {tries} {resumes} {Over} {answer} {told} {script} {old} {new} {before} {after} text meaning is means
+read_and_ran {story} {tries} {resumes} {Over} {answer} {told} {script} {old} {new} {before} {after} text meaning is
+    means
     same ran = record {
       text = text;
       is_script = is;
       meaning = meaning;
       means = means;
-      ran = subst (λ (a : Result Finished EngineFault). RanRemoteEndScript story tries resumes Over meaning.batches a old
+      ran = subst (λ (a : Result Finished EngineFault). RanRemoteEndScript story tries resumes Over meaning.batches a
+          old
           new before after) same ran;
     }
 

@@ -17,7 +17,8 @@ returns-clause-made g c =
       asked = target.requests;
       cycles = target.cycles;
     } in
-    subst (λ (t : FaultyClocked _ _). IsTargetEndMade c.args.memory marks c.args.idr t) (sym c.new-2.ensures.target) made
+    subst (λ (t : FaultyClocked _ _). IsTargetEndMade c.args.memory marks c.args.idr t) (sym c.new-2.ensures.target)
+    made
 
 pub returns-clause-rests : goal.returns-clause-rests
 returns-clause-rests g c =

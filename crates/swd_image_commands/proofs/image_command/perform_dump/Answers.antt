@@ -31,7 +31,8 @@ returns-in-Ok-reached g c =
     let line = c.over_checked_line-answer.result.1 in
     let verdict = c.over_checked_line-answer.result.2 in
     dump_command_performed (λ v. v.items) g.P.Story.at image c.limits_of.result c.args.count answer
-    (run_file_held bytes opened) (run_file_held bytes c.over_checked_line-answer.new.job.report) calls c.limits_of.ensures
+    (run_file_held bytes opened) (run_file_held bytes c.over_checked_line-answer.new.job.report) calls
+    c.limits_of.ensures
     (run_file_is_some bytes opened ∙ c.report_writer.ensures ∙ c.in-Ok-open_report.ensures.named) came
     g.I.Read.remaining g.O.Write.contents (g.O.Write.contents c.args.output) (g.I.Read.remaining c.args.input) line
     verdict over c.write_image_file-status.result _ c.session_status.ensures
@@ -50,7 +51,8 @@ returns g c =
     let line = c.over_checked_line-answer.result.1 in
     let verdict = c.over_checked_line-answer.result.2 in
     dump_command_performed (λ v. v.items) g.P.Story.at image c.limits_of.result c.args.count answer
-    (run_file_held bytes opened) (run_file_held bytes c.over_checked_line-answer.new.job.report) calls c.limits_of.ensures
+    (run_file_held bytes opened) (run_file_held bytes c.over_checked_line-answer.new.job.report) calls
+    c.limits_of.ensures
     (run_file_is_some bytes opened ∙ c.report_writer.ensures ∙ c.in-Ok-open_report.ensures.named) came
     g.I.Read.remaining g.O.Write.contents (g.O.Write.contents c.args.output) (g.I.Read.remaining c.args.input) line
     verdict over c.in-Err-reached.status _ c.session_status-in-Err-reached.ensures

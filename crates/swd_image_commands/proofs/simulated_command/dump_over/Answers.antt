@@ -18,7 +18,8 @@ pub write_image_file-requires : goal.write_image_file-requires
 write_image_file-requires g c =
     let dumped = c.dump-answer in
     subst (λ l. c.args.image.now.addr + length l ≤ 2 ^ 32) (sym c.as_slice-in-Ok.ensures.value)
-    (dump_command_fits (λ v. v.items) (image_bench_wire _) c.limits_of-limits.result c.args.image.now.addr c.args.count None
+    (dump_command_fits (λ v. v.items) (image_bench_wire _) c.limits_of-limits.result c.args.image.now.addr c.args.count
+    None
     dumped.result c.in-Ok.bytes c.args.bench dumped.new.wire c.in-Ok.ensures dumped.ensures.dumps)
 
 pub returns-in-Ok : goal.returns-in-Ok

@@ -9,6 +9,7 @@ returns g c =
       wire_calls wire,
       c.perform-answer.ensures,
       remote_watched_went_over g.K.CallSink.got g.R.Read.remaining g.W.Write.contents g.B.InitialStreams.sent
-          g.B.InitialStreams.left (wire_calls wire) (is_wire_gone wire) c.into_transport-transport.result c.hang_up.result
+          g.B.InitialStreams.left (wire_calls wire) (is_wire_gone wire) c.into_transport-transport.result
+          c.hang_up.result
           (c.into_transport-transport.ensures refl) c.hang_up.ensures,
     )

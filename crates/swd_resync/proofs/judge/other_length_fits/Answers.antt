@@ -8,7 +8,8 @@ use Rattle.swd_resync.specs.Parts.{stretch_resumes, other_tx_len}
 use Rattle.swd_resync.specs.Holding.{resync_held}
 use Rattle.swd_resync.specs.Judged.{Judges}
 use Rattle.swd_resync.proofs.JudgeLemmas.{judged_no_other_length, judged_too_few_for_other, judged_other_length}
-use Rattle.swd_resync.proofs.JudgeLemmas.{judged_near_of_few, judged_near_widened, judged_no_more, judged_other_len_most}
+use Rattle.swd_resync.proofs.JudgeLemmas.{judged_near_of_few, judged_near_widened, judged_no_more}
+use Rattle.swd_resync.proofs.JudgeLemmas.{judged_other_len_most}
 use Rattle.swd_resync.proofs.MoveLemmas.{resync_window_length}
 use Rattle.swd_resync.proofs.judge.other_length_fits.Goals as goal
 
@@ -67,6 +68,7 @@ returns c =
     at_least c.window.result.len c.window.result.bits (resync_held c.args.held.now) w.0 w.1 in
     let many : c.other_len-len.result ≤ c.window.result.len = omega (arith, c.if-window-len.false) in
     judged_other_length c.args.over c.args.ended (TxItem c.args.tx.now) c.other_len-len.result
-    (resync_held c.args.held.now) _ (sym c.has_phase.ensures ∙ c.if-not-has_phase.false) same (omega arith) (omega arith)
+    (resync_held c.args.held.now) _ (sym c.has_phase.ensures ∙ c.if-not-has_phase.false) same (omega arith)
+    (omega arith)
     (subst (λ x. Judges c.args.ended 0 (λ bits. stretch_resumes bits) x c.reading_resumes.result)
     c.without.ensures.bits c.reading_resumes.ensures)

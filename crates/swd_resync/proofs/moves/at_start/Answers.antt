@@ -18,7 +18,8 @@ pub returns-in-Zero : goal.returns-in-Zero
 returns-in-Zero c =
     let run = c.run_of-count.ensures.run in
     subst (λ n. ResyncMove c.args.over c.args.ended (Start c.args.zeros) (resync_held c.args.held.now)
-    (record { count = c.run_of-count.result; over = c.args.over; stage = Start (c.args.zeros + n); part = None })) (sym c.from.ensures)
+    (record { count = c.run_of-count.result; over = c.args.over; stage = Start (c.args.zeros + n); part = None }))
+    (sym c.from.ensures)
     (resync_start_counts_zeros c.args.over c.args.ended c.args.zeros c.run_of-count.result (resync_held c.args.held.now)
     run.0 run.1 (c.run_of-count.ensures.some c.in-Zero.ensures.0 c.in-Zero.ensures.1) c.run_of-count.ensures.most)
 

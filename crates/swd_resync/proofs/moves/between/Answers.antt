@@ -31,7 +31,13 @@ returns-then-before-gt0 c =
     let within = c.bits_before_start-before.ensures.within in
     let most = c.window.ensures.most in
     subst (λ n. ResyncMove c.args.over c.args.ended (Skipping c.args.count) (resync_held c.args.held.now)
-    (record { count = c.bits_before_start-before.result; over = c.args.over; stage = Skipping (c.args.count + n); part = None }))
+    (record {
+      count = c.bits_before_start-before.result;
+      over = c.args.over;
+      stage = Skipping (c.args.count + n);
+      part =
+          None;
+    }))
     (sym c.from.ensures)
     (skip_counts_before_stretch c.args.over c.args.ended c.args.count c.bits_before_start-before.result
     (tx_bits_of c.window.result) w.0 (resync_held c.args.held.now) w.1 c.if-before-gt0.true (omega arith) (omega arith)

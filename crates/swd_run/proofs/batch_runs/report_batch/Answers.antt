@@ -28,7 +28,8 @@ returns-in-None-clause-cut g c =
     (λ plain. same)) c.report_call.ensures.unsent
 
 module _ {W : Type 0} (wire : Ghosts W) (opened : Bool)
-    (tries resumes : ℕ) (batch : ScriptListed) (s t : W) (old new : Option (List ℕ)) (told : HostReport) (written : Result ℕ ℕ) where
+    (tries resumes : ℕ) (batch : ScriptListed) (s t : W) (old new : Option (List ℕ)) (told : HostReport)
+    (written : Result ℕ ℕ) where
   -- the report of one run is that of a batch that is no `until`
   reported_once : batch.until ≡ None
       → ReportsBatchRunFrom wire opened tries resumes batch s t old new told written
@@ -47,7 +48,8 @@ module _ {W : Type 0} (wire : Ghosts W) (opened : Bool)
 pub returns-in-None-clause-reported : goal.returns-in-None-clause-reported
 returns-in-None-clause-reported g c =
     if_some c.report_call.result
-    (λ reported h. reported_once g.W.Wire c.args.options.opened c.args.options.limits.tries c.args.options.limits.resumes
+    (λ reported h. reported_once g.W.Wire c.args.options.opened c.args.options.limits.tries
+    c.args.options.limits.resumes
     (script_batch_listed c.args.batch.now) c.args.wire.now c.report_call.new.wire
     (g.O.Write.contents c.args.report.now)
     (g.O.Write.contents c.report_call.new.report) (host_report_of reported.report) reported.written c.in-None.is h)

@@ -19,7 +19,8 @@ returns-then-is_wanted-clause-answer g c =
     let some : wants_run_files before ≡ true =
     wants_files_by_records g.T.Write.contents c.args.records.now ∙ sym c.is_wanted.ensures ∙ c.if-is_wanted.true in (
       ran.ensures.answer.0,
-      subst (λ flag. BatchAnswers (run_wire_seen flag g.W.Wire (λ noted. g.W.Wire.notes noted c.args.wire)) c.args.limits.tries
+      subst (λ flag. BatchAnswers (run_wire_seen flag g.W.Wire (λ noted. g.W.Wire.notes noted c.args.wire))
+          c.args.limits.tries
           c.args.limits.resumes (map script_batch_listed c.args.batches.now) ([], c.args.wire)
           (ran.ensures.answer.0, ran.result.1) ran.result.0 (g.O.Write.contents c.args.report.now)
           (g.O.Write.contents ran.new.report) before after) (sym some) ran.ensures.answer.1,
@@ -38,9 +39,11 @@ returns-clause-answer g c =
       [],
       subst (λ flag. BatchAnswers (run_wire_seen flag g.W.Wire noted) c.args.limits.tries c.args.limits.resumes batches
           ([], c.args.wire) ([], end) c.run_reported-answer.result old new files files) (sym empty)
-          (unwanted (run_wire_seen false g.W.Wire noted) c.args.limits.tries c.args.limits.resumes batches ([], c.args.wire) ([], end)
+          (unwanted (run_wire_seen false g.W.Wire noted) c.args.limits.tries c.args.limits.resumes batches
+          ([], c.args.wire) ([], end)
           old new files empty c.run_reported-answer.result
-          (answers_by (λ wire. ([], wire)) (run_wire_seen false g.W.Wire noted) c.args.limits.tries c.args.limits.resumes batches
+          (answers_by (λ wire. ([], wire)) (run_wire_seen false g.W.Wire noted) c.args.limits.tries
+          c.args.limits.resumes batches
           c.args.wire end ([], c.args.wire) ([], end) refl refl c.run_reported-answer.result old new no_run_files
           no_run_files c.run_reported-answer.ensures.answer)),
     )

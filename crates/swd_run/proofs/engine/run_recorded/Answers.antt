@@ -23,6 +23,7 @@ returns-clause-answer g c =
     ran.result.1 ran.result.0 old new (before (run_file_held contents records.trace)) after =
     subst (λ trace. BatchAnswers (run_recorder_wire noted) c.args.limits.tries c.args.limits.resumes batches start
     ran.result.1 ran.result.0 old new (before trace) after) c.requires.before ran.ensures.answer in
-    batch_answers_recorded noted c.args.limits.tries c.args.limits.resumes batches start ran.result.1 c.args.wire c.into_wire.result
+    batch_answers_recorded noted c.args.limits.tries c.args.limits.resumes batches start ran.result.1 c.args.wire
+    c.into_wire.result
     c.new-traced.ensures.wire c.new-traced.ensures.calls c.into_wire.ensures.wire
     ran.result.0 old new (before (run_file_held contents records.trace)) after over

@@ -36,7 +36,8 @@ use Rattle.swd_run.proofs.engine.run_traced.Goals as goal
 -- each request led to a whole transaction
 all_whole : (items list : List Item) (asked due : ℕ) → items ≡ list → recorded_transactions items + due ≡ asked
     → due ≡ 0 → asked ≤ recorded_transactions list
-all_whole items list asked due same count rests = let many = ap recorded_transactions same in omega (arith, many, count, rests)
+all_whole items list asked due same count rests = let many = ap recorded_transactions same in omega
+    (arith, many, count, rests)
 
 -- the items that a recorder kept are those of its calls, or of the first of these
 of_first : (cut : Bool) (items : List Item) (calls : List Call) → (cut ≡ false → items ≡ recorded_items_by calls)

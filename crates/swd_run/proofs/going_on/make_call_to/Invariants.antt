@@ -15,5 +15,6 @@ invariant-loop-done g l =
       plan : g.W.Wire.plan l.wire ≡ g.W.Wire.plan l.fn.wire;
       went : (stops : List Stop) × (length stops ≡ l.done) × g.K.RunSink.follows l.fn.sink stops l.sink
           × ScriptCallsFrom g.W.Wire l.options.opened (batch_limit batch)
-          batch.accesses l.options.limits.tries l.fn.wire stops (host_report_to (g.K.AnswerSink.taken l.sink) l.ending) l.wire;
+          batch.accesses l.options.limits.tries l.fn.wire stops (host_report_to (g.K.AnswerSink.taken l.sink) l.ending)
+          l.wire;
     }

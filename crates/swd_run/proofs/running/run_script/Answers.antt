@@ -51,7 +51,8 @@ returns-in_default g c =
           memory = script_bus script;
           are = record {
             unfolds = no_batch;
-            session = subst (λ calls. ScriptSession c.args.limits.tries c.args.limits.resumes c.args.plan.items (script_bus script)
+            session = subst (λ calls. ScriptSession c.args.limits.tries c.args.limits.resumes c.args.plan.items
+                (script_bus script)
                 calls [] (script_bus script)) (sym (unfolded_calls_empty script.batches)) none;
           };
           all = refl;
@@ -79,7 +80,8 @@ returns g c =
     let memory = (bench_port bus_of ran.result.1).target.memory in
     let full : c.full_room.result ≡ full_room script.room memory = c.full_room.ensures
     ∙ ap (full_room script.room) (sym c.memory.ensures) in
-    subst (λ answer. ScriptRunAnswers c.args.limits.tries c.args.limits.resumes script c.args.plan.items answer old new before after)
+    subst (λ answer. ScriptRunAnswers c.args.limits.tries c.args.limits.resumes script c.args.plan.items answer old new
+    before after)
     (sym (c.with_full.ensures ∙ ap (λ used. with_full_room used ran.result.0) full))
     (script_run_answers bench_wire c.args.limits.tries c.args.limits.resumes script
     c.args.plan.items c.in-Some.bench ran.result.1 c.in-Some.ensures.port c.in-Some.ensures.plan tt

@@ -16,7 +16,8 @@ counted : (w : Watching) (run : CaptureRun) (count all len : ℕ) → IsCaptureW
     → all ≡ min (length (bits_of_items (capture_run_items run)) + count) (2 ^ 64 - 1)
 counted w run count all len h e f =
     f ∙ ap (λ n. min (n + count) (2 ^ 64 - 1)) e
-    ∙ ap (λ p. min (min (length (bits_of_items (capture_held_items p w.idle))) (2 ^ 64 - 1) + count) (2 ^ 64 - 1)) h.held
+    ∙ ap (λ p. min (min (length (bits_of_items (capture_held_items p w.idle))) (2 ^ 64 - 1) + count) (2 ^ 64 - 1))
+    h.held
     ∙ capture_held_capped run.part run.idle w.idle count h.idle
 
 pub returns-clause-shows : goal.returns-clause-shows

@@ -11,4 +11,9 @@ load_pieces-requires g c = ap port_due_by c.requires
 pub returns : goal.returns
 returns g c =
     load_came_by (λ w. wire_calls w) (run_story_wire g.P.Story.at) _ _ _ _ _ _ _ _ c.requires
-    (record { loads = c.load_pieces.ensures.loads; fault = c.load_pieces.ensures.fault; report = c.load_pieces.ensures.report })
+    (record {
+      loads = c.load_pieces.ensures.loads;
+      fault = c.load_pieces.ensures.fault;
+      report =
+          c.load_pieces.ensures.report;
+    })

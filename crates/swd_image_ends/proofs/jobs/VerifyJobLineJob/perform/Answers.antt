@@ -11,4 +11,9 @@ verify_pieces-requires g c = ap port_due_by c.requires
 pub returns : goal.returns
 returns g c =
     verify_came_by (λ w. wire_calls w) (run_story_wire g.P.Story.at) _ _ _ _ _ _ _ _ c.requires
-    (record { verifies = c.verify_pieces.ensures.verifies; fault = c.verify_pieces.ensures.fault; report = c.verify_pieces.ensures.report })
+    (record {
+      verifies = c.verify_pieces.ensures.verifies;
+      fault = c.verify_pieces.ensures.fault;
+      report =
+          c.verify_pieces.ensures.report;
+    })

@@ -16,7 +16,8 @@ returns g c =
         well = ap (λ (r : Remote g.row.R.Denot g.row.W.Denot). r.fault) probe ∙ c.new.ensures.fault;
         asked = ap (λ (r : Remote g.row.R.Denot g.row.W.Denot). r.asked) probe ∙ c.new.ensures.asked;
         drives = ap (λ (r : Remote g.row.R.Denot g.row.W.Denot). r.drives) probe ∙ c.new.ensures.drives;
-        writer = subst (λ o. IsOnRemoteWay contents o c.new-transport.result.probe.outgoing (79 ∷ [])) (sym c.requires.sent)
+        writer = subst (λ o. IsOnRemoteWay contents o c.new-transport.result.probe.outgoing (79 ∷ []))
+            (sym c.requires.sent)
             (subst (λ (r : Remote g.row.R.Denot g.row.W.Denot). IsOnRemoteWay contents (contents c.args.writer)
             r.outgoing (79 ∷ [])) (sym probe) way);
         reader = ap (λ (r : Remote g.row.R.Denot g.row.W.Denot). g.R.Read.remaining r.reader) probe

@@ -14,7 +14,8 @@ read_is : (read c : CheckerType) (fields : CheckerFields) → read ≡ checker_f
 read_is read c fields is has = is ∙ (sym (ap checker_from has) ∙ checker_back c)
 
 pub returns-then-eq-clause-found : goal.returns-then-eq-clause-found
-returns-then-eq-clause-found c = λ e h. ap Some (read_is c.read-checker.result e c.args.self.now c.read-checker.ensures h)
+returns-then-eq-clause-found c = λ e h. ap Some (read_is c.read-checker.result e c.args.self.now c.read-checker.ensures
+    h)
 
 pub returns-then-eq-clause-same : goal.returns-then-eq-clause-same
 returns-then-eq-clause-same c = sym c.fields.ensures
