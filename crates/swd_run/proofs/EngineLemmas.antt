@@ -339,10 +339,10 @@ pub batch_answers_recorded : {W A : Type 0} {g : Ghosts W} (noted : List Call �
     → (calls : List Call)
     × BatchAnswers (run_wire_seen true g noted) tries resumes batches ([], start) (calls, end) answer old new before
     after
-batch_answers_recorded {g} noted tries resumes batches s t start end begins none ends answer old new before after h = (
+batch_answers_recorded {g} noted tries resumes batches s t start end begins fresh ends answer old new before after h = (
   recorder_calls t,
   answers_by (λ r. (recorder_calls r, recorder_wire_under r)) (run_wire_seen true g noted) tries resumes batches s t
-      ([], start) (recorder_calls t, end) (ap₂ (λ (n : List Call) (w : _). (n, w)) none begins)
+      ([], start) (recorder_calls t, end) (ap₂ (λ (n : List Call) (w : _). (n, w)) fresh begins)
       (ap (λ w. (recorder_calls t, w)) ends) answer old new before after h,
 )
 
