@@ -38,7 +38,6 @@ mod target;
 mod usage;
 mod verdicts;
 mod verified;
-mod words;
 
 const DPIDR_READ: &[u8] = b"10100101 1 100 11101110001010000000010111010100 0 1";
 

@@ -1,0 +1,2 @@
+mod expect;
+mod words;
