@@ -1,10 +1,8 @@
 -- The files that lead to a command's target.
-use Rattle.std.proofs.Common.{◌≡◌, ◌≢◌, ◌∙◌, List, Option, None, Some, ap, codes, inl, inr, subst, ℕ}
+use Rattle.std.proofs.Common.{◌≡◌, ◌≢◌, ◌∙◌, List, Option, None, Some, ap, codes, inr, subst, ℕ}
 use Rattle.std.specs.Prelude.{IfNone, IsSomeAnd}
 use Rattle.swd_command_line.specs.declared.command.CommandLine.{CommandLine}
-use Rattle.swd_command_line.specs.declared.command.CommandLine.TheVariants.{Conform}
-use Rattle.swd_command_line.specs.declared.command.ConformLine.{ConformLine}
-use Rattle.swd_commands.specs.Inputs.{CommandHasLine, CommandReadsStdin, command_named_file, command_remote}
+use Rattle.swd_commands.specs.Inputs.{CommandHasLine, command_named_file, command_remote}
 
 -- where none are used, although they are named and no file is standard input, a command has none
 pub line_files_none : {X : Type 0} (line : CommandLine) (files : Option (List ℕ)) (name : List ℕ) (used : Option X)
@@ -14,8 +12,3 @@ pub line_files_none : {X : Type 0} (line : CommandLine) (files : Option (List �
 line_files_none line files name None remote named none = λ has.
     none (subst (λ o. IsSomeAnd o (λ f. f ≢ codes "-")) remote has.0) (λ same. has.1 (inr (named ∙ ap Some same)))
 line_files_none line files name (Some x) remote named none = tt
-
--- a conformance run reads no file from standard input
-pub conform_reads_no_input : (conform : ConformLine) → CommandReadsStdin (Conform conform) → ⊥
-conform_reads_no_input conform (inl e) = cc
-conform_reads_no_input conform (inr e) = cc

@@ -214,9 +214,6 @@ fn carry_out<I: Read + KeepsError, O: Write + KeepsError, F: Files, C: Clock, E:
     ensures line { CommandHasLine line.now → (I.remaining input.new ≡ I.remaining input.old)
         × (O.contents output.new ≡ O.contents output.old) }
 {
-    if let CommandLine::Conform(conform) = line {
-        return carry_out_conform(conform, input, output, console);
-    }
     match line_files(line) {
         Some(files) => carry_out_over(line, files, console),
         None => carry_out_here(line, input, output, console),
@@ -314,7 +311,6 @@ fn perform<I: Read + KeepsError, O: Write + KeepsError, F: Files, C: Clock, E: W
         CommandLine::Run(run) => perform_run(run, input, output, console),
         CommandLine::Target(target) => carry_out_target(target, input, output, console),
         CommandLine::Image(image) => carry_out_image(image, input, output, console),
-        // It is carried out before, since its verdict goes to standard output.
         CommandLine::Conform(conform) => carry_out_conform(conform, input, output, console),
         CommandLine::Info(info) => {
             let (status, _) = perform_info::<Untold, _, _, _, _, _, _>(

@@ -35,7 +35,7 @@ pub use machine::Console;
 pub use memory_file::{HeldMemory, MemoryFile, read_target_files, write_back};
 pub use noted::{Seen, SeenLine, TrackedReader};
 pub use open_files::{Files, Identity, Opened};
-pub use pace::{Counted, Pace};
+pub use pace::Pace;
 pub use reason::{script_status, texts_status};
 pub use report::{
     DONE, Escaped, FAULT, STOPPED, cannot_open, cannot_open_line, cannot_use, engine_status,

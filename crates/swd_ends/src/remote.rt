@@ -12,7 +12,7 @@ use std::marker::Brand;
 use swd_io::Unread;
 use swd_port::{Story, Tied, TransportWire};
 use swd_remote::{InitialStreams, RemoteStreams, RemoteTransport};
-use swd_run::{EngineFault, Finished, Limits, Records, run_batches};
+use swd_run::{EngineFault, Finished, Limits, Progress, Records, run_batches};
 use swd_script::{Script, ScriptFault, read_script};
 use thiserror::Error;
 
@@ -66,13 +66,14 @@ pub fn run_remote<
     O: Write,
     T: Write + Drop,
     A: Allocator + Copy,
+    G: Progress,
 >(
     alloc: A,
     script: &mut S,
     line: Line<R, W>,
     limits: Limits,
     report: &mut O,
-    records: &mut Records<T>,
+    records: &mut Records<T, G>,
 ) -> (Result<Finished, RemoteFault>, RemoteStreams<R, W>)
     ensures { RunsRemote P.at limits.tries limits.resumes
         (λ calls. ∥ GoesOver R.remaining W.contents (W.contents line.writer) (R.remaining line.reader) result.1 calls
@@ -88,7 +89,7 @@ pub fn run_remote<
             RemoteStreams::unused(line.reader, line.writer),
         ),
     };
-    let (answer, line) = run_remote_script::<P, R, W, O, T, A>(
+    let (answer, line) = run_remote_script::<P, R, W, O, T, A, G>(
         alloc, &script, line, limits, report, records,
     );
     match answer {
@@ -118,13 +119,14 @@ pub fn run_remote_script<
     O: Write,
     T: Write + Drop,
     A: Allocator + Copy,
+    G: Progress,
 >(
     alloc: A,
     script: &Script<A>,
     line: Line<R, W>,
     limits: Limits,
     report: &mut O,
-    records: &mut Records<T>,
+    records: &mut Records<T, G>,
 ) -> (Result<Finished, EngineFault>, RemoteStreams<R, W>)
     requires { IsScriptRunnable (read_script_meaning script.now) }
     ensures { RanRemoteEndScript P.at limits.tries limits.resumes
@@ -133,7 +135,7 @@ pub fn run_remote_script<
         (read_script_meaning script.now).batches result.0 (O.contents report.old) (O.contents report.new)
         (run_files_of T.contents records.old) (run_files_of T.contents records.new) }
 {
-    run_begun::<P, Brand, R, W, O, T, A>(alloc, script, line, limits, report, records)
+    run_begun::<P, Brand, R, W, O, T, A, G>(alloc, script, line, limits, report, records)
 }
 
 // Runs a script's calls over a connection from its beginning on, and then sends `Q`.
@@ -145,13 +147,14 @@ fn run_begun<
     O: Write,
     T: Write + Drop,
     A: Allocator + Copy,
+    G: Progress,
 >(
     alloc: A,
     script: &Script<A>,
     line: Line<R, W>,
     limits: Limits,
     report: &mut O,
-    records: &mut Records<T>,
+    records: &mut Records<T, G>,
 ) -> (Result<Finished, EngineFault>, RemoteStreams<R, W>)
     requires script { IsScriptRunnable (read_script_meaning script.now) }
     requires sent { B.sent ≡ W.contents line.writer }

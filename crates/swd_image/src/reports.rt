@@ -15,10 +15,11 @@ use std::convert::Infallible;
 use std::io::Write;
 use swd_host::{AnswerSink, Report};
 use swd_port::{Answer, Wire};
-use swd_run::{Limits, RunSink, Stop, run_on_reporting, run_on_to};
+use swd_run::{Limits, Progress, RunSink, Stop, TOLD_AFTER, run_on_reporting, run_on_to};
 use swd_script::Batch;
 
-/// Where the reports of the calls of a load, a dump or a verification go: [`NoReports`], or an optional writer.
+/// Where the reports of the calls of a load, a dump or a verification go: [`NoReports`], an optional writer, or
+/// [`PacedReports`](crate::PacedReports).
 pub trait CallReports {
     /// The contents of the writer of the reports; `None` without a writer.
     ghost held: { Self → Option (Option (List ℕ)) };
@@ -49,13 +50,15 @@ pub trait CallReports {
         ensures plan { W.plan wire.new ≡ W.plan wire.old };
 }
 
-// Keeps the answers of a call, as many as there is capacity for, and no place where it was resumed.
+// Keeps the answers of a call, as many as there is capacity for, and no place where it was resumed. Tells how many
+// there are, after every 1,024 of them.
 #[derive(Drop)]
-struct CallAnswers<A: Allocator> {
+struct CallAnswers<'a, A: Allocator, G> {
     answers: Vec<Answer, A>,
+    progress: &'a mut G,
 }
 
-impl<A: Allocator> AnswerSink for CallAnswers<A> {
+impl<A: Allocator, G: Progress> AnswerSink for CallAnswers<'_, A, G> {
     ghost taken = { λ kept. kept.answers.items };
 
     ghost most = { λ kept. vec_capacity kept.answers };
@@ -68,6 +71,9 @@ impl<A: Allocator> AnswerSink for CallAnswers<A> {
 
     fn take(&mut self, answer: Answer) {
         self.answers.push(answer).unwrap();
+        if self.answers.len() % TOLD_AFTER == 0 {
+            self.progress.reached(self.answers.len() as u64);
+        }
     }
 
     ghost keeps_all = { λ a. tt };
@@ -75,7 +81,7 @@ impl<A: Allocator> AnswerSink for CallAnswers<A> {
     ghost keeps_on = { λ a b c first next. tt };
 }
 
-impl<A: Allocator> RunSink for CallAnswers<A> {
+impl<A: Allocator, G: Progress> RunSink for CallAnswers<'_, A, G> {
     type Refusal = Infallible;
 
     ghost follows = { λ _ _ _. Unit {0} };
@@ -87,6 +93,34 @@ impl<A: Allocator> RunSink for CallAnswers<A> {
     ghost answers_follow = { λ a b kept. tt };
 
     ghost follows_on = { λ a b c first next i j. tt };
+}
+
+// Makes one call, and writes no report.
+fn silent_call<W: Wire, A: Allocator + Copy, G: Progress>(
+    alloc: A,
+    wire: &mut W,
+    batch: &Batch<A>,
+    limits: Limits,
+    progress: &mut G,
+) -> Result<Report<A>, ImageFault>
+    requires batch { IsScriptBatch (script_batch_listed batch.now) }
+    requires plain { batch.now.until ≡ None }
+    requires due { (W.port wire.old).link.due ≡ Nothing }
+    ensures call { IfOk result (λ made. MakesOne W.Wire limits (script_batch_listed batch.now) wire.old wire.new
+        (host_report_of made) None None) }
+    ensures fault { IfErr result (FailsAs W.Wire limits (script_batch_listed batch.now).accesses wire.old wire.new) }
+    ensures report { IfErr result (λ fault. ReportsTo W.Wire limits (script_batch_listed batch.now).accesses
+        (Some fault) wire.old wire.new None None) }
+    ensures plan { W.plan wire.new ≡ W.plan wire.old }
+{
+    let Ok(answers) = Vec::with_capacity(alloc, batch.accesses.len()) else {
+        return Err(ImageFault::Memory);
+    };
+    let mut kept = CallAnswers { answers, progress };
+    match run_on_to(wire, batch, limits, &mut kept) {
+        Ok(ending) => Ok(ending.with(kept.answers)),
+        Err(never) => match never {},
+    }
 }
 
 /// No report is written.
@@ -103,24 +137,18 @@ impl CallReports for NoReports {
         batch: &Batch<A>,
         limits: Limits,
     ) -> Result<Report<A>, ImageFault> {
-        let Ok(answers) = Vec::with_capacity(alloc, batch.accesses.len()) else {
-            return Err(ImageFault::Memory);
-        };
-        let mut kept = CallAnswers { answers };
-        match run_on_to(wire, batch, limits, &mut kept) {
-            Ok(ending) => Ok(ending.with(kept.answers)),
-            Err(never) => match never {},
-        }
+        silent_call(alloc, wire, batch, limits, &mut ())
     }
 }
 
 // Makes one call, and writes its report meanwhile.
-fn report_call<W: Wire, O: Write, A: Allocator + Copy>(
+fn report_call<W: Wire, O: Write, A: Allocator + Copy, G: Progress>(
     alloc: A,
     wire: &mut W,
     batch: &Batch<A>,
     limits: Limits,
     writer: &mut O,
+    progress: &mut G,
 ) -> Result<Report<A>, ImageFault>
     requires batch { IsScriptBatch (script_batch_listed batch.now) }
     requires plain { batch.now.until ≡ None }
@@ -132,12 +160,38 @@ fn report_call<W: Wire, O: Write, A: Allocator + Copy>(
         (Some fault) wire.old wire.new (Some (O.contents writer.old)) (Some (O.contents writer.new))) }
     ensures plan { W.plan wire.new ≡ W.plan wire.old }
 {
-    let Some(reported) = run_on_reporting(alloc, wire, batch, limits, writer) else {
+    let Some(reported) = run_on_reporting(alloc, wire, batch, limits, writer, progress) else {
         return Err(ImageFault::Memory);
     };
     match reported.written {
         Ok(_) => Ok(reported.report),
         Err(_) => Err(ImageFault::Report),
+    }
+}
+
+/// Makes one call, and writes its report meanwhile, if there is a writer for it. `progress` is told how many accesses
+/// are done, after every 1,024 of them.
+pub(crate) fn call_with<W: Wire, O: Write, A: Allocator + Copy, G: Progress>(
+    alloc: A,
+    wire: &mut W,
+    batch: &Batch<A>,
+    limits: Limits,
+    report: &mut Option<O>,
+    progress: &mut G,
+) -> Result<Report<A>, ImageFault>
+    requires batch { IsScriptBatch (script_batch_listed batch.now) }
+    requires plain { batch.now.until ≡ None }
+    requires due { (W.port wire.old).link.due ≡ Nothing }
+    ensures call { IfOk result (λ made. MakesOne W.Wire limits (script_batch_listed batch.now) wire.old wire.new
+        (host_report_of made) (run_file_held O.contents report.old) (run_file_held O.contents report.new)) }
+    ensures fault { IfErr result (FailsAs W.Wire limits (script_batch_listed batch.now).accesses wire.old wire.new) }
+    ensures report { IfErr result (λ fault. ReportsTo W.Wire limits (script_batch_listed batch.now).accesses
+        (Some fault) wire.old wire.new (run_file_held O.contents report.old) (run_file_held O.contents report.new)) }
+    ensures plan { W.plan wire.new ≡ W.plan wire.old }
+{
+    match report {
+        Some(writer) => report_call(alloc, wire, batch, limits, writer, progress),
+        None => silent_call(alloc, wire, batch, limits, progress),
     }
 }
 
@@ -153,9 +207,6 @@ impl<O: Write> CallReports for Option<O> {
         batch: &Batch<A>,
         limits: Limits,
     ) -> Result<Report<A>, ImageFault> {
-        match self {
-            Some(writer) => report_call(alloc, wire, batch, limits, writer),
-            None => NoReports.make_call(alloc, wire, batch, limits),
-        }
+        call_with(alloc, wire, batch, limits, self, &mut ())
     }
 }

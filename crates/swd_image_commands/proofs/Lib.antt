@@ -1,2 +1,3 @@
+mod PieceLemmas
 pub mod ImageLemmas
 pub mod SimulatedLemmas

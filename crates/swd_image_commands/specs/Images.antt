@@ -1,5 +1,5 @@
 -- The status of a load, a verification or a dump at a remote target.
-use Rattle.std.specs.Prelude.{◌≡◌, ◌<◌, ◌⊎◌, ◌||◌, ℕ, Bool, List, [], length, take, Option, Some, None, Result, Ok}
+use Rattle.std.specs.Prelude.{◌≡◌, ◌<◌, ◌⊎◌, ℕ, List, [], length, take, Option, Some, None, Result, Ok}
 use Rattle.std.specs.Prelude.{Err, is_some, if◌then◌else◌}
 use Rattle.std.specs.Io.KnownBytes.{Appends}
 use Rattle.swd_port.specs.declared.call.Call.{Call}
@@ -15,13 +15,16 @@ use Rattle.swd_image_files.specs.declared.format.Format.{Format}
 use Rattle.swd_image_files.specs.Files.{IsImageOrElf}
 use Rattle.swd_image_files.specs.Images.{ImageFileBytes, ImageFileContents, image_file_pieces}
 use Rattle.swd_image_files.specs.Texts.{image_file_of_piece}
-use Rattle.swd_image_ends.specs.Came.{DumpCame, LoadCame, VerifyCame}
+use Rattle.swd_image_ends.specs.Came.{DumpCame}
 use Rattle.swd_check.specs.declared.checked.Checked.{Checked}
 use Rattle.swd_conform.specs.Sessions.{GoesOverChecked}
 use Rattle.swd_command_line.specs.declared.command.ImageAction.{ImageAction}
 use Rattle.swd_command_line.specs.declared.command.ImageAction.TheVariants.{Load, Verify, Dump}
 use Rattle.swd_command_line.specs.declared.command.ImageLine.{ImageLine}
 use Rattle.swd_console.specs.Verdicts.{command_status_of_session}
+use Rattle.swd_image_commands.specs.declared.pieces.PiecesAction.{PiecesAction}
+use Rattle.swd_image_commands.specs.declared.pieces.PiecesAction.TheVariants.{Load as Loads, Verify as Compares}
+use Rattle.swd_image_commands.specs.Pieces.{PiecesCame}
 use Rattle.swd_run.specs.Wires.{run_story_wire}
 
 -- what each call may meet
@@ -37,10 +40,6 @@ command_status_of_fault (Stopped end) = 1
 command_status_of_fault (FaultAt at) = 1
 command_status_of_fault Report = 2
 
--- reports of the calls are made if a file is named for them, or their lines are counted
-abbrev pub makes_command_reports : ImageLine → Bool
-makes_command_reports image = is_some image.report || image.progress
-
 -- a result, or the status at an error; the status is 1 if the call succeeded but the other end is gone
 abbrev pub command_result_reached : {V : Type 0} → Option Fault → Result V ImageFault → Result V ℕ
 command_result_reached (Some gone) (Ok value) = Err 1
@@ -55,12 +54,9 @@ command_status_in of (Err status) = status
 abbrev pub command_status_of_image : {V : Type 0} → (V → ℕ) → Option Fault → Result V ImageFault → ℕ
 command_status_of_image of gone answer = command_status_in of (command_result_reached gone answer)
 
--- 0 if all was loaded; 0 if no byte differs, and otherwise 1
-abbrev pub command_status_loaded : Unit {0} → ℕ
-command_status_loaded done = 0
-
-abbrev pub command_status_verified : Option ByteDifference → ℕ
-command_status_verified difference = if is_some difference then 1 else 0
+-- 0 if no byte differs, as after a load, and otherwise 1
+abbrev pub command_status_compared : Option ByteDifference → ℕ
+command_status_compared difference = if is_some difference then 1 else 0
 
 -- the bytes were written with the status 0, or not all of them with the status 2
 abbrev pub CommandWritesBytes : ℕ → Option (List ℕ) → Option (List ℕ) → List ℕ → Type 0
@@ -68,15 +64,30 @@ CommandWritesBytes status old new bytes =
     ((status ≡ 0) × Appends old new bytes)
     ⊎ ((status ≡ 2) × (sent : ℕ) × (sent < length bytes) × Appends old new (take sent bytes))
 
--- They were written to a file so, or the file couldn't be truncated. Nothing else is known of it.
+-- they were written to a file so, or the file couldn't be replaced
+abbrev pub IsCommandWrittenTo : Option (List ℕ) → Option (List ℕ) → ℕ → List ℕ → Type 0
+IsCommandWrittenTo old new status bytes = (status ≡ 2) ⊎ CommandWritesBytes status old new bytes
+
+-- the same of some file, of which nothing else is known
 abbrev pub IsCommandWritten : ℕ → List ℕ → Type 0
 IsCommandWritten status bytes =
     (status ≡ 2) ⊎ ((old : Option (List ℕ)) × (new : Option (List ℕ)) × CommandWritesBytes status old new bytes)
+
+-- a result with its bytes as a list
+abbrev pub command_bytes_of : {V X : Type 0} → (V → List ℕ) → Result V X → Result (List ℕ) X
+command_bytes_of list (Ok value) = Ok (list value)
+command_bytes_of list (Err error) = Err error
 
 -- what was read is written to a file in its format; at an error no file is changed
 abbrev pub IsCommandDumped : Format → ℕ → Result (List ℕ) ℕ → ℕ → Type 0
 IsCommandDumped format addr (Ok bytes) status = IsCommandWritten status (image_file_of_piece format addr bytes)
 IsCommandDumped format addr (Err error) status = status ≡ error
+
+-- the same of a file with these contents before and after
+abbrev pub IsCommandDumpedTo : Option (List ℕ) → Option (List ℕ) → Format → ℕ → Result (List ℕ) ℕ → ℕ → Type 0
+IsCommandDumpedTo old new format addr (Ok bytes) status =
+    IsCommandWrittenTo old new status (image_file_of_piece format addr bytes)
+IsCommandDumpedTo old new format addr (Err error) status = (status ≡ error) × (new ≡ old)
 
 -- The pieces of the image of a file, in its format or ELF. No contract knows the contents of a file.
 pub record AreCommandPieces (image : ImageLine) (pieces : List ImageFileBytes) : Type 0 where
@@ -95,33 +106,21 @@ module _ {R W : Type 0} (story : ℕ → Port) (image : ImageLine) (status : ℕ
   abbrev pub WentOverChecked : List Call → Option Checked → Type 0
   WentOverChecked calls verdict = ∥ GoesOverChecked image.check remaining contents sent left line calls verdict ∥₁
 
-  -- The pieces of a file are loaded over a line. The reports of the calls are written if a file is named for them.
-  -- Nothing else is known of this file. Only tests show that the line is over the standard streams.
-  abbrev pub PerformsLoad : Type 0
-  PerformsLoad =
-      IsLeft
-      ⊎ ((pieces : List ImageFileBytes) × (answer : Result (Unit {0}) ImageFault) × AreCommandPieces image pieces
-      × (before : Option (Option (List ℕ))) × (after : Option (Option (List ℕ)))
-      × (is_some before ≡ makes_command_reports image)
-      × (calls : List Call) × (verdict : Option Checked)
-      × LoadCame (run_story_wire story) (command_limits image) pieces answer [] calls before after
-      × WentOverChecked calls verdict
-      × (status ≡ command_status_of_session verdict
-      (command_status_of_image command_status_loaded line.fault answer)))
-
-  -- the memory is compared with the pieces of a file
-  abbrev pub PerformsVerify : Type 0
-  PerformsVerify =
+  -- The pieces of a file are loaded over a line, or compared with the memory. The reports of the calls are written if
+  -- a file is named for them. Nothing else is known of this file. Only tests show that the line is over the standard
+  -- streams.
+  abbrev pub PerformsPieces : PiecesAction → Type 0
+  PerformsPieces action =
       IsLeft
       ⊎ ((pieces : List ImageFileBytes) × (answer : Result (Option ByteDifference) ImageFault)
       × AreCommandPieces image pieces
       × (before : Option (Option (List ℕ))) × (after : Option (Option (List ℕ)))
-      × (is_some before ≡ makes_command_reports image)
+      × (is_some before ≡ is_some image.report)
       × (calls : List Call) × (verdict : Option Checked)
-      × VerifyCame (run_story_wire story) (command_limits image) pieces answer [] calls before after
+      × PiecesCame (run_story_wire story) (command_limits image) action pieces answer [] calls before after
       × WentOverChecked calls verdict
       × (status ≡ command_status_of_session verdict
-      (command_status_of_image command_status_verified line.fault answer)))
+      (command_status_of_image command_status_compared line.fault answer)))
 
   -- `count` bytes of the memory are written to a file
   abbrev pub PerformsDump : ℕ → Type 0
@@ -129,7 +128,7 @@ module _ {R W : Type 0} (story : ℕ → Port) (image : ImageLine) (status : ℕ
       IsLeft
       ⊎ ((answer : Result (List ℕ) ImageFault)
       × (before : Option (Option (List ℕ))) × (after : Option (Option (List ℕ)))
-      × (is_some before ≡ makes_command_reports image)
+      × (is_some before ≡ is_some image.report)
       × (calls : List Call) × (verdict : Option Checked)
       × DumpCame (run_story_wire story) (command_limits image) image.addr count answer (λ bytes. bytes) [] calls
       before after
@@ -139,6 +138,6 @@ module _ {R W : Type 0} (story : ℕ → Port) (image : ImageLine) (status : ℕ
 
   -- what the arguments ask for
   abbrev pub PerformsAction : ImageAction → Type 0
-  PerformsAction Load = PerformsLoad
-  PerformsAction Verify = PerformsVerify
+  PerformsAction Load = PerformsPieces Loads
+  PerformsAction Verify = PerformsPieces Compares
   PerformsAction (Dump count) = PerformsDump count

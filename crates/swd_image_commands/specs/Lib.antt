@@ -1,3 +1,4 @@
+pub mod Pieces
 pub mod Images
 pub mod Reports
 pub mod Simulated

@@ -1,17 +1,12 @@
 -- The bytes of the reports of an image's calls.
-use Rattle.std.specs.Prelude.{ℕ, List, Option, None}
-use Rattle.swd_image_commands.specs.declared.image_report.CallReport.{CallReport}
-use Rattle.swd_image_commands.specs.declared.image_report.CallWriter.{CallWriter}
-use Rattle.swd_image_commands.specs.declared.image_report.CallReport.TheVariants.{File, Errors, Counted}
+use Rattle.std.specs.Prelude.{ℕ, List, Option}
+use Rattle.swd_run.specs.Records.{run_file_held}
+use Rattle.swd_console.specs.Streams.{stream_watched}
+use Rattle.swd_image_commands.specs.declared.image_report.ImageReports.{ImageReports}
+use Rattle.swd_image_commands.specs.declared.image_report.ImageReports.TheVariants.{Paced, Errors}
 
--- the bytes are those of the file, or of standard error; nothing has them where their lines are counted alone
-abbrev pub command_report_contents : {M E : Type 0} → (M → Option (List ℕ)) → (E → Option (List ℕ)) → CallReport M → E
-    → Option (List ℕ)
-command_report_contents file errors (File to) said = file to
-command_report_contents file errors Errors said = errors said
-command_report_contents file errors Counted said = None
-
--- and so are those of a writer
-abbrev pub command_writer_contents : {M E C : Type 0} → (M → Option (List ℕ)) → (E → Option (List ℕ))
-    → CallWriter M E C → Option (List ℕ)
-command_writer_contents file errors writer = command_report_contents file errors writer.to writer.errors.now
+-- the contents of the file, or of standard error; `None` where no report is written
+abbrev pub command_reports_held : {M E C : Type 0} → (M → Option (List ℕ)) → (E → Option (List ℕ))
+    → ImageReports M E C → Option (Option (List ℕ))
+command_reports_held file errors (Paced reports) = run_file_held (stream_watched file) reports.report
+command_reports_held file errors (Errors report) = run_file_held (stream_watched (λ said. errors said.now)) report

@@ -1,19 +1,21 @@
 //! Performs `swd load`, `swd verify` and `swd dump`, at a remote target on the standard streams or at a simulated one.
-ghost use Rattle.swd_image_commands.specs.Images.{PerformsDump, PerformsLoad, PerformsVerify};
+ghost use Rattle.swd_image_commands.specs.Images.{PerformsDump, PerformsPieces};
 ghost use Rattle.swd_image_commands.specs.Targeted.{PerformsImage};
 
-use crate::image_file::{keep_or_give_up, read_image_file, write_image_file};
-use crate::image_report::{limits_of, open_report, report_writer, words_in, words_of};
-use crate::result::{loaded_status, reached, verified_status};
+use crate::image_file::{finish_dump, keep_or_give_up, read_image_file};
+use crate::image_report::{image_reports, limits_of, open_report, words_in, words_of};
+use crate::pieces::{PiecesAction, PiecesJob};
+use crate::result::{pieces_status, reached};
 use crate::simulated_command::perform_simulated;
 use std::alloc::Allocator;
 use std::io::{Read, Write};
 use swd_command_line::{ImageAction, ImageLine};
 use swd_conform::over_checked_line;
 use swd_console::{
-    Clock, Console, Files, InUse, KeepsError, Stream, StreamsInUse, WriteRole, session_status,
+    Clock, Console, Files, InUse, KeepsError, Stream, StreamsInUse, Watched, WriteRole,
+    session_status,
 };
-use swd_image_ends::{DumpJob, LoadJob, VerifyJob};
+use swd_image_ends::DumpJob;
 use swd_port::Story;
 use swd_remote::RemoteStreams;
 
@@ -43,10 +45,20 @@ pub fn perform_image<
             (status, RemoteStreams::unused(input, output))
         }
         None => match image.action {
-            ImageAction::Load => perform_load::<P, _, _, _, _, _, _>(image, input, output, console),
-            ImageAction::Verify => {
-                perform_verify::<P, _, _, _, _, _, _>(image, input, output, console)
-            }
+            ImageAction::Load => perform_pieces::<P, _, _, _, _, _, _>(
+                image,
+                PiecesAction::Load,
+                input,
+                output,
+                console,
+            ),
+            ImageAction::Verify => perform_pieces::<P, _, _, _, _, _, _>(
+                image,
+                PiecesAction::Verify,
+                input,
+                output,
+                console,
+            ),
             ImageAction::Dump(count) => {
                 perform_dump::<P, _, _, _, _, _, _>(image, count, input, output, console)
             }
@@ -54,8 +66,8 @@ pub fn perform_image<
     }
 }
 
-// Loads the file's pieces.
-fn perform_load<
+// Loads the file's pieces, or compares the memory with them.
+fn perform_pieces<
     P: Story,
     I: Read + KeepsError + Drop,
     O: Write + KeepsError + Drop,
@@ -65,12 +77,13 @@ fn perform_load<
     E: Write,
 >(
     image: &ImageLine,
+    action: PiecesAction,
     input: I,
     output: O,
     console: &mut Console<'_, A, F, C, E>,
 ) -> (u8, RemoteStreams<I, O>)
-    ensures { PerformsLoad P.at image.now result.0 I.remaining O.contents (O.contents output) (I.remaining input)
-        result.1 }
+    ensures { PerformsPieces P.at image.now result.0 I.remaining O.contents (O.contents output) (I.remaining input)
+        result.1 action }
 {
     let mut in_use = InUse::new(StreamsInUse::Both);
     let whole = match read_image_file(image, &mut in_use, console) {
@@ -82,11 +95,12 @@ fn perform_load<
         Err(status) => return (status, RemoteStreams::unused(input, output)),
     };
     let words = words_in(&whole);
-    let mut job = LoadJob {
+    let mut job = PiecesJob {
         alloc: console.alloc,
-        image: &whole,
+        action,
+        whole: &whole,
         limits: limits_of(image),
-        report: report_writer(image, opened, words, &mut *console.errors, console.clock),
+        report: image_reports(image, opened, words, &mut *console.errors, console.clock),
     };
     let (answer, line, verdict) = over_checked_line::<P, _, _, _, _>(
         console.alloc,
@@ -95,72 +109,10 @@ fn perform_load<
         input,
         output,
     );
-    let streams = call_streams(image, &job.report, &line);
+    let streams = call_streams(job.report.stream(image), &line);
     drop(job);
-    let streams = streams.as_slice();
-    let status = loaded_status(
-        console.errors,
-        answer,
-        line.fault,
-        streams,
-        image.addr,
-        &whole,
-    );
-    (session_status(console.errors, &verdict, status), line)
-}
-
-// Compares the memory with the file's pieces.
-fn perform_verify<
-    P: Story,
-    I: Read + KeepsError + Drop,
-    O: Write + KeepsError + Drop,
-    A: Allocator + Copy,
-    F: Files,
-    C: Clock,
-    E: Write,
->(
-    image: &ImageLine,
-    input: I,
-    output: O,
-    console: &mut Console<'_, A, F, C, E>,
-) -> (u8, RemoteStreams<I, O>)
-    ensures { PerformsVerify P.at image.now result.0 I.remaining O.contents (O.contents output) (I.remaining input)
-        result.1 }
-{
-    let mut in_use = InUse::new(StreamsInUse::Both);
-    let whole = match read_image_file(image, &mut in_use, console) {
-        Ok(whole) => whole,
-        Err(status) => return (status, RemoteStreams::unused(input, output)),
-    };
-    let opened = match open_report(image, &mut in_use, console) {
-        Ok(opened) => opened,
-        Err(status) => return (status, RemoteStreams::unused(input, output)),
-    };
-    let words = words_in(&whole);
-    let mut job = VerifyJob {
-        alloc: console.alloc,
-        image: &whole,
-        limits: limits_of(image),
-        report: report_writer(image, opened, words, &mut *console.errors, console.clock),
-    };
-    let (answer, line, verdict) = over_checked_line::<P, _, _, _, _>(
-        console.alloc,
-        image.check,
-        &mut job,
-        input,
-        output,
-    );
-    let streams = call_streams(image, &job.report, &line);
-    drop(job);
-    let streams = streams.as_slice();
-    let status = verified_status(
-        console.errors,
-        answer,
-        line.fault,
-        streams,
-        image.addr,
-        &whole,
-    );
+    let answer = reached(console.errors, answer, line.fault, streams.as_slice());
+    let status = pieces_status(console.errors, image, action, &whole, answer);
     (session_status(console.errors, &verdict, status), line)
 }
 
@@ -185,13 +137,13 @@ fn perform_dump<
 {
     let mut in_use = InUse::new(StreamsInUse::Both);
     let mut file = match in_use.open_write(image.file.as_str(), WriteRole::Dump, console) {
-        Ok(opened) => opened.file,
+        Ok(opened) => Watched::new(opened.file),
         Err(status) => return (status, RemoteStreams::unused(input, output)),
     };
     let opened = match open_report(image, &mut in_use, console) {
         Ok(opened) => opened,
         Err(status) => {
-            keep_or_give_up(image, status, &mut file, console);
+            keep_or_give_up(image, status, &mut file.stream, console);
             return (status, RemoteStreams::unused(input, output));
         }
     };
@@ -201,7 +153,7 @@ fn perform_dump<
         addr: image.addr,
         count: count as u64,
         limits: limits_of(image),
-        report: report_writer(image, opened, words, &mut *console.errors, console.clock),
+        report: image_reports(image, opened, words, &mut *console.errors, console.clock),
     };
     let (answer, line, verdict) = over_checked_line::<P, _, _, _, _>(
         console.alloc,
@@ -210,29 +162,20 @@ fn perform_dump<
         input,
         output,
     );
-    let streams = call_streams(image, &job.report, &line);
+    let streams = call_streams(job.report.stream(image), &line);
     drop(job);
-    match reached(console.errors, answer, line.fault, streams.as_slice()) {
-        Ok(bytes) => {
-            let status = write_image_file(image, bytes.as_slice(), &mut file, console);
-            keep_or_give_up(image, status, &mut file, console);
-            (session_status(console.errors, &verdict, status), line)
-        }
-        Err(status) => {
-            keep_or_give_up(image, status, &mut file, console);
-            (session_status(console.errors, &verdict, status), line)
-        }
-    }
+    let answer = reached(console.errors, answer, line.fault, streams.as_slice());
+    let status = finish_dump(image, answer, &mut file, console);
+    (session_status(console.errors, &verdict, status), line)
 }
 
 // Returns the streams of the calls: that of the report, and those of the connection.
-fn call_streams<'a, S: KeepsError, R: KeepsError, W: KeepsError>(
-    image: &'a ImageLine,
-    report: &Option<S>,
+fn call_streams<'a, R: KeepsError, W: KeepsError>(
+    report: Stream<'a>,
     line: &RemoteStreams<R, W>,
 ) -> [Stream<'a>; 3] {
     [
-        Stream::record(&image.report, report),
+        report,
         Stream::sent(&line.writer),
         Stream::received(&line.reader),
     ]

@@ -2,7 +2,8 @@
 ghost use Rattle.std.specs.Prelude.{◌≡◌, ◌+◌, ◌≤◌, ◌^◌, IfErr, IfOk, length};
 ghost use Rattle.swd_image_ends.specs.Pieces.{pieces_to_load};
 ghost use Rattle.swd_image_files.specs.Texts.{image_file_of_piece};
-ghost use Rattle.swd_image_commands.specs.Images.{AreCommandPieces, IsCommandWritten, CommandWritesBytes};
+ghost use Rattle.swd_image_commands.specs.Images.{AreCommandPieces, CommandWritesBytes, IsCommandDumpedTo};
+ghost use Rattle.swd_image_commands.specs.Images.{IsCommandWrittenTo, command_bytes_of};
 
 use std::alloc::Allocator;
 use std::io::{Read, Write};
@@ -65,28 +66,47 @@ fn read_opened_image<R: Read + Drop, A: Allocator + Copy, F, C, E: Write>(
     }
 }
 
-/// Replaces the file of a dump by the bytes in its format, and prints a line with the result. Returns the status: 0 or
-/// 2.
-pub(crate) fn write_image_file<A, F: Files, C, E: Write>(
+/// Replaces the file of a dump by the bytes that were read, or gives it up where they weren't read or can't be written.
+/// Returns the status.
+pub(crate) fn finish_dump<A: Allocator, F: Files, C, E: Write>(
+    image: &ImageLine,
+    answer: Result<Vec<u8, A>, u8>,
+    file: &mut Watched<F::Made>,
+    console: &mut Console<'_, A, F, C, E>,
+) -> u8
+    requires { IfOk answer (λ bytes. image.now.addr + length bytes.items ≤ 2 ^ 32) }
+    ensures { IsCommandDumpedTo (F.Made.Write.contents file.old.stream) (F.Made.Write.contents file.new.stream)
+        image.now.format image.now.addr (command_bytes_of (λ bytes. bytes.items) answer) result }
+{
+    let status = match answer {
+        Ok(bytes) => write_image_file(image, bytes.as_slice(), file, console),
+        Err(status) => status,
+    };
+    keep_or_give_up(image, status, &mut file.stream, console);
+    status
+}
+
+// Replaces the file of a dump by the bytes in its format, and prints a line with the result. Returns the status: 0 or
+// 2.
+fn write_image_file<A, F: Files, C, E: Write>(
     image: &ImageLine,
     bytes: &[u8],
-    file: &mut F::Made,
+    file: &mut Watched<F::Made>,
     console: &mut Console<'_, A, F, C, E>,
 ) -> u8
     requires { image.now.addr + length bytes.now ≤ 2 ^ 32 }
-    ensures { IsCommandWritten result (image_file_of_piece image.now.format image.now.addr bytes.now) }
+    ensures { IsCommandWrittenTo (F.Made.Write.contents file.old.stream) (F.Made.Write.contents file.new.stream)
+        result (image_file_of_piece image.now.format image.now.addr bytes.now) }
 {
     let name = image.file.as_str();
-    if let Err(why) = console.files.begin_replacing(name, file) {
+    if let Err(why) = console.files.begin_replacing(name, &mut file.stream) {
         return cannot_open(console.errors, name, &why);
     }
-    let mut watched = Watched::new(&mut *file);
-    let status = write_bytes(image, bytes, &mut watched, console.errors);
-    drop(watched);
+    let status = write_bytes(image, bytes, file, console.errors);
     if status != DONE {
         return status;
     }
-    if let Err(error) = console.files.finish_replacing(file) {
+    if let Err(error) = console.files.finish_replacing(&mut file.stream) {
         let streams = [Stream::failed(name, error)];
         return tell_failure_or(console.errors, streams.as_slice(), "write failed");
     }
@@ -102,7 +122,9 @@ pub(crate) fn keep_or_give_up<A, F: Files, C, E>(
     status: u8,
     file: &mut F::Made,
     console: &Console<'_, A, F, C, E>,
-) {
+)
+    ensures { F.Made.Write.contents file.new ≡ F.Made.Write.contents file.old }
+{
     if status != DONE {
         console.files.give_up(image.file.as_str(), file);
     }

@@ -1,72 +1,55 @@
-//! The report of the calls of an image, how far they are, and what they may meet.
+//! The reports of the calls of an image, how far they are, and what they may meet.
 ghost use Rattle.std.specs.Prelude.{◌≡◌, IfErr, IfOk, is_some};
-ghost use Rattle.std.specs.Io.{WritesAtMost};
-ghost use Rattle.std.specs.Io.KnownBytes.{Keeps, WriteAppends};
-ghost use Rattle.swd_image_commands.specs.Images.{command_limits, makes_command_reports};
-ghost use Rattle.swd_image_commands.specs.Reports.{command_report_contents};
+ghost use Rattle.swd_image_commands.specs.Images.{command_limits};
+ghost use Rattle.swd_image_commands.specs.Reports.{command_reports_held};
 
 use std::alloc::Allocator;
-use std::io;
 use std::io::Write;
 use swd_command_line::{ImageAction, ImageLine};
-use swd_console::{Clock, Console, Counted, Files, InUse, Pace, Watched, WriteRole, cut_off};
-use swd_image::Limits;
+use swd_console::{
+    Clock, Console, Destination, Files, InUse, Pace, Stream, Watched, WriteRole, cut_off,
+};
+use swd_host::Report;
+use swd_image::{CallReports, Counted, ImageFault, Limits, PacedReports};
 use swd_image_files::Image;
+use swd_port::Wire;
+use swd_script::Batch;
 
 /// Where the reports of the calls go, if they are made.
-pub(crate) type ReportTo<M> = Option<CallReport<M>>;
+pub(crate) type ReportTo<M> = Option<Destination<M, ()>>;
 
-/// Where the reports of the calls go.
+/// What gets the reports of the calls.
 #[derive(Drop)]
-pub(crate) enum CallReport<M> {
-    /// To a file.
-    File(M),
-    /// To standard error.
-    Errors,
-    /// Nowhere: their lines are counted.
-    Counted,
+pub(crate) enum ImageReports<'a, M, E, C> {
+    /// A file, if one is named. Standard error says how far the calls are, if the arguments ask for that.
+    Paced(PacedReports<Watched<M>, Pace<'a, E, C>>),
+    /// Standard error, which then doesn't say how far they are.
+    Errors(Option<Watched<&'a mut E>>),
 }
 
-/// The writer of the reports, if they are made.
-pub(crate) type ReportWriter<'a, M, E, C> = Option<Watched<CallWriter<'a, M, E, C>>>;
+impl<'a, M: Write, E: Write, C: Clock> CallReports for ImageReports<'a, M, E, C> {
+    ghost held = { λ reports. command_reports_held M.contents E.contents reports };
 
-/// A writer of the reports of an image's calls. It says on standard error, at most once a second, how many words have
-/// their line in what was taken, if the arguments ask for that.
-#[derive(Drop)]
-pub(crate) struct CallWriter<'a, M, E, C> {
-    to: CallReport<M>,
-    errors: &'a mut E,
-    clock: &'a C,
-    pace: Pace,
-}
-
-impl<M: Write, E: Write, C: Clock> Write for CallWriter<'_, M, E, C> {
-    ghost contents = { λ writer. command_report_contents M.contents E.contents writer.to writer.errors.now };
-
-    fn write(&mut self, buf: &[u8]) -> io::Result<usize>
-        ensures bound { WritesAtMost result buf.now }
-        ensures bytes { WriteAppends (command_report_contents M.contents E.contents self.old.to self.old.errors.now)
-            (command_report_contents M.contents E.contents self.new.to self.new.errors.now) result buf.now }
-    {
-        let result = match &mut self.to {
-            CallReport::File(file) => file.write(buf),
-            CallReport::Errors => return self.errors.write(buf),
-            CallReport::Counted => Ok(buf.len()),
-        };
-        if let Ok(count) = &result {
-            self.pace.took(&buf[..*count], self.clock, self.errors);
+    fn make_call<W: Wire, A: Allocator + Copy>(
+        &mut self,
+        alloc: A,
+        wire: &mut W,
+        batch: &Batch<A>,
+        limits: Limits,
+    ) -> Result<Report<A>, ImageFault> {
+        match self {
+            ImageReports::Paced(reports) => reports.make_call(alloc, wire, batch, limits),
+            ImageReports::Errors(report) => report.make_call(alloc, wire, batch, limits),
         }
-        result
     }
+}
 
-    fn flush(&mut self) -> io::Result<()>
-        ensures bytes { Keeps (command_report_contents M.contents E.contents self.old.to self.old.errors.now)
-            (command_report_contents M.contents E.contents self.new.to self.new.errors.now) }
-    {
-        match &mut self.to {
-            CallReport::File(file) => file.flush(),
-            CallReport::Errors => self.errors.flush(),
-            CallReport::Counted => Ok(()),
+impl<'a, M, E, C> ImageReports<'a, M, E, C> {
+    /// Returns the stream of the reports.
+    pub(crate) fn stream<'b>(&self, image: &'b ImageLine) -> Stream<'b> {
+        match self {
+            ImageReports::Paced(reports) => Stream::record(&image.report, &reports.report),
+            ImageReports::Errors(report) => Stream::record(&image.report, report),
         }
     }
 }
@@ -82,60 +65,54 @@ pub(crate) fn limits_of(image: &ImageLine) -> Limits
 }
 
 /// Opens the file of the report, if one is named, and truncates it: it is the last file that a command opens. `-` is
-/// standard error, which isn't truncated. Without a name reports are made for the progress alone, if that is asked for.
-/// At an error it prints a line and returns the status 2.
+/// standard error, which isn't truncated. At an error it prints a line and returns the status 2.
 pub(crate) fn open_report<A, F: Files, C, E: Write>(
     image: &ImageLine,
     in_use: &mut InUse,
     console: &mut Console<'_, A, F, C, E>,
 ) -> Result<ReportTo<F::Made>, u8>
-    ensures named { IfOk result (λ opened. is_some opened ≡ makes_command_reports image.now) }
+    ensures named { IfOk result (λ opened. is_some opened ≡ is_some image.now.report) }
     ensures status { IfErr result (λ status. status ≡ 2) }
 {
     let Some(name) = &image.report else {
-        return Ok(if image.progress {
-            Some(CallReport::Counted)
-        } else {
-            None
-        });
+        return Ok(None);
     };
     if name.as_str() == "-" {
-        return Ok(Some(CallReport::Errors));
+        return Ok(Some(Destination::Errors(())));
     }
     let file = match in_use.open_write(name.as_str(), WriteRole::Calls, console) {
         Ok(opened) => opened.file,
         Err(status) => return Err(status),
     };
     match cut_off(name.as_str(), &file, console) {
-        Ok(()) => Ok(Some(CallReport::File(file))),
+        Ok(()) => Ok(Some(Destination::File(file))),
         Err(status) => Err(status),
     }
 }
 
-/// Returns the writer of the report that was opened, if there is one, before a call over so many words.
-pub(crate) fn report_writer<'a, M: Write, E: Write, C: Clock>(
+/// Returns what gets the reports, before calls over so many words.
+pub(crate) fn image_reports<'a, M: Write, E: Write, C: Clock>(
     image: &ImageLine,
     opened: ReportTo<M>,
     words: u64,
     errors: &'a mut E,
     clock: &'a C,
-) -> ReportWriter<'a, M, E, C>
-    ensures { is_some result ≡ is_some opened }
+) -> ImageReports<'a, M, E, C>
+    ensures { is_some (command_reports_held M.contents E.contents result) ≡ is_some opened }
 {
-    let counted = match image.action {
-        ImageAction::Load => Counted::WrittenWords,
-        ImageAction::Verify | ImageAction::Dump(_) => Counted::ReadWords,
-    };
-    let total = if image.progress { Some(words) } else { None };
-    match opened {
-        Some(to) => Some(Watched::new(CallWriter {
-            to,
-            errors,
-            clock,
-            pace: Pace::start(clock, counted, total),
-        })),
+    let file = match opened {
+        Some(Destination::Errors(())) => {
+            return ImageReports::Errors(Some(Watched::new(errors)));
+        }
+        Some(Destination::File(file)) => Some(Watched::new(file)),
         None => None,
-    }
+    };
+    let counted = match image.action {
+        ImageAction::Load => Counted::Written,
+        ImageAction::Verify | ImageAction::Dump(_) => Counted::Read,
+    };
+    let pace = Pace::new(image.progress, "words", errors, clock);
+    ImageReports::Paced(PacedReports::new(file, pace, counted, words))
 }
 
 /// Returns how many words have a byte of this range.

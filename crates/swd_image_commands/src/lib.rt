@@ -4,6 +4,7 @@
 mod image_command;
 mod image_file;
 mod image_report;
+mod pieces;
 mod result;
 mod simulated_command;
 

@@ -1,11 +1,12 @@
 //! Prints the result of a command over an image, and returns its status.
 ghost use Rattle.std.specs.Prelude.{◌≡◌};
 ghost use Rattle.swd_image_commands.specs.Images.{command_result_reached as reached_by, command_status_of_fault};
-ghost use Rattle.swd_image_commands.specs.Images.{command_status_of_image, command_status_loaded};
-ghost use Rattle.swd_image_commands.specs.Images.{command_status_verified};
+ghost use Rattle.swd_image_commands.specs.Images.{command_status_compared, command_status_in};
 
+use crate::pieces::PiecesAction;
 use std::alloc::Allocator;
 use std::io::Write;
+use swd_command_line::ImageLine;
 use swd_console::{DONE, STOPPED, Stream, engine_status, gone_status, tell, tell_failure_or};
 use swd_image::{ByteDifference, ImageFault};
 use swd_image_files::Image;
@@ -26,40 +27,24 @@ fn tell_done<E: Write, A: Allocator>(errors: &mut E, done: &str, offset: u32, wh
     };
 }
 
-/// Returns the status of a load with these streams, and prints a line with its result.
-pub(crate) fn loaded_status<E: Write, A: Allocator>(
+/// Returns the status of a command over the pieces of an image, and prints a line with its result: whether a byte
+/// differs, if all was reached, and otherwise nothing more.
+pub(crate) fn pieces_status<E: Write, A: Allocator>(
     errors: &mut E,
-    answer: Result<(), ImageFault>,
-    gone: Option<Fault>,
-    streams: &[Stream<'_>],
-    offset: u32,
+    image: &ImageLine,
+    action: PiecesAction,
     whole: &Image<A>,
+    reached: Result<Option<ByteDifference>, u8>,
 ) -> u8
-    ensures { result ≡ command_status_of_image command_status_loaded gone answer }
+    ensures { result ≡ command_status_in command_status_compared reached }
 {
-    match reached(errors, answer, gone, streams) {
-        Ok(()) => {
-            tell_done(errors, "loaded", offset, whole);
-            DONE
-        }
-        Err(status) => status,
-    }
-}
-
-/// Returns the status of a verification with these streams, and prints a line with its result.
-pub(crate) fn verified_status<E: Write, A: Allocator>(
-    errors: &mut E,
-    answer: Result<Option<ByteDifference>, ImageFault>,
-    gone: Option<Fault>,
-    streams: &[Stream<'_>],
-    offset: u32,
-    whole: &Image<A>,
-) -> u8
-    ensures { result ≡ command_status_of_image command_status_verified gone answer }
-{
-    match reached(errors, answer, gone, streams) {
+    match reached {
         Ok(None) => {
-            tell_done(errors, "verified", offset, whole);
+            let done = match action {
+                PiecesAction::Load => "loaded",
+                PiecesAction::Verify => "verified",
+            };
+            tell_done(errors, done, image.addr, whole);
             DONE
         }
         Ok(Some(difference)) => {

@@ -1,28 +1,29 @@
 //! Performs `swd load`, `swd verify` and `swd dump` at a simulated target, whose memory is in a file.
-ghost use Rattle.std.specs.Prelude.{◌≡◌, ◌+◌, ◌≤◌, ◌^◌, ℕ, IfErr, IfOk, List, None, Option, is_some};
+ghost use Rattle.std.specs.Prelude.{◌≡◌, ◌+◌, ◌≤◌, ◌^◌, ℕ, IfErr, IfOk, IfSome, List, Option, is_some, length};
 ghost use Rattle.swd_host.specs.Reports.{IsAtRest};
 ghost use Rattle.swd_port.specs.Bus.{bus_of};
 ghost use Rattle.swd_target.specs.Benches.{bench_port};
 ghost use Rattle.swd_target.specs.Marks.{IsLegalPlan};
 ghost use Rattle.swd_image_ends.specs.Pieces.{pieces_to_load};
-ghost use Rattle.swd_image_commands.specs.Images.{makes_command_reports};
-ghost use Rattle.swd_image_commands.specs.Simulated.{DumpCommandSimulated, LoadCommandSimulated, SimulatesAction};
-ghost use Rattle.swd_image_commands.specs.Simulated.{SimulatesImage, SimulatesCommandTarget};
-ghost use Rattle.swd_image_commands.specs.Simulated.{SimulatesDump, SimulatesLoad, SimulatesVerify};
-ghost use Rattle.swd_image_commands.specs.Simulated.{VerifyCommandSimulated};
+ghost use Rattle.swd_image_commands.specs.declared.pieces.PiecesAction.{PiecesAction as PiecesActionType};
+ghost use Rattle.swd_image_commands.specs.Simulated.{DumpCommandSimulated, IsBackFor, IsWrittenBackFor};
+ghost use Rattle.swd_image_commands.specs.Simulated.{PiecesCommandSimulated, SimulatesAction, SimulatesCommandTarget};
+ghost use Rattle.swd_image_commands.specs.Simulated.{SimulatesDump, SimulatesImage, SimulatesPieces};
+ghost use Rattle.swd_image_commands.specs.Simulated.{simulated_back_held};
 
-use crate::image_file::{keep_or_give_up, read_image_file, write_image_file};
-use crate::image_report::{ReportTo, limits_of, open_report, report_writer, words_in, words_of};
-use crate::result::{loaded_status, reached, verified_status};
+use crate::image_file::{finish_dump, keep_or_give_up, read_image_file};
+use crate::image_report::{ReportTo, image_reports, limits_of, open_report, words_in, words_of};
+use crate::pieces::{PiecesAction, PiecesJob};
+use crate::result::{pieces_status, reached};
 use std::alloc::Allocator;
 use std::io::Write;
 use swd_command_line::{ImageAction, ImageLine, MemoryLine};
 use swd_console::{
-    Clock, Console, Escaped, Files, HeldMemory, InUse, MemoryFile, Stream, StreamsInUse, WriteRole,
-    cannot_use, read_target_files, write_back,
+    Clock, Console, Escaped, Files, HeldMemory, InUse, MemoryFile, StreamsInUse, Watched,
+    WriteRole, cannot_use, read_target_files, write_back,
 };
 use swd_image::{ImageFault, dump};
-use swd_image_ends::{load_pieces, simulated_target, verify_pieces};
+use swd_image_ends::simulated_target;
 use swd_image_files::Image;
 use swd_target::{Bench, Memory};
 
@@ -54,8 +55,8 @@ fn simulate_action<A: Allocator + Copy, F: Files, C: Clock, E: Write>(
         held.entry.marks.items result }
 {
     match image.action {
-        ImageAction::Load => simulate_load(image, held, in_use, console),
-        ImageAction::Verify => simulate_verify(image, held, in_use, console),
+        ImageAction::Load => simulate_pieces(image, PiecesAction::Load, held, in_use, console),
+        ImageAction::Verify => simulate_pieces(image, PiecesAction::Verify, held, in_use, console),
         ImageAction::Dump(count) => simulate_dump(image, count, held, in_use, console),
     }
 }
@@ -113,34 +114,29 @@ fn tell_outside<V, A: Allocator, E: Write>(
     }
 }
 
-// Loads the file's pieces, and writes the memory back.
-fn simulate_load<A: Allocator + Copy, F: Files, C: Clock, E: Write>(
+// Loads the file's pieces, and writes the memory back; or compares the memory with them.
+fn simulate_pieces<A: Allocator + Copy, F: Files, C: Clock, E: Write>(
     image: &ImageLine,
+    action: PiecesAction,
     held: HeldMemory<'_, A>,
     in_use: &mut InUse,
     console: &mut Console<'_, A, F, C, E>,
 ) -> u8
     requires { IsLegalPlan held.marks.items }
-    ensures { SimulatesLoad A image.now held.entry.memory.now.base held.entry.bytes.items held.entry.marks.items
-        result }
+    ensures { SimulatesPieces A image.now held.entry.memory.now.base held.entry.bytes.items held.entry.marks.items
+        result action }
 {
     let whole = match read_image_file(image, in_use, console) {
         Ok(whole) => whole,
         Err(status) => return status,
     };
-    let memory = held.memory;
-    let file = match in_use.open_write(memory.file.as_str(), WriteRole::Memory, console) {
-        Ok(opened) => opened.file,
+    let mut back = match open_back(action, &held, in_use, console) {
+        Ok(back) => back,
         Err(status) => return status,
     };
     let report = match open_report(image, in_use, console) {
         Ok(report) => report,
         Err(status) => return status,
-    };
-    let back = MemoryFile {
-        memory,
-        count: held.bytes.len() as u64,
-        file,
     };
     let spare = spare_room(
         whole.ranges.len(),
@@ -148,103 +144,101 @@ fn simulate_load<A: Allocator + Copy, F: Files, C: Clock, E: Write>(
         held.marks.len(),
     );
     match target_of(held, spare, console) {
-        Ok(bench) => load_over(image, &whole, bench, back, report, console),
+        Ok(bench) => pieces_over(image, &whole, bench, &mut back, report, console),
         Err(status) => status,
     }
 }
 
-// Loads the pieces at the target, and writes the memory after that to its file, however the run ended.
-fn load_over<A: Allocator + Copy, F: Files, C: Clock, E: Write>(
+// The memory's file, which a load writes back. A verification has none.
+type Back<'a, M> = Option<MemoryFile<'a, M>>;
+
+// Opens the memory's file, if it is to be written back. At an error it prints a line and returns the status 2.
+fn open_back<'a, A: Allocator, F: Files, C, E: Write>(
+    action: PiecesAction,
+    held: &HeldMemory<'a, A>,
+    in_use: &mut InUse,
+    console: &mut Console<'_, A, F, C, E>,
+) -> Result<Back<'a, F::Made>, u8>
+    ensures back { IfOk result (IsBackFor action held.now.memory.now.base (length held.now.bytes.items)) }
+    ensures fits { IfOk result (λ back. IfSome back (λ to. to.memory.now.base + to.count ≤ 2 ^ 32)) }
+    ensures status { IfErr result (λ status. status ≡ 2) }
+{
+    let PiecesAction::Load = action else {
+        return Ok(None);
+    };
+    let memory = held.memory;
+    match in_use.open_write(memory.file.as_str(), WriteRole::Memory, console) {
+        Ok(opened) => Ok(Some(MemoryFile {
+            memory,
+            count: held.bytes.len() as u64,
+            file: opened.file,
+        })),
+        Err(status) => Err(status),
+    }
+}
+
+// Returns the action for which there is this file, or none.
+fn action_of<M>(back: &Back<'_, M>) -> PiecesAction
+    ensures { (action : PiecesActionType) (base count : ℕ) → IsBackFor action base count back.now → result ≡ action }
+{
+    match back {
+        Some(_) => PiecesAction::Load,
+        None => PiecesAction::Verify,
+    }
+}
+
+// Writes the memory back, if there is a file for it.
+fn write_back_to<A: Allocator + Copy, F: Files, C, E: Write>(
+    after: &Memory<A>,
+    back: &mut Back<'_, F::Made>,
+    console: &mut Console<'_, A, F, C, E>,
+) -> Result<(), u8>
+    requires { IfSome back.old (λ to. to.memory.now.base + to.count ≤ 2 ^ 32) }
+    ensures { (action : PiecesActionType) (base count : ℕ) → IsBackFor action base count back.old
+        → IsWrittenBackFor action after.now base count result (simulated_back_held F.Made.Write.contents back.old)
+        (simulated_back_held F.Made.Write.contents back.new) }
+{
+    match back {
+        Some(to) => write_back(after, to, console),
+        None => Ok(()),
+    }
+}
+
+// Makes the calls for the pieces at the target, and writes the memory after that back, however the run ended.
+fn pieces_over<A: Allocator + Copy, F: Files, C: Clock, E: Write>(
     image: &ImageLine,
     whole: &Image<A>,
     mut bench: Bench<Memory<A>, A>,
-    mut back: MemoryFile<'_, F::Made>,
+    back: &mut Back<'_, F::Made>,
     opened: ReportTo<F::Made>,
     console: &mut Console<'_, A, F, C, E>,
 ) -> u8
     requires rests { IsAtRest (bench_port bus_of bench) }
-    requires fits { back.memory.now.base + back.count ≤ 2 ^ 32 }
-    requires named { is_some opened ≡ makes_command_reports image.now }
-    ensures { (new : Option (List ℕ)) × LoadCommandSimulated image.now (pieces_to_load whole.now) bench
-        back.entry.memory.now.base back.entry.count result (F.Made.Write.contents back.entry.file) new }
+    requires fits { IfSome back.old (λ to. to.memory.now.base + to.count ≤ 2 ^ 32) }
+    requires named { is_some opened ≡ is_some image.now.report }
+    ensures { (action : PiecesActionType) (base count : ℕ) → IsBackFor action base count back.old
+        → PiecesCommandSimulated image.now action (pieces_to_load whole.now) bench base count result
+        (simulated_back_held F.Made.Write.contents back.old) (simulated_back_held F.Made.Write.contents back.new) }
 {
-    let limits = limits_of(image);
-    let words = words_in(whole);
-    let mut report = report_writer(image, opened, words, &mut *console.errors, console.clock);
-    let answer = load_pieces(console.alloc, &mut bench, whole, limits, &mut report);
-    let streams = [Stream::record(&image.report, &report)];
-    drop(report);
-    tell_outside(console.errors, image, &answer, bench.memory());
-    match write_back(bench.memory(), &mut back, console) {
-        Ok(()) => loaded_status(
-            console.errors,
-            answer,
-            None,
-            streams.as_slice(),
-            image.addr,
-            whole,
-        ),
-        Err(status) => status,
-    }
-}
-
-// Compares the memory with the file's pieces.
-fn simulate_verify<A: Allocator + Copy, F: Files, C: Clock, E: Write>(
-    image: &ImageLine,
-    held: HeldMemory<'_, A>,
-    in_use: &mut InUse,
-    console: &mut Console<'_, A, F, C, E>,
-) -> u8
-    requires { IsLegalPlan held.marks.items }
-    ensures { SimulatesVerify A image.now held.entry.memory.now.base held.entry.bytes.items held.entry.marks.items
-        result }
-{
-    let whole = match read_image_file(image, in_use, console) {
-        Ok(whole) => whole,
-        Err(status) => return status,
-    };
-    let report = match open_report(image, in_use, console) {
-        Ok(report) => report,
-        Err(status) => return status,
-    };
-    let spare = spare_room(
-        whole.ranges.len(),
-        whole.bytes.len() as u64,
-        held.marks.len(),
-    );
-    match target_of(held, spare, console) {
-        Ok(bench) => verify_over(image, &whole, bench, report, console),
-        Err(status) => status,
-    }
-}
-
-// Compares the memory of the target with the pieces.
-fn verify_over<M: Write + Drop, A: Allocator + Copy, F, C: Clock, E: Write>(
-    image: &ImageLine,
-    whole: &Image<A>,
-    mut bench: Bench<Memory<A>, A>,
-    opened: ReportTo<M>,
-    console: &mut Console<'_, A, F, C, E>,
-) -> u8
-    requires rests { IsAtRest (bench_port bus_of bench) }
-    requires named { is_some opened ≡ makes_command_reports image.now }
-    ensures { VerifyCommandSimulated image.now (pieces_to_load whole.now) bench result }
-{
-    let limits = limits_of(image);
-    let words = words_in(whole);
-    let mut report = report_writer(image, opened, words, &mut *console.errors, console.clock);
-    let answer = verify_pieces(console.alloc, &mut bench, whole, limits, &mut report);
-    let streams = [Stream::record(&image.report, &report)];
-    drop(report);
-    tell_outside(console.errors, image, &answer, bench.memory());
-    verified_status(
-        console.errors,
-        answer,
-        None,
-        streams.as_slice(),
-        image.addr,
+    let (action, words) = (action_of(back), words_in(whole));
+    let mut job = PiecesJob {
+        alloc: console.alloc,
+        action,
         whole,
-    )
+        limits: limits_of(image),
+        report: image_reports(image, opened, words, &mut *console.errors, console.clock),
+    };
+    let answer = job.make_calls(&mut bench);
+    let streams = [job.report.stream(image)];
+    drop(job);
+    tell_outside(console.errors, image, &answer, bench.memory());
+    match write_back_to(bench.memory(), back, console) {
+        Ok(()) => {
+            let answer = reached(console.errors, answer, None, streams.as_slice());
+            pieces_status(console.errors, image, action, whole, answer)
+        }
+        Err(status) => status,
+    }
 }
 
 // Opens the file, and reads bytes of the memory. Then replaces the file by the bytes.
@@ -260,25 +254,21 @@ fn simulate_dump<A: Allocator + Copy, F: Files, C: Clock, E: Write>(
         result }
 {
     let mut file = match in_use.open_write(image.file.as_str(), WriteRole::Dump, console) {
-        Ok(opened) => opened.file,
+        Ok(opened) => Watched::new(opened.file),
         Err(status) => return status,
     };
     let report = match open_report(image, in_use, console) {
         Ok(report) => report,
         Err(status) => {
-            keep_or_give_up(image, status, &mut file, console);
+            keep_or_give_up(image, status, &mut file.stream, console);
             return status;
         }
     };
     let spare = spare_room(1, count as u64, held.marks.len());
     match target_of(held, spare, console) {
-        Ok(bench) => {
-            let status = dump_over(image, count, bench, &mut file, report, console);
-            keep_or_give_up(image, status, &mut file, console);
-            status
-        }
+        Ok(bench) => dump_over(image, count, bench, &mut file, report, console),
         Err(status) => {
-            keep_or_give_up(image, status, &mut file, console);
+            keep_or_give_up(image, status, &mut file.stream, console);
             status
         }
     }
@@ -289,17 +279,17 @@ fn dump_over<A: Allocator + Copy, F: Files, C: Clock, E: Write>(
     image: &ImageLine,
     count: u32,
     mut bench: Bench<Memory<A>, A>,
-    file: &mut F::Made,
+    file: &mut Watched<F::Made>,
     opened: ReportTo<F::Made>,
     console: &mut Console<'_, A, F, C, E>,
 ) -> u8
     requires rests { IsAtRest (bench_port bus_of bench) }
-    requires named { is_some opened ≡ makes_command_reports image.now }
+    requires named { is_some opened ≡ is_some image.now.report }
     ensures { DumpCommandSimulated image.now count bench result }
 {
     let (addr, limits) = (image.addr, limits_of(image));
     let words = words_of(addr, u64::from(count));
-    let mut report = report_writer(image, opened, words, &mut *console.errors, console.clock);
+    let mut report = image_reports(image, opened, words, &mut *console.errors, console.clock);
     let answer = dump(
         console.alloc,
         &mut bench,
@@ -308,11 +298,9 @@ fn dump_over<A: Allocator + Copy, F: Files, C: Clock, E: Write>(
         limits,
         &mut report,
     );
-    let streams = [Stream::record(&image.report, &report)];
+    let streams = [report.stream(image)];
     drop(report);
     tell_outside(console.errors, image, &answer, bench.memory());
-    match reached(console.errors, answer, None, streams.as_slice()) {
-        Ok(bytes) => write_image_file(image, bytes.as_slice(), file, console),
-        Err(status) => status,
-    }
+    let answer = reached(console.errors, answer, None, streams.as_slice());
+    finish_dump(image, answer, file, console)
 }

@@ -8,6 +8,7 @@ mod expect;
 mod loads;
 mod long_images;
 mod memory;
+mod paced;
 mod reports;
 
 use std::alloc::{Allocator, Global};

@@ -80,7 +80,7 @@ pub run_file_some : {T : Type 0} (contents : T → Option (List ℕ)) (file : Op
 run_file_some contents file is = run_file_is_some contents file ∙ is
 
 -- a file is to be written where there is a writer
-pub wants_files_by_records : {T : Type 0} (contents : T → Option (List ℕ)) (records : Records T)
+pub wants_files_by_records : {T G : Type 0} (contents : T → Option (List ℕ)) (records : Records T G)
     → wants_run_files (run_files_of contents records) ≡ (is_some records.trace || is_some records.accesses)
 wants_files_by_records contents records = ap₂ ◌||◌ (run_file_is_some contents records.trace)
     (run_file_is_some contents records.accesses)

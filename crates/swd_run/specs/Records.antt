@@ -26,7 +26,7 @@ pub record RunFiles : Type 0 where
 abbrev pub run_files_from : Option (Option (List ℕ)) → Option (Option (List ℕ)) → Bool → RunFiles
 run_files_from trace accesses made = record { trace = trace; accesses = accesses; made = made }
 
-abbrev pub run_files_of : {T : Type 0} → (T → Option (List ℕ)) → Records T → RunFiles
+abbrev pub run_files_of : {T G : Type 0} → (T → Option (List ℕ)) → Records T G → RunFiles
 run_files_of contents records = run_files_from (run_file_held contents records.trace)
     (run_file_held contents records.accesses) records.made
 

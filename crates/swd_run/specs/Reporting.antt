@@ -11,10 +11,10 @@ abbrev pub AreResumesWithin : ℕ → List Stop → Type 0
 AreResumesWithin answered [] = Unit {0}
 AreResumesWithin answered (stop ∷ stops) = (stop.answered ≤ answered) × AreResumesWithin answered stops
 
-module _ {W K : Type 0} (contents : W → Option (List ℕ)) (taken : K → List Answer) where
+module _ {W K G : Type 0} (contents : W → Option (List ℕ)) (taken : K → List Answer) where
   -- A writer that began with `start` was handed the lines of the answers so far, with a line for each of these places
   -- where the run was resumed. Of these bytes it lacks those that are buffered, or it failed.
-  pub record Has (start : Option (List ℕ)) (stops : List Stop) (state : Reporting W K) : Type 0 where
+  pub record Has (start : Option (List ℕ)) (stops : List Stop) (state : Reporting W K G) : Type 0 where
     pub few : length (taken state.answers.now) ≤ length state.accesses.now
     pub within : AreResumesWithin (length (taken state.answers.now)) stops
     pub sends : BlockBufferSends contents start state.block.now
@@ -22,7 +22,7 @@ module _ {W K : Type 0} (contents : W → Option (List ℕ)) (taken : K → List
 
   -- Later, after these further places, it has the lines of the answers and places until then, for the same block,
   -- writer and sink.
-  pub record Goes (old : Reporting W K) (stops : List Stop) (new : Reporting W K) : Type 0 where
+  pub record Goes (old : Reporting W K G) (stops : List Stop) (new : Reporting W K G) : Type 0 where
     pub block : new.block.ghost_name ≡ old.block.ghost_name
     pub writer : new.block.now.writer.ghost_name ≡ old.block.now.writer.ghost_name
     pub answers : new.answers.ghost_name ≡ old.answers.ghost_name

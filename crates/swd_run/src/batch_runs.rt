@@ -16,6 +16,7 @@ use crate::going_on::make_call_to;
 use crate::limits::Limits;
 use crate::options::CallOptions;
 use crate::performing::perform;
+use crate::progress::Progress;
 use crate::report::write_run;
 use crate::reporting::{Reporting, finish};
 use std::alloc::Allocator;
@@ -38,11 +39,11 @@ pub struct ReportedRun<A: Allocator> {
 pub(crate) type Reported<A> = ReportedRun<A>;
 
 // Performs the accesses of a batch, and appends the lines of its run to a report.
-fn run_reporting<W: Wire, O: Write, A: Allocator>(
+fn run_reporting<W: Wire, O: Write, A: Allocator, G: Progress>(
     wire: &mut W,
     batch: &Batch<A>,
     options: CallOptions,
-    report: &mut Reporting<'_, '_, O, Vec<Answer, A>>,
+    report: &mut Reporting<'_, '_, '_, O, Vec<Answer, A>, G>,
 ) -> Ending
     requires batch { IsScriptBatch (script_batch_listed batch.now) }
     requires due { (W.port wire.old).link.due ≡ Nothing }
@@ -65,12 +66,13 @@ fn run_reporting<W: Wire, O: Write, A: Allocator>(
 }
 
 // Performs the accesses of a batch. Appends the answers, and to a block the lines of the run.
-fn put_run<W: Wire, O: Write, A: Allocator>(
+fn put_run<W: Wire, O: Write, A: Allocator, G: Progress>(
     wire: &mut W,
     batch: &Batch<A>,
     options: CallOptions,
     block: &mut Block<'_, O>,
     answers: &mut Vec<Answer, A>,
+    progress: &mut G,
 ) -> Ending
     requires batch { IsScriptBatch (script_batch_listed batch.now) }
     requires due { (W.port wire.old).link.due ≡ Nothing }
@@ -90,17 +92,19 @@ fn put_run<W: Wire, O: Write, A: Allocator>(
         block,
         accesses: batch.accesses.as_slice(),
         answers,
+        progress,
     };
     run_reporting(wire, batch, options, &mut report)
 }
 
 // Performs the accesses of a batch that is no `until` over a wire as `run_on_reporting` does, with these options.
-fn report_call<W: Wire, O: Write, A: Allocator + Copy>(
+fn report_call<W: Wire, O: Write, A: Allocator + Copy, G: Progress>(
     alloc: A,
     wire: &mut W,
     batch: &Batch<A>,
     options: CallOptions,
     report: &mut O,
+    progress: &mut G,
 ) -> Option<Reported<A>>
     requires batch { IsScriptBatch (script_batch_listed batch.now) }
     requires plain { batch.now.until ≡ None }
@@ -117,7 +121,7 @@ fn report_call<W: Wire, O: Write, A: Allocator + Copy>(
         return None;
     };
     let mut block = Block::new(report, 0);
-    let ending = put_run(wire, batch, options, &mut block, &mut answers);
+    let ending = put_run(wire, batch, options, &mut block, &mut answers, progress);
     let written = finish(&mut block, &ending, answers.len());
     Some(ReportedRun {
         report: ending.with(answers),
@@ -127,13 +131,15 @@ fn report_call<W: Wire, O: Write, A: Allocator + Copy>(
 
 /// Performs the accesses of a batch that is no `until` over a wire, as [`run_on`](crate::run_on) does, and writes their
 /// report meanwhile: each line at the latest 1,024 lines after it is known. The run goes on to its end where the writer
-/// fails. Returns `None` if an allocation fails. Nothing was sent then, and nothing written.
-pub fn run_on_reporting<W: Wire, O: Write, A: Allocator + Copy>(
+/// fails. `progress` is told how many accesses are done, after every 1,024 of them. Returns `None` if an allocation
+/// fails. Nothing was sent then, and nothing written.
+pub fn run_on_reporting<W: Wire, O: Write, A: Allocator + Copy, G: Progress>(
     alloc: A,
     wire: &mut W,
     batch: &Batch<A>,
     limits: Limits,
     report: &mut O,
+    progress: &mut G,
 ) -> Option<ReportedRun<A>>
     requires batch { IsScriptBatch (script_batch_listed batch.now) }
     requires plain { batch.now.until ≡ None }
@@ -150,7 +156,7 @@ pub fn run_on_reporting<W: Wire, O: Write, A: Allocator + Copy>(
         limits,
         opened: false,
     };
-    report_call(alloc, wire, batch, options, report)
+    report_call(alloc, wire, batch, options, report, progress)
 }
 
 // Performs the reads of an `until`. Writes the report of the last one at its end, since it has the number of reads.
@@ -184,13 +190,15 @@ fn report_until<W: Wire, O: Write, A: Allocator + Copy>(
 
 /// Performs a batch over a wire: one run, or the reads of an `until`, each a run of its own. Writes the batch's report:
 /// the lines of a run while it goes on, and those of an `until` after its last read. A run goes on to its end where the
-/// writer fails. Returns `None` if an allocation fails. Nothing of this report was written then.
-pub(crate) fn report_batch<W: Wire, O: Write, A: Allocator + Copy>(
+/// writer fails. `progress` is told how many accesses of a run are done, after every 1,024 of them. Returns `None` if
+/// an allocation fails. Nothing of this report was written then.
+pub(crate) fn report_batch<W: Wire, O: Write, A: Allocator + Copy, G: Progress>(
     alloc: A,
     wire: &mut W,
     batch: &Batch<A>,
     options: CallOptions,
     report: &mut O,
+    progress: &mut G,
 ) -> Option<Reported<A>>
     requires batch { IsScriptBatch (script_batch_listed batch.now) }
     requires due { (W.port wire.old).link.due ≡ Nothing }
@@ -205,6 +213,6 @@ pub(crate) fn report_batch<W: Wire, O: Write, A: Allocator + Copy>(
 {
     match batch.until {
         Some(until) => report_until(alloc, wire, batch, until, options, report),
-        None => report_call(alloc, wire, batch, options, report),
+        None => report_call(alloc, wire, batch, options, report, progress),
     }
 }

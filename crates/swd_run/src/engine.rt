@@ -16,10 +16,12 @@ ghost use Rattle.swd_run.specs.Records.{run_files_from, run_files_of, run_file_h
 ghost use Rattle.swd_run.specs.TraceFiles.{IfRunTraceHasAll, run_trace_contents};
 
 use crate::batch_runs::{Reported, report_batch};
+use crate::counting::count_accesses;
 use crate::fault::EngineFault;
 use crate::limits::Limits;
 use crate::options::CallOptions;
 use crate::performing::never_came;
+use crate::progress::{CallProgress, Progress};
 use crate::records::{Records, write_accesses};
 use crate::trace_file::{TraceFile, sent_to, writer_of};
 use crate::traced::{Origin, Traced};
@@ -86,12 +88,13 @@ impl Finished {
 
 // Runs the batches over a wire, up to the first that doesn't end `All`, or whose word never comes, or whose report
 // can't be written.
-fn run_reported<W: Wire, O: Write, A: Allocator + Copy>(
+fn run_reported<W: Wire, O: Write, A: Allocator + Copy, G: Progress>(
     alloc: A,
     wire: &mut W,
     batches: &[Batch<A>],
     limits: Limits,
     report: &mut O,
+    progress: &mut G,
 ) -> Result<Finished, EngineFault>
     requires batches { Each IsScriptBatch (map script_batch_listed batches.now) }
     requires due { (W.port wire.old).link.due ≡ Nothing }
@@ -103,9 +106,15 @@ fn run_reported<W: Wire, O: Write, A: Allocator + Copy>(
     let mut finished = Finished::NONE;
     let mut written = 0u64;
     let mut opened = false;
+    let mut done = 0u64;
+    progress.begin(count_accesses(batches));
     for batch in batches {
         let options = CallOptions { limits, opened };
-        let Some(reported) = report_batch(alloc, wire, batch, options, report) else {
+        let mut call = CallProgress {
+            progress: &mut *progress,
+            before: done,
+        };
+        let Some(reported) = report_batch(alloc, wire, batch, options, report, &mut call) else {
             return Err(EngineFault::Memory);
         };
         match reported.written {
@@ -115,6 +124,8 @@ fn run_reported<W: Wire, O: Write, A: Allocator + Copy>(
                 return Err(EngineFault::Write { written });
             }
         }
+        done = done.saturating_add(reported.report.answers.len() as u64);
+        progress.reached(done);
         finished = finished.and(batch, &reported);
         let End::All = finished.ended else {
             return Ok(finished);
@@ -129,9 +140,9 @@ fn run_reported<W: Wire, O: Write, A: Allocator + Copy>(
 
 // Writes the accesses that these items show, if there is a writer for them and that of the trace didn't fail. Returns
 // `finished`, or `TraceCut` if `cut`: the items are truncated.
-fn write_records<T: Write>(
+fn write_records<T: Write, G>(
     file: &Option<TraceFile<T>>,
-    records: &mut Records<T>,
+    records: &mut Records<T, G>,
     items: &[Item],
     cut: bool,
     finished: Finished,
@@ -158,13 +169,13 @@ fn write_records<T: Write>(
 
 // Runs the batches over a wire that is recorded from its start, and writes their reports and its trace while they go
 // on, and then the accesses. The trace's writer is put back among the files. Returns the recorder too.
-fn run_traced<B: Origin, W: Wire, O: Write, T: Write + Drop, A: Allocator + Copy>(
+fn run_traced<B: Origin, W: Wire, O: Write, T: Write + Drop, A: Allocator + Copy, G: Progress>(
     alloc: A,
     traced: Traced<W, T, A, B>,
     batches: &[Batch<A>],
     limits: Limits,
     report: &mut O,
-    records: &mut Records<T>,
+    records: &mut Records<T, G>,
 ) -> (Result<Finished, EngineFault>, Recorder<W, A>)
     requires batches { Each IsScriptBatch (map script_batch_listed batches.now) }
     requires due { (recorder_port traced.recorder).link.due ≡ Nothing }
@@ -180,7 +191,8 @@ fn run_traced<B: Origin, W: Wire, O: Write, T: Write + Drop, A: Allocator + Copy
     ensures plan { recorder_plan result.1 ≡ recorder_plan traced.recorder }
 {
     let mut traced = traced;
-    let ran = run_reported(alloc, &mut traced, batches, limits, report);
+    let progress = &mut records.progress;
+    let ran = run_reported(alloc, &mut traced, batches, limits, report, progress);
     let (recorder, file) = traced.finish();
     let (items, cut) = (recorder.items(), recorder.is_cut());
     let answer = match ran {
@@ -192,13 +204,13 @@ fn run_traced<B: Origin, W: Wire, O: Write, T: Write + Drop, A: Allocator + Copy
 }
 
 // Records a wire, runs the batches over it, and writes their reports and the other files.
-fn run_recorded<B: Origin, W: Wire, O: Write, T: Write + Drop, A: Allocator + Copy>(
+fn run_recorded<B: Origin, W: Wire, O: Write, T: Write + Drop, A: Allocator + Copy, G: Progress>(
     alloc: A,
     wire: W,
     batches: &[Batch<A>],
     limits: Limits,
     report: &mut O,
-    records: &mut Records<T>,
+    records: &mut Records<T, G>,
 ) -> (Result<Finished, EngineFault>, W)
     requires batches { Each IsScriptBatch (map script_batch_listed batches.now) }
     requires due { (W.port wire).link.due ≡ Nothing }
@@ -222,7 +234,8 @@ fn run_recorded<B: Origin, W: Wire, O: Write, T: Write + Drop, A: Allocator + Co
 ///
 /// The line of an access is queued when its answer is certain, and the queued lines are written after every 1,024
 /// answers of a call, and at its end. So what was written is at each moment the beginning of a report, and its accesses
-/// are done. If the writer fails, the call is performed to its end, and its further lines are dropped.
+/// are done: `records.progress` is told then how many. If the writer fails, the call is performed to its end,
+/// and its further lines are dropped.
 ///
 /// The read of an `until` is made again, as a call of its own, until its word comes. If it never comes, no further call
 /// is made. Only the last of these calls has a report, which is written at its end, since it has the number of reads.
@@ -265,13 +278,13 @@ fn run_recorded<B: Origin, W: Wire, O: Write, T: Write + Drop, A: Allocator + Co
 /// reports and the trace are complete, and exactly the first `written` bytes of the accesses were written. Returns
 /// `TraceCut` if the items are truncated, as when an allocation for an item failed: the reports are complete, and the
 /// other files have these items. Nothing is retried.
-pub fn run_batches<W: Wire, O: Write, T: Write + Drop, A: Allocator + Copy>(
+pub fn run_batches<W: Wire, O: Write, T: Write + Drop, A: Allocator + Copy, G: Progress>(
     alloc: A,
     wire: W,
     batches: &[Batch<A>],
     limits: Limits,
     report: &mut O,
-    records: &mut Records<T>,
+    records: &mut Records<T, G>,
 ) -> (Result<Finished, EngineFault>, W)
     requires batches { Each IsScriptBatch (map script_batch_listed batches.now) }
     requires due { (W.port wire).link.due ≡ Nothing }
@@ -282,9 +295,10 @@ pub fn run_batches<W: Wire, O: Write, T: Write + Drop, A: Allocator + Copy>(
     ensures plan { W.plan result.1 ≡ W.plan wire }
 {
     if records.is_wanted() {
-        return run_recorded::<Brand, W, O, T, A>(alloc, wire, batches, limits, report, records);
+        return run_recorded::<Brand, W, O, T, A, G>(alloc, wire, batches, limits, report, records);
     }
     let mut wire = wire;
-    let answer = run_reported(alloc, &mut wire, batches, limits, report);
+    let progress = &mut records.progress;
+    let answer = run_reported(alloc, &mut wire, batches, limits, report, progress);
     (answer, wire)
 }

@@ -1,4 +1,4 @@
-//! The files that a run writes beside its report.
+//! The files that a run writes beside its report, and what is told how far it is.
 ghost use Rattle.std.specs.Prelude.{◌≡◌, ◌||◌, None, true, OnErr, is_some};
 ghost use Rattle.swd_io.specs.Blocks.{WritesOutput};
 ghost use Rattle.swd_run.specs.Records.{ForRunFile, run_accesses_text, run_file_held};
@@ -9,20 +9,22 @@ use swd_capture_text::print_items;
 use swd_trace::Item;
 
 /// The writers of the files that a run writes beside its report: the trace while it goes on, and the accesses after its
-/// last call.
+/// last call. With them what is told how far it is, which is nobody by default.
 #[derive(Drop)]
-pub struct Records<T> {
+pub struct Records<T, G = ()> {
     /// The writer of the trace, if one is to be written.
     pub trace: Option<T>,
     /// The writer of the accesses that the trace shows, if they are to be written.
     pub accesses: Option<T>,
     /// Whether the target begins in its reset state. Otherwise nothing is known of it at first, for the accesses.
     pub made: bool,
+    /// What is told how far the run is: how many accesses have their line in the report.
+    pub progress: G,
 }
 
-impl<T> Records<T> {
+impl<T> Records<T, ()> {
     /// Returns no writers.
-    pub fn none() -> Records<T>
+    pub fn none() -> Records<T, ()>
         ensures trace { result.trace ≡ None }
         ensures accesses { result.accesses ≡ None }
     {
@@ -30,14 +32,39 @@ impl<T> Records<T> {
             trace: None,
             accesses: None,
             made: false,
+            progress: (),
         }
     }
+}
 
+impl<T, G> Records<T, G> {
     /// Returns whether a file is to be written.
     pub fn is_wanted(&self) -> bool
         ensures { result ≡ (is_some self.now.trace || is_some self.now.accesses) }
     {
         self.trace.is_some() || self.accesses.is_some()
+    }
+}
+
+impl<T, G: Drop> Records<T, G> {
+    /// Returns these writers with something else that is told how far the run is.
+    pub fn with_progress<H>(self, progress: H) -> Records<T, H>
+        ensures trace { result.trace ≡ self.trace }
+        ensures accesses { result.accesses ≡ self.accesses }
+        ensures made { result.made ≡ self.made }
+    {
+        let Records {
+            trace,
+            accesses,
+            made,
+            ..
+        } = self;
+        Records {
+            trace,
+            accesses,
+            made,
+            progress,
+        }
     }
 }
 

@@ -7,6 +7,7 @@ ghost use Rattle.swd_run.specs.Reports.{ReportWritesOn, report_last_line};
 ghost use Rattle.swd_run.specs.Leads.{leads_further, leads_nowhere};
 
 use crate::going_on::Stop;
+use crate::progress::{Progress, TOLD_AFTER, tell_written};
 use crate::report::{answer_line, last_line, resume_line};
 use crate::run_sink::RunSink;
 use std::convert::Infallible;
@@ -15,23 +16,23 @@ use swd_host::{AnswerSink, Ending};
 use swd_io::Block;
 use swd_port::{Access, Answer};
 
-/// The most answers of a call whose lines wait in the block.
-const MOST_WAITING: usize = 1024;
-
 /// Appends the line of each answer to a block when the answer comes, and a line wherever the run is resumed, and passes
-/// the answers on. Writes the block after every 1,024 answers. If the writer fails, the further lines are dropped, and
-/// the block keeps the count of the bytes written.
+/// the answers on. Writes the block after every 1,024 answers, and tells how many lines it wrote. If the writer fails,
+/// the further lines are dropped, and the block keeps the count of the bytes written.
 #[derive(Drop)]
-pub(crate) struct Reporting<'a, 'b, W, K> {
+pub(crate) struct Reporting<'a, 'b, 'c, W, K, G> {
     /// What the lines are appended to.
     pub(crate) block: &'a mut Block<'b, W>,
     /// The accesses of the run.
     pub(crate) accesses: &'a [Access],
     /// What the answers are passed on to.
     pub(crate) answers: &'a mut K,
+    /// What is told how many answers have their lines.
+    pub(crate) progress: &'c mut G,
 }
 
-impl<'a, 'b, W: Write, K: AnswerSink> AnswerSink for Reporting<'a, 'b, W, K> {
+impl<'a, 'b, 'c, W: Write, K: AnswerSink, G: Progress> AnswerSink
+    for Reporting<'a, 'b, 'c, W, K, G> {
     ghost taken = { λ state. K.taken state.answers.now };
 
     ghost most = { λ state. min (K.most state.answers.now) (length state.accesses.now) };
@@ -48,8 +49,9 @@ impl<'a, 'b, W: Write, K: AnswerSink> AnswerSink for Reporting<'a, 'b, W, K> {
         let line = answer_line(&self.accesses[self.answers.count()], &answer);
         self.block.put_line(line.as_str().as_bytes());
         self.answers.take(answer);
-        if self.answers.count() % MOST_WAITING == 0 {
-            let _ = self.block.flush();
+        if self.answers.count() % TOLD_AFTER == 0 {
+            let sent = self.block.flush();
+            tell_written(self.progress, sent.is_ok(), self.answers.count());
         }
     }
 
@@ -70,7 +72,7 @@ impl<'a, 'b, W: Write, K: AnswerSink> AnswerSink for Reporting<'a, 'b, W, K> {
     } };
 }
 
-impl<'a, 'b, W: Write, K: AnswerSink> RunSink for Reporting<'a, 'b, W, K> {
+impl<'a, 'b, 'c, W: Write, K: AnswerSink, G: Progress> RunSink for Reporting<'a, 'b, 'c, W, K, G> {
     type Refusal = Infallible;
 
     ghost follows = { λ old stops new. Goes W.contents K.taken old stops new };

@@ -13,6 +13,7 @@ ghost use Rattle.swd_run.specs.Running.{with_full_room};
 use crate::engine::{Finished, run_batches};
 use crate::fault::{EngineFault, RunFault};
 use crate::limits::Limits;
+use crate::progress::Progress;
 use crate::records::Records;
 use crate::texts::{Texts, read_texts};
 use std::alloc::Allocator;
@@ -95,13 +96,13 @@ fn target_of<A: Allocator + Copy>(
 /// # Errors
 ///
 /// Returns an error as `run_batches` does, and `Memory` also if out of memory for the target. Nothing was written then.
-pub fn run_script<W: Write, T: Write + Drop, A: Allocator + Copy>(
+pub fn run_script<W: Write, T: Write + Drop, A: Allocator + Copy, G: Progress>(
     alloc: A,
     script: &Script<A>,
     plan: Vec<Mark, A>,
     limits: Limits,
     writer: &mut W,
-    records: &mut Records<T>,
+    records: &mut Records<T, G>,
 ) -> Result<Finished, EngineFault>
     requires script { IsScriptRunnable (read_script_meaning script.now) }
     requires plan { IsLegalPlan plan.items }
@@ -128,13 +129,13 @@ pub fn run_script<W: Write, T: Write + Drop, A: Allocator + Copy>(
 /// Returns `Texts` for the first error of the script or, if the script is valid, of the plan, or if a reader failed.
 /// Nothing was written then. Returns `Engine` as `run_batches` does, and with `Memory` also if out of memory for the
 /// target.
-pub fn run_text<S: Read, P: Read, W: Write, T: Write + Drop, A: Allocator + Copy>(
+pub fn run_text<S: Read, P: Read, W: Write, T: Write + Drop, A: Allocator + Copy, G: Progress>(
     alloc: A,
     script: &mut S,
     plan: &mut P,
     limits: Limits,
     writer: &mut W,
-    records: &mut Records<T>,
+    records: &mut Records<T, G>,
 ) -> Result<Finished, RunFault>
     ensures { RunsText limits.tries limits.resumes result (S.remaining script.old) (P.remaining plan.old)
         (W.contents writer.old) (W.contents writer.new) (run_files_of T.contents records.old)

@@ -28,9 +28,14 @@ pub record AreRemoteCommandFiles (run : RunLine) (files : RunFiles) : Type 0 whe
   pub accesses : is_some files.accesses ≡ is_some run.accesses
   pub reset : files.made ≡ false
 
+-- the run's status, or 1 in place of 0 if the session is checked and its verdict is that a rule is broken
+abbrev pub RemoteCommandEndsAs : RunLine → Option Fault → Result Finished RemoteFault → ℕ → Type 0
+RemoteCommandEndsAs run gone answer status =
+    (verdict : Option (Result Checked TextFault)) × IsRunVerdict (run.check && is_remote_run_made answer) verdict
+    × (status ≡ command_status_checked verdict (remote_command_status run.strict gone answer))
+
 -- The script is run over a line. Its report is written to a file or to standard error, and its trace and accesses to
--- the files that are named for them. Nothing else is known of these files. The status is that of the run, or 1 in place
--- of 0 if the session is checked and its verdict is that a rule is broken. Only tests show that the line is over the
+-- the files that are named for them. Nothing else is known of these files. Only tests show that the line is over the
 -- standard streams.
 abbrev pub PerformsRemoteRun : {R W : Type 0} → (ℕ → Port) → RunLine → ℕ → (R → Option (List ℕ)) → (W → Option (List ℕ))
     → Option (List ℕ) → Option (List ℕ) → RemoteStreams R W → Option (List ℕ) → Type 0
@@ -40,9 +45,7 @@ PerformsRemoteRun story run status remaining contents sent left line script =
     × RunsRemote story run.tries run.resumes (CommandWentOver remaining contents sent left line)
     (IsUnusedRemote remaining contents sent left line)
     answer script before after unwritten written
-    × (verdict : Option (Result Checked TextFault))
-    × IsRunVerdict (run.check && is_remote_run_made answer) verdict
-    × (status ≡ command_status_checked verdict (remote_command_status run.strict line.fault answer))
+    × RemoteCommandEndsAs run line.fault answer status
 
 -- or a file can't be opened: the status is 2, and nothing was sent or read
 abbrev pub PerformsRemoteCommand : {R W : Type 0} → (ℕ → Port) → RunLine → ℕ → (R → Option (List ℕ))

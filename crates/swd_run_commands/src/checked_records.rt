@@ -48,11 +48,13 @@ pub(crate) fn checked_records<W, A: Allocator + Copy>(
         trace,
         accesses,
         made,
+        ..
     } = records;
     Records {
         trace: checked_trace(alloc, check, trace),
         accesses: unchecked(accesses),
         made,
+        progress: (),
     }
 }
 

@@ -4,8 +4,6 @@
 mod checked_records;
 mod info_command;
 mod memory_target;
-mod paced_run;
-mod progress;
 mod records;
 mod remote_command;
 mod run_command;

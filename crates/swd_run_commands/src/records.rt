@@ -1,10 +1,10 @@
-//! Opens the files that a run writes beside its report.
+//! Opens the files that a run writes beside its report, and says how far the run is.
 ghost use Rattle.std.specs.Prelude.{◌≡◌, IfErr, IfOk, is_some, true};
 ghost use Rattle.swd_run_commands.specs.Runs.{run_command_names_file};
 
 use std::io::Write;
 use swd_command_line::RunLine;
-use swd_console::{Console, Files, InUse, Watched, WriteRole, cut_off_named, give_up_named};
+use swd_console::{Console, Files, InUse, Pace, Watched, WriteRole, cut_off_named, give_up_named};
 use swd_run::Records;
 
 /// Opens the files that a run writes beside its report, as far as they are named, and truncates them once both are
@@ -38,7 +38,22 @@ pub(crate) fn open_records<A, F: Files, C, E: Write>(
             trace,
             accesses,
             made,
+            progress: (),
         }),
         Err(status) => Err(status),
     }
+}
+
+/// Returns these files, and what says on standard error how far the run is, if the arguments ask for that.
+pub(crate) fn paced<'a, T, E, C>(
+    run: &RunLine,
+    records: Records<T>,
+    errors: &'a mut E,
+    clock: &'a C,
+) -> Records<T, Pace<'a, E, C>>
+    ensures trace { result.trace ≡ records.trace }
+    ensures accesses { result.accesses ≡ records.accesses }
+    ensures made { result.made ≡ records.made }
+{
+    records.with_progress(Pace::new(run.progress, "accesses", errors, clock))
 }

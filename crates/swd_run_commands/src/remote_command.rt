@@ -1,18 +1,14 @@
 //! Performs `swd run --remote`: a run at a remote target on the standard streams.
-ghost use Rattle.std.specs.Prelude.{◌≡◌, ◌&&◌, IfErr, List, Option, ℕ};
-ghost use Rattle.swd_remote.specs.WholeRuns.{IsUnusedRemote};
+ghost use Rattle.std.specs.Prelude.{◌≡◌, ◌&&◌, IfErr};
 ghost use Rattle.swd_run.specs.Records.{run_files_of};
-ghost use Rattle.swd_ends.specs.RemoteRuns.{RunsRemote};
 ghost use Rattle.swd_check.specs.Checkings.{checking_contents};
-ghost use Rattle.swd_console.specs.Connections.{CommandWentOver};
 ghost use Rattle.swd_console.specs.Streams.{stream_watched};
 ghost use Rattle.swd_run_commands.specs.Remotes.{AreRemoteCommandFiles, PerformsRemoteRun, PerformsRemoteCommand};
-ghost use Rattle.swd_run_commands.specs.Remotes.{remote_command_status};
+ghost use Rattle.swd_run_commands.specs.Remotes.{RemoteCommandEndsAs, remote_command_status};
 ghost use Rattle.swd_run_commands.specs.Verdicts.{IsRunVerdict, is_remote_run_made};
 
 use crate::checked_records::{RecordFile, checked_records, verdict_of};
-use crate::progress::{Progress, wanted_total};
-use crate::records::open_records;
+use crate::records::{open_records, paced};
 use std::alloc::Allocator;
 use std::io::{Read, Write};
 use swd_check::Checked;
@@ -22,12 +18,11 @@ use swd_console::{
     TrackedReader, Watched, WriteRole, cannot_open, cut_off, gone_status, line_streams,
     name_or_nothing, run_status, script_status, tell, tell_failure, verdict_status,
 };
-use swd_ends::{Line, RemoteFault, run_remote, run_remote_script};
+use swd_ends::{Line, RemoteFault, run_remote};
 use swd_host::End;
 use swd_port::Story;
 use swd_remote::RemoteStreams;
 use swd_run::{Finished, Limits, Records};
-use swd_script::read_script;
 use swd_text::TextFault;
 
 // Opens the file of the report, which isn't truncated yet. `-` is standard error. At an error it prints a line and
@@ -106,27 +101,31 @@ pub(crate) fn perform_remote<
         }
     };
     let records = checked_records(console.alloc, run.check, records);
+    let line = Line {
+        reader: input,
+        writer: output,
+    };
     match report {
         Destination::File(file) => {
             if let Err(status) = cut_off(name.as_str(), &file, console) {
-                return (status, RemoteStreams::unused(input, output));
+                return (status, RemoteStreams::unused(line.reader, line.writer));
             }
-            let report = Watched::new(file);
-            let files = RemoteFiles { report, records };
             report_to_file::<P, _, _, _, _, _, _, _, _, _>(
-                run, script, input, output, files, console,
+                run, script, line, file, records, console,
             )
         }
-        Destination::Errors(()) => report_to_errors::<P, _, _, _, _, _, _, _, _>(
-            run, script, input, output, records, console,
-        ),
+        Destination::Errors(()) => {
+            report_to_errors::<P, _, _, _, _, _, _, _, _>(run, script, line, records, console)
+        }
     }
 }
 
-// The files that a run at a remote target writes.
+// A run at a remote target: its result, its connection, its report, and its other files.
 #[derive(Drop)]
-struct RemoteFiles<M, T> {
-    report: M,
+struct RemoteRan<'a, R, W, T> {
+    answer: Result<Finished, RemoteFault>,
+    line: RemoteStreams<R, W>,
+    report: Stream<'a>,
     records: Records<T>,
 }
 
@@ -136,7 +135,7 @@ fn report_to_file<
     S: Read + KeepsError + Drop,
     I: Read + KeepsError + Drop,
     O: Write + KeepsError + Drop,
-    M: Write + KeepsError + Drop,
+    M: Write + Drop,
     T: Write + Drop,
     A: Allocator + Copy,
     F,
@@ -145,132 +144,40 @@ fn report_to_file<
 >(
     run: &RunLine,
     script: TrackedReader<'_, S>,
-    input: I,
-    output: O,
-    files: RemoteFiles<M, RecordFile<T, A>>,
+    line: Line<I, O>,
+    file: M,
+    records: Records<RecordFile<T, A>>,
     console: &mut Console<'_, A, F, C, E>,
 ) -> (u8, RemoteStreams<I, O>)
-    requires { AreRemoteCommandFiles run.now (run_files_of (stream_watched (checking_contents T.contents))
-        files.records) }
-    ensures { PerformsRemoteRun P.at run.now result.0 I.remaining O.contents (O.contents output) (I.remaining input)
-        result.1 (S.remaining script.entry.reader) }
+    requires { AreRemoteCommandFiles run.now (run_files_of (stream_watched (checking_contents T.contents)) records) }
+    ensures { PerformsRemoteRun P.at run.now result.0 I.remaining O.contents (O.contents line.writer)
+        (I.remaining line.reader) result.1 (S.remaining script.entry.reader) }
 {
-    let mut script = script;
-    let (answer, line, files) = run_paced::<P, _, _, _, _, _, _, _, _, _>(
-        run,
-        &mut script,
-        input,
-        output,
-        files,
-        console,
-    );
-    let RemoteFiles { report, records } = files;
-    let written = Stream::written(name_or_nothing(&run.report), &report);
-    let streams = remote_streams(run, written, &records, &script);
-    let made = is_made(&answer);
-    let status = reached_status(
-        console.errors,
-        run,
-        answer,
-        &line,
-        streams.as_slice(),
-        &script.seen,
-    );
-    let verdict = run_verdict(run.check, made, records.trace);
-    (verdict_status(console.errors, &verdict, status), line)
-}
-
-// Returns the writer of a report to a file, which says on standard error how far the run is.
-fn paced_writer<'a, M: Write, T, E: Write, C: Clock>(
-    file: &'a mut M,
-    errors: &'a mut E,
-    clock: &'a C,
-    total: Option<u64>,
-) -> Destination<Progress<'a, M, E, C>, T> {
-    Destination::File(Progress::new(file, errors, clock, total))
-}
-
-// Reads the script and runs it, as `swd_ends::run_remote` does. If the arguments ask for that, says on standard error
-// how far the run is. No contract knows what the report's file has.
-fn run_paced<
-    P: Story,
-    S: Read,
-    I: Read + Drop,
-    O: Write + Drop,
-    M: Write,
-    T: Write + Drop,
-    A: Allocator + Copy,
-    F,
-    C: Clock,
-    E: Write,
->(
-    run: &RunLine,
-    script: &mut S,
-    input: I,
-    output: O,
-    files: RemoteFiles<M, T>,
-    console: &mut Console<'_, A, F, C, E>,
-) -> (
-    Result<Finished, RemoteFault>,
-    RemoteStreams<I, O>,
-    RemoteFiles<M, T>,
-)
-    ensures { (old : Option (List ℕ)) × (new : Option (List ℕ)) × RunsRemote P.at run.now.tries run.now.resumes
-        (CommandWentOver I.remaining O.contents (O.contents output) (I.remaining input) result.1)
-        (IsUnusedRemote I.remaining O.contents (O.contents output) (I.remaining input) result.1)
-        result.0 (S.remaining script.old) old new (run_files_of T.contents files.records)
-        (run_files_of T.contents result.2.records) }
-{
-    let script = match read_script(console.alloc, script) {
-        Ok(script) => script,
-        Err(unread) => return (
-            Err(RemoteFault::unread(unread)),
-            RemoteStreams::unused(input, output),
-            files,
-        ),
+    let (mut script, mut report) = (script, Watched::new(file));
+    let alloc = console.alloc;
+    let limits = Limits {
+        tries: run.tries,
+        resumes: run.resumes,
     };
-    let RemoteFiles {
-        report: mut file,
-        mut records,
-    } = files;
-    let total = wanted_total(run, script.batches.as_slice());
-    let mut report = paced_writer::<M, T, E, C>(
-        &mut file,
-        &mut *console.errors,
-        console.clock,
-        total,
-    );
-    let (answer, line) = run_remote_script::<P, _, _, _, _, _>(
-        console.alloc,
-        &script,
-        Line {
-            reader: input,
-            writer: output,
-        },
-        Limits {
-            tries: run.tries,
-            resumes: run.resumes,
-        },
+    let mut records = paced(run, records, &mut *console.errors, console.clock);
+    let (answer, line) = run_remote::<P, _, _, _, _, _, _, _>(
+        alloc,
+        &mut script,
+        line,
+        limits,
         &mut report,
         &mut records,
     );
-    drop(report);
-    let files = RemoteFiles {
-        report: file,
-        records,
+    let ran = RemoteRan {
+        answer,
+        line,
+        report: Stream::written(name_or_nothing(&run.report), &report),
+        records: records.with_progress(()),
     };
-    match answer {
-        Ok(finished) => (Ok(finished), line, files),
-        Err(fault) => (Err(RemoteFault::Engine(fault)), line, files),
-    }
+    ended(run, &script, ran, console)
 }
 
-// Returns the writer of a report to standard error.
-fn errors_writer<M, E: Write>(errors: &mut E) -> Watched<Destination<M, &mut E>> {
-    Watched::new(Destination::Errors(errors))
-}
-
-// Runs the script, and writes its report to standard error.
+// Runs the script, and writes its report to standard error, which then has no lines that say how far the run is.
 fn report_to_errors<
     P: Story,
     S: Read + KeepsError + Drop,
@@ -284,35 +191,65 @@ fn report_to_errors<
 >(
     run: &RunLine,
     script: TrackedReader<'_, S>,
-    input: I,
-    output: O,
+    line: Line<I, O>,
     records: Records<RecordFile<T, A>>,
     console: &mut Console<'_, A, F, C, E>,
 ) -> (u8, RemoteStreams<I, O>)
     requires { AreRemoteCommandFiles run.now (run_files_of (stream_watched (checking_contents T.contents)) records) }
-    ensures { PerformsRemoteRun P.at run.now result.0 I.remaining O.contents (O.contents output) (I.remaining input)
-        result.1 (S.remaining script.entry.reader) }
+    ensures { PerformsRemoteRun P.at run.now result.0 I.remaining O.contents (O.contents line.writer)
+        (I.remaining line.reader) result.1 (S.remaining script.entry.reader) }
 {
     let (mut script, mut records) = (script, records);
     let limits = Limits {
         tries: run.tries,
         resumes: run.resumes,
     };
-    let mut report = errors_writer::<RecordFile<T, A>, E>(&mut *console.errors);
-    let (answer, line) = run_remote::<P, _, _, _, _, _, _>(
+    let mut report = Watched::new(&mut *console.errors);
+    let (answer, line) = run_remote::<P, _, _, _, _, _, _, _>(
         console.alloc,
         &mut script,
-        Line {
-            reader: input,
-            writer: output,
-        },
+        line,
         limits,
         &mut report,
         &mut records,
     );
     let written = Stream::written(ERRORS, &report);
     drop(report);
-    let streams = remote_streams(run, written, &records, &script);
+    let ran = RemoteRan {
+        answer,
+        line,
+        report: written,
+        records,
+    };
+    ended(run, &script, ran, console)
+}
+
+// Prints how a run ended, and the verdict on its session if that was checked. Returns the status, and the connection.
+fn ended<
+    S: Read + KeepsError,
+    I: Read + KeepsError,
+    O: Write + KeepsError,
+    T: Write + Drop,
+    A: Allocator + Copy,
+    F,
+    C,
+    E: Write,
+>(
+    run: &RunLine,
+    script: &TrackedReader<'_, S>,
+    ran: RemoteRan<'_, I, O, RecordFile<T, A>>,
+    console: &mut Console<'_, A, F, C, E>,
+) -> (u8, RemoteStreams<I, O>)
+    ensures line { result.1 ≡ ran.entry.line }
+    ensures status { RemoteCommandEndsAs run.now ran.entry.line.fault ran.entry.answer result.0 }
+{
+    let RemoteRan {
+        answer,
+        line,
+        report,
+        records,
+    } = ran;
+    let streams = remote_streams(run, report, &records, script);
     let made = is_made(&answer);
     let status = reached_status(
         console.errors,

@@ -5,8 +5,7 @@ ghost use Rattle.swd_console.specs.Statuses.{command_status_of_run};
 ghost use Rattle.swd_console.specs.Streams.{CommandEndsOver};
 ghost use Rattle.swd_run_commands.specs.Runs.{PerformsRunCommand, PerformsRunCommandUnder, PerformsRunCommandWhere};
 
-use crate::paced_run::run_paced;
-use crate::records::open_records;
+use crate::records::{open_records, paced};
 use crate::remote_command::perform_remote;
 use std::alloc::Allocator;
 use std::io::{Read, Write};
@@ -16,7 +15,7 @@ use swd_console::{
     TrackedReader, Untold, Watched, named_file_of, run_status, status_after, tell, tell_failure,
     texts_status,
 };
-use swd_run::{Finished, RunFault};
+use swd_run::{Finished, Limits, Records, RunFault, run_text};
 
 /// Runs a script, from its file or from standard input, at a simulated target or at one behind the streams. Returns the
 /// status.
@@ -133,15 +132,26 @@ fn run_under<
         (O.contents output.old) (O.contents output.new) }
 {
     let mut in_use = in_use;
-    let mut records = match open_records(run, true, &mut in_use, console) {
+    let records = match open_records(run, true, &mut in_use, console) {
         Ok(records) => records,
         Err(status) => return status,
     };
-    let answer = run_paced(run, script, plan, output, &mut records, console);
+    let alloc = console.alloc;
+    let limits = Limits {
+        tries: run.tries,
+        resumes: run.resumes,
+    };
+    let mut records = paced(run, records, &mut *console.errors, console.clock);
+    let answer = run_text(alloc, script, plan, limits, output, &mut records);
+    let Records {
+        trace,
+        accesses,
+        ..
+    } = records;
     let streams = [
         Stream::output(output),
-        Stream::record(&run.trace, &records.trace),
-        Stream::record(&run.accesses, &records.accesses),
+        Stream::record(&run.trace, &trace),
+        Stream::record(&run.accesses, &accesses),
         script.stream(),
         plan.stream(),
     ];

@@ -78,6 +78,7 @@ fn only_trace<T>(trace: T) -> Records<T> {
         trace: Some(trace),
         accesses: None,
         made: true,
+        progress: (),
     }
 }
 

@@ -34,18 +34,6 @@ impl Clock for Readings<'_> {
     }
 }
 
-// A clock on which a tenth of a second passes between two readings.
-#[derive(Drop)]
-struct Tenths(Cell<u64>);
-
-impl Clock for Tenths {
-    fn millis(&self) -> Option<u64> {
-        let time = self.0.get();
-        self.0.set(time.saturating_add(100));
-        Some(time)
-    }
-}
-
 // Five calls with six accesses. The report of each call is one write.
 const FIVE: &[u8] = b"memory 20000000 16\nw 20000000 1\nnext\nrn 20000000 2\nnext\nr 20000004\n\
     next\nr 30000000\nuntil 20000000 1 1 3\n";
@@ -200,9 +188,9 @@ const TWO: &[u8] = b"memory 20000000 16\nw 20000000 1\nr 20000000\n";
 
 const TWO_REPORT: &[u8] = b"w 20000000 written\nr 20000000 00000001\nend all 2\n";
 
-// A line of the report that is not yet whole counts for nothing.
+// Answers count once their lines were written, however many writes that takes.
 #[test]
-fn a_line_is_counted_where_it_ends(rt: HostRuntime) {
+fn answers_count_once_their_lines_are_written(rt: HostRuntime) {
     let mut output = OneByteWriter::new(rt.alloc());
     let mut errors = Vec::new(rt.alloc());
     let files = Shelf {
@@ -214,29 +202,27 @@ fn a_line_is_counted_where_it_ends(rt: HostRuntime) {
     let mut console = Console {
         alloc: rt.alloc(),
         files: &files,
-        clock: &Tenths(Cell::new(0)),
+        clock: &Readings::new([Some(0), Some(1000)].as_slice()),
         errors: &mut errors,
     };
     let status = run_words(words.as_slice(), &mut input, &mut output, &mut console);
     expect_eq(&rt, &status, &0);
     expect_eq(&rt, &output.taken.as_slice(), &TWO_REPORT);
-    expect_eq(
-        &rt,
-        &errors.as_slice(),
-        &b"swd: 0 of 2 accesses, 0 a second\nswd: 1 of 2 accesses, 1 a second\n\
-           swd: 1 of 2 accesses, 0 a second\nswd: 2 of 2 accesses, 1 a second\n"
-            .as_slice(),
-    );
+    let line = b"swd: 2 of 2 accesses, 2 a second\n".as_slice();
+    expect_eq(&rt, &errors.as_slice(), &line);
 }
 
-// Of a report whose writer fails, what was taken is counted. Where the reader of standard output is gone, no line says
-// so.
+// Of a call whose report can't be written, nothing counts: the accesses before it had their lines. Where the reader of
+// standard output is gone, no line says so.
 #[test]
-fn a_failed_report_is_counted_as_far_as_it_went(rt: HostRuntime) {
+fn a_call_without_its_report_counts_for_nothing(rt: HostRuntime) {
     let rows: [(usize, &[u8]); 3] = [
-        (18, b"swd: 0 of 2 accesses, 0 a second\n"),
-        (25, b"swd: 1 of 2 accesses, 1 a second\n"),
-        (39, b"swd: 2 of 2 accesses, 2 a second\n"),
+        (18, b""),
+        (35, b"swd: 1 of 6 accesses, 1 a second\n"),
+        (
+            100,
+            b"swd: 1 of 6 accesses, 1 a second\nswd: 3 of 6 accesses, 2 a second\n",
+        ),
     ];
     for (room, lines) in rows {
         let mut output = ShortWriter::new(rt.alloc(), room, true);
@@ -246,16 +232,16 @@ fn a_failed_report_is_counted_as_far_as_it_went(rt: HostRuntime) {
             cuts: &Cell::new(0),
         };
         let words = ["swd", "run", "-", "--progress"];
-        let mut input = TWO;
+        let mut input = FIVE;
         let mut console = Console {
             alloc: rt.alloc(),
             files: &files,
-            clock: &Readings::new([Some(0), Some(1000)].as_slice()),
+            clock: &Readings::new([Some(0), Some(1000), Some(2000)].as_slice()),
             errors: &mut errors,
         };
         let status = run_words(words.as_slice(), &mut input, &mut output, &mut console);
         expect_eq_at(&rt, &room, &status, &141);
-        expect_eq_at(&rt, &room, &output.taken(), &&TWO_REPORT[..room]);
+        expect_eq_at(&rt, &room, &output.taken(), &&FIVE_REPORTS[..room]);
         expect_eq_at(&rt, &room, &errors.as_slice(), &lines);
     }
 }

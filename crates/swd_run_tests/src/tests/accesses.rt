@@ -34,6 +34,7 @@ fn run_on(rt: &HostRuntime, script: &[u8], plan: &[u8], trace: usize, accesses: 
         trace: Some(ShortWriter::new(rt.alloc(), trace, true)),
         accesses: Some(ShortWriter::new(rt.alloc(), accesses, true)),
         made: true,
+        progress: (),
     };
     let answer = run_text(
         rt.alloc(),

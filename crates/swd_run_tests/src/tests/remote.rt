@@ -48,7 +48,7 @@ fn a_script_sends_what_was_recorded(rt: HostRuntime) {
     let mut sent = Vec::new(rt.alloc());
     let mut report = Vec::new(rt.alloc());
     let mut script = SCRIPT;
-    let (answer, line) = run_remote::<Untold, _, _, _, _, _, _>(
+    let (answer, line) = run_remote::<Untold, _, _, _, _, _, _, _>(
         rt.alloc(),
         &mut script,
         Line {
@@ -82,9 +82,10 @@ fn a_remote_run_is_traced(rt: HostRuntime) {
         trace: Some(Vec::new(rt.alloc())),
         accesses: Some(Vec::new(rt.alloc())),
         made: false,
+        progress: (),
     };
     let mut script = SCRIPT;
-    let (answer, line) = run_remote::<Untold, _, _, _, _, _, _>(
+    let (answer, line) = run_remote::<Untold, _, _, _, _, _, _, _>(
         rt.alloc(),
         &mut script,
         Line {
@@ -139,7 +140,7 @@ fn a_failed_write_ends_the_session(rt: HostRuntime) {
         let mut report = ShortWriter::new(rt.alloc(), report_room, true);
         let mut records = only_trace(ShortWriter::new(rt.alloc(), trace_room, false));
         let mut script = SCRIPT;
-        let (answer, _) = run_remote::<Untold, _, _, _, _, _, _>(
+        let (answer, _) = run_remote::<Untold, _, _, _, _, _, _, _>(
             rt.alloc(),
             &mut script,
             Line {
@@ -181,7 +182,7 @@ fn a_report_is_written_before_the_next_call(rt: HostRuntime) {
     let mut sent = Vec::new(rt.alloc());
     let mut report = CountingWriter { taken: &taken };
     let mut script = TWO_CALLS;
-    let (answer, _line) = run_remote::<Untold, _, _, _, _, _, _>(
+    let (answer, _line) = run_remote::<Untold, _, _, _, _, _, _, _>(
         rt.alloc(),
         &mut script,
         Line {
@@ -211,7 +212,7 @@ fn no_call_is_made_after_a_failed_write(rt: HostRuntime) {
         let mut sent = Vec::new(rt.alloc());
         let mut report = ShortWriter::new(rt.alloc(), room, true);
         let mut script = TWO_CALLS;
-        let (answer, line) = run_remote::<Untold, _, _, _, _, _, _>(
+        let (answer, line) = run_remote::<Untold, _, _, _, _, _, _, _>(
             rt.alloc(),
             &mut script,
             Line {
@@ -239,7 +240,7 @@ fn a_call_that_is_lost_is_the_last_one(rt: HostRuntime) {
     let mut report = Vec::new(rt.alloc());
     let mut script =
         b"memory 20000000 16\nw 20000000 deadbeef\nverify 20000000 5\nnext\nr 20000000\nnext\nr 20000000\n".as_slice();
-    let (answer, line) = run_remote::<Untold, _, _, _, _, _, _>(
+    let (answer, line) = run_remote::<Untold, _, _, _, _, _, _, _>(
         rt.alloc(),
         &mut script,
         Line {
@@ -289,7 +290,7 @@ fn a_target_that_goes_away_is_told(rt: HostRuntime) {
         let mut sent = Vec::new(rt.alloc());
         let mut report = Vec::new(rt.alloc());
         let mut script = SCRIPT;
-        let (answer, line) = run_remote::<Untold, _, _, _, _, _, _>(
+        let (answer, line) = run_remote::<Untold, _, _, _, _, _, _, _>(
             rt.alloc(),
             &mut script,
             Line {
@@ -319,7 +320,7 @@ fn a_script_at_fault_sends_nothing(rt: HostRuntime) {
     let mut sent = Vec::new(rt.alloc());
     let mut report = Vec::new(rt.alloc());
     let mut script = b"w 20000000 deadbeef\n".as_slice();
-    let (answer, line) = run_remote::<Untold, _, _, _, _, _, _>(
+    let (answer, line) = run_remote::<Untold, _, _, _, _, _, _, _>(
         rt.alloc(),
         &mut script,
         Line {
@@ -342,7 +343,7 @@ fn a_remote_script_of_a_thousand_calls_is_begun(rt: HostRuntime) -> Result<(), F
     let mut script = script.as_slice();
     let mut sent = Vec::new(rt.alloc());
     let mut report = Vec::new(rt.alloc());
-    let (answer, _line) = run_remote::<Untold, _, _, _, _, _, _>(
+    let (answer, _line) = run_remote::<Untold, _, _, _, _, _, _, _>(
         rt.alloc(),
         &mut script,
         Line {

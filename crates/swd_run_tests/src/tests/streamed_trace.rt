@@ -61,6 +61,7 @@ fn run_at(
         trace: Some(watching(alloc, &asked, fails_at.1)),
         accesses: None,
         made: true,
+        progress: (),
     };
     let (answer, _) = run_batches(
         alloc,

@@ -62,7 +62,7 @@ returns-clause-answer g c =
     let file = c.finish-recorder.result.1 in
     let items = c.items-items.result.now in
     let before = run_files_from first (run_file_held contents c.args.records.now.accesses) c.args.records.now.made in
-    let after = λ (records : Records _). run_files_from (run_file_held contents c.writer_of.result)
+    let after = λ (records : Records _ _). run_files_from (run_file_held contents c.writer_of.result)
     (run_file_held contents records.accesses) records.made in
     let given : run_trace_contents contents file ≡ run_file_held contents c.writer_of.result =
     run_trace_file_returned contents file ∙ ap (run_file_held contents) (sym c.writer_of.ensures) in

@@ -1,25 +1,26 @@
-use Rattle.std.proofs.Common.{ap, ◌∙◌, ◌&&◌, subst}
+use Rattle.std.proofs.Common.{subst, sym}
 use Rattle.swd_check.specs.Checkings.{checking_contents}
 use Rattle.swd_console.specs.Streams.{stream_watched}
-use Rattle.swd_console.specs.Verdicts.{command_status_checked}
 use Rattle.swd_run.specs.Records.{run_files_of}
-use Rattle.swd_run_commands.specs.Verdicts.{IsRunVerdict}
+use Rattle.swd_run_commands.specs.Remotes.{AreRemoteCommandFiles, PerformsRemoteRun}
+use Rattle.swd_run_commands.proofs.RecordLemmas.{run_files_told}
 use Rattle.swd_run_commands.proofs.remote_command.report_to_file.Goals as goal
 
 pub returns : goal.returns
 returns g c =
     let contents = stream_watched (checking_contents g.T.Write.contents) in
-    let verdict = c.run_verdict-verdict.result in
-    let ran = c.run_paced-answer.ensures in (
-      c.run_paced-answer.result.0,
-      ran.0,
-      ran.1,
-      run_files_of contents c.args.files.records,
-      run_files_of contents c.run_paced-answer.result.2.records,
-      c.requires,
-      ran.2,
-      verdict,
-      subst (λ made. IsRunVerdict (c.args.run.now.check && made) verdict) c.is_made-made.ensures
-          c.run_verdict-verdict.ensures,
-      c.verdict_status.ensures ∙ ap (command_status_checked verdict) c.reached_status-status.ensures,
+    let told = c.paced-records.ensures in
+    subst (λ line. PerformsRemoteRun g.P.Story.at c.args.run.now c.ended.result.0 g.I.Read.remaining g.O.Write.contents
+    (g.O.Write.contents c.args.line.writer) (g.I.Read.remaining c.args.line.reader) line
+    (g.S.Read.remaining c.args.script.reader)) (sym c.ended.ensures.line) (
+      c.run_remote-answer.result.0,
+      _,
+      _,
+      run_files_of contents c.paced-records.result,
+      run_files_of contents c.run_remote-answer.new.records,
+      subst (AreRemoteCommandFiles c.args.run.now)
+          (sym (run_files_told contents c.args.records c.paced-records.result told.trace told.accesses told.made))
+          c.requires,
+      c.run_remote-answer.ensures,
+      c.ended.ensures.status,
     )

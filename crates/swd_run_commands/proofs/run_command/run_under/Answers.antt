@@ -1,4 +1,5 @@
-use Rattle.std.proofs.Common.{inl, inr}
+use Rattle.std.proofs.Common.{inl, inr, ap, ◌∙◌}
+use Rattle.std.specs.Prelude.{is_some}
 use Rattle.std.proofs.KnownBytes.{Appends-nil}
 use Rattle.swd_run.specs.Records.{run_files_of}
 use Rattle.swd_run_commands.proofs.RecordLemmas.{run_command_files_named}
@@ -11,11 +12,14 @@ returns-in-Err g c = inl (c.in-Err.ensures.err.1, (c.in-Err.ensures.err.0, Appen
 pub returns : goal.returns
 returns g c =
     let contents = stream_watched g.F.Made.Write.contents in
+    let named = c.in-Ok.ensures.ok in
+    let paced = c.paced-records.ensures in
     inr (
-      c.run_paced-answer.result,
-      run_files_of contents c.in-Ok.records,
-      run_files_of contents c.run_paced-answer.new.records,
-      run_command_files_named contents c.args.run.now _ c.in-Ok.records c.in-Ok.ensures.ok,
-      c.run_paced-answer.ensures,
+      c.run_text-answer.result,
+      run_files_of contents c.paced-records.result,
+      run_files_of contents c.run_text-answer.new.records,
+      run_command_files_named contents c.args.run.now _ c.paced-records.result
+          (ap is_some paced.trace ∙ named.0, ap is_some paced.accesses ∙ named.1, paced.made ∙ named.2),
+      c.run_text-answer.ensures,
       c.answer_status.ensures,
     )

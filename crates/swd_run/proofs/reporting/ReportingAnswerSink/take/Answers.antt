@@ -13,7 +13,7 @@ use Rattle.swd_run.proofs.ReportLemmas.{report_line_per_answer, resume_places_wi
 use Rattle.swd_run.proofs.reporting.ReportingAnswerSink.take.Goals as goal
 
 -- one answer more, whose line was appended
-took : {W K : Type 0} (contents : W → Option (List ℕ)) (taken : K → List Answer) (old new : Reporting W K)
+took : {W K G : Type 0} (contents : W → Option (List ℕ)) (taken : K → List Answer) (old new : Reporting W K G)
     (answer : Answer)
     → new.block.ghost_name ≡ old.block.ghost_name
     → new.block.now.writer.ghost_name ≡ old.block.now.writer.ghost_name
@@ -55,9 +55,9 @@ returns-then-count-eq0-clause-keeps g c =
     let line : c.as_bytes.result.now ≡ report_answer_line (get_or accesses (length answers) (Read 0)) c.args.answer =
     search rules in
     let room = c.requires in
-    took g.W.Write.contents g.K.AnswerSink.taken self _ c.args.answer refl (c.flush.ensures.writer ∙
+    took g.W.Write.contents g.K.AnswerSink.taken self _ c.args.answer refl (c.flush-sent.ensures.writer ∙
     c.put_line.ensures.writer) refl refl items
-    (omega (arith, room)) (λ start all h. c.flush.ensures.sends start _
+    (omega (arith, room)) (λ start all h. c.flush-sent.ensures.sends start _
     (subst (λ l. BlockBufferSends g.W.Write.contents start c.put_line.new.self
     (all ++ (l ++ 10 ∷ []))) line (c.put_line.ensures.sends start all h)))
 

@@ -4,7 +4,7 @@ use Rattle.swd_host.specs.Reports.{host_report_of}
 use Rattle.swd_script.specs.Readers.{script_batch_listed}
 use Rattle.swd_run.specs.Records.{run_file_held}
 use Rattle.swd_image.specs.Reports.{MakesOne, ReportsTo}
-use Rattle.swd_image.proofs.reports.OptionCallReports.make_call.Goals as goal
+use Rattle.swd_image.proofs.reports.call_with.Goals as goal
 
 pub returns-in-Some-clause-call : goal.returns-in-Some-clause-call
 returns-in-Some-clause-call g c =
@@ -22,12 +22,12 @@ returns-in-Some-clause-report g c =
 
 pub returns-in-None-clause-call : goal.returns-in-None-clause-call
 returns-in-None-clause-call g c =
-    subst (λ (a : Option (Option (List ℕ))). IfOk c.make_call.result (λ made. MakesOne g.W.Wire c.args.limits
-    (script_batch_listed c.args.batch.now) c.args.wire.now c.make_call.new.wire (host_report_of made) a a))
-    (sym (ap (run_file_held g.O.Write.contents) c.in-None.is)) c.make_call.ensures.call
+    subst (λ (a : Option (Option (List ℕ))). IfOk c.silent_call.result (λ made. MakesOne g.W.Wire c.args.limits
+    (script_batch_listed c.args.batch.now) c.args.wire.now c.silent_call.new.wire (host_report_of made) a a))
+    (sym (ap (run_file_held g.O.Write.contents) c.in-None.is)) c.silent_call.ensures.call
 
 pub returns-in-None-clause-report : goal.returns-in-None-clause-report
 returns-in-None-clause-report g c =
-    subst (λ (a : Option (Option (List ℕ))). IfErr c.make_call.result (λ fault. ReportsTo g.W.Wire c.args.limits
-    (script_batch_listed c.args.batch.now).accesses (Some fault) c.args.wire.now c.make_call.new.wire a a))
-    (sym (ap (run_file_held g.O.Write.contents) c.in-None.is)) c.make_call.ensures.report
+    subst (λ (a : Option (Option (List ℕ))). IfErr c.silent_call.result (λ fault. ReportsTo g.W.Wire c.args.limits
+    (script_batch_listed c.args.batch.now).accesses (Some fault) c.args.wire.now c.silent_call.new.wire a a))
+    (sym (ap (run_file_held g.O.Write.contents) c.in-None.is)) c.silent_call.ensures.report

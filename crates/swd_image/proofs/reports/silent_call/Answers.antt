@@ -3,7 +3,7 @@ use Rattle.swd_host.specs.Reports.{host_report_to}
 use Rattle.swd_script.specs.Readers.{script_batch_listed}
 use Rattle.swd_image.specs.Sessions.{none}
 use Rattle.swd_image.proofs.CallLemmas.{stops_next}
-use Rattle.swd_image.proofs.reports.NoReportsCallReports.make_call.Goals as goal
+use Rattle.swd_image.proofs.reports.silent_call.Goals as goal
 
 pub returns-in_default-clause-fault : goal.returns-in_default-clause-fault
 returns-in_default-clause-fault g c =
