@@ -5,13 +5,11 @@ use Rattle.std.specs.Option.{option_and_then, option_map}
 use Rattle.std.specs.String.{string_bytes}
 use Rattle.std.specs.Str.{bytes_eq}
 use Rattle.std.specs.Str.Parse.{signed_digits_value}
-use Rattle.clap.specs.Words.{App, HasKind, Kinds, kind_of, Row, all_of, first_of, Rule, Text, new_app}
-use Rattle.clap.specs.Words.{with_rule}
+use Rattle.clap.specs.Words.{App, HasKind, Kinds, kind_of, Row, all_of, first_of, Rule, Text, new_app, with_rule}
 use Rattle.clap.specs.Words.{with_subcommand}
 use Rattle.swd_command_line.specs.declared.command.CommandLine.{CommandLine}
 use Rattle.swd_command_line.specs.declared.command.CommandLine.TheVariants.{One, Decode, Draw, Check, Encode, Run}
-use Rattle.swd_command_line.specs.declared.command.CommandLine.TheVariants.{Target}
-use Rattle.swd_command_line.specs.declared.command.CommandLine.TheVariants.{Info, Image, Conform}
+use Rattle.swd_command_line.specs.declared.command.CommandLine.TheVariants.{Target, Info, Image, Conform}
 use Rattle.swd_command_line.specs.declared.command.DecodeLine.{DecodeLine}
 use Rattle.swd_command_line.specs.declared.command.DrawLine.{DrawLine}
 use Rattle.swd_command_line.specs.declared.command.CheckLine.{CheckLine}
@@ -37,71 +35,76 @@ use Rattle.swd_image_files.specs.Formats.{image_format_of_name, image_format_of_
 use Rattle.swd_script.specs.Numerals.{is_script_hex_prefix, script_decimal_number, script_hex_number}
 use Rattle.clap.specs.declared.error.kind.ErrorKind.{ErrorKind}
 
--- the optional file
-abbrev pub file_rule : Rule
-file_rule = place_rule (codes "FILE") false
+-- a command with arguments of these rules
+abbrev pub rules_app : App → List Rule → App
+rules_app app [] = app
+rules_app app (rule ∷ rules) = rules_app (with_rule app rule) rules
 
--- a command with an optional file
-abbrev pub file_args_app : Text → App
-file_args_app name = with_rule (new_app name) file_rule
+-- a program with these commands, each with the rules of its arguments
+abbrev pub commands_app : App → List (Text × List Rule) → App
+commands_app app [] = app
+commands_app app (command ∷ more) =
+    commands_app (with_subcommand app (rules_app (new_app command.0) command.1).top) more
 
--- --places: lines begin with their place; --names: registers are printed by name; --count: items are counted;
--- --accesses: accesses are listed; --made: the target begins in its reset state
-abbrev pub places_rule : Rule
-places_rule = flag_rule (codes "places")
+-- --tries, how often an access is tried: 0 to 1,000, and 8 without it; --resume, how often a call is resumed: 0 to
+-- 1,000, and 0 without it; --remote, what leads to a remote target: at most one value
+abbrev pub tries_rule : Rule
+tries_rule = number_rule (codes "tries") 0 (codes "8")
 
-abbrev pub names_rule : Rule
-names_rule = flag_rule (codes "names")
+abbrev pub resume_rule : Rule
+resume_rule = number_rule (codes "resume") 0 (codes "0")
 
-abbrev pub count_rule : Rule
-count_rule = flag_rule (codes "count")
-
-abbrev pub accesses_rule : Rule
-accesses_rule = flag_rule (codes "accesses")
-
-abbrev pub made_rule : Rule
-made_rule = flag_rule (codes "made")
-
--- --resync: the trace may begin in mid-session and lose bits; --overrun: a data phase then follows WAIT and FAULT
-abbrev pub resync_rule : Rule
-resync_rule = flag_rule (codes "resync")
-
-abbrev pub overrun_rule : Rule
-overrun_rule = flag_rule (codes "overrun")
-
--- the command `decode`: without the flags for accesses, with them, and with the flags for captures
-abbrev pub listing_args_app : App
-listing_args_app = with_rule (with_rule (with_rule (file_args_app (codes "decode")) places_rule) names_rule) count_rule
-
-abbrev pub accesses_args_app : App
-accesses_args_app = with_rule (with_rule listing_args_app accesses_rule) made_rule
-
-abbrev pub decode_args_app : App
-decode_args_app = with_rule (with_rule accesses_args_app resync_rule) overrun_rule
-
--- the most items of a drawing, after --items: 1 to 1,000, and 200 without it
-abbrev pub items_rule : Rule
-items_rule = number_rule (codes "items") 1 (codes "200")
-
--- the command `draw`: with the option for the most items, and with the flags
-abbrev pub items_args_app : App
-items_args_app = with_rule (file_args_app (codes "draw")) items_rule
-
-abbrev pub draw_args_app : App
-draw_args_app = with_rule (with_rule (with_rule items_args_app names_rule) resync_rule) overrun_rule
+abbrev pub remote_rule : Rule
+remote_rule = optional_rule (codes "remote")
 
 -- --plain: words of plain memory, each use with an address and a number of words
 abbrev pub plain_rule : Rule
 plain_rule = repeated_rule (codes "plain") (codes "BASE" ∷ codes "WORDS" ∷ [])
 
--- the command `check`: without the checks beside the model and the flags for captures, and with them
-abbrev pub checked_args_app : App
-checked_args_app = with_rule (with_rule (with_rule (file_args_app (codes "check")) (flag_rule (codes "made")))
-    (flag_rule (codes "rest"))) (flag_rule (codes "clean"))
+-- the optional file of `one` and `encode`, which begins the arguments of `decode`, `draw` and `check` too
+abbrev pub file_rules : List Rule
+file_rules = place_rule (codes "FILE") false ∷ []
 
-abbrev pub check_args_app : App
-check_args_app = with_rule (with_rule (with_rule (with_rule checked_args_app plain_rule)
-    (flag_rule (codes "exact-registers"))) (flag_rule (codes "resync"))) (flag_rule (codes "overrun"))
+abbrev pub decode_rules : List Rule
+decode_rules = file_rules ++ flag_rule (codes "places") ∷ flag_rule (codes "names") ∷ flag_rule (codes "count")
+    ∷ flag_rule (codes "accesses") ∷ flag_rule (codes "made") ∷ flag_rule (codes "resync")
+    ∷ flag_rule (codes "overrun") ∷ []
+
+-- with the most items of a drawing: 1 to 1,000, and 200 without the option
+abbrev pub draw_rules : List Rule
+draw_rules = file_rules ++ number_rule (codes "items") 1 (codes "200") ∷ flag_rule (codes "names")
+    ∷ flag_rule (codes "resync") ∷ flag_rule (codes "overrun") ∷ []
+
+abbrev pub check_rules : List Rule
+check_rules = file_rules ++ flag_rule (codes "made") ∷ flag_rule (codes "rest") ∷ flag_rule (codes "clean")
+    ∷ plain_rule ∷ flag_rule (codes "exact-registers") ∷ flag_rule (codes "resync") ∷ flag_rule (codes "overrun") ∷ []
+
+abbrev pub run_rules : List Rule
+run_rules = place_rule (codes "SCRIPT") true ∷ value_rule (codes "plan") ∷ tries_rule ∷ resume_rule
+    ∷ value_rule (codes "trace") ∷ value_rule (codes "accesses") ∷ flag_rule (codes "strict") ∷ remote_rule
+    ∷ value_rule (codes "report") ∷ flag_rule (codes "progress") ∷ flag_rule (codes "check") ∷ []
+
+-- with the script of a target, in place of which there may be --memory
+abbrev pub target_rules : List Rule
+target_rules = place_rule (codes "SCRIPT") false ∷ value_rule (codes "memory") ∷ value_rule (codes "base")
+    ∷ value_rule (codes "plan") ∷ value_rule (codes "log") ∷ value_rule (codes "trace") ∷ value_rule (codes "idr") ∷ []
+
+abbrev pub conform_rules : List Rule
+conform_rules = remote_rule ∷ plain_rule ∷ value_rule (codes "hole") ∷ flag_rule (codes "clean") ∷ []
+
+-- the options of each command over an image, after its places: the format, the limits, the report, the progress, and
+-- the target, which is remote, or simulated
+abbrev pub image_rules : List Rule
+image_rules = value_rule (codes "format") ∷ tries_rule ∷ resume_rule ∷ value_rule (codes "report")
+    ∷ flag_rule (codes "progress") ∷ remote_rule ∷ flag_rule (codes "check") ∷ value_rule (codes "memory")
+    ∷ value_rule (codes "base") ∷ value_rule (codes "plan") ∷ []
+
+abbrev pub read_rules : List Rule
+read_rules = place_rule (codes "ADDR") true ∷ place_rule (codes "FILE") true ∷ image_rules
+
+abbrev pub dump_rules : List Rule
+dump_rules = place_rule (codes "ADDR") true ∷ place_rule (codes "BYTES") true ∷ place_rule (codes "FILE") true
+    ∷ image_rules
 
 -- the program without its commands, one of which is required
 abbrev pub bare_args_app : App
@@ -109,37 +112,13 @@ bare_args_app =
     let named = new_app (codes "swd") in
     record named { top = record named.top { subcommand_required = true; has_version = true } }
 
--- the required script
-abbrev pub script_rule : Rule
-script_rule = place_rule (codes "SCRIPT") true
-
--- the plan, after --plan
-abbrev pub plan_rule : Rule
-plan_rule = value_rule (codes "plan")
-
--- the number of tries, after --tries: 0 to 1,000, and 8 without it
-abbrev pub tries_rule : Rule
-tries_rule = number_rule (codes "tries") 0 (codes "8")
-
--- how often a call is resumed, after --resume: 0 to 1,000, and 0 without it
-abbrev pub resume_rule : Rule
-resume_rule = number_rule (codes "resume") 0 (codes "0")
-
--- the trace, after --trace
-abbrev pub trace_rule : Rule
-trace_rule = value_rule (codes "trace")
-
--- the accesses of a run, after --accesses
-abbrev pub accesses_file_rule : Rule
-accesses_file_rule = value_rule (codes "accesses")
-
--- --strict: bus errors fail the run
-abbrev pub strict_rule : Rule
-strict_rule = flag_rule (codes "strict")
-
--- what leads to a remote target, after --remote: at most one value
-abbrev pub remote_rule : Rule
-remote_rule = optional_rule (codes "remote")
+-- the whole command
+abbrev pub swd_app : App
+swd_app = commands_app bare_args_app ((codes "one", file_rules) ∷ (codes "decode", decode_rules)
+    ∷ (codes "encode", file_rules) ∷ (codes "run", run_rules) ∷ (codes "target", target_rules)
+    ∷ (codes "draw", draw_rules) ∷ (codes "check", check_rules) ∷ (codes "info", remote_rule ∷ tries_rule ∷ [])
+    ∷ (codes "conform", conform_rules) ∷ (codes "load", read_rules) ∷ (codes "verify", read_rules)
+    ∷ (codes "dump", dump_rules) ∷ [])
 
 -- --remote alone is read as --remote=-, so that the argument after it isn't its value
 abbrev pub remote_spelled_out : Text → Text
@@ -150,123 +129,6 @@ abbrev pub arguments_spelled_out : List Text → List Text
 arguments_spelled_out [] = []
 arguments_spelled_out (word ∷ more) = if bytes_eq word (codes "--") then word ∷ more
     else remote_spelled_out word ∷ arguments_spelled_out more
-
--- the report of a remote run, after --report
-abbrev pub report_rule : Rule
-report_rule = value_rule (codes "report")
-
--- --progress: lines on standard error say how far the run is
-abbrev pub progress_rule : Rule
-progress_rule = flag_rule (codes "progress")
-
--- --check: a session with a remote target is checked while it goes on
-abbrev pub session_rule : Rule
-session_rule = flag_rule (codes "check")
-
--- the command `run` with the files that it reads
-abbrev pub script_args_app : App
-script_args_app = with_rule (with_rule (new_app (codes "run")) script_rule) plan_rule
-
--- with the other options of a run at a simulated target
-abbrev pub run_here_args_app : App
-run_here_args_app =
-    with_rule (with_rule (with_rule (with_rule (with_rule script_args_app tries_rule) resume_rule) trace_rule)
-    accesses_file_rule) strict_rule
-
--- with the options of a run at a remote target, and of the progress
-abbrev pub run_args_app : App
-run_args_app = with_rule (with_rule (with_rule (with_rule run_here_args_app remote_rule) report_rule) progress_rule)
-    session_rule
-
--- the command `info`
-abbrev pub info_args_app : App
-info_args_app = with_rule (with_rule (new_app (codes "info")) remote_rule) tries_rule
-
--- an address without memory, after --hole
-abbrev pub hole_rule : Rule
-hole_rule = value_rule (codes "hole")
-
--- the command `conform`
-abbrev pub conform_args_app : App
-conform_args_app = with_rule (with_rule (with_rule (with_rule (new_app (codes "conform")) remote_rule) plain_rule)
-    hole_rule)
-    (flag_rule (codes "clean"))
-
--- the log, after --log
-abbrev pub log_rule : Rule
-log_rule = value_rule (codes "log")
-
--- the address of an image, the number of its bytes, and its file: each is required
-abbrev pub addr_rule : Rule
-addr_rule = place_rule (codes "ADDR") true
-
-abbrev pub bytes_rule : Rule
-bytes_rule = place_rule (codes "BYTES") true
-
-abbrev pub image_rule : Rule
-image_rule = place_rule (codes "FILE") true
-
--- the format of an image's file, after --format
-abbrev pub format_rule : Rule
-format_rule = value_rule (codes "format")
-
--- the memory of a simulated target, after --memory, and its address, after --base
-abbrev pub memory_rule : Rule
-memory_rule = value_rule (codes "memory")
-
-abbrev pub base_rule : Rule
-base_rule = value_rule (codes "base")
-
--- the script of a target, in place of which there may be --memory
-abbrev pub served_script_rule : Rule
-served_script_rule = place_rule (codes "SCRIPT") false
-
--- the IDR of a target, after --idr
-abbrev pub idr_rule : Rule
-idr_rule = value_rule (codes "idr")
-
--- the command `target`: with the options for its memory, and with the files of a session
-abbrev pub memory_args_app : App
-memory_args_app = with_rule (with_rule (with_rule (new_app (codes "target")) served_script_rule) memory_rule) base_rule
-
-abbrev pub target_args_app : App
-target_args_app = with_rule (with_rule (with_rule (with_rule memory_args_app plan_rule) log_rule) trace_rule) idr_rule
-
--- the options for the target of an image: remote, with the check of its session, or simulated
-abbrev pub with_target_args : App → App
-with_target_args app = with_rule (with_rule (with_rule (with_rule (with_rule app remote_rule) session_rule) memory_rule)
-    base_rule) plan_rule
-
--- the options for the report of an image's calls, and how far they are
-abbrev pub with_report_args : App → App
-with_report_args app = with_rule (with_rule app report_rule) progress_rule
-
--- the options of each command over an image
-abbrev pub with_image_args : App → App
-with_image_args app =
-    with_target_args (with_report_args (with_rule (with_rule (with_rule app format_rule) tries_rule) resume_rule))
-
--- the commands `load` and `verify`
-abbrev pub image_args_app : Text → App
-image_args_app name = with_image_args (with_rule (with_rule (new_app name) addr_rule) image_rule)
-
--- the command `dump`
-abbrev pub dump_args_app : App
-dump_args_app = with_image_args
-    (with_rule (with_rule (with_rule (new_app (codes "dump")) addr_rule) bytes_rule) image_rule)
-
--- a command with the commands over an image
-abbrev pub with_image_args_apps : App → App
-with_image_args_apps app = with_subcommand (with_subcommand (with_subcommand app (image_args_app (codes "load")).top)
-    (image_args_app (codes "verify")).top) dump_args_app.top
-
--- the whole command
-abbrev pub swd_app : App
-swd_app =
-    with_image_args_apps (with_subcommand (with_subcommand (with_subcommand (with_subcommand (with_subcommand
-    (with_subcommand (with_subcommand (with_subcommand (with_subcommand bare_args_app (file_args_app (codes "one")).top)
-    decode_args_app.top) (file_args_app (codes "encode")).top) run_args_app.top) target_args_app.top) draw_args_app.top)
-    check_args_app.top) info_args_app.top) conform_args_app.top)
 
 -- the arguments have this command, and this file or no file
 abbrev pub HasFileArgument : Text → Option Text → Option (Text × List Row) → Type 0
