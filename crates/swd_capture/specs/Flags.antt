@@ -4,7 +4,7 @@ use Rattle.swd_bits.specs.declared.request.Request.{Request}
 use Rattle.swd_bits.specs.declared.request.Reg4.{Reg4}
 use Rattle.swd_bits.specs.declared.request.Reg4.TheVariants.{R0, R4, R8, RC}
 use Rattle.swd_bits.specs.declared.tx.TxEnd.{TxEnd}
-use Rattle.swd_bits.specs.declared.tx.TxEnd.TheVariants.{Moved, Wait, Fault, NoAck}
+use Rattle.swd_bits.specs.declared.tx.TxEnd.TheVariants.{Moved}
 use Rattle.swd_port.specs.Registers.{register_bit}
 use Rattle.swd_port.specs.declared.select.Select.{Select}
 use Rattle.swd_capture.specs.declared.flags.Flagged.{Flagged}
@@ -60,20 +60,11 @@ capture_ap_flagged (Some select) R8 read = Nothing
 capture_ap_flagged (Some select) RC read = Nothing
 
 -- the register whose flags the word of a transaction has
-abbrev pub capture_flagged_in : Option Select → Bool → Reg4 → Bool → Flagged
-capture_flagged_in select true addr read = capture_ap_flagged select addr read
-capture_flagged_in select false addr read = capture_dp_flagged select addr read
-
 abbrev pub capture_flagged_register : Option Select → Request → Flagged
-capture_flagged_register select q = capture_flagged_in select q.ap q.addr q.read
+capture_flagged_register select q =
+    if q.ap then capture_ap_flagged select q.addr q.read else capture_dp_flagged select q.addr q.read
 
 -- the flags of a transaction's word if its parity is right
-abbrev pub capture_moved_flags : Flagged → ℕ → Bool → List ℕ
-capture_moved_flags which word true = capture_word_flags which word
-capture_moved_flags which word false = []
-
 abbrev pub capture_tx_flags : Flagged → TxEnd → List ℕ
-capture_tx_flags which (Moved word ok) = capture_moved_flags which word ok
-capture_tx_flags which Wait = []
-capture_tx_flags which Fault = []
-capture_tx_flags which (NoAck seen) = []
+capture_tx_flags which (Moved word true) = capture_word_flags which word
+capture_tx_flags which end = []

@@ -120,9 +120,5 @@ capture_ap_name None addr = tx_line_address addr
 capture_ap_name (Some select) addr =
     capture_ap_number select.apsel ++ capture_bank_name select.apbanksel ++ capture_mem_ap_name select.apbanksel addr
 
-abbrev pub capture_name_in : Option Select → Bool → Reg4 → Bool → List ℕ
-capture_name_in select true addr read = capture_ap_name select addr
-capture_name_in select false addr read = capture_dp_name select addr read
-
 abbrev pub capture_register_name : Option Select → Request → List ℕ
-capture_register_name select q = capture_name_in select q.ap q.addr q.read
+capture_register_name select q = if q.ap then capture_ap_name select q.addr else capture_dp_name select q.addr q.read

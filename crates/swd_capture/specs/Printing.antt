@@ -4,7 +4,7 @@ use Rattle.std.specs.Prelude.{ℕ, zero, suc, Bool, true, false, List, [], ◌�
 use Rattle.swd_bits.specs.Listing.{tx_line_port, tx_line_direction, tx_line_outcome}
 use Rattle.swd_bits.specs.declared.tx.Tx.{Tx as Transaction}
 use Rattle.swd_trace.specs.declared.item.Item.{Item}
-use Rattle.swd_trace.specs.declared.item.Item.TheVariants.{Reset, Switch, Idle, Tx, Junk, Cut}
+use Rattle.swd_trace.specs.declared.item.Item.TheVariants.{Tx, Junk}
 use Rattle.swd_trace.specs.Texts.{item_line}
 use Rattle.swd_resync.specs.declared.part.Part.{Part}
 use Rattle.swd_resync.specs.declared.part.Part.TheVariants.{Item as Told, Phased, Skip}
@@ -32,11 +32,7 @@ capture_named_tx select tx = tx_line_port tx.request.ap ++ capture_register_name
 
 abbrev pub capture_named_line : Option Select → Item → List ℕ
 capture_named_line select (Tx tx) = capture_named_tx select tx
-capture_named_line select (Reset n) = item_line (Reset n)
-capture_named_line select Switch = item_line Switch
-capture_named_line select (Idle n) = item_line (Idle n)
-capture_named_line select (Junk b) = item_line (Junk b)
-capture_named_line select (Cut bits) = item_line (Cut bits)
+capture_named_line select item = item_line item
 
 -- the place, if lines begin with it
 abbrev pub capture_place_if : Bool → ℕ → List ℕ

@@ -29,12 +29,9 @@ abbrev pub capture_direction_rows : Bool → ℕ
 capture_direction_rows true = 0
 capture_direction_rows false = 5
 
-abbrev pub capture_parity_row : Bool → ℕ
-capture_parity_row true = 0
-capture_parity_row false = 1
-
 abbrev pub capture_tx_end_row : TxEnd → ℕ
-capture_tx_end_row (Moved word ok) = capture_parity_row ok
+capture_tx_end_row (Moved word true) = 0
+capture_tx_end_row (Moved word false) = 1
 capture_tx_end_row Wait = 2
 capture_tx_end_row Fault = 3
 capture_tx_end_row (NoAck seen) = 4

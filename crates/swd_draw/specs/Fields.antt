@@ -9,7 +9,6 @@ use Rattle.swd_bits.specs.declared.request.Request.{Request}
 use Rattle.swd_bits.specs.declared.tx.Tx.{Tx as Transaction}
 use Rattle.swd_bits.specs.declared.tx.TxEnd.{TxEnd}
 use Rattle.swd_bits.specs.declared.tx.TxEnd.TheVariants.{Moved, Wait, Fault, NoAck}
-use Rattle.swd_bits.specs.declared.tx_bits.TxBits.{TxBits}
 use Rattle.swd_draw.specs.declared.field.Field.{Field}
 use Rattle.swd_draw.specs.declared.field.Name.{Name}
 use Rattle.swd_draw.specs.declared.field.Name.TheVariants.{Start, Port, Direction, Address, Parity, Stop, Park}
@@ -17,12 +16,10 @@ use Rattle.swd_draw.specs.declared.field.Name.TheVariants.{Turnaround, Ack, Read
 use Rattle.swd_draw.specs.declared.field.Shade.{Shade}
 use Rattle.swd_draw.specs.declared.field.Shade.TheVariants.{Host, Target, Undriven, Wrong, Unknown, Hidden}
 
--- a list of bits, in one number
-abbrev pub drawn_field_bits : List Bool → TxBits
-drawn_field_bits bits = record { len = length bits; bits = bits_number bits }
-
+-- a field with these bits, in one number
 abbrev pub drawn_field : Name → Shade → List Bool → Field
-drawn_field name shade bits = record { name = name; shade = shade; bits = drawn_field_bits bits }
+drawn_field name shade bits =
+    record { name = name; shade = shade; bits = record { len = length bits; bits = bits_number bits } }
 
 -- the packet request: IHI 0031, B4, "Packet request"
 abbrev pub drawn_request_fields : Request → List Field
