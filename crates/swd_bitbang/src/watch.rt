@@ -25,7 +25,7 @@ pub trait Watch<D: Device, A: Allocator> {
 }
 
 /// A watch that does nothing.
-#[derive(Clone, Copy, Debug)]
+#[derive(Clone, Copy)]
 pub(crate) struct Unwatched;
 
 impl<D: Device, A: Allocator> Watch<D, A> for Unwatched {

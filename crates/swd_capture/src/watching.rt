@@ -167,7 +167,7 @@ fn held_len(held: Option<Part>, idle: u64) -> u64
 
 /// What the parts so far show of the target's memory. The last transaction waits for the next part that isn't idle
 /// cycles: if that is a skip, it belongs to the gap.
-#[derive(Clone, Copy, Debug)]
+#[derive(Clone, Copy)]
 pub(crate) struct Watching {
     pub(crate) observer: TraceObserver,
     // The transaction that waits.

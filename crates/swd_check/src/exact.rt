@@ -11,7 +11,7 @@ const STATUS_BITS: u32 = 0xf000_00e0;
 const CSW_MADE: u32 = 0x42;
 
 /// What is known of CSW's word, and of the read buffer.
-#[derive(Clone, Copy, Debug)]
+#[derive(Clone, Copy)]
 pub(crate) struct ExactRegisters {
     /// The word that CSW reads.
     csw: Option<u32>,

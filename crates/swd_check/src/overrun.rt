@@ -5,7 +5,7 @@ use swd_port::Select;
 
 /// Whether overrun detection may be on: a write of CTRL/STAT that was answered OK had ORUNDETECT set, and none since
 /// clears it (IHI 0031, B2, "CTRL/STAT", bit 0). A write with wrong parity clears nothing.
-#[derive(Clone, Copy, Debug)]
+#[derive(Clone, Copy)]
 pub(crate) struct Overrun {
     /// Whether DPBANKSEL may be 0, so that the address 4 is CTRL/STAT, and whether it may be another.
     bank0: bool,

@@ -11,7 +11,7 @@ pub struct Read {
 }
 
 /// What is known of a word.
-#[derive(Clone, Copy, Debug)]
+#[derive(Clone, Copy)]
 struct Known {
     read: Read,
     /// It is known if it was noted since everything was last forgotten.
@@ -19,7 +19,7 @@ struct Known {
 }
 
 /// Addresses of a plain memory.
-#[derive(Clone, Copy, Debug)]
+#[derive(Clone, Copy)]
 struct Region {
     base: u32,
     words: u32,

@@ -25,7 +25,7 @@ pub(crate) struct Rules {
 }
 
 /// Where a transaction stands.
-#[derive(Clone, Copy, Debug, PartialEq, Eq)]
+#[derive(Clone, Copy)]
 pub(crate) enum Stand {
     /// In the model, by whose rules it was taken.
     Inside,

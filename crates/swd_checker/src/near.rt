@@ -23,7 +23,7 @@ pub(crate) struct Near {
 }
 
 /// Words that a read may return.
-#[derive(Clone, Copy, Debug, PartialEq, Eq)]
+#[derive(Clone, Copy)]
 pub(crate) enum Words {
     /// Those whose bit 0 is 1, as of DPIDR.
     Odd,

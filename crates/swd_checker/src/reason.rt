@@ -14,7 +14,7 @@ use swd_port::{Csw, Reply};
 const CSW_FIXED: u32 = 0x77;
 
 /// A bit of CTRL/STAT, and the item since which it has its value.
-#[derive(Clone, Copy, Debug)]
+#[derive(Clone, Copy)]
 struct StatusBit {
     bit: u8,
     value: bool,

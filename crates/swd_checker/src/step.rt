@@ -47,7 +47,7 @@ use swd_port::{Csw, Register, Reply};
 const UNDRIVEN: u8 = 7;
 
 /// A transaction's request in a world that may answer it.
-#[derive(Clone, Copy, Debug)]
+#[derive(Clone, Copy)]
 struct Asked {
     world: World,
     request: Request,

@@ -30,14 +30,14 @@ pub(crate) enum Power {
 }
 
 /// The direction of a transfer.
-#[derive(Clone, Copy, Debug, PartialEq, Eq)]
+#[derive(Clone, Copy, Debug)]
 pub(crate) enum Transfer {
     Read,
     Write,
 }
 
 /// States in which a target may be.
-#[derive(Clone, Copy, Debug, PartialEq, Eq)]
+#[derive(Clone, Copy, Debug)]
 pub(crate) struct World {
     pub(crate) reset: Reset,
     pub(crate) sticky_error: bool,

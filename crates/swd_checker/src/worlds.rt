@@ -18,7 +18,7 @@ use swd_bits::Tx;
 pub(crate) const MOST_WORLDS: usize = 64;
 
 /// A world, and a number of requests: no run that leads to it has fewer damaged or lost ones.
-#[derive(Clone, Copy, Debug, PartialEq, Eq)]
+#[derive(Clone, Copy, Debug)]
 pub(crate) struct Kept {
     pub(crate) world: World,
     pub(crate) faults: u64,

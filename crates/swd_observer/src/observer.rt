@@ -113,7 +113,7 @@ pub struct Observations {
 }
 
 /// What a request does that is answered OK and can be refused.
-#[derive(Clone, Copy, Debug, PartialEq, Eq)]
+#[derive(Clone, Copy)]
 pub(crate) enum RequestEffect {
     /// Nothing that an observer tracks.
     Other,
@@ -129,7 +129,7 @@ pub(crate) enum RequestEffect {
 }
 
 /// What an OK shows, by the request.
-#[derive(Clone, Copy, Debug, PartialEq, Eq)]
+#[derive(Clone, Copy)]
 pub(crate) enum Class {
     /// A read of DPIDR: nothing.
     Passes,

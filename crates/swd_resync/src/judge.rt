@@ -25,7 +25,7 @@ use swd_bits::{Ack, MOVED_BITS, REFUSED_BITS, Request, Tx, TxBits, TxEnd};
 const REQUEST_BITS: u8 = 8;
 
 /// What becomes of a transaction of a stretch.
-#[derive(Clone, Copy, Debug)]
+#[derive(Clone, Copy)]
 pub(crate) enum TxFate {
     /// It is reported.
     Reported,

@@ -6,7 +6,7 @@ ghost use Rattle.swd_resync.specs.Parts.{resync_is_sound};
 use swd_bits::{Tx, TxBits, TxEnd};
 
 /// What is at the front of held bits, whatever bits may follow.
-#[derive(Clone, Copy, Debug)]
+#[derive(Clone, Copy)]
 pub(crate) enum Sight {
     /// More bits are needed to decide it.
     Wait,

@@ -24,7 +24,7 @@ pub(crate) enum RemovalStage {
 
 /// A step of a decoder: the number of bits to remove, what is known of overrun detection and the stage after them, and
 /// a part if one is decided.
-#[derive(Clone, Copy, Debug)]
+#[derive(Clone, Copy)]
 pub(crate) struct Move {
     pub(crate) count: u8,
     pub(crate) over: Overrun,

@@ -8,7 +8,7 @@ use crate::numeral::{decimal_of, hex_of};
 use crate::words::Word;
 
 /// A command of a script. `None` stands for an argument that isn't a valid number.
-#[derive(Clone, Copy, Debug, PartialEq, Eq)]
+#[derive(Clone, Copy)]
 pub(crate) enum Command {
     /// The memory: the address of its first word, and its number of words.
     Memory {

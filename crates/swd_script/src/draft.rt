@@ -19,7 +19,7 @@ const MOST: u32 = 65536;
 const MOST_READS: u32 = 1_000_000;
 
 /// The extent of a memory: the address of the first word, and the number of words.
-#[derive(Clone, Copy, Debug, PartialEq, Eq)]
+#[derive(Clone, Copy)]
 pub(crate) struct Extent {
     pub(crate) base: u32,
     pub(crate) words: u32,

@@ -5,7 +5,7 @@ ghost use Rattle.swd_script.specs.Lines.{is_script_blank};
 use crate::words::{FirstWords, LineWords};
 
 /// The state of a scan within a line.
-#[derive(Clone, Copy, Debug, PartialEq, Eq)]
+#[derive(Clone, Copy)]
 pub(crate) enum ScanState {
     /// Before a comment.
     Code,
