@@ -1,5 +1,4 @@
 pub mod Connections
-pub mod Destinations
 pub mod LineFiles
 pub mod MemoryFiles
 pub mod Roles

@@ -16,7 +16,7 @@ use swd_port::Wire;
 use swd_script::Batch;
 
 /// Where the reports of the calls go, if they are made.
-pub(crate) type ReportTo<M> = Option<Destination<M, ()>>;
+pub(crate) type ReportTo<M> = Option<Destination<M>>;
 
 /// What gets the reports of the calls.
 #[derive(Drop)]
@@ -78,7 +78,7 @@ pub(crate) fn open_report<A, F: Files, C, E: Write>(
         return Ok(None);
     };
     if name.as_str() == "-" {
-        return Ok(Some(Destination::Errors(())));
+        return Ok(Some(Destination::Errors));
     }
     let file = match in_use.open_write(name.as_str(), WriteRole::Calls, console) {
         Ok(opened) => opened.file,
@@ -101,7 +101,7 @@ pub(crate) fn image_reports<'a, M: Write, E: Write, C: Clock>(
     ensures { is_some (command_reports_held M.contents E.contents result) ≡ is_some opened }
 {
     let file = match opened {
-        Some(Destination::Errors(())) => {
+        Some(Destination::Errors) => {
             return ImageReports::Errors(Some(Watched::new(errors)));
         }
         Some(Destination::File(file)) => Some(Watched::new(file)),

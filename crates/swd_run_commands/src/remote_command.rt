@@ -31,14 +31,14 @@ fn open_report<A, F: Files, C, E: Write>(
     name: &str,
     in_use: &mut InUse,
     console: &mut Console<'_, A, F, C, E>,
-) -> Result<Destination<F::Made, ()>, u8>
+) -> Result<Destination<F::Made>, u8>
     ensures { IfErr result (λ status. status ≡ 2) }
 {
     if name == "-" {
         return match console.files.standard_error() {
             Ok(identity) => {
                 in_use.report = identity;
-                Ok(Destination::Errors(()))
+                Ok(Destination::Errors)
             }
             Err(why) => Err(cannot_open(console.errors, name, &why)),
         };
@@ -52,7 +52,7 @@ fn open_report<A, F: Files, C, E: Write>(
 // Gives up the file of a report that isn't written: one that was created for it is removed.
 fn give_up_report<A, F: Files, C, E>(
     name: &str,
-    report: Destination<F::Made, ()>,
+    report: Destination<F::Made>,
     console: &Console<'_, A, F, C, E>,
 ) {
     if let Destination::File(file) = report {
@@ -114,7 +114,7 @@ pub(crate) fn perform_remote<
                 run, script, line, file, records, console,
             )
         }
-        Destination::Errors(()) => {
+        Destination::Errors => {
             report_to_errors::<P, _, _, _, _, _, _, _, _>(run, script, line, records, console)
         }
     }
