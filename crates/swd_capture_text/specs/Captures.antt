@@ -1,5 +1,5 @@
 -- What is written for a trace text that is to be printed.
-use Rattle.std.specs.Prelude.{◌≡◌, ℕ, ◌^◌, ◌<◌, List, length, Option, Result, map}
+use Rattle.std.specs.Prelude.{◌≡◌, ℕ, ◌^◌, ◌<◌, Bool, List, length, Option, Result, map}
 use Rattle.swd_trace.specs.declared.item.Item.{Item}
 use Rattle.swd_trace.specs.Reading.{reading_of}
 use Rattle.swd_trace.specs.Texts.{bits_of_items, trace_text}
@@ -10,7 +10,9 @@ use Rattle.swd_text.specs.TextBits.{TextBitsAre, TextBitsBefore, TextBitsSoFar}
 use Rattle.swd_text.specs.declared.fault.TextFault.{TextFault}
 use Rattle.swd_text.specs.declared.fault.DecodeFault.{DecodeFault}
 use Rattle.swd_capture.specs.declared.printed.Printed.{Printed}
+use Rattle.swd_capture.specs.declared.printed.Printed.TheVariants.{Accesses}
 use Rattle.swd_capture.specs.Printing.{capture_printed_parts, capture_printout}
+use Rattle.swd_capture_text.specs.declared.accesses_printer.AccessesPrinter.{AccessesPrinter}
 use Rattle.swd_capture_text.specs.declared.reading.Reading.{Reading}
 use Rattle.swd_capture_text.specs.declared.reading.Reading.TheVariants.{Trace}
 use Rattle.swd_capture_text.specs.Readings.{SourceDecides, SourceReadsAs}
@@ -43,6 +45,13 @@ Prints reading printed =
 -- the output for the items of a whole trace
 abbrev pub print_items_output : Printed → List Item → List ℕ
 print_items_output printed items = capture_printout printed (map Told items)
+
+-- the lines of the accesses that items show, as `swd decode --accesses` prints them; with `made` as with `--made`
+abbrev pub accesses_text : Bool → List Item → List ℕ
+accesses_text made items = print_items_output (Accesses made) items
+
+abbrev pub accesses_printed : AccessesPrinter → List Item → List ℕ
+accesses_printed printer items = accesses_text printer.made items
 
 -- The text of a trace is read as its items, if these are what their bits are read as. So what is printed of that text
 -- is the output for the items.

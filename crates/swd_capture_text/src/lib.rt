@@ -1,6 +1,7 @@
 //! Prints a trace or a capture from its text: the engine of `swd decode` with an option.
 #![tactic(auto)]
 
+mod accesses_printer;
 mod items;
 pub mod laws;
 mod parts;
@@ -10,6 +11,7 @@ mod queue;
 mod reading;
 mod source;
 
+pub use accesses_printer::AccessesPrinter;
 pub use items::print_items;
 pub use parts::{PartReader, PartSink, read_parts};
 pub use printing::print_capture;

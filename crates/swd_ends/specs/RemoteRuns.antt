@@ -10,6 +10,7 @@ use Rattle.swd_script.specs.Readers.{IsScriptFault}
 use Rattle.swd_script.specs.declared.fault.ScriptFault.{ScriptFault}
 use Rattle.swd_run.specs.declared.engine.Finished.{Finished}
 use Rattle.swd_run.specs.declared.fault.EngineFault.{EngineFault}
+use Rattle.swd_run.specs.declared.limits.Limits.{Limits}
 use Rattle.swd_run.specs.Engine.{BatchAnswersAt}
 use Rattle.swd_run.specs.Records.{AreRunFilesLeft, RunFiles, IsRunFileLeft}
 use Rattle.swd_run.specs.Wires.{run_story_wire}
@@ -19,34 +20,34 @@ use Rattle.swd_ends.specs.declared.remote.RemoteFault.TheVariants.{Script, Read,
 -- The batches of a script were run over a wire to the outside. `calls` are all its calls with what came back, the last
 -- one first: those that the reports describe. The wire is lawful if they are consistent with the story. `Over` holds of
 -- the connection and these calls.
-pub record RanRemoteEndScript (story : ℕ → Port) (tries resumes : ℕ) (Over : List Call → Type 0)
+pub record RanRemoteEndScript (story : ℕ → Port) (limits : Limits) (Over : List Call → Type 0)
     (batches : List ScriptListed) (answer : Result Finished EngineFault) (old new : Option (List ℕ))
     (before after : RunFiles) : Type 0 where
   pub calls : List Call
-  pub answers : BatchAnswersAt (run_story_wire story) tries resumes batches [] calls answer old new before after
+  pub answers : BatchAnswersAt (run_story_wire story) limits batches [] calls answer old new before after
   pub over : Over calls
 
 -- the reader's script was run so
-pub record RanRemoteEnd (story : ℕ → Port) (tries resumes : ℕ) (Over : List Call → Type 0)
+pub record RanRemoteEnd (story : ℕ → Port) (limits : Limits) (Over : List Call → Type 0)
     (answer : Result Finished EngineFault) (script old new : Option (List ℕ)) (before after : RunFiles)
     : Type 0 where
   pub text : List ℕ
   pub is_script : IsReaderText script text
   pub meaning : ScriptMeaning
   pub means : script_of text ≡ Ok meaning
-  pub ran : RanRemoteEndScript story tries resumes Over meaning.batches answer old new before after
+  pub ran : RanRemoteEndScript story limits Over meaning.batches answer old new before after
 
 -- What a result states about the script, if its bytes are known, and about the contents of the writers before and
 -- after. `unused` says that the connection wasn't used.
-abbrev pub RunsRemote : (ℕ → Port) → ℕ → ℕ → (List Call → Type 0) → Type 0 → Result Finished RemoteFault
+abbrev pub RunsRemote : (ℕ → Port) → Limits → (List Call → Type 0) → Type 0 → Result Finished RemoteFault
     → Option (List ℕ) → Option (List ℕ) → Option (List ℕ) → RunFiles → RunFiles → Type 0
-RunsRemote story tries resumes Over unused (Ok finished) script old new before after =
-    RanRemoteEnd story tries resumes Over (Ok finished) script old new before after
-RunsRemote story tries resumes Over unused (Err (Engine fault)) script old new before after =
-    RanRemoteEnd story tries resumes Over (Err fault) script old new before after
-RunsRemote story tries resumes Over unused (Err (Script fault)) script old new before after =
+RunsRemote story limits Over unused (Ok finished) script old new before after =
+    RanRemoteEnd story limits Over (Ok finished) script old new before after
+RunsRemote story limits Over unused (Err (Engine fault)) script old new before after =
+    RanRemoteEnd story limits Over (Err fault) script old new before after
+RunsRemote story limits Over unused (Err (Script fault)) script old new before after =
     IfSome script (IsScriptFault fault) × IsRunFileLeft old new × AreRunFilesLeft before after × unused
-RunsRemote story tries resumes Over unused (Err Read) script old new before after =
+RunsRemote story limits Over unused (Err Read) script old new before after =
     IsRunFileLeft old new × AreRunFilesLeft before after × unused
 
 -- the error of a script that wasn't read

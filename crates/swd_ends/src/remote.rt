@@ -14,6 +14,7 @@ use swd_port::{Story, Tied, TransportWire};
 use swd_remote::{InitialStreams, RemoteStreams, RemoteTransport};
 use swd_run::{EngineFault, Finished, Limits, Progress, Records, run_batches};
 use swd_script::{Script, ScriptFault, read_script};
+use swd_text::ItemsPrinter;
 use thiserror::Error;
 
 /// The error of a script's run at a remote target.
@@ -31,8 +32,8 @@ pub enum RemoteFault {
 }
 
 impl RemoteFault {
-    /// Returns the error of a script that wasn't read.
-    pub fn unread(unread: Unread<ScriptFault>) -> RemoteFault
+    // Returns the error of a script that wasn't read.
+    fn unread(unread: Unread<ScriptFault>) -> RemoteFault
         ensures { result ≡ remote_end_script_fault unread }
     {
         match unread {
@@ -65,6 +66,7 @@ pub fn run_remote<
     W: Write,
     O: Write,
     T: Write + Drop,
+    I: ItemsPrinter,
     A: Allocator + Copy,
     G: Progress,
 >(
@@ -73,14 +75,14 @@ pub fn run_remote<
     line: Line<R, W>,
     limits: Limits,
     report: &mut O,
-    records: &mut Records<T, G>,
+    records: &mut Records<T, I, G>,
 ) -> (Result<Finished, RemoteFault>, RemoteStreams<R, W>)
-    ensures { RunsRemote P.at limits.tries limits.resumes
+    ensures { RunsRemote P.at limits
         (λ calls. ∥ GoesOver R.remaining W.contents (W.contents line.writer) (R.remaining line.reader) result.1 calls
         ∥₁)
         (IsUnusedRemote R.remaining W.contents (W.contents line.writer) (R.remaining line.reader) result.1)
         result.0 (S.remaining script.old) (O.contents report.old) (O.contents report.new)
-        (run_files_of T.contents records.old) (run_files_of T.contents records.new) }
+        (run_files_of T.contents I.text records.old) (run_files_of T.contents I.text records.new) }
 {
     let script = match read_script(alloc, script) {
         Ok(script) => script,
@@ -89,7 +91,7 @@ pub fn run_remote<
             RemoteStreams::unused(line.reader, line.writer),
         ),
     };
-    let (answer, line) = run_remote_script::<P, R, W, O, T, A, G>(
+    let (answer, line) = run_remote_script::<P, R, W, O, T, I, A, G>(
         alloc, &script, line, limits, report, records,
     );
     match answer {
@@ -118,6 +120,7 @@ pub fn run_remote_script<
     W: Write,
     O: Write,
     T: Write + Drop,
+    I: ItemsPrinter,
     A: Allocator + Copy,
     G: Progress,
 >(
@@ -126,16 +129,16 @@ pub fn run_remote_script<
     line: Line<R, W>,
     limits: Limits,
     report: &mut O,
-    records: &mut Records<T, G>,
+    records: &mut Records<T, I, G>,
 ) -> (Result<Finished, EngineFault>, RemoteStreams<R, W>)
     requires { IsScriptRunnable (read_script_meaning script.now) }
-    ensures { RanRemoteEndScript P.at limits.tries limits.resumes
+    ensures { RanRemoteEndScript P.at limits
         (λ calls. ∥ GoesOver R.remaining W.contents (W.contents line.writer) (R.remaining line.reader) result.1 calls
         ∥₁)
         (read_script_meaning script.now).batches result.0 (O.contents report.old) (O.contents report.new)
-        (run_files_of T.contents records.old) (run_files_of T.contents records.new) }
+        (run_files_of T.contents I.text records.old) (run_files_of T.contents I.text records.new) }
 {
-    run_begun::<P, Brand, R, W, O, T, A, G>(alloc, script, line, limits, report, records)
+    run_begun::<P, Brand, R, W, O, T, I, A, G>(alloc, script, line, limits, report, records)
 }
 
 // Runs a script's calls over a connection from its beginning on, and then sends `Q`.
@@ -146,6 +149,7 @@ fn run_begun<
     W: Write,
     O: Write,
     T: Write + Drop,
+    I: ItemsPrinter,
     A: Allocator + Copy,
     G: Progress,
 >(
@@ -154,15 +158,15 @@ fn run_begun<
     line: Line<R, W>,
     limits: Limits,
     report: &mut O,
-    records: &mut Records<T, G>,
+    records: &mut Records<T, I, G>,
 ) -> (Result<Finished, EngineFault>, RemoteStreams<R, W>)
     requires script { IsScriptRunnable (read_script_meaning script.now) }
     requires sent { B.sent ≡ W.contents line.writer }
     requires left { B.left ≡ R.remaining line.reader }
-    ensures { RanRemoteEndScript P.at limits.tries limits.resumes
+    ensures { RanRemoteEndScript P.at limits
         (λ calls. ∥ GoesOver R.remaining W.contents B.sent B.left result.1 calls ∥₁)
         (read_script_meaning script.now).batches result.0 (O.contents report.old) (O.contents report.new)
-        (run_files_of T.contents records.old) (run_files_of T.contents records.new) }
+        (run_files_of T.contents I.text records.old) (run_files_of T.contents I.text records.new) }
 {
     let wire: TransportWire<RemoteTransport<R, W, B>, P, Tied> = TransportWire::begun(
         RemoteTransport::new(line.reader, line.writer),

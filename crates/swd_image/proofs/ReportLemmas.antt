@@ -198,7 +198,7 @@ module _ {W : Type 0} (wire : Ghosts W) (limits : Limits) where
 
   -- one call of which the writer got the first bytes alone
   pub to_failed : (s t : W) (batch : ScriptListed) (told : HostReport) (sent : ℕ) (start now : Option (List ℕ))
-      → ReportsBatchRun wire limits.tries limits.resumes batch s t
+      → ReportsBatchRun wire limits batch s t
       start now
       told (Err sent) → batch.until ≡ None
       → IsScriptBatch batch

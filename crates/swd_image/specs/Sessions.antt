@@ -54,7 +54,7 @@ module _ {W : Type 0} (wire : Ghosts W) (limits : Limits) where
   -- which may have been resumed
   pub record Call (batch : ScriptListed) (s : W) (run : ScriptRun) (t : W) : Type 0 where
     pub fits : IsScriptBatch batch
-    pub goes : RunsBatch wire (batch_limit batch) limits.tries limits.resumes batch s run t
+    pub goes : RunsBatch wire (batch_limit batch) limits batch s run t
 
   -- consecutive calls, each of which ended `All` with each access done: their accesses, and their answers
   pub data Calls (s : W) : List Access → List Answer → W → Type 0 where

@@ -27,7 +27,7 @@ module _ {W V : Type 0} (by : W → V) (wire : Ghosts V) (limits : Limits) where
       → Call wire limits batch (by s) run (by t)
   call_by batch s run t call = record {
     fits = call.fits;
-    goes = goes_by by wire limits.tries limits.resumes batch s run t call.goes;
+    goes = goes_by by wire limits batch s run t call.goes;
   }
 
   calls_by : (s : W) (list : List Access) (answers : List Answer) (t : W)

@@ -26,6 +26,7 @@ use Rattle.swd_run.specs.declared.engine.Finished.{Finished}
 use Rattle.swd_run.specs.declared.fault.EngineFault.{EngineFault}
 use Rattle.swd_run.specs.declared.fault.EngineFault.TheVariants.{Memory, Write, WriteAccesses, TraceCut}
 use Rattle.swd_run.specs.declared.going_on.Stop.{Stop}
+use Rattle.swd_run.specs.declared.limits.Limits.{Limits}
 use Rattle.swd_run.specs.Engine.{Answers, BatchAnswersAt, BatchAnswers, AreItemsSoFar, AreRunTraceItems}
 use Rattle.swd_run.specs.Engine.{IsOfTraceOver, IsScriptFinished, IsTraceOver, RanBatches, RanBatchesShort}
 use Rattle.swd_run.specs.Engine.{RunFilesOutcome, whole, short, trace_stops, accesses_stop}
@@ -80,9 +81,10 @@ pub run_file_some : {T : Type 0} (contents : T → Option (List ℕ)) (file : Op
 run_file_some contents file is = run_file_is_some contents file ∙ is
 
 -- a file is to be written where there is a writer
-pub wants_files_by_records : {T G : Type 0} (contents : T → Option (List ℕ)) (records : Records T G)
-    → wants_run_files (run_files_of contents records) ≡ (is_some records.trace || is_some records.accesses)
-wants_files_by_records contents records = ap₂ ◌||◌ (run_file_is_some contents records.trace)
+pub wants_files_by_records : {T I G : Type 0} (contents : T → Option (List ℕ)) (text : I → List Item → List ℕ)
+    (records : Records T I G)
+    → wants_run_files (run_files_of contents text records) ≡ (is_some records.trace || is_some records.accesses)
+wants_files_by_records contents text records = ap₂ ◌||◌ (run_file_is_some contents records.trace)
     (run_file_is_some contents records.accesses)
 
 -- files that are the same before and after are left: nothing was written to them
@@ -151,18 +153,18 @@ script_answers_map batches used runs before IsWhole IsPart IsBegun IsWholeToo Is
     (f h.0, h.1, h.2, h.3, p h.0 h.1 h.4, h.5, h.6)
 
 -- runs over wires are runs over all that the wires are known by
-module _ {W V : Type 0} (by : W → V) (wire : Ghosts V) (tries resumes : ℕ) where
+module _ {W V : Type 0} (by : W → V) (wire : Ghosts V) (limits : Limits) where
   went_by : {opened : Bool} (limit : ℕ) (list : List Access) (s : W) (stops : List Stop) (told : HostReport) (t : W)
-      → ScriptCallsFrom (run_wire_by by wire) opened limit list tries s stops told t
-      → ScriptCallsFrom wire opened limit list tries (by s) stops told (by t)
+      → ScriptCallsFrom (run_wire_by by wire) opened limit list limits.tries s stops told t
+      → ScriptCallsFrom wire opened limit list limits.tries (by s) stops told (by t)
   went_by limit list s stops told t (ran same closes over says) = ran same closes over says
   went_by limit list s stops told t (resumed {stops = before} {earlier = e} {t = u} went lost same goes over says) =
       resumed (went_by limit list s before e u went) lost same goes over says
 
   -- one run is
   pub goes_by : {opened : Bool} (batch : ScriptListed) (s : W) (run : ScriptRun) (t : W)
-      → RunsBatchFrom (run_wire_by by wire) opened (batch_limit batch) tries resumes batch s run t
-      → RunsBatchFrom wire opened (batch_limit batch) tries resumes batch (by s) run (by t)
+      → RunsBatchFrom (run_wire_by by wire) opened (batch_limit batch) limits batch s run t
+      → RunsBatchFrom wire opened (batch_limit batch) limits batch (by s) run (by t)
   goes_by batch s run t goes = record {
     went = went_by (batch_limit batch) batch.accesses s run.stops run.told t goes.went;
     few = goes.few;
@@ -170,24 +172,24 @@ module _ {W V : Type 0} (by : W → V) (wire : Ghosts V) (tries resumes : ℕ) w
   }
 
   pub runs_by : {opened : Bool} (s : W) (batches : List ScriptListed) (runs : List ScriptRun) (t : W)
-      → RunsBatches (run_wire_by by wire) opened batch_limit tries resumes s batches runs t
-      → RunsBatches wire opened batch_limit tries resumes (by s) batches runs (by t)
+      → RunsBatches (run_wire_by by wire) opened batch_limit limits s batches runs t
+      → RunsBatches wire opened batch_limit limits (by s) batches runs (by t)
   runs_by s batches runs t none = none
   runs_by s batches runs t
       (then {batches = before} {runs = earlier} {t = u} {u = v} {batch = batch} {run = run} prior all goes) =
       then (runs_by s before earlier u prior) all (goes_by batch u run v goes)
 
   refused_by : {opened : Bool} (limit : ℕ) (batch : ScriptListed) (s t : W)
-      → IsBatchRefused (run_wire_by by wire) opened limit tries resumes batch s t
-      → IsBatchRefused wire opened limit tries resumes batch (by s) (by t)
+      → IsBatchRefused (run_wire_by by wire) opened limit limits batch s t
+      → IsBatchRefused wire opened limit limits batch (by s) (by t)
   refused_by limit batch s t (unsent same) = unsent (ap by same)
   refused_by limit batch s t (unresumed {stops = stops} {told = told} went lost few) =
       unresumed (went_by limit batch.accesses s stops told t went) lost few
 
   -- what ran of a script over wires is what ran of it over what these are known by
   abbrev pub ran_by : (batches : List ScriptListed) (s t : W)
-      → RanBatches (run_wire_by by wire) tries resumes batches s t
-      → RanBatches wire tries resumes batches (by s) (by t)
+      → RanBatches (run_wire_by by wire) limits batches s t
+      → RanBatches wire limits batches (by s) (by t)
   ran_by batches s t over = record {
     made = over.made;
     unfolds = over.unfolds;
@@ -195,8 +197,8 @@ module _ {W V : Type 0} (by : W → V) (wire : Ghosts V) (tries resumes : ℕ) w
   }
 
   cut_by : {opened : Bool} (batch : ScriptListed) (s t : W)
-      → IsCutShort (run_wire_by by wire) opened tries resumes batch s t
-      → IsCutShort wire opened tries resumes batch (by s) (by t)
+      → IsCutShort (run_wire_by by wire) opened limits batch s t
+      → IsCutShort wire opened limits batch (by s) (by t)
   cut_by batch s t over = record {
     runs = over.runs;
     are = over.are;
@@ -207,8 +209,8 @@ module _ {W V : Type 0} (by : W → V) (wire : Ghosts V) (tries resumes : ℕ) w
   }
 
   abbrev short_by : (batches : List ScriptListed) (s t : W)
-      → RanBatchesShort (run_wire_by by wire) tries resumes batches s t
-      → RanBatchesShort wire tries resumes batches (by s) (by t)
+      → RanBatchesShort (run_wire_by by wire) limits batches s t
+      → RanBatchesShort wire limits batches (by s) (by t)
   short_by batches s t over = record {
     between = by over.between;
     before = ran_by batches s over.between over.before;
@@ -223,11 +225,11 @@ module _ {W V : Type 0} (by : W → V) (wire : Ghosts V) (tries resumes : ℕ) w
   -- and so are the answers
   pub answers_by : (batches : List ScriptListed) (s t : W) (start end : V) → by s ≡ start → by t ≡ end
       → (answer : Result Finished EngineFault) (old new : Option (List ℕ)) (before after : RunFiles)
-      → BatchAnswers (run_wire_by by wire) tries resumes batches s t answer old new before after
-      → BatchAnswers wire tries resumes batches start end answer old new before after
+      → BatchAnswers (run_wire_by by wire) limits batches s t answer old new before after
+      → BatchAnswers wire limits batches start end answer old new before after
   answers_by batches s t start end begins ends answer old new before after h =
-      subst (λ x. BatchAnswers wire tries resumes batches x end answer old new before after) begins
-      (subst (λ x. BatchAnswers wire tries resumes batches (by s) x answer old new before after) ends
+      subst (λ x. BatchAnswers wire limits batches x end answer old new before after) begins
+      (subst (λ x. BatchAnswers wire limits batches (by s) x answer old new before after) ends
       (script_answers_map batches None (λ over. over.made) (λ over. over.before.made) IsTraceOver IsOfTraceOver
       (λ short items. AreItemsSoFar (run_wire_by by wire) t items)
       IsTraceOver IsOfTraceOver (λ short items. AreItemsSoFar wire (by t) items) (ran_by batches s t)
@@ -247,46 +249,46 @@ module _ {W V : Type 0} (by : W → V) (wire : Ghosts V) (tries resumes : ℕ) w
       }) (λ short items is. record { read = is.read; of_calls = is.of_calls }) answer old new before after h))
 
 -- also beside the recorded calls
-seen_by : {W V : Type 0} (flag : Bool) (by : W → V) (wire : Ghosts V) (noted : List Call → Type 0) (tries resumes : ℕ)
+seen_by : {W V : Type 0} (flag : Bool) (by : W → V) (wire : Ghosts V) (noted : List Call → Type 0) (limits : Limits)
     (batches : List ScriptListed) (calls : List Call) (s t : W) (answer : Result Finished EngineFault)
     (old new : Option (List ℕ)) (before after : RunFiles)
-    → BatchAnswers (run_wire_seen flag (run_wire_by by wire) noted) tries resumes batches ([], s) (calls, t) answer old
+    → BatchAnswers (run_wire_seen flag (run_wire_by by wire) noted) limits batches ([], s) (calls, t) answer old
     new before after
-    → BatchAnswers (run_wire_seen flag wire noted) tries resumes batches ([], by s) (calls, by t) answer old new before
+    → BatchAnswers (run_wire_seen flag wire noted) limits batches ([], by s) (calls, by t) answer old new before
     after
-seen_by false by wire noted tries resumes batches calls s t answer old new before after h =
-    answers_by (λ seen. (seen.0, by seen.1)) (run_wire_seen false wire noted) tries resumes batches ([], s) (calls, t)
+seen_by false by wire noted limits batches calls s t answer old new before after h =
+    answers_by (λ seen. (seen.0, by seen.1)) (run_wire_seen false wire noted) limits batches ([], s) (calls, t)
     ([], by s) (calls, by t) refl refl answer old new before after h
-seen_by true by wire noted tries resumes batches calls s t answer old new before after h =
-    answers_by (λ seen. (seen.0, by seen.1)) (run_wire_seen true wire noted) tries resumes batches ([], s) (calls, t)
+seen_by true by wire noted limits batches calls s t answer old new before after h =
+    answers_by (λ seen. (seen.0, by seen.1)) (run_wire_seen true wire noted) limits batches ([], s) (calls, t)
     ([], by s) (calls, by t) refl refl answer old new before after h
 
 -- what an answer states over wires it states over what these are known by, also where the run is recorded
-pub batch_answers_at_by : {W V : Type 0} (by : W → V) (wire : Ghosts V) (tries resumes : ℕ)
+pub batch_answers_at_by : {W V : Type 0} (by : W → V) (wire : Ghosts V) (limits : Limits)
     (batches : List ScriptListed) (s t : W) (start : V) → by s ≡ start → (answer : Result Finished EngineFault)
     (old new : Option (List ℕ)) (before after : RunFiles)
-    → BatchAnswersAt (run_wire_by by wire) tries resumes batches s t answer old new before after
-    → BatchAnswersAt wire tries resumes batches start (by t) answer old new before after
-batch_answers_at_by by wire tries resumes batches s t start begins answer old new before after h =
-    subst (λ x. BatchAnswersAt wire tries resumes batches x (by t) answer old new before after) begins (
+    → BatchAnswersAt (run_wire_by by wire) limits batches s t answer old new before after
+    → BatchAnswersAt wire limits batches start (by t) answer old new before after
+batch_answers_at_by by wire limits batches s t start begins answer old new before after h =
+    subst (λ x. BatchAnswersAt wire limits batches x (by t) answer old new before after) begins (
       h.0,
-      seen_by (wants_run_files before) by wire (λ noted. wire.notes noted (by s)) tries resumes batches h.0 s t answer
+      seen_by (wants_run_files before) by wire (λ noted. wire.notes noted (by s)) limits batches h.0 s t answer
           old new before after h.1,
     )
 
 -- ---- the files after the report
 
-module _ {W : Type 0} (wire : Ghosts W) (tries resumes : ℕ)
+module _ {W : Type 0} (wire : Ghosts W) (limits : Limits)
     (batches : List ScriptListed) (start end : W) (old new : Option (List ℕ)) where
   -- they were written
   pub recorded_in : (finished : Finished) (cut : Bool) (items : List Item)
-      (over : RanBatches wire tries resumes batches start end) → AreBatchesDone batches over.made
+      (over : RanBatches wire limits batches start end) → AreBatchesDone batches over.made
       → IsScriptFinished batches over.made None finished
       → Appends old new (session_text batches over.made) → (cut ≡ false → IsTraceOver over items)
       → IsOfTraceOver over items
       → (before after : RunFiles) → wants_run_files before ≡ true → (answer : Result Finished EngineFault)
       → RunFilesOutcome finished cut items before after answer
-      → BatchAnswers wire tries resumes batches start end answer old new before after
+      → BatchAnswers wire limits batches start end answer old new before after
   recorded_in finished cut items over done is gone of part before after wanted answer (whole uncut all) =
       (over, done, is, gone, once_recorded (wants_run_files before) _ _ wanted items (of uncut, all))
   recorded_in finished cut items over done is gone of part before after wanted answer (short is_cut all) =
@@ -298,10 +300,10 @@ module _ {W : Type 0} (wire : Ghosts W) (tries resumes : ℕ)
 
   -- if a report couldn't be written, or memory ran out, the trace was begun
   pub begun_in : (fault : EngineFault) (items : List Item) → AreItemsSoFar wire end items
-      → ((over : RanBatches wire tries resumes batches start end) → IsOfTraceOver over items)
+      → ((over : RanBatches wire limits batches start end) → IsOfTraceOver over items)
       → (before after : RunFiles) → wants_run_files before ≡ true → AreRunFilesStarted items before after
-      → BatchAnswers wire tries resumes batches start end (Err fault) old new no_run_files no_run_files
-      → BatchAnswers wire tries resumes batches start end (Err fault) old new before after
+      → BatchAnswers wire limits batches start end (Err fault) old new no_run_files no_run_files
+      → BatchAnswers wire limits batches start end (Err fault) old new before after
   begun_in Memory items read part before after wanted begun h =
       (h.0, h.1, once_recorded (wants_run_files before) _ _ wanted items (read, begun))
   begun_in (Write written) items read part before after wanted begun (over, inl stop) =
@@ -313,8 +315,8 @@ module _ {W : Type 0} (wire : Ghosts W) (tries resumes : ℕ)
 
   -- without files nothing is written
   untold : (fault : EngineFault) (held : RunFiles) → wants_run_files held ≡ false
-      → BatchAnswers wire tries resumes batches start end (Err fault) old new no_run_files no_run_files
-      → BatchAnswers wire tries resumes batches start end (Err fault) old new held held
+      → BatchAnswers wire limits batches start end (Err fault) old new no_run_files no_run_files
+      → BatchAnswers wire limits batches start end (Err fault) old new held held
   untold Memory held empty h = (h.0, h.1, once_unrecorded (wants_run_files held) _ _ empty (run_files_unchanged held))
   untold (Write written) held empty (over, inl stop) =
       (over, inl (stop.0, once_unrecorded (wants_run_files held) _ _ empty (run_files_unchanged held)))
@@ -324,51 +326,51 @@ module _ {W : Type 0} (wire : Ghosts W) (tries resumes : ℕ)
 
   -- nor is it if the calls ended
   pub unwanted : (held : RunFiles) → wants_run_files held ≡ false → (answer : Result Finished EngineFault)
-      → BatchAnswers wire tries resumes batches start end answer old new no_run_files no_run_files
-      → BatchAnswers wire tries resumes batches start end answer old new held held
+      → BatchAnswers wire limits batches start end answer old new no_run_files no_run_files
+      → BatchAnswers wire limits batches start end answer old new held held
   unwanted held empty (Ok finished) h =
       (h.0, h.1, h.2, h.3, once_unrecorded (wants_run_files held) _ _ empty (run_files_unchanged held))
   unwanted held empty (Err fault) h = untold fault held empty h
 
 -- where the wire was recorded from its start
-pub batch_answers_recorded : {W A : Type 0} {g : Ghosts W} (noted : List Call → Type 0) (tries resumes : ℕ)
+pub batch_answers_recorded : {W A : Type 0} {g : Ghosts W} (noted : List Call → Type 0) (limits : Limits)
     (batches : List ScriptListed) (s t : Recorder W A g) (start end : W) → recorder_wire_under s ≡ start
     → recorder_calls s ≡ [] → recorder_wire_under t ≡ end
     → (answer : Result Finished EngineFault) (old new : Option (List ℕ)) (before after : RunFiles)
-    → BatchAnswers (run_recorder_wire noted) tries resumes batches s t answer old new before after
+    → BatchAnswers (run_recorder_wire noted) limits batches s t answer old new before after
     → (calls : List Call)
-    × BatchAnswers (run_wire_seen true g noted) tries resumes batches ([], start) (calls, end) answer old new before
+    × BatchAnswers (run_wire_seen true g noted) limits batches ([], start) (calls, end) answer old new before
     after
-batch_answers_recorded {g} noted tries resumes batches s t start end begins fresh ends answer old new before after h = (
+batch_answers_recorded {g} noted limits batches s t start end begins fresh ends answer old new before after h = (
   recorder_calls t,
-  answers_by (λ r. (recorder_calls r, recorder_wire_under r)) (run_wire_seen true g noted) tries resumes batches s t
+  answers_by (λ r. (recorder_calls r, recorder_wire_under r)) (run_wire_seen true g noted) limits batches s t
       ([], start) (recorder_calls t, end) (ap₂ (λ (n : List Call) (w : _). (n, w)) fresh begins)
       (ap (λ w. (recorder_calls t, w)) ends) answer old new before after h,
 )
 
 -- ---- over a target that was just made
 
-law_refused : {W : Type 0} (wire : Ghosts W) {opened : Bool} (tries resumes : ℕ) (batch : ScriptListed) (s t : W)
-    → IsBatchRefused wire opened (batch_limit batch) tries resumes batch s t → wire.lawful t → wire.lawful s
-law_refused wire tries resumes batch s t (unsent same) law = subst wire.lawful same law
-law_refused wire tries resumes batch s t (unresumed {stops = stops} {told = told} went lost few) law =
-    law_before wire (batch_limit batch) batch.accesses tries s stops told t went law
+law_refused : {W : Type 0} (wire : Ghosts W) {opened : Bool} (limits : Limits) (batch : ScriptListed) (s t : W)
+    → IsBatchRefused wire opened (batch_limit batch) limits batch s t → wire.lawful t → wire.lawful s
+law_refused wire limits batch s t (unsent same) law = subst wire.lawful same law
+law_refused wire limits batch s t (unresumed {stops = stops} {told = told} went lost few) law =
+    law_before wire (batch_limit batch) batch.accesses limits.tries s stops told t went law
 
-law_runs : {W : Type 0} (wire : Ghosts W) {opened : Bool} (tries resumes : ℕ) (s t : W) (batches : List ScriptListed)
-    (runs : List ScriptRun) → RunsBatches wire opened batch_limit tries resumes s batches runs t → wire.lawful t
+law_runs : {W : Type 0} (wire : Ghosts W) {opened : Bool} (limits : Limits) (s t : W) (batches : List ScriptListed)
+    (runs : List ScriptRun) → RunsBatches wire opened batch_limit limits s batches runs t → wire.lawful t
     → wire.lawful s
-law_runs wire tries resumes s t batches runs none law = law
-law_runs wire tries resumes s t batches runs
+law_runs wire limits s t batches runs none law = law
+law_runs wire limits s t batches runs
     (then {batches = before} {runs = earlier} {t = u} {u = v} {batch = batch} {run = run} prior all goes) law =
-    law_runs wire tries resumes s u before earlier prior
-    (law_before wire (batch_limit batch) batch.accesses tries u run.stops run.told v
+    law_runs wire limits s u before earlier prior
+    (law_before wire (batch_limit batch) batch.accesses limits.tries u run.stops run.told v
     goes.went law)
 
-law_cut : {W : Type 0} (wire : Ghosts W) {opened : Bool} (tries resumes : ℕ) (batch : ScriptListed) (s t : W)
-    → IsCutShort wire opened tries resumes batch s t → wire.lawful t → wire.lawful s
-law_cut wire tries resumes batch s t over law =
-    law_runs wire tries resumes s over.between (batch_again batch over.runs) over.runs over.earlier
-    (law_refused wire tries resumes batch over.between t over.refused law)
+law_cut : {W : Type 0} (wire : Ghosts W) {opened : Bool} (limits : Limits) (batch : ScriptListed) (s t : W)
+    → IsCutShort wire opened limits batch s t → wire.lawful t → wire.lawful s
+law_cut wire limits batch s t over law =
+    law_runs wire limits s over.between (batch_again batch over.runs) over.runs over.earlier
+    (law_refused wire limits batch over.between t over.refused law)
 
 module _ {W : Type 0} (wire : Ghosts W) (noted : List Call → Type 0) where
   made_seen : (traced : Bool) (m : Bus) (w : W) → wire.port w ≡ port_made 731911287 m
@@ -437,17 +439,17 @@ all_calls wire calls w = subst (λ l. wire.notes l w) (append-nil calls)
 
 -- over a lawful wire to a target that was just made, where a plan bounds what is disturbed and lost, an answer states
 -- what the theorem of the host says for the script's memory, and whether its log is full
-pub script_run_answers : {W : Type 0} (wire : Ghosts W) (tries resumes : ℕ)
+pub script_run_answers : {W : Type 0} (wire : Ghosts W) (limits : Limits)
     (script : ScriptMeaning) (marks : List Mark) (s t : W) → wire.port s ≡ port_made 731911287 (script_bus script)
     → wire.plan s ≡ marks → wire.notes [] s → ((w : W) → wire.plan w ≡ marks
     → ((wire.port w).tally.disturbed ≤ port_disturbed_among marks) × ((wire.port w).tally.lost ≤ port_lost_among marks))
     → wire.lawful t
     → (memory : Bus) → memory ≡ (wire.port t).target.memory → (answer : Result Finished EngineFault)
     (old new : Option (List ℕ)) (before after : RunFiles)
-    → BatchAnswersAt wire tries resumes script.batches s t answer old new before after
-    → ScriptRunAnswers tries resumes script marks (with_full_room (full_room script.room memory) answer) old new before
+    → BatchAnswersAt wire limits script.batches s t answer old new before after
+    → ScriptRunAnswers limits script marks (with_full_room (full_room script.room memory) answer) old new before
     after
-script_run_answers wire tries resumes script marks s t is_made planned none_noted marked law memory left answer old new
+script_run_answers wire limits script marks s t is_made planned none_noted marked law memory left answer old new
     before after h =
     let traced : Bool = wants_run_files before in
     let noted : List Call → Type 0 = λ calls. wire.notes calls s in
@@ -459,18 +461,18 @@ script_run_answers wire tries resumes script marks s t is_made planned none_note
     let lawful : seen.lawful (h.0, t) = law_seen wire noted traced h.0 t law in
     let runs_at = λ (runs : List BatchRuns) (end : List Call × _) (law : seen.lawful end)
     (unfolds : Unfolds (take (length runs) script.batches) runs)
-    (are : RunsBatches seen false batch_limit tries resumes ([], s)
+    (are : RunsBatches seen false batch_limit limits ([], s)
     (calls_of script.batches runs) (runs_of runs) end).
-    script_runs seen tries resumes script marks runs ([], s) end begins (plan_seen wire noted traced [] s ∙ planned)
+    script_runs seen limits script marks runs ([], s) end begins (plan_seen wire noted traced [] s ∙ planned)
     (λ x same. marks_seen wire noted traced (port_disturbed_among marks) (port_lost_among marks) x.0 x.1
     (marked x.1 (sym (plan_seen wire noted traced x.0 x.1) ∙ same)))
     law unfolds are in
     let left_seen : (seen.port (h.0, t)).target.memory ≡ memory = memory_seen wire noted traced h.0 t ∙ sym left in
-    let whole_calls = λ (over : RanBatches seen tries resumes script.batches ([], s) (h.0, t)).
-    runs_told seen false batch_limit tries resumes ([], s) (calls_of script.batches over.made) (runs_of over.made)
+    let whole_calls = λ (over : RanBatches seen limits script.batches ([], s) (h.0, t)).
+    runs_told seen false batch_limit limits ([], s) (calls_of script.batches over.made) (runs_of over.made)
     (h.0, t) over.are [] fresh in
-    let short_calls = λ (over : RanBatchesShort seen tries resumes script.batches ([], s) (h.0, t)).
-    short_told seen tries resumes script.batches ([], s) (h.0, t) over in (
+    let short_calls = λ (over : RanBatchesShort seen limits script.batches ([], s) (h.0, t)).
+    short_told seen limits script.batches ([], s) (h.0, t) over in (
       memory,
       full_answers script.batches (full_room script.room memory) (λ over. over.made) (λ over. over.made)
           (λ ran items. IsTraceIn memory (calls_of script.batches ran.made) (runs_of ran.made) items)
@@ -483,14 +485,14 @@ script_run_answers wire tries resumes script marks s t is_made planned none_note
           (λ short items. IsTraceUpTo script.batches short.made items)
           (λ over. record {
             made = over.made;
-            are = subst (RunsScript tries resumes script marks over.made) left_seen
+            are = subst (RunsScript limits script marks over.made) left_seen
                 (runs_at over.made (h.0, t) lawful over.unfolds over.are);
           })
           (λ over. record {
             made = over.before.made;
             memory = (seen.port over.between).target.memory;
             are = runs_at over.before.made over.between
-                (law_cut seen tries resumes over.batch over.between (h.0, t) over.refused lawful) over.before.unfolds
+                (law_cut seen limits over.batch over.between (h.0, t) over.refused lawful) over.before.unfolds
                 over.before.are;
             all = over.all;
             came = over.came;

@@ -15,6 +15,7 @@ use Rattle.swd_script.specs.Laws.{IsScriptBatch}
 use Rattle.swd_script.specs.Scripts.{ScriptListed}
 use Rattle.swd_run.specs.declared.engine.Finished.{Finished}
 use Rattle.swd_run.specs.declared.fault.EngineFault.TheVariants.{Memory, Write}
+use Rattle.swd_run.specs.declared.limits.Limits.{Limits}
 use Rattle.swd_run.specs.Engine.{BatchAnswers, IsScriptFinished, RanBatches}
 use Rattle.swd_run.specs.Records.{AreRunFilesLeft, no_run_files}
 use Rattle.swd_run.specs.Reports.{HasReportWritten, batch_report, session_text}
@@ -80,7 +81,7 @@ stopped_after total before more old mid new a b text sum gone stop whole =
       count = counts total before more (length a) stop.sent sum gone.count stop.count;
     }
 
-module _ {W : Type 0} (wire : Ghosts W) (tries resumes : ℕ)
+module _ {W : Type 0} (wire : Ghosts W) (limits : Limits)
     (batches : List ScriptListed) (s : W) (old : Option (List ℕ)) where
   -- The runs of the first i batches, to this state of the wire, with what they come to. The report's writer has their
   -- report, and so many bytes are counted. `opened` says whether the target is open for the next run.
@@ -88,7 +89,7 @@ module _ {W : Type 0} (wire : Ghosts W) (tries resumes : ℕ)
       Type 0 where
     pub made : List BatchRuns
     pub unfolds : Unfolds (take i batches) made
-    pub are : RunsBatches wire false batch_limit tries resumes s (calls_of (take i batches) made) (runs_of made) t
+    pub are : RunsBatches wire false batch_limit limits s (calls_of (take i batches) made) (runs_of made) t
     pub is : IsScriptFinished (take i batches) made None finished
     pub gone : HasReportWritten old now (session_text (take i batches) made) written
     pub is_open : opened ≡ script_is_open false (runs_of made)
@@ -127,17 +128,17 @@ module _ {W : Type 0} (wire : Ghosts W) (tries resumes : ℕ)
         → session_text (take i batches) so_far.made ≡ session_text batches so_far.made
     front_text low = front session_text (report_pairs_front batch_report) low
 
-    abbrev ran : i ≤ length batches → RanBatches wire tries resumes batches s t
+    abbrev ran : i ≤ length batches → RanBatches wire limits batches s t
     ran low = record {
       made = so_far.made;
       unfolds = subst (λ n. Unfolds (take n batches) so_far.made) (sym (counted low)) so_far.unfolds;
-      are = subst (λ calls. RunsBatches wire false batch_limit tries resumes s calls (runs_of so_far.made) t)
+      are = subst (λ calls. RunsBatches wire false batch_limit limits s calls (runs_of so_far.made) t)
           (front calls_of unfolded_calls_front low) so_far.are;
     }
 
     -- no run is left, or the last one did not end all, or its word never came
     pub all_told : i ≤ length batches → (finished.ended ≡ All → finished.never_came ≡ false → i ≡ length batches)
-        → BatchAnswers wire tries resumes batches s t (Ok finished) old now no_run_files no_run_files
+        → BatchAnswers wire limits batches s t (Ok finished) old now no_run_files no_run_files
     all_told low whole = (
       ran low,
       λ all came. counted low
@@ -157,8 +158,8 @@ module _ {W : Type 0} (wire : Ghosts W) (tries resumes : ℕ)
     -- memory was refused for the next one
     pub refused_next : finished.ended ≡ All → finished.never_came ≡ false → i ≤ length batches → (batch : ScriptListed)
         (later : List ScriptListed) → drop i batches ≡ batch ∷ later → (u : W)
-        → IsCutShort wire opened tries resumes batch t u
-        → BatchAnswers wire tries resumes batches s u (Err Memory) old now no_run_files no_run_files
+        → IsCutShort wire opened limits batch t u
+        → BatchAnswers wire limits batches s u (Err Memory) old now no_run_files no_run_files
     refused_next all came low batch later next u refused = (
       record {
         between = t;
@@ -168,7 +169,7 @@ module _ {W : Type 0} (wire : Ghosts W) (tries resumes : ℕ)
         batch = batch;
         later = later;
         next = ap (λ n. drop n batches) (counted low) ∙ next;
-        refused = subst (λ o. IsCutShort wire o tries resumes batch t u) so_far.is_open refused;
+        refused = subst (λ o. IsCutShort wire o limits batch t u) so_far.is_open refused;
       },
       subst (Appends old now) (front_text low) so_far.gone.gone,
       untouched,
@@ -177,13 +178,13 @@ module _ {W : Type 0} (wire : Ghosts W) (tries resumes : ℕ)
     -- the runs of the next batch
     module _ (all : finished.ended ≡ All) (came : finished.never_came ≡ false) (batch : ScriptListed)
         (split : take (i + 1) batches ≡ take i batches ++ batch ∷ []) (runs : BatchRuns) (u : W)
-        (performs : Performs wire opened tries resumes batch t runs u) (told : HostReport)
+        (performs : Performs wire opened limits batch t runs u) (told : HostReport)
         (last_is : runs.last.told ≡ told) (new : Option (List ℕ)) where
       unfolds_next : Unfolds (take (i + 1) batches) (so_far.made ++ runs ∷ [])
       unfolds_next = subst (λ z. Unfolds z (so_far.made ++ runs ∷ [])) (sym split)
           (batch_more so_far.unfolds (sym so_far.is.never_came ∙ came) performs.are)
 
-      runs_next : RunsBatches wire false batch_limit tries resumes s (calls_of (take (i + 1) batches)
+      runs_next : RunsBatches wire false batch_limit limits s (calls_of (take (i + 1) batches)
           (so_far.made ++ runs ∷ [])) (runs_of (so_far.made ++ runs ∷ [])) u
       runs_next =
           let before = calls_of (take i batches) so_far.made in
@@ -192,12 +193,12 @@ module _ {W : Type 0} (wire : Ghosts W) (tries resumes : ℕ)
           let calls : before ++ next ≡ calls_of (take (i + 1) batches) (so_far.made ++ runs ∷ []) =
           sym (unfolded_calls_last (take i batches) so_far.made batch runs as_batches)
           ∙ ap (λ z. calls_of z (so_far.made ++ runs ∷ [])) (sym split) in
-          subst (λ z. RunsBatches wire false batch_limit tries resumes s z (runs_of (so_far.made ++ runs ∷ [])) u)
-          calls (subst (λ z. RunsBatches wire false batch_limit tries resumes s (before ++ next) z u)
+          subst (λ z. RunsBatches wire false batch_limit limits s z (runs_of (so_far.made ++ runs ∷ [])) u)
+          calls (subst (λ z. RunsBatches wire false batch_limit limits s (before ++ next) z u)
           (sym (unfolded_runs_last so_far.made runs))
-          (runs_append wire false batch_limit tries resumes s t before (runs_of so_far.made) u next ended
+          (runs_append wire false batch_limit limits s t before (runs_of so_far.made) u next ended
           so_far.are (sym so_far.is.ended ∙ all)
-          (subst (λ o. RunsBatches wire o batch_limit tries resumes t next ended u) so_far.is_open
+          (subst (λ o. RunsBatches wire o batch_limit limits t next ended u) so_far.is_open
           (then performs.earlier (earlier_reads_ended_all batch.until runs.earlier performs.are.earlier)
           performs.last))))
 
@@ -239,7 +240,7 @@ module _ {W : Type 0} (wire : Ghosts W) (tries resumes : ℕ)
       -- `Write`, with the number of all bytes written
       pub stopped_in : (written_next total : ℕ) → i < length batches
           → OutputStopped written_next now new (batch_report batch runs) → Sums total written written_next
-          → BatchAnswers wire tries resumes batches s u (Err (Write total)) old new no_run_files
+          → BatchAnswers wire limits batches s u (Err (Write total)) old new no_run_files
           no_run_files
       stopped_in written_next total low stop sum =
           let front = session_text (take i batches) so_far.made in
@@ -256,7 +257,7 @@ module _ {W : Type 0} (wire : Ghosts W) (tries resumes : ℕ)
             record {
               made = made;
               unfolds = subst (λ n. Unfolds (take n batches) made) many unfolds_next;
-              are = subst (λ z. RunsBatches wire false batch_limit tries resumes s z (runs_of made) u) calls
+              are = subst (λ z. RunsBatches wire false batch_limit limits s z (runs_of made) u) calls
                   runs_next;
             },
             inl (

@@ -13,6 +13,7 @@ use Rattle.swd_recorder.specs.Steps.{recorded_due_count}
 use Rattle.swd_host.specs.declared.outcome.End.TheVariants.{All, Lost}
 use Rattle.swd_host.specs.Reports.{IsAtRest, host_due_at_end}
 use Rattle.swd_script.specs.Scripts.{ScriptListed, ScriptMeaning}
+use Rattle.swd_run.specs.declared.limits.Limits.{Limits}
 use Rattle.swd_run.specs.GoingOn.{script_calls_in_all}
 use Rattle.swd_run.specs.Running.{RunsScript, ScriptSession, script_bus, none as no_run, then as then_run}
 use Rattle.swd_run.specs.Sessions.{batch_limit, ScriptRun, RunsBatchFrom, RunsBatches, script_ended, none, then}
@@ -76,13 +77,13 @@ batch_map_drop_next f xs i d low =
 
 -- ---- runs over a wire
 
-module _ {W : Type 0} (wire : Ghosts W) (tries resumes : ℕ) (s : W) where
+module _ {W : Type 0} (wire : Ghosts W) (limits : Limits) (s : W) where
   -- nothing is due after a run that ended `All`
   pub due_then : {opened : Bool} (batch : ScriptListed) (run : ScriptRun) (t u : W) → run.told.ended ≡ All
-      → RunsBatchFrom wire opened (batch_limit batch) tries resumes batch t run u
+      → RunsBatchFrom wire opened (batch_limit batch) limits batch t run u
       → (wire.port u).link.due ≡ Nothing
   due_then batch run t u all goes =
-      due_after wire (batch_limit batch) batch.accesses tries t run.stops run.told u goes.went
+      due_after wire (batch_limit batch) batch.accesses limits.tries t run.stops run.told u goes.went
       ∙ ap host_due_at_end all
 
   -- from a target at rest
@@ -96,7 +97,7 @@ module _ {W : Type 0} (wire : Ghosts W) (tries resumes : ℕ) (s : W) where
 
     -- after runs of a script that leave a lawful wire, all of this holds
     pub ends : (batches : List ScriptListed) (runs : List ScriptRun) (t : W)
-        → RunsBatches wire false batch_limit tries resumes s batches runs t → wire.lawful t → Ends runs t
+        → RunsBatches wire false batch_limit limits s batches runs t → wire.lawful t → Ends runs t
     ends batches runs t none law = record {
       law = law;
       open_for = λ all. rest;
@@ -112,18 +113,18 @@ module _ {W : Type 0} (wire : Ghosts W) (tries resumes : ℕ) (s : W) where
     ends batches runs t (then {batches = before} {runs = earlier} {t = u} {u = v} {batch = batch} {run = run}
         runs_before all goes) law =
         let n : ℕ = batch_limit batch in
-        let back : wire.lawful u = law_before wire n batch.accesses tries u run.stops run.told v goes.went law in
+        let back : wire.lawful u = law_before wire n batch.accesses limits.tries u run.stops run.told v goes.went law in
         let h : Ends earlier u = ends before earlier u runs_before back in
         let r : ScriptStarts (script_is_open false earlier) (wire.port u) = h.open_for all in
         let last : script_ended (earlier ++ run ∷ []) ≡ run.told.ended = script_ended_last earlier run in
-        let many = asked wire n batch.accesses tries u r run.stops run.told v goes.went law in
-        let ending_is = ending wire n batch.accesses tries u r run.stops run.told v goes.went law in
+        let many = asked wire n batch.accesses limits.tries u r run.stops run.told v goes.went law in
+        let ending_is = ending wire n batch.accesses limits.tries u r run.stops run.told v goes.went law in
         let before_counted = h.counted in
         let sum = requests_last earlier run in
         record {
           law = h.law;
           open_for = λ e. subst (λ opened. ScriptStarts opened (wire.port v)) (sym (script_open_last false earlier run))
-              (opens wire n batch.accesses tries u r run.stops run.told v goes.went law (sym last ∙ e));
+              (opens wire n batch.accesses limits.tries u r run.stops run.told v goes.went law (sym last ∙ e));
           counted = omega (arith, many, before_counted, sum);
           ending = subst (λ x. (recorded_due_count (wire.port v).link.due ≡ 0)
               × (((wire.port v).link.due ≡ DueLost) ↔ (x ≡ Lost))) (sym last) ending_is;
@@ -132,7 +133,7 @@ module _ {W : Type 0} (wire : Ghosts W) (tries resumes : ℕ) (s : W) where
     -- over a lawful wire, from a target at rest and a count of 0, the requests counted are those of the runs; no
     -- transaction is incomplete, and a line reset is due exactly if the runs ended `Lost`
     pub recorded : (batches : List ScriptListed) (runs : List ScriptRun) (t : W) → (wire.port s).tally.asked ≡ 0
-        → RunsBatches wire false batch_limit tries resumes s batches runs t → wire.lawful t
+        → RunsBatches wire false batch_limit limits s batches runs t → wire.lawful t
         → IsRunTraceRecorded (script_requests runs) (script_ended runs) (wire.port t)
     recorded batches runs t no_request all law =
         let h : Ends runs t = ends batches runs t all law in
@@ -145,21 +146,21 @@ module _ {W : Type 0} (wire : Ghosts W) (tries resumes : ℕ) (s : W) where
         → ((wire.port w).tally.disturbed ≤ port_disturbed_among marks)
         × ((wire.port w).tally.lost ≤ port_lost_among marks)) where
       pub sessions : (batches : List ScriptListed) (runs : List ScriptRun) (t : W)
-          → RunsBatches wire false batch_limit tries resumes s batches runs t → wire.lawful t
-          → (wire.plan t ≡ marks) × ScriptSession tries resumes marks (wire.port s).target.memory batches runs
+          → RunsBatches wire false batch_limit limits s batches runs t → wire.lawful t
+          → (wire.plan t ≡ marks) × ScriptSession limits marks (wire.port s).target.memory batches runs
           (wire.port t).target.memory
       sessions batches runs t none law = (planned, no_run)
       sessions batches runs t (then {batches = before} {runs = earlier} {t = u} {u = v} {batch = batch} {run = run}
           runs_before all goes) law =
           let n : ℕ = batch_limit batch in
-          let back : wire.lawful u = law_before wire n batch.accesses tries u run.stops run.told v goes.went
+          let back : wire.lawful u = law_before wire n batch.accesses limits.tries u run.stops run.told v goes.went
           law in
           let (same, session) = sessions before earlier u runs_before back in
           let opened : Bool = script_is_open false earlier in
           let r : ScriptStarts opened (wire.port u) = (ends before earlier u runs_before back).open_for all in (
-            plan_kept wire n batch.accesses tries u run.stops run.told v goes.went ∙ same,
+            plan_kept wire n batch.accesses limits.tries u run.stops run.told v goes.went ∙ same,
             then_run session all
-                (runs_on wire opened tries resumes batch marks run u v r law goes same marked),
+                (runs_on wire opened limits batch marks run u v r law goes same marked),
           )
 
 -- ---- batches and runs as they are kept
@@ -173,24 +174,24 @@ each_batch_at P f xs i x each is low =
 
 -- ---- a script over a target that was just made
 
-module _ {W : Type 0} (wire : Ghosts W) (tries resumes : ℕ)
+module _ {W : Type 0} (wire : Ghosts W) (limits : Limits)
     (script : ScriptMeaning) (marks : List Mark) (made : List BatchRuns) (s t : W)
     (is_made : wire.port s ≡ made_port 731911287 (script_bus script)) (planned : wire.plan s ≡ marks)
     (marked : (w : W) → wire.plan w ≡ marks
     → ((wire.port w).tally.disturbed ≤ port_disturbed_among marks) × ((wire.port w).tally.lost ≤ port_lost_among marks))
     (law : wire.lawful t) (unfolds : Unfolds (take (length made) script.batches) made)
-    (all : RunsBatches wire false batch_limit tries resumes s (calls_of script.batches made) (runs_of made) t)
+    (all : RunsBatches wire false batch_limit limits s (calls_of script.batches made) (runs_of made) t)
   where
     -- over a lawful wire the runs of a script's first batches are those from its initial memory, and leave the target's
     -- memory
-    pub script_runs : RunsScript tries resumes script marks made (wire.port t).target.memory
+    pub script_runs : RunsScript limits script marks made (wire.port t).target.memory
     script_runs =
         let rest : IsAtRest (wire.port s) = script_target_at_rest (script_bus script) (wire.port s) is_made in
         let calls : List ScriptListed = calls_of script.batches made in
-        let (same, session) = sessions wire tries resumes s rest marks planned marked calls (runs_of made) t
+        let (same, session) = sessions wire limits s rest marks planned marked calls (runs_of made) t
         all law in
         record {
           unfolds = unfolds;
-          session = subst (λ m. ScriptSession tries resumes marks m calls (runs_of made) (wire.port t).target.memory)
+          session = subst (λ m. ScriptSession limits marks m calls (runs_of made) (wire.port t).target.memory)
               (ap (λ x. x.target.memory) is_made) session;
         }

@@ -7,6 +7,7 @@ use Rattle.swd_host.specs.Again.{ResumeReportsCalls}
 use Rattle.swd_host.specs.Reports.{HostReport}
 use Rattle.swd_host.specs.Sent.{HostCalls}
 use Rattle.swd_script.specs.Scripts.{ScriptListed}
+use Rattle.swd_run.specs.declared.limits.Limits.{Limits}
 use Rattle.swd_run.specs.Engine.{RanBatchesShort}
 use Rattle.swd_run.specs.declared.going_on.Stop.{Stop}
 use Rattle.swd_run.specs.GoingOn.{ScriptCallsFrom, ScriptReportsCalls, ran, resumed, script_stop_of}
@@ -42,10 +43,10 @@ module _ {W : Type 0} (wire : Ghosts W) {opened : Bool} (limit : ℕ) (list : Li
       (ScriptReportsCalls list (before ++ script_stop_of e ∷ []) a) s u v
       (λ first next is more. told_again is more) (went_told before e u went) says
 
-module _ {W : Type 0} (wire : Ghosts W) (opened : Bool) (most : ScriptListed → ℕ) (tries resumes : ℕ) (s : W) where
+module _ {W : Type 0} (wire : Ghosts W) (opened : Bool) (most : ScriptListed → ℕ) (limits : Limits) (s : W) where
   -- those of successive runs are those that their reports tell
   pub runs_told : (batches : List ScriptListed) (runs : List ScriptRun) (t : W)
-      → RunsBatches wire opened most tries resumes s batches runs t
+      → RunsBatches wire opened most limits s batches runs t
       → HostCalls wire.notes (ScriptRunsReportCalls batches runs) s t
   runs_told batches runs t none = λ calls noted. ([], noted, no_run)
   runs_told batches runs t
@@ -54,10 +55,10 @@ module _ {W : Type 0} (wire : Ghosts W) (opened : Bool) (most : ScriptListed →
       (ScriptReportsCalls batch.accesses run.stops run.told)
       (ScriptRunsReportCalls (before ++ batch ∷ []) (earlier ++ run ∷ [])) s u v
       (λ first next is more. one_run batch run is more) (runs_told before earlier u prior)
-      (went_told wire (most batch) batch.accesses tries u run.stops run.told v goes.went)
+      (went_told wire (most batch) batch.accesses limits.tries u run.stops run.told v goes.went)
 
 -- a run that ran out of memory: further runs of its batch, if it was made at all
-module _ {W : Type 0} (wire : Ghosts W) (opened : Bool) (tries resumes : ℕ) (batch : ScriptListed)
+module _ {W : Type 0} (wire : Ghosts W) (opened : Bool) (limits : Limits) (batch : ScriptListed)
     (batches : List ScriptListed) (earlier runs : List ScriptRun) (s u : W) where
   abbrev Further : W → Type 0
   Further t = (more : List ScriptRun)
@@ -65,7 +66,7 @@ module _ {W : Type 0} (wire : Ghosts W) (opened : Bool) (tries resumes : ℕ) (b
 
   refused_told : (t : W)
       → HostCalls wire.notes (ScriptRunsReportCalls (batches ++ batch_again batch runs) (earlier ++ runs)) s u
-      → IsBatchRefused wire opened (batch_limit batch) tries resumes batch u t → Further t
+      → IsBatchRefused wire opened (batch_limit batch) limits batch u t → Further t
   refused_told t before (unsent same) = (
     runs,
     subst (HostCalls wire.notes (ScriptRunsReportCalls (batches ++ batch_again batch runs) (earlier ++ runs)) s)
@@ -88,23 +89,23 @@ module _ {W : Type 0} (wire : Ghosts W) (opened : Bool) (tries resumes : ℕ) (b
             batches_are
             (subst (λ (l : List ScriptRun). ScriptRunsReportCalls ((batches ++ batch_again batch runs) ++ batch ∷ []) l
             (next ++ first)) runs_are (one_run batch run is more))) before
-            (went_told wire (batch_limit batch) batch.accesses tries u stops told t went),
+            (went_told wire (batch_limit batch) batch.accesses limits.tries u stops told t went),
       )
 
 -- where memory ran out, the calls so far are those that the reports of the runs so far tell
-pub short_told : {W : Type 0} (wire : Ghosts W) (tries resumes : ℕ) (batches : List ScriptListed) (s t : W)
-    (over : RanBatchesShort wire tries resumes batches s t)
+pub short_told : {W : Type 0} (wire : Ghosts W) (limits : Limits) (batches : List ScriptListed) (s t : W)
+    (over : RanBatchesShort wire limits batches s t)
     → (more : List ScriptRun)
     × HostCalls wire.notes (ScriptRunsReportCalls (calls_of batches over.before.made
     ++ first_batch_again (drop (length over.before.made) batches) more) (runs_of over.before.made ++ more)) s t
-short_told wire tries resumes batches s t over =
+short_told wire limits batches s t over =
     let made = over.before.made in
     let cut = over.refused in
     let calls : List ScriptListed = calls_of batches made in
-    let whole = runs_append wire false batch_limit tries resumes s over.between calls (runs_of made) cut.between
+    let whole = runs_append wire false batch_limit limits s over.between calls (runs_of made) cut.between
     (batch_again over.batch cut.runs) cut.runs over.before.are over.all cut.earlier in
-    let further = refused_told wire _ tries resumes over.batch calls (runs_of made) cut.runs s cut.between t
-    (runs_told wire false batch_limit tries resumes s (calls ++ batch_again over.batch cut.runs)
+    let further = refused_told wire _ limits over.batch calls (runs_of made) cut.runs s cut.between t
+    (runs_told wire false batch_limit limits s (calls ++ batch_again over.batch cut.runs)
     (runs_of made ++ cut.runs) cut.between whole) cut.refused in (
       further.0,
       subst (λ (l : List ScriptListed). HostCalls wire.notes (ScriptRunsReportCalls (calls

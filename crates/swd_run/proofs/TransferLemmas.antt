@@ -21,6 +21,7 @@ use Rattle.swd_host.specs.Plain.{answers_of, memory_after}
 use Rattle.swd_host.specs.Reports.{HostEndsAt, IsAtRest, RunFitsFrom, HostReport}
 use Rattle.swd_host.specs.Sessions.{HostSession, none as no_call, then as one_call}
 use Rattle.swd_script.specs.Scripts.{ScriptListed}
+use Rattle.swd_run.specs.declared.limits.Limits.{Limits}
 use Rattle.swd_run.specs.Sessions.{ScriptRun, RunsBatches, batch_limit, script_is_open, none as no_run}
 use Rattle.swd_run.specs.Sessions.{then as one_run}
 use Rattle.swd_run.specs.Starts.{ScriptStarts, script_opening_requests}
@@ -175,33 +176,33 @@ answers_last (first ∷ runs) run =
     ap (λ l. first.told.answers ++ l) (answers_last runs run)
     ∙ sym (append_assoc first.told.answers (report_answers_in runs) run.told.answers)
 
-module _ {W : Type 0} (wire : Ghosts W) (tries resumes : ℕ) (s : W)
+module _ {W : Type 0} (wire : Ghosts W) (limits : Limits) (s : W)
     (rest : IsAtRest (wire.port s)) where
   -- calls that each ended `All`, none resumed, logged the transfers of their answers
   calls_logged : (batches : List ScriptListed) (runs : List ScriptRun) (t : W)
-      → RunsBatches wire false batch_limit tries resumes s batches runs t → wire.lawful t → AreWholeRuns runs
+      → RunsBatches wire false batch_limit limits s batches runs t → wire.lawful t → AreWholeRuns runs
       → HasLogged (wire.port s) (report_accesses_in batches) (report_answers_in runs) (wire.port t)
   calls_logged batches runs t no_run law whole = nothing_logged (wire.port s)
   calls_logged batches runs t (one_run {batches = before} {runs = earlier} {t = u} {u = v} {batch = batch} {run = run}
       prior all goes) law whole =
       let n : ℕ = batch_limit batch in
       let (early, unstopped, ended) = whole_last earlier run whole in
-      let back : wire.lawful u = law_before wire n batch.accesses tries u run.stops run.told v goes.went law in
+      let back : wire.lawful u = law_before wire n batch.accesses limits.tries u run.stops run.told v goes.went law in
       let starts : ScriptStarts (script_is_open false earlier) (wire.port u) =
-      (ends wire tries resumes s rest before earlier u prior back).open_for all in
-      let over = (alone wire n batch.accesses tries u starts run.stops run.told v goes.went law unstopped).1
+      (ends wire limits s rest before earlier u prior back).open_for all in
+      let over = (alone wire n batch.accesses limits.tries u starts run.stops run.told v goes.went law unstopped).1
       in
       subst (λ list. HasLogged (wire.port s) list (report_answers_in (earlier ++ run ∷ [])) (wire.port v))
       (sym (accesses_last before batch))
       (subst (λ answers. HasLogged (wire.port s) (report_accesses_in before ++ batch.accesses) answers (wire.port v))
       (sym (answers_last earlier run))
       (logged_more (wire.port s) (report_accesses_in before) (report_answers_in earlier) (wire.port u) (wire.port v)
-      (calls_logged before earlier u prior back early) (script_opening_requests (script_is_open false earlier)) n tries
-      batch.accesses run.told (over starts) ended))
+      (calls_logged before earlier u prior back early) (script_opening_requests (script_is_open false earlier)) n
+      limits.tries batch.accesses run.told (over starts) ended))
 
   -- what explains the log explains the transfers that their reports state
   pub reported : (batches : List ScriptListed) (runs : List ScriptRun) (t : W) (told : List Shown)
-      → RunsBatches wire false batch_limit tries resumes s batches runs t → wire.lawful t → AreWholeRuns runs
+      → RunsBatches wire false batch_limit limits s batches runs t → wire.lawful t → AreWholeRuns runs
       → Accounted (wire.port s).target.memory.log told (wire.port t)
       → ObservedLog told (report_transfers_in batches runs)
   reported batches runs t told all law whole accounted =

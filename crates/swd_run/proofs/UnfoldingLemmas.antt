@@ -13,6 +13,7 @@ use Rattle.swd_host.specs.Resuming.{host_end_is_all}
 use Rattle.swd_script.specs.declared.batch.Until.{Until}
 use Rattle.swd_script.specs.Scripts.{ScriptListed}
 use Rattle.swd_script.specs.Laws.{IsScriptBatch, IsScriptUntil}
+use Rattle.swd_run.specs.declared.limits.Limits.{Limits}
 use Rattle.swd_run.specs.declared.verified.Difference.{Difference}
 use Rattle.swd_run.specs.Sessions.{ScriptRun, RunsBatchFrom, IsBatchRefused, RunsBatches, script_ended, batch_limit}
 use Rattle.swd_run.specs.Sessions.{script_is_open, none, then}
@@ -98,25 +99,25 @@ script_open_append opened (run ∷ first) [] = refl
 script_open_append opened (run ∷ first) (next ∷ second) = refl
 
 module _ {W : Type 0} (wire : Ghosts W) (opened : Bool)
-    (most : ScriptListed → ℕ) (tries resumes : ℕ) where
+    (most : ScriptListed → ℕ) (limits : Limits) where
   -- runs after runs that all ended `All`
   pub runs_append : (s t : W) (xs : List ScriptListed) (first : List ScriptRun) (u : W) (ys : List ScriptListed)
       (second : List ScriptRun)
-      → RunsBatches wire opened most tries resumes s xs first t → script_ended first ≡ All
-      → RunsBatches wire (script_is_open opened first) most tries resumes t ys second u
-      → RunsBatches wire opened most tries resumes s (xs ++ ys) (first ++ second) u
+      → RunsBatches wire opened most limits s xs first t → script_ended first ≡ All
+      → RunsBatches wire (script_is_open opened first) most limits t ys second u
+      → RunsBatches wire opened most limits s (xs ++ ys) (first ++ second) u
   runs_append s t xs first u ys second before all none =
-      subst (λ z. RunsBatches wire opened most tries resumes s z (first ++ []) u) (sym (append-nil xs))
-      (subst (λ z. RunsBatches wire opened most tries resumes s xs z u) (sym (append-nil first)) before)
+      subst (λ z. RunsBatches wire opened most limits s z (first ++ []) u) (sym (append-nil xs))
+      (subst (λ z. RunsBatches wire opened most limits s xs z u) (sym (append-nil first)) before)
   runs_append s t xs first u ys second before all
       (then {batches = front} {runs = earlier} {t = v} {u = w} {batch = batch} {run = run} prior ended goes) =
       let whole = runs_append s t xs first v front earlier before all prior in
-      subst (λ z. RunsBatches wire opened most tries resumes s z (first ++ (earlier ++ run ∷ [])) w)
+      subst (λ z. RunsBatches wire opened most limits s z (first ++ (earlier ++ run ∷ [])) w)
       (append_assoc xs front (batch ∷ []))
-      (subst (λ z. RunsBatches wire opened most tries resumes s ((xs ++ front) ++ batch ∷ []) z w)
+      (subst (λ z. RunsBatches wire opened most limits s ((xs ++ front) ++ batch ∷ []) z w)
       (append_assoc first earlier (run ∷ []))
       (then whole (ended_append first earlier all ended)
-      (subst (λ o. RunsBatchFrom wire o (most batch) tries resumes batch v run w)
+      (subst (λ o. RunsBatchFrom wire o (most batch) limits batch v run w)
       (script_open_append opened first earlier) goes)))
 
 -- a batch once more
@@ -340,12 +341,12 @@ pub until_is_not_none : {until : Until} → Some until ≡ None → ⊥
 until_is_not_none e = cc
 
 module _ {W : Type 0} (wire : Ghosts W) (opened : Bool)
-    (tries resumes : ℕ) (batch : ScriptListed) (s : W) where
+    (limits : Limits) (batch : ScriptListed) (s : W) where
   -- the only run of a batch without `until`
   pub performed_once : (last : ScriptRun) (t : W) → batch.until ≡ None
-      → RunsBatchFrom wire opened (batch_limit batch) tries resumes batch s last t
+      → RunsBatchFrom wire opened (batch_limit batch) limits batch s last t
       → (runs : BatchRuns) × (runs.last ≡ last) × (batch_reads_of runs ≡ 1)
-      × Performs wire opened tries resumes batch s runs t
+      × Performs wire opened limits batch s runs t
   performed_once last t plain goes = (
     record { earlier = []; last = last },
     refl,
@@ -363,9 +364,9 @@ module _ {W : Type 0} (wire : Ghosts W) (opened : Bool)
 
   -- memory was refused for the first run
   pub cut_first : IsScriptBatch batch → (t : W)
-      → IsBatchRefused wire opened (batch_limit batch) tries resumes batch s t
+      → IsBatchRefused wire opened (batch_limit batch) limits batch s t
       → (batch.until ≡ None → t ≡ s)
-      → IsCutShort wire opened tries resumes batch s t
+      → IsCutShort wire opened limits batch s t
   cut_first is t refused unsent = record {
     runs = [];
     are = first batch.until is.waits;
@@ -386,13 +387,13 @@ module _ {W : Type 0} (wire : Ghosts W) (opened : Bool)
       pub many : length earlier + 1 ≡ n
       pub asked : list_all (λ run. asks_again until run) earlier ≡ true
       pub between : W
-      pub runs : RunsBatches wire opened batch_limit tries resumes s (batch_again batch earlier) earlier between
-      pub goes : RunsBatchFrom wire (script_is_open opened earlier) (batch_limit batch) tries resumes batch
+      pub runs : RunsBatches wire opened batch_limit limits s (batch_again batch earlier) earlier between
+      pub goes : RunsBatchFrom wire (script_is_open opened earlier) (batch_limit batch) limits batch
           between last t
 
     -- a first read of an `until`, before which there is none
     pub asking_first : (last : ScriptRun) (t : W)
-        → RunsBatchFrom wire opened (batch_limit batch) tries resumes batch s last t → Asking 1 last t
+        → RunsBatchFrom wire opened (batch_limit batch) limits batch s last t → Asking 1 last t
     asking_first last t goes = record {
       earlier = [];
       many = refl;
@@ -404,16 +405,16 @@ module _ {W : Type 0} (wire : Ghosts W) (opened : Bool)
 
     module _ (n : ℕ) (last : ScriptRun) (t : W) (asking : Asking n last t) where
       -- the runs so far, and the last one among them
-      runs_more : RunsBatches wire opened batch_limit tries resumes s
+      runs_more : RunsBatches wire opened batch_limit limits s
           (batch_again batch (asking.earlier ++ last ∷ [])) (asking.earlier ++ last ∷ []) t
       runs_more =
-          subst (λ z. RunsBatches wire opened batch_limit tries resumes s z (asking.earlier ++ last ∷ []) t)
+          subst (λ z. RunsBatches wire opened batch_limit limits s z (asking.earlier ++ last ∷ []) t)
           (sym (batch_again_append batch asking.earlier last))
           (then asking.runs (until_rereads_ended_all until asking.earlier asking.asked) asking.goes)
 
       -- one read more of an `until`, after one that asked for another
       pub asking_more : asks_again until last ≡ true → (next : ScriptRun) (u : W)
-          → RunsBatchFrom wire true (batch_limit batch) tries resumes batch t next u
+          → RunsBatchFrom wire true (batch_limit batch) limits batch t next u
           → Asking (n + 1) next u
       asking_more again_asked next u goes =
           let many = asking.many in
@@ -424,7 +425,7 @@ module _ {W : Type 0} (wire : Ghosts W) (opened : Bool)
             asked = until_rereads_append until asking.earlier last asking.asked again_asked;
             between = t;
             runs = runs_more;
-            goes = subst (λ o. RunsBatchFrom wire o (batch_limit batch) tries resumes batch t next u)
+            goes = subst (λ o. RunsBatchFrom wire o (batch_limit batch) limits batch t next u)
                 (sym (script_open_last opened asking.earlier last)) goes;
           }
 
@@ -433,7 +434,7 @@ module _ {W : Type 0} (wire : Ghosts W) (opened : Bool)
         -- last allowed
         pub performed : n ≤ until.most → (asks_again until last ≡ true → n ≡ until.most)
             → (runs : BatchRuns) × (runs.last ≡ last) × (batch_reads_of runs ≡ n)
-            × Performs wire opened tries resumes batch s runs t
+            × Performs wire opened limits batch s runs t
         performed low ends =
             let many = asking.many in
             let runs : BatchRuns = record { earlier = asking.earlier; last = last } in
@@ -455,8 +456,8 @@ module _ {W : Type 0} (wire : Ghosts W) (opened : Bool)
 
         -- memory was refused for the next one
         pub cut_later : asks_again until last ≡ true → n < until.most → (u : W)
-            → IsBatchRefused wire true (batch_limit batch) tries resumes batch t u
-            → IsCutShort wire opened tries resumes batch s u
+            → IsBatchRefused wire true (batch_limit batch) limits batch t u
+            → IsCutShort wire opened limits batch s u
         cut_later again_asked low u refused =
             let many = asking.many in
             let longer = length-append asking.earlier (last ∷ []) in
@@ -469,7 +470,7 @@ module _ {W : Type 0} (wire : Ghosts W) (opened : Bool)
               are = subst (λ x. AreEarlierReads x more) (sym waits) are;
               between = t;
               earlier = runs_more;
-              refused = subst (λ o. IsBatchRefused wire o (batch_limit batch) tries resumes batch t u)
+              refused = subst (λ o. IsBatchRefused wire o (batch_limit batch) limits batch t u)
                   (sym (script_open_last opened asking.earlier last)) refused;
               unsent = λ plain. absurd (until_is_not_none (sym waits ∙ plain));
             }

@@ -29,6 +29,7 @@ use Rattle.swd_host.proofs.Chains.{resume_target_known, resume_chain_repeats}
 use Rattle.swd_host.proofs.ReadChains.{resume_chain_reads}
 use Rattle.swd_script.specs.Scripts.{ScriptListed}
 use Rattle.swd_run.specs.declared.going_on.Stop.{Stop}
+use Rattle.swd_run.specs.declared.limits.Limits.{Limits}
 use Rattle.swd_run.specs.GoingOn.{ScriptCallsFrom, ran, resumed, script_stop_of, script_stops_of}
 use Rattle.swd_run.specs.GoingOn.{script_requests_before, script_chain_calls, script_chain_last, script_most_resumed}
 use Rattle.swd_run.specs.GoingOn.{IsScriptCall, AreScriptCalls, script_answered_first, script_begun_first}
@@ -598,55 +599,54 @@ module _ {W : Type 0} (wire : Ghosts W) {opened : Bool} (limit : ℕ)
 -- ---- a run of a script
 
 -- it ends all, where the plan loses no more than it may be resumed, and disturbs no more than the tries allow
-whole_by : (ended : End) (tries resumes : ℕ) (marks : List Mark) → IsRunExcused ended tries marks
-    → (ended ≡ Lost → resumes < port_lost_among marks) → port_lost_among marks ≤ resumes
-    → port_disturbed_among marks ≤ tries → ended ≡ All
-whole_by All tries resumes marks e last lost few = refl
-whole_by Lost tries resumes marks e last lost few = let h = last refl in absurd (omega (arith, h, lost))
-whole_by TriesOut tries resumes marks e last lost few = absurd (omega (arith, e, few))
-whole_by (WrongId word) tries resumes marks e last lost few = absurd e
-whole_by Confused tries resumes marks e last lost few = absurd e
+whole_by : (ended : End) (limits : Limits) (marks : List Mark) → IsRunExcused ended limits.tries marks
+    → (ended ≡ Lost → limits.resumes < port_lost_among marks) → port_lost_among marks ≤ limits.resumes
+    → port_disturbed_among marks ≤ limits.tries → ended ≡ All
+whole_by All limits marks e last lost few = refl
+whole_by Lost limits marks e last lost few = let h = last refl in absurd (omega (arith, h, lost))
+whole_by TriesOut limits marks e last lost few = absurd (omega (arith, e, few))
+whole_by (WrongId word) limits marks e last lost few = absurd e
+whole_by Confused limits marks e last lost few = absurd e
 
 -- a run over a target at rest or open, under a plan of these marks
 module _ {W : Type 0} (wire : Ghosts W) (opened : Bool)
-    (tries resumes : ℕ) (batch : ScriptListed) (marks : List Mark) (run : ScriptRun) (s t : W)
+    (limits : Limits) (batch : ScriptListed) (marks : List Mark) (run : ScriptRun) (s t : W)
     (starts : ScriptStarts opened (wire.port s)) (law : wire.lawful t)
-    (goes : RunsBatchFrom wire opened (batch_limit batch) tries resumes batch s run t) where
+    (goes : RunsBatchFrom wire opened (batch_limit batch) limits batch s run t) where
   -- over a lawful wire, from a target at rest and under a plan, a run that may be resumed states what `RunsOn` says
   -- of the plain memory
   pub runs_on : wire.plan s ≡ marks
       → ((w : W) → wire.plan w ≡ marks → ((wire.port w).tally.disturbed ≤ port_disturbed_among marks)
       × ((wire.port w).tally.lost ≤ port_lost_among marks))
-      → RunsOn opened tries resumes batch (wire.port s).target.memory marks run.stops run.told
+      → RunsOn opened limits batch (wire.port s).target.memory marks run.stops run.told
       (wire.port t).target.memory
   runs_on planned marked =
       let stops : List Stop = run.stops in
       let told : HostReport = run.told in
       let n : ℕ = batch_limit batch in
       let list : List Access = batch.accesses in
-      let went : ScriptCallsFrom wire opened (batch_limit batch) batch.accesses tries s run.stops run.told t =
+      let went : ScriptCallsFrom wire opened (batch_limit batch) batch.accesses limits.tries s run.stops run.told t =
       goes.went in
       let bounded : (w : W) → wire.plan w ≡ wire.plan s → ((wire.port w).tally.disturbed ≤ port_disturbed_among marks)
       × ((wire.port w).tally.lost ≤ port_lost_among marks) =
       λ w same. marked w (same ∙ planned) in
-      let planned_at : wire.plan t ≡ marks = plan_kept wire n list tries s stops told t went ∙ planned in
+      let planned_at : wire.plan t ≡ marks = plan_kept wire n list limits.tries s stops told t went ∙ planned in
       let at_end = marked t planned_at in
       let at_start = marked s planned in
-      let excused : IsRunExcused told.ended tries marks = excused_by wire n list tries s starts marks bounded
-      stops told t went law in
-      let lost : told.ended ≡ Lost → resumes < port_lost_among marks =
-      λ is. (let h = last_lost wire n list tries s starts marks bounded stops told t went law is in let e =
+      let excused : IsRunExcused told.ended limits.tries marks = excused_by wire n list limits.tries s starts marks
+      bounded stops told t went law in
+      let lost : told.ended ≡ Lost → limits.resumes < port_lost_among marks =
+      λ is. (let h = last_lost wire n list limits.tries s starts marks bounded stops told t went law is in let e =
       goes.lost is in omega (arith, h, e)) in
       record {
-        alone = λ none. (let (closes, over) = alone wire n list tries s starts stops told t went law none in
-            batch_run_under_plan opened tries batch marks told (wire.port s) (wire.port t) _ starts at_start.1 at_end.0
-            at_end.1 closes
-            over);
-        tells = tell_of wire n list tries s starts stops told t went law;
+        alone = λ none. (let (closes, over) = alone wire n list limits.tries s starts stops told t went law none in
+            batch_run_under_plan opened limits.tries batch marks told (wire.port s) (wire.port t) _ starts at_start.1
+            at_end.0 at_end.1 closes over);
+        tells = tell_of wire n list limits.tries s starts stops told t went law;
         few = goes.few;
-        lost = stops_lost wire n list tries s starts marks bounded stops told t went law;
+        lost = stops_lost wire n list limits.tries s starts marks bounded stops told t went law;
         excused = excused;
         last = λ is. (goes.lost is, lost is);
-        whole = whole_by told.ended tries resumes marks excused lost;
-        most = sends_most wire n list tries s starts marks bounded stops told t went law;
+        whole = whole_by told.ended limits marks excused lost;
+        most = sends_most wire n list limits.tries s starts marks bounded stops told t went law;
       }

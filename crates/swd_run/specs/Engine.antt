@@ -23,6 +23,7 @@ use Rattle.swd_script.specs.Scripts.{ScriptListed}
 use Rattle.swd_run.specs.declared.engine.Finished.{Finished}
 use Rattle.swd_run.specs.declared.fault.EngineFault.{EngineFault}
 use Rattle.swd_run.specs.declared.fault.EngineFault.TheVariants.{Memory, Write, WriteAccesses, TraceCut}
+use Rattle.swd_run.specs.declared.limits.Limits.{Limits}
 use Rattle.swd_run.specs.Records.{RunAccessesStop, AreRunFilesStarted, AreRunFilesLeft, AreRunFilesWritten, RunFiles}
 use Rattle.swd_run.specs.Records.{IfRunFiles, RunTraceStops, wants_run_files}
 use Rattle.swd_run.specs.Reports.{session_text}
@@ -38,24 +39,24 @@ use Rattle.swd_run.specs.Wires.{run_wire_seen}
 -- that the one before left open. Whatever came back, the calls that were made of the wire are those that the reports
 -- describe, and `ScriptCallCloses` or `ResumeCloses` holds of each. Where the wire is lawful, the theorem of the host
 -- holds too.
-pub record RanBatches {W : Type 0} (wire : Ghosts W) (tries resumes : ℕ)
+pub record RanBatches {W : Type 0} (wire : Ghosts W) (limits : Limits)
     (batches : List ScriptListed) (start end : W) : Type 0 where
   pub made : List BatchRuns
   pub unfolds : Unfolds (take (length made) batches) made
-  pub are : RunsBatches wire false batch_limit tries resumes start (calls_of batches made) (runs_of made)
+  pub are : RunsBatches wire false batch_limit limits start (calls_of batches made) (runs_of made)
       end
 
 -- Such runs, each of which ended `All`, and then one that ran out of memory. It may be a later read of an `until`.
 pub record RanBatchesShort {W : Type 0} (wire : Ghosts W)
-    (tries resumes : ℕ) (batches : List ScriptListed) (start end : W) : Type 0 where
+    (limits : Limits) (batches : List ScriptListed) (start end : W) : Type 0 where
   pub between : W
-  pub before : RanBatches wire tries resumes batches start between
+  pub before : RanBatches wire limits batches start between
   pub all : script_ended (runs_of before.made) ≡ All
   pub came : ends_until batches before.made ≡ false
   pub batch : ScriptListed
   pub later : List ScriptListed
   pub next : drop (length before.made) batches ≡ batch ∷ later
-  pub refused : IsCutShort wire (script_is_open false (runs_of before.made)) tries resumes batch between end
+  pub refused : IsCutShort wire (script_is_open false (runs_of before.made)) limits batch between end
 
 -- The end of the last run, and whether it is the read of an `until` whose word never came. The first `verify` read
 -- whose answer wasn't the expected word, and whether an access was a bus error. And the capacity of the target's log,
@@ -96,8 +97,8 @@ pub record AreItemsSoFar {W : Type 0} (wire : Ghosts W) (end : W) (items : List 
   pub read : AreRunTraceItems items
   pub of_calls : (calls : List Call) → wire.notes calls end → AreItemsOfCalls calls items
 
-module _ {W : Type 0} {wire : Ghosts W} {tries resumes : ℕ} {batches : List ScriptListed} {start end : W}
-    (ran : RanBatches wire tries resumes batches start end) where
+module _ {W : Type 0} {wire : Ghosts W} {limits : Limits} {batches : List ScriptListed} {start end : W}
+    (ran : RanBatches wire limits batches start end) where
   -- The trace of what ran: the items of the calls that the wire noted, whose bits decode to the same items. If the
   -- wire is lawful and the target was at rest, there is one transaction for each request.
   pub record IsTraceOver (items : List Item) : Type 0 where
@@ -178,20 +179,20 @@ module _ {Came Short : Type 0} (batches : List ScriptListed) (used : Option ℕ)
       × (wants_run_files before ≡ true) × AreRunFilesWritten items before after
 
 -- the same over a wire, where no log's capacity is known
-abbrev pub BatchAnswers : {W : Type 0} → Ghosts W → ℕ → ℕ → List ScriptListed → W → W → Result Finished EngineFault
+abbrev pub BatchAnswers : {W : Type 0} → Ghosts W → Limits → List ScriptListed → W → W → Result Finished EngineFault
     → Option (List ℕ) → Option (List ℕ) → RunFiles → RunFiles → Type 0
-BatchAnswers wire tries resumes batches start end answer old new before after =
-    Answers {Came = RanBatches wire tries resumes batches start end}
-    {Short = RanBatchesShort wire tries resumes batches start end} batches None (λ ran. ran.made)
+BatchAnswers wire limits batches start end answer old new before after =
+    Answers {Came = RanBatches wire limits batches start end}
+    {Short = RanBatchesShort wire limits batches start end} batches None (λ ran. ran.made)
     (λ short. short.before.made) IsTraceOver IsOfTraceOver (λ short items. AreItemsSoFar wire end items) answer
     old new before after
 
 -- the same over a wire that counts its requests itself, or if the run is recorded, beside the recorded calls
-abbrev pub BatchAnswersAt : {W : Type 0} → Ghosts W → ℕ → ℕ → List ScriptListed → W → W → Result Finished EngineFault
+abbrev pub BatchAnswersAt : {W : Type 0} → Ghosts W → Limits → List ScriptListed → W → W → Result Finished EngineFault
     → Option (List ℕ) → Option (List ℕ) → RunFiles → RunFiles → Type 0
-BatchAnswersAt wire tries resumes batches start end answer old new before after =
+BatchAnswersAt wire limits batches start end answer old new before after =
     (calls : List Call)
-    × BatchAnswers (run_wire_seen (wants_run_files before) wire (λ noted. wire.notes noted start)) tries resumes batches
+    × BatchAnswers (run_wire_seen (wants_run_files before) wire (λ noted. wire.notes noted start)) limits batches
     ([], start) (calls, end) answer old new before after
 
 -- the files were written, complete or truncated, or only the first bytes of one were

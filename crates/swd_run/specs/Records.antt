@@ -4,35 +4,30 @@ use Rattle.std.specs.Io.KnownBytes.{Appends}
 use Rattle.swd_io.specs.Blocks.{OutputStopped}
 use Rattle.swd_trace.specs.declared.item.Item.{Item}
 use Rattle.swd_trace.specs.Texts.{trace_text}
-use Rattle.swd_capture.specs.declared.printed.Printed.TheVariants.{Accesses}
-use Rattle.swd_capture_text.specs.Captures.{print_items_output}
 use Rattle.swd_run.specs.declared.records.Records.{Records}
-
--- the lines of the accesses that items show, as `swd decode --accesses` prints them; with `made` as with `--made`
-abbrev pub run_accesses_text : Bool → List Item → List ℕ
-run_accesses_text made items = print_items_output (Accesses made) items
 
 -- the contents of a file's writer, if there is one
 abbrev pub run_file_held : {T : Type 0} → (T → Option (List ℕ)) → Option T → Option (Option (List ℕ))
 run_file_held contents None = None
 run_file_held contents (Some writer) = Some (contents writer)
 
--- the contents of both writers, and whether the target begins in its reset state
+-- the contents of both writers, and what is printed of items as their accesses
 pub record RunFiles : Type 0 where
   pub trace : Option (Option (List ℕ))
   pub accesses : Option (Option (List ℕ))
-  pub made : Bool
+  pub shown : List Item → List ℕ
 
-abbrev pub run_files_from : Option (Option (List ℕ)) → Option (Option (List ℕ)) → Bool → RunFiles
-run_files_from trace accesses made = record { trace = trace; accesses = accesses; made = made }
+abbrev pub run_files_from : Option (Option (List ℕ)) → Option (Option (List ℕ)) → (List Item → List ℕ) → RunFiles
+run_files_from trace accesses shown = record { trace = trace; accesses = accesses; shown = shown }
 
-abbrev pub run_files_of : {T G : Type 0} → (T → Option (List ℕ)) → Records T G → RunFiles
-run_files_of contents records = run_files_from (run_file_held contents records.trace)
-    (run_file_held contents records.accesses) records.made
+abbrev pub run_files_of : {T I G : Type 0} → (T → Option (List ℕ)) → (I → List Item → List ℕ) → Records T I G
+    → RunFiles
+run_files_of contents text records = run_files_from (run_file_held contents records.trace)
+    (run_file_held contents records.accesses) (text records.printer)
 
 -- no files
 abbrev pub no_run_files : RunFiles
-no_run_files = record { trace = None; accesses = None; made = false }
+no_run_files = record { trace = None; accesses = None; shown = λ items. [] }
 
 -- whether a file is to be written
 abbrev pub wants_run_files : RunFiles → Bool
@@ -52,10 +47,10 @@ pub record AreRunFilesLeft (before after : RunFiles) : Type 0 where
   pub trace : ForRunFile IsRunFileLeft before.trace after.trace
   pub accesses : ForRunFile IsRunFileLeft before.accesses after.accesses
 
--- the trace of these items and the accesses that they show were written, each if there is a writer for it
+-- the trace of these items and the accesses that are printed of them were written, each if there is a writer for it
 pub record AreRunFilesWritten (items : List Item) (before after : RunFiles) : Type 0 where
   pub trace : ForRunFile (λ old new. Appends old new (trace_text items)) before.trace after.trace
-  pub accesses : ForRunFile (λ old new. Appends old new (run_accesses_text before.made items)) before.accesses
+  pub accesses : ForRunFile (λ old new. Appends old new (before.shown items)) before.accesses
       after.accesses
 
 -- exactly the first bytes of the trace were written, as many as `written` says, and nothing of the accesses
@@ -68,7 +63,7 @@ pub record RunTraceStops (written : ℕ) (items : List Item) (before after : Run
 pub record RunAccessesStop (written : ℕ) (items : List Item) (before after : RunFiles) : Type 0 where
   pub wanted : is_some before.accesses ≡ true
   pub trace : ForRunFile (λ old new. Appends old new (trace_text items)) before.trace after.trace
-  pub accesses : ForRunFile (λ old new. OutputStopped written old new (run_accesses_text before.made items))
+  pub accesses : ForRunFile (λ old new. OutputStopped written old new (before.shown items))
       before.accesses after.accesses
 
 -- the whole text was written, or exactly its first bytes

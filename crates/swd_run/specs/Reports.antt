@@ -16,6 +16,7 @@ use Rattle.swd_host.specs.Reports.{HostReport}
 use Rattle.swd_script.specs.declared.batch.Until.{Until}
 use Rattle.swd_script.specs.Scripts.{ScriptListed}
 use Rattle.swd_run.specs.declared.going_on.Stop.{Stop}
+use Rattle.swd_run.specs.declared.limits.Limits.{Limits}
 use Rattle.swd_run.specs.Sessions.{ScriptRun, RunsBatchFrom, batch_limit}
 use Rattle.swd_port.specs.declared.wire.Wire.{Ghosts}
 use Rattle.swd_run.specs.Unfoldings.{BatchRuns, Performs, until_never_came, batch_reads_of}
@@ -124,25 +125,25 @@ ReportWritesOn (Err told) start now all = OutputStopped told start now all
 -- whether the target is open at s. A writer had the contents `old`, and has `new` now: all of the run's report was
 -- written, or exactly its first bytes and not all.
 pub record ReportsBatchRunFrom {W : Type 0} (wire : Ghosts W)
-    (opened : Bool) (tries resumes : ℕ) (batch : ScriptListed) (s t : W) (old new : Option (List ℕ))
+    (opened : Bool) (limits : Limits) (batch : ScriptListed) (s t : W) (old new : Option (List ℕ))
     (told : HostReport) (written : Result ℕ ℕ) : Type 0 where
   pub run : ScriptRun
   pub last : run.told ≡ told
-  pub goes : RunsBatchFrom wire opened (batch_limit batch) tries resumes batch s run t
+  pub goes : RunsBatchFrom wire opened (batch_limit batch) limits batch s run t
   pub writes : ReportWritesOn written old new (script_run_report batch 1 run)
 
 -- the same for a run that opens the target
-abbrev pub ReportsBatchRun : {W : Type 0} → Ghosts W → (tries resumes : ℕ)
+abbrev pub ReportsBatchRun : {W : Type 0} → Ghosts W → (limits : Limits)
     → ScriptListed → W → W → (old new : Option (List ℕ)) → HostReport → Result ℕ ℕ → Type 0
-ReportsBatchRun wire tries resumes batch s t old new told written =
-    ReportsBatchRunFrom wire false tries resumes batch s t old new told written
+ReportsBatchRun wire limits batch s t old new told written =
+    ReportsBatchRunFrom wire false limits batch s t old new told written
 
 -- The runs of a batch, from the wire s to the wire t, of which the last one has this report. A writer had the contents
 -- `old`, and has `new` now: all of the batch's report was written, or exactly its first bytes and not all.
 pub record IsBatchReported {W : Type 0} (wire : Ghosts W)
-    (opened : Bool) (tries resumes : ℕ) (batch : ScriptListed) (s t : W) (old new : Option (List ℕ))
+    (opened : Bool) (limits : Limits) (batch : ScriptListed) (s t : W) (old new : Option (List ℕ))
     (told : HostReport) (written : Result ℕ ℕ) : Type 0 where
   pub runs : BatchRuns
   pub last : runs.last.told ≡ told
-  pub performs : Performs wire opened tries resumes batch s runs t
+  pub performs : Performs wire opened limits batch s runs t
   pub writes : ReportWritesOn written old new (batch_report batch runs)

@@ -31,6 +31,7 @@ use Rattle.swd_run.specs.declared.fault.TextsFault.{TextsFault}
 use Rattle.swd_run.specs.declared.fault.TextsFault.TheVariants.{Script, Plan, Read}
 use Rattle.swd_run.specs.Engine.{Answers, AreItemsOfCalls, AreRunTraceItems, IsPartOfRunTrace, IsRunTraceOf}
 use Rattle.swd_run.specs.GoingOn.{ScriptCallsReport, script_calls_in_all}
+use Rattle.swd_run.specs.declared.limits.Limits.{Limits}
 use Rattle.swd_run.specs.Records.{AreRunFilesLeft, RunFiles, IsRunFileLeft}
 use Rattle.swd_run.specs.Sessions.{ScriptRun, ScriptRunsReportCalls, script_ended, batch_limit, script_is_open}
 use Rattle.swd_run.specs.Sessions.{script_requests}
@@ -68,18 +69,18 @@ pub record RunsAs (opened : Bool) (tries : ℕ) (batch : ScriptListed) (before :
   pub spends : told.requests ≤ script_most_requests opened tries
       (min (length batch.accesses) (length told.answers + 1))
 
--- The result of a run that may be resumed `resumes` times. If it wasn't resumed, `RunsAs` holds of it.
+-- The result of a run that may be resumed `limits.resumes` times. If it wasn't resumed, `RunsAs` holds of it.
 -- `ScriptCallsReport` holds of its calls in any case. It was resumed at most as often as marks of the plan lose a
--- request. It ends at a lost acknowledgement only if more than `resumes` marks lose a request.
-pub record RunsOn (opened : Bool) (tries resumes : ℕ) (batch : ScriptListed) (before : Bus) (marks : List Mark)
+-- request. It ends at a lost acknowledgement only if more than `limits.resumes` marks lose one.
+pub record RunsOn (opened : Bool) (limits : Limits) (batch : ScriptListed) (before : Bus) (marks : List Mark)
     (stops : List Stop) (told : HostReport) (after : Bus) : Type 0 where
-  pub alone : stops ≡ [] → RunsAs opened tries batch before marks told after
-  pub tells : ScriptCallsReport opened (batch_limit batch) tries batch.accesses before stops told after
-  pub few : length stops ≤ resumes
+  pub alone : stops ≡ [] → RunsAs opened limits.tries batch before marks told after
+  pub tells : ScriptCallsReport opened (batch_limit batch) limits.tries batch.accesses before stops told after
+  pub few : length stops ≤ limits.resumes
   pub lost : length stops ≤ port_lost_among marks
-  pub excused : IsRunExcused told.ended tries marks
-  pub last : told.ended ≡ Lost → (length stops ≡ resumes) × (resumes < port_lost_among marks)
-  pub whole : port_lost_among marks ≤ resumes → port_disturbed_among marks ≤ tries → told.ended ≡ All
+  pub excused : IsRunExcused told.ended limits.tries marks
+  pub last : told.ended ≡ Lost → (length stops ≡ limits.resumes) × (limits.resumes < port_lost_among marks)
+  pub whole : port_lost_among marks ≤ limits.resumes → port_disturbed_among marks ≤ limits.tries → told.ended ≡ All
   -- the requests of all calls
   pub most : (script_calls_in_all stops told).requests ≤ script_opening_requests opened + 6 * length batch.accesses
       + 5 * port_disturbed_among marks
@@ -88,20 +89,20 @@ pub record RunsOn (opened : Bool) (tries resumes : ℕ) (batch : ScriptListed) (
 -- The successive runs of a script over the plain memory. `RunsOn` holds of each run, from the memory that the one
 -- before left. The first one opens the target. A later one starts only if the one before ended `All`, and goes over the
 -- target that this left open.
-pub data ScriptSession (tries resumes : ℕ) (marks : List Mark) (m : Bus) : List ScriptListed → List ScriptRun
+pub data ScriptSession (limits : Limits) (marks : List Mark) (m : Bus) : List ScriptListed → List ScriptRun
     → Bus → Type 0 where
-  none : ScriptSession tries resumes marks m [] [] m
+  none : ScriptSession limits marks m [] [] m
   then : {batches : List ScriptListed} {runs : List ScriptRun} {before after : Bus} {batch : ScriptListed}
-      {run : ScriptRun} → ScriptSession tries resumes marks m batches runs before → script_ended runs ≡ All
-      → RunsOn (script_is_open false runs) tries resumes batch before marks run.stops run.told after
-      → ScriptSession tries resumes marks m (batches ++ batch ∷ []) (runs ++ run ∷ []) after
+      {run : ScriptRun} → ScriptSession limits marks m batches runs before → script_ended runs ≡ All
+      → RunsOn (script_is_open false runs) limits batch before marks run.stops run.told after
+      → ScriptSession limits marks m (batches ++ batch ∷ []) (runs ++ run ∷ []) after
 
 -- The runs of a script's first batches from its initial memory, and the memory that they left: the session of the calls
 -- that these batches unfold to.
-pub record RunsScript (tries resumes : ℕ) (script : ScriptMeaning) (marks : List Mark) (made : List BatchRuns)
+pub record RunsScript (limits : Limits) (script : ScriptMeaning) (marks : List Mark) (made : List BatchRuns)
     (memory : Bus) : Type 0 where
   pub unfolds : Unfolds (take (length made) script.batches) made
-  pub session : ScriptSession tries resumes marks (script_bus script) (calls_of script.batches made) (runs_of made)
+  pub session : ScriptSession limits marks (script_bus script) (calls_of script.batches made) (runs_of made)
       memory
 
 -- the capacity of a memory's log, if the log is full: each later transfer is a bus error
@@ -123,16 +124,16 @@ pub record AreScriptAndPlan (script plan : Option (List ℕ)) (meaning : ScriptM
   pub plans : plan_of plan_text ≡ Ok marks
 
 -- the runs of a script from its initial memory
-pub record RanScript (tries resumes : ℕ) (script : ScriptMeaning) (marks : List Mark) (memory : Bus) : Type 0
+pub record RanScript (limits : Limits) (script : ScriptMeaning) (marks : List Mark) (memory : Bus) : Type 0
   where
     pub made : List BatchRuns
-    pub are : RunsScript tries resumes script marks made memory
+    pub are : RunsScript limits script marks made memory
 
 -- such runs, each of which ended `All`, before one that ran out of memory
-pub record RanScriptShort (tries resumes : ℕ) (script : ScriptMeaning) (marks : List Mark) : Type 0 where
+pub record RanScriptShort (limits : Limits) (script : ScriptMeaning) (marks : List Mark) : Type 0 where
   pub made : List BatchRuns
   pub memory : Bus
-  pub are : RunsScript tries resumes script marks made memory
+  pub are : RunsScript limits script marks made memory
   pub all : script_ended (runs_of made) ≡ All
   pub came : ends_until script.batches made ≡ false
 
@@ -168,23 +169,23 @@ pub record IsTraceUpTo (batches : List ScriptListed) (made : List BatchRuns) (it
   pub of_calls : AreItemsOfCalls calls items
 
 -- What the engine's result states about a script over a new target, and some memory that it is left with.
-abbrev pub ScriptRunAnswers : ℕ → ℕ → ScriptMeaning → List Mark → Result Finished EngineFault → Option (List ℕ)
+abbrev pub ScriptRunAnswers : Limits → ScriptMeaning → List Mark → Result Finished EngineFault → Option (List ℕ)
     → Option (List ℕ) → RunFiles → RunFiles → Type 0
-ScriptRunAnswers tries resumes script marks answer old new before after =
+ScriptRunAnswers limits script marks answer old new before after =
     (memory : Bus)
-    × Answers {Came = RanScript tries resumes script marks memory} {Short = RanScriptShort tries resumes script marks}
+    × Answers {Came = RanScript limits script marks memory} {Short = RanScriptShort limits script marks}
     script.batches (full_room script.room memory) (λ ran. ran.made) (λ short. short.made)
     (λ ran items. IsTraceIn memory (calls_of script.batches ran.made) (runs_of ran.made) items)
     (λ ran items. IsPartOfTraceIn (calls_of script.batches ran.made) (runs_of ran.made) items)
     (λ short items. IsTraceUpTo script.batches short.made items) answer old new before after
 
 -- the inputs were read, and the engine gave this result
-pub record RanScriptText (tries resumes : ℕ) (answer : Result Finished EngineFault)
+pub record RanScriptText (limits : Limits) (answer : Result Finished EngineFault)
     (script plan old new : Option (List ℕ)) (before after : RunFiles) : Type 0 where
   pub meaning : ScriptMeaning
   pub marks : List Mark
   pub read : AreScriptAndPlan script plan meaning marks
-  pub answers : ScriptRunAnswers tries resumes meaning marks answer old new before after
+  pub answers : ScriptRunAnswers limits meaning marks answer old new before after
 
 -- the input, if it is known, is a valid script, or a valid plan
 abbrev pub IsRunScriptInput : Option (List ℕ) → Type 0
@@ -202,13 +203,13 @@ AreRunTextsUnread Read script plan = Unit {0}
 
 -- What a result states about the inputs, if their bytes are known, and about the contents of the writers before and
 -- after.
-abbrev pub RunsText : ℕ → ℕ → Result Finished RunFault → Option (List ℕ) → Option (List ℕ) → Option (List ℕ)
+abbrev pub RunsText : Limits → Result Finished RunFault → Option (List ℕ) → Option (List ℕ) → Option (List ℕ)
     → Option (List ℕ) → RunFiles → RunFiles → Type 0
-RunsText tries resumes (Ok finished) script plan old new before after =
-    RanScriptText tries resumes (Ok finished) script plan old new before after
-RunsText tries resumes (Err (Engine fault)) script plan old new before after =
-    RanScriptText tries resumes (Err fault) script plan old new before after
-RunsText tries resumes (Err (Texts fault)) script plan old new before after =
+RunsText limits (Ok finished) script plan old new before after =
+    RanScriptText limits (Ok finished) script plan old new before after
+RunsText limits (Err (Engine fault)) script plan old new before after =
+    RanScriptText limits (Err fault) script plan old new before after
+RunsText limits (Err (Texts fault)) script plan old new before after =
     AreRunTextsUnread fault script plan × IsRunFileLeft old new × AreRunFilesLeft before after
 
 -- the error of a script that wasn't read

@@ -9,6 +9,7 @@ use Rattle.swd_host.specs.Reports.{HostReport, host_report_of}
 use Rattle.swd_script.specs.Scripts.{ScriptListed}
 use Rattle.swd_run.specs.declared.going_on.Resumed.{Resumed}
 use Rattle.swd_run.specs.declared.going_on.Stop.{Stop}
+use Rattle.swd_run.specs.declared.limits.Limits.{Limits}
 use Rattle.swd_run.specs.GoingOn.{ScriptReportsCalls, ScriptCallsFrom, script_calls_in_all}
 
 -- the places where a run was resumed, and the report of its last call
@@ -39,29 +40,29 @@ abbrev pub script_is_open : Bool → List ScriptRun → Bool
 script_is_open opened [] = opened
 script_is_open opened (run ∷ runs) = true
 
--- One run over a wire, resumed at most `resumes` times. At most `limit` accesses are begun and not answered. `opened`
--- says whether the target is open already.
+-- One run over a wire, resumed at most `limits.resumes` times. At most `limit` accesses are begun and not answered.
+-- `opened` says whether the target is open already.
 pub record RunsBatchFrom {W : Type 0} (wire : Ghosts W) (opened : Bool)
-    (limit tries resumes : ℕ) (batch : ScriptListed) (s : W) (run : ScriptRun) (t : W) : Type 0 where
-  pub went : ScriptCallsFrom wire opened limit batch.accesses tries s run.stops run.told t
-  pub few : length run.stops ≤ resumes
-  pub lost : run.told.ended ≡ Lost → length run.stops ≡ resumes
+    (limit : ℕ) (limits : Limits) (batch : ScriptListed) (s : W) (run : ScriptRun) (t : W) : Type 0 where
+  pub went : ScriptCallsFrom wire opened limit batch.accesses limits.tries s run.stops run.told t
+  pub few : length run.stops ≤ limits.resumes
+  pub lost : run.told.ended ≡ Lost → length run.stops ≡ limits.resumes
 
 -- the same for a run that opens the target
-abbrev pub RunsBatch : {W : Type 0} → Ghosts W → (limit tries resumes : ℕ)
+abbrev pub RunsBatch : {W : Type 0} → Ghosts W → (limit : ℕ) (limits : Limits)
     → ScriptListed → W → ScriptRun → W → Type 0
-RunsBatch wire limit tries resumes batch s run t =
-    RunsBatchFrom wire false limit tries resumes batch s run t
+RunsBatch wire limit limits batch s run t =
+    RunsBatchFrom wire false limit limits batch s run t
 
 -- Successive runs, from the wire s to the wire t. Each starts only if the one before ended `All`, over the target that
 -- this left open. `opened` says whether the target is open at s; else the first run opens it.
 pub data RunsBatches {W : Type 0} (wire : Ghosts W) (opened : Bool)
-    (most : ScriptListed → ℕ) (tries resumes : ℕ) (s : W) : List ScriptListed → List ScriptRun → W → Type 0 where
-  none : RunsBatches wire opened most tries resumes s [] [] s
+    (most : ScriptListed → ℕ) (limits : Limits) (s : W) : List ScriptListed → List ScriptRun → W → Type 0 where
+  none : RunsBatches wire opened most limits s [] [] s
   then : {batches : List ScriptListed} {runs : List ScriptRun} {t u : W} {batch : ScriptListed} {run : ScriptRun}
-      → RunsBatches wire opened most tries resumes s batches runs t → script_ended runs ≡ All
-      → RunsBatchFrom wire (script_is_open opened runs) (most batch) tries resumes batch t run u
-      → RunsBatches wire opened most tries resumes s (batches ++ batch ∷ []) (runs ++ run ∷ []) u
+      → RunsBatches wire opened most limits s batches runs t → script_ended runs ≡ All
+      → RunsBatchFrom wire (script_is_open opened runs) (most batch) limits batch t run u
+      → RunsBatches wire opened most limits s (batches ++ batch ∷ []) (runs ++ run ∷ []) u
 
 -- These calls, the last one first, are those that the reports of successive runs describe.
 pub data ScriptRunsReportCalls : List ScriptListed → List ScriptRun → List Call → Type 0 where
@@ -74,9 +75,9 @@ pub data ScriptRunsReportCalls : List ScriptListed → List ScriptRun → List C
 -- A run from the wire s to the wire t that ran out of memory: before its first bit, or when it was to be resumed after
 -- a lost acknowledgement.
 pub data IsBatchRefused {W : Type 0} (wire : Ghosts W) (opened : Bool)
-    (limit tries resumes : ℕ) (batch : ScriptListed) (s t : W) : Type 0 where
-  unsent : t ≡ s → IsBatchRefused wire opened limit tries resumes batch s t
+    (limit : ℕ) (limits : Limits) (batch : ScriptListed) (s t : W) : Type 0 where
+  unsent : t ≡ s → IsBatchRefused wire opened limit limits batch s t
   unresumed : {stops : List Stop} {told : HostReport}
-      → ScriptCallsFrom wire opened limit batch.accesses tries s stops told t
-      → told.ended ≡ Lost → length stops < resumes
-      → IsBatchRefused wire opened limit tries resumes batch s t
+      → ScriptCallsFrom wire opened limit batch.accesses limits.tries s stops told t
+      → told.ended ≡ Lost → length stops < limits.resumes
+      → IsBatchRefused wire opened limit limits batch s t

@@ -55,7 +55,7 @@ fn run_reporting<W: Wire, O: Write, A: Allocator, G: Progress>(
     ensures answers { report.new.answers.ghost_name ≡ report.old.answers.ghost_name }
     ensures goes { (stops : List StopType) × Goes O.contents (λ answers. answers.items) report.old stops report.new
         × RunsBatchFrom W.Wire options.opened (batch_limit (script_batch_listed batch.now))
-        options.limits.tries options.limits.resumes (script_batch_listed batch.now) wire.old
+        options.limits (script_batch_listed batch.now) wire.old
         (record { stops = stops; told = host_report_to report.new.answers.now.items result }) wire.new }
     ensures plan { W.plan wire.new ≡ W.plan wire.old }
 {
@@ -81,7 +81,7 @@ fn put_run<W: Wire, O: Write, A: Allocator, G: Progress>(
     ensures writer { block.new.writer.ghost_name ≡ block.old.writer.ghost_name }
     ensures goes { (stops : List StopType)
         × RunsBatchFrom W.Wire options.opened (batch_limit (script_batch_listed batch.now))
-        options.limits.tries options.limits.resumes (script_batch_listed batch.now) wire.old
+        options.limits (script_batch_listed batch.now) wire.old
         (record { stops = stops; told = host_report_to answers.new.items result }) wire.new
         × ((start : Option (List ℕ)) → BlockBufferSends O.contents start block.old []
         → BlockBufferSends O.contents start block.new
@@ -110,7 +110,7 @@ fn report_call<W: Wire, O: Write, A: Allocator + Copy, G: Progress>(
     requires plain { batch.now.until ≡ None }
     requires due { (W.port wire.old).link.due ≡ Nothing }
     ensures reports { IfSome result (λ reported. ReportsBatchRunFrom W.Wire options.opened
-        options.limits.tries options.limits.resumes (script_batch_listed batch.now)
+        options.limits (script_batch_listed batch.now)
         wire.old wire.new (O.contents report.old) (O.contents report.new) (host_report_of reported.report)
         reported.written) }
     ensures unsent { IfNone result (wire.new ≡ wire.old) }
@@ -144,7 +144,7 @@ pub fn run_on_reporting<W: Wire, O: Write, A: Allocator + Copy, G: Progress>(
     requires batch { IsScriptBatch (script_batch_listed batch.now) }
     requires plain { batch.now.until ≡ None }
     requires due { (W.port wire.old).link.due ≡ Nothing }
-    ensures reports { IfSome result (λ reported. ReportsBatchRun W.Wire limits.tries limits.resumes
+    ensures reports { IfSome result (λ reported. ReportsBatchRun W.Wire limits
         (script_batch_listed batch.now)
         wire.old wire.new (O.contents report.old) (O.contents report.new) (host_report_of reported.report)
         reported.written) }
@@ -172,10 +172,10 @@ fn report_until<W: Wire, O: Write, A: Allocator + Copy>(
     requires until { batch.now.until ≡ Some until }
     requires due { (W.port wire.old).link.due ≡ Nothing }
     ensures reported { IfSome result (λ reported. IsBatchReported W.Wire options.opened
-        options.limits.tries options.limits.resumes (script_batch_listed batch.now)
+        options.limits (script_batch_listed batch.now)
         wire.old wire.new (O.contents report.old) (O.contents report.new) (host_report_of reported.report)
         reported.written) }
-    ensures cut { IfNone result (IsCutShort W.Wire options.opened options.limits.tries options.limits.resumes
+    ensures cut { IfNone result (IsCutShort W.Wire options.opened options.limits
         (script_batch_listed batch.now) wire.old wire.new) }
     ensures unwritten { IfNone result (O.contents report.new ≡ O.contents report.old) }
     ensures plan { W.plan wire.new ≡ W.plan wire.old }
@@ -203,10 +203,10 @@ pub(crate) fn report_batch<W: Wire, O: Write, A: Allocator + Copy, G: Progress>(
     requires batch { IsScriptBatch (script_batch_listed batch.now) }
     requires due { (W.port wire.old).link.due ≡ Nothing }
     ensures reported { IfSome result (λ reported. IsBatchReported W.Wire options.opened
-        options.limits.tries options.limits.resumes (script_batch_listed batch.now)
+        options.limits (script_batch_listed batch.now)
         wire.old wire.new (O.contents report.old) (O.contents report.new) (host_report_of reported.report)
         reported.written) }
-    ensures cut { IfNone result (IsCutShort W.Wire options.opened options.limits.tries options.limits.resumes
+    ensures cut { IfNone result (IsCutShort W.Wire options.opened options.limits
         (script_batch_listed batch.now) wire.old wire.new) }
     ensures unwritten { IfNone result (O.contents report.new ≡ O.contents report.old) }
     ensures plan { W.plan wire.new ≡ W.plan wire.old }

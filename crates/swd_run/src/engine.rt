@@ -33,6 +33,7 @@ use swd_host::End;
 use swd_port::Wire;
 use swd_recorder::Recorder;
 use swd_script::Batch;
+use swd_text::ItemsPrinter;
 use swd_trace::Item;
 
 /// The result of a script's run.
@@ -98,7 +99,7 @@ fn run_reported<W: Wire, O: Write, A: Allocator + Copy, G: Progress>(
 ) -> Result<Finished, EngineFault>
     requires batches { Each IsScriptBatch (map script_batch_listed batches.now) }
     requires due { (W.port wire.old).link.due ≡ Nothing }
-    ensures answer { BatchAnswers W.Wire limits.tries limits.resumes (map script_batch_listed batches.now) wire.old
+    ensures answer { BatchAnswers W.Wire limits (map script_batch_listed batches.now) wire.old
         wire.new
         result (O.contents report.old) (O.contents report.new) no_run_files no_run_files }
     ensures plan { W.plan wire.new ≡ W.plan wire.old }
@@ -140,9 +141,9 @@ fn run_reported<W: Wire, O: Write, A: Allocator + Copy, G: Progress>(
 
 // Writes the accesses that these items show, if there is a writer for them and that of the trace didn't fail. Returns
 // `finished`, or `TraceCut` if `cut`: the items are truncated.
-fn write_records<T: Write, G>(
+fn write_records<T: Write, I: ItemsPrinter, G>(
     file: &Option<TraceFile<T>>,
-    records: &mut Records<T, G>,
+    records: &mut Records<T, I, G>,
     items: &[Item],
     cut: bool,
     finished: Finished,
@@ -150,14 +151,14 @@ fn write_records<T: Write, G>(
     requires { AreLegalItems items.now }
     ensures { (start : Option (Option (List ℕ))) → ∥ IfRunTraceHasAll T.contents start items.now file.now ∥₁
         → RunFilesOutcome finished cut items.now
-        (run_files_from start (run_file_held T.contents records.old.accesses) records.old.made)
+        (run_files_from start (run_file_held T.contents records.old.accesses) (I.text records.old.printer))
         (run_files_from (run_trace_contents T.contents file.now) (run_file_held T.contents records.new.accesses)
-        records.new.made) result }
+        (I.text records.new.printer)) result }
 {
     if let Err(written) = sent_to(file) {
         return Err(EngineFault::Write { written });
     }
-    if let Err(written) = write_accesses(&mut records.accesses, items, records.made) {
+    if let Err(written) = write_accesses(&mut records.accesses, items, &records.printer) {
         return Err(EngineFault::WriteAccesses { written });
     }
     if cut {
@@ -169,25 +170,33 @@ fn write_records<T: Write, G>(
 
 // Runs the batches over a wire that is recorded from its start, and writes their reports and its trace while they go
 // on, and then the accesses. The trace's writer is put back among the files. Returns the recorder too.
-fn run_traced<B: Origin, W: Wire, O: Write, T: Write + Drop, A: Allocator + Copy, G: Progress>(
+fn run_traced<
+    B: Origin,
+    W: Wire,
+    O: Write,
+    T: Write + Drop,
+    I: ItemsPrinter,
+    A: Allocator + Copy,
+    G: Progress,
+>(
     alloc: A,
     traced: Traced<W, T, A, B>,
     batches: &[Batch<A>],
     limits: Limits,
     report: &mut O,
-    records: &mut Records<T, G>,
+    records: &mut Records<T, I, G>,
 ) -> (Result<Finished, EngineFault>, Recorder<W, A>)
     requires batches { Each IsScriptBatch (map script_batch_listed batches.now) }
     requires due { (recorder_port traced.recorder).link.due ≡ Nothing }
     requires asked { (recorder_port traced.recorder).tally.asked ≡ 0 }
     requires start { B.start ≡ recorder_port traced.recorder }
     requires wanted { wants_run_files (run_files_from B.before (run_file_held T.contents records.old.accesses)
-        records.old.made) ≡ true }
-    ensures answer { BatchAnswers (run_recorder_wire B.noted) limits.tries limits.resumes
+        (I.text records.old.printer)) ≡ true }
+    ensures answer { BatchAnswers (run_recorder_wire B.noted) limits
         (map script_batch_listed batches.now) traced.recorder
         result.1 result.0 (O.contents report.old) (O.contents report.new)
-        (run_files_from B.before (run_file_held T.contents records.old.accesses) records.old.made)
-        (run_files_of T.contents records.new) }
+        (run_files_from B.before (run_file_held T.contents records.old.accesses) (I.text records.old.printer))
+        (run_files_of T.contents I.text records.new) }
     ensures plan { recorder_plan result.1 ≡ recorder_plan traced.recorder }
 {
     let mut traced = traced;
@@ -204,23 +213,31 @@ fn run_traced<B: Origin, W: Wire, O: Write, T: Write + Drop, A: Allocator + Copy
 }
 
 // Records a wire, runs the batches over it, and writes their reports and the other files.
-fn run_recorded<B: Origin, W: Wire, O: Write, T: Write + Drop, A: Allocator + Copy, G: Progress>(
+fn run_recorded<
+    B: Origin,
+    W: Wire,
+    O: Write,
+    T: Write + Drop,
+    I: ItemsPrinter,
+    A: Allocator + Copy,
+    G: Progress,
+>(
     alloc: A,
     wire: W,
     batches: &[Batch<A>],
     limits: Limits,
     report: &mut O,
-    records: &mut Records<T, G>,
+    records: &mut Records<T, I, G>,
 ) -> (Result<Finished, EngineFault>, W)
     requires batches { Each IsScriptBatch (map script_batch_listed batches.now) }
     requires due { (W.port wire).link.due ≡ Nothing }
     requires start { B.start ≡ port_with_asked 0 (W.port wire) }
     requires before { B.before ≡ run_file_held T.contents records.old.trace }
-    requires wanted { wants_run_files (run_files_of T.contents records.old) ≡ true }
-    ensures answer { (calls : List Call) × BatchAnswers (run_wire_seen true W.Wire B.noted) limits.tries limits.resumes
+    requires wanted { wants_run_files (run_files_of T.contents I.text records.old) ≡ true }
+    ensures answer { (calls : List Call) × BatchAnswers (run_wire_seen true W.Wire B.noted) limits
         (map script_batch_listed batches.now) ([], wire) (calls, result.1) result.0 (O.contents report.old)
         (O.contents report.new)
-        (run_files_of T.contents records.old) (run_files_of T.contents records.new) }
+        (run_files_of T.contents I.text records.old) (run_files_of T.contents I.text records.new) }
     ensures plan { W.plan result.1 ≡ W.plan wire }
 {
     let traced = Traced::<W, T, A, B>::new(alloc, wire, records.trace.take());
@@ -254,8 +271,9 @@ fn run_recorded<B: Origin, W: Wire, O: Write, T: Write + Drop, A: Allocator + Co
 /// The trace has the items that a `swd_recorder::Recorder` keeps, as bits in characters, one item a line. These bits
 /// decode to the same items. If the target conforms to the model and was at rest, a trace that isn't truncated has one
 /// transaction for each request. Its last item is then a transaction without acknowledgement exactly if the last call
-/// ended `Lost`. The accesses are the lines that `swd decode --accesses` prints of this trace, with `--made` if
-/// `records.made`. If an allocation for an item fails, the run continues. Without such a file no items are kept.
+/// ended `Lost`. The accesses are what `records.printer` prints of its items: with `swd_capture_text::AccessesPrinter`
+/// the lines of `swd decode --accesses`. If an allocation for an item fails, the run continues. Without such a file no
+/// items are kept.
 ///
 /// The lines of the trace's items are written at each line reset, as the first call and each resumed one begin with,
 /// after every 1,024 items, and after the last call. If the trace's writer fails, the calls go on, and nothing more is
@@ -278,24 +296,33 @@ fn run_recorded<B: Origin, W: Wire, O: Write, T: Write + Drop, A: Allocator + Co
 /// reports and the trace are complete, and exactly the first `written` bytes of the accesses were written. Returns
 /// `TraceCut` if the items are truncated, as when an allocation for an item failed: the reports are complete, and the
 /// other files have these items. Nothing is retried.
-pub fn run_batches<W: Wire, O: Write, T: Write + Drop, A: Allocator + Copy, G: Progress>(
+pub fn run_batches<
+    W: Wire,
+    O: Write,
+    T: Write + Drop,
+    I: ItemsPrinter,
+    A: Allocator + Copy,
+    G: Progress,
+>(
     alloc: A,
     wire: W,
     batches: &[Batch<A>],
     limits: Limits,
     report: &mut O,
-    records: &mut Records<T, G>,
+    records: &mut Records<T, I, G>,
 ) -> (Result<Finished, EngineFault>, W)
     requires batches { Each IsScriptBatch (map script_batch_listed batches.now) }
     requires due { (W.port wire).link.due ≡ Nothing }
-    ensures answer { BatchAnswersAt W.Wire limits.tries limits.resumes (map script_batch_listed batches.now) wire
+    ensures answer { BatchAnswersAt W.Wire limits (map script_batch_listed batches.now) wire
         result.1 result.0
-        (O.contents report.old) (O.contents report.new) (run_files_of T.contents records.old)
-        (run_files_of T.contents records.new) }
+        (O.contents report.old) (O.contents report.new) (run_files_of T.contents I.text records.old)
+        (run_files_of T.contents I.text records.new) }
     ensures plan { W.plan result.1 ≡ W.plan wire }
 {
     if records.is_wanted() {
-        return run_recorded::<Brand, W, O, T, A, G>(alloc, wire, batches, limits, report, records);
+        return run_recorded::<Brand, W, O, T, I, A, G>(
+            alloc, wire, batches, limits, report, records,
+        );
     }
     let mut wire = wire;
     let progress = &mut records.progress;

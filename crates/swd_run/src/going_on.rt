@@ -101,10 +101,10 @@ pub(crate) fn make_call_to<W: Wire, K: RunSink, A: Allocator>(
     requires room { length (script_batch_listed batch.now).accesses ≤ K.most sink.old }
     ensures goes { IfOk result (λ ending. (stops : List StopType) × K.follows sink.old stops sink.new
         × RunsBatchFrom W.Wire options.opened (batch_limit (script_batch_listed batch.now))
-        options.limits.tries options.limits.resumes (script_batch_listed batch.now) wire.old
+        options.limits (script_batch_listed batch.now) wire.old
         (record { stops = stops; told = host_report_to (K.taken sink.new) ending }) wire.new) }
     ensures refused { OnErr result (IsBatchRefused W.Wire options.opened
-        (batch_limit (script_batch_listed batch.now)) options.limits.tries options.limits.resumes
+        (batch_limit (script_batch_listed batch.now)) options.limits
         (script_batch_listed batch.now) wire.old wire.new) }
     ensures plan { W.plan wire.new ≡ W.plan wire.old }
 {
@@ -142,11 +142,11 @@ pub fn run_on_to<W: Wire, K: RunSink, A: Allocator>(
     requires none { K.taken sink.old ≡ [] }
     requires room { length (script_batch_listed batch.now).accesses ≤ K.most sink.old }
     ensures goes { IfOk result (λ ending. (stops : List StopType) × K.follows sink.old stops sink.new
-        × RunsBatch W.Wire (batch_limit (script_batch_listed batch.now)) limits.tries limits.resumes
+        × RunsBatch W.Wire (batch_limit (script_batch_listed batch.now)) limits
         (script_batch_listed batch.now) wire.old
         (record { stops = stops; told = host_report_to (K.taken sink.new) ending }) wire.new) }
     ensures refused { OnErr result (IsBatchRefused W.Wire false
-        (batch_limit (script_batch_listed batch.now)) limits.tries limits.resumes
+        (batch_limit (script_batch_listed batch.now)) limits
         (script_batch_listed batch.now) wire.old wire.new) }
     ensures plan { W.plan wire.new ≡ W.plan wire.old }
 {
@@ -167,10 +167,10 @@ pub(crate) fn make_call<W: Wire, A: Allocator + Copy>(
     requires batch { IsScriptBatch (script_batch_listed batch.now) }
     requires due { (W.port wire.old).link.due ≡ Nothing }
     ensures goes { IfSome result (λ resumed. RunsBatchFrom W.Wire options.opened
-        (batch_limit (script_batch_listed batch.now)) options.limits.tries options.limits.resumes
+        (batch_limit (script_batch_listed batch.now)) options.limits
         (script_batch_listed batch.now) wire.old (script_run_of resumed) wire.new) }
     ensures refused { IfNone result (IsBatchRefused W.Wire options.opened
-        (batch_limit (script_batch_listed batch.now)) options.limits.tries options.limits.resumes
+        (batch_limit (script_batch_listed batch.now)) options.limits
         (script_batch_listed batch.now) wire.old wire.new) }
     ensures plan { W.plan wire.new ≡ W.plan wire.old }
 {
@@ -203,10 +203,10 @@ pub fn run_on<W: Wire, A: Allocator + Copy>(
     requires batch { IsScriptBatch (script_batch_listed batch.now) }
     requires due { (W.port wire.old).link.due ≡ Nothing }
     ensures goes { IfSome result (λ resumed. RunsBatch W.Wire
-        (batch_limit (script_batch_listed batch.now)) limits.tries limits.resumes
+        (batch_limit (script_batch_listed batch.now)) limits
         (script_batch_listed batch.now) wire.old (script_run_of resumed) wire.new) }
     ensures refused { IfNone result (IsBatchRefused W.Wire false
-        (batch_limit (script_batch_listed batch.now)) limits.tries limits.resumes
+        (batch_limit (script_batch_listed batch.now)) limits
         (script_batch_listed batch.now) wire.old wire.new) }
     ensures plan { W.plan wire.new ≡ W.plan wire.old }
 {

@@ -89,9 +89,9 @@ pub(crate) fn perform<W: Wire, A: Allocator + Copy>(
     requires due { (W.port wire.old).link.due ≡ Nothing }
     ensures performs { IfSome result (λ performed. (runs : BatchRuns) × (runs.last ≡ script_run_of performed.last)
         × (batch_reads_of runs ≡ performed.runs)
-        × Performs W.Wire options.opened options.limits.tries options.limits.resumes
+        × Performs W.Wire options.opened options.limits
         (script_batch_listed batch.now) wire.old runs wire.new) }
-    ensures cut { IfNone result (IsCutShort W.Wire options.opened options.limits.tries options.limits.resumes
+    ensures cut { IfNone result (IsCutShort W.Wire options.opened options.limits
         (script_batch_listed batch.now) wire.old wire.new) }
     ensures plan { W.plan wire.new ≡ W.plan wire.old }
 {

@@ -22,6 +22,7 @@ use swd_port::Mark;
 use swd_script::Script;
 use swd_target::laws::marks_used;
 use swd_target::{Bench, MakeFault, Memory, Quirks};
+use swd_text::ItemsPrinter;
 
 /// The choices of the simulated target of a script.
 pub const QUIRKS: Quirks = Quirks {
@@ -96,19 +97,19 @@ fn target_of<A: Allocator + Copy>(
 /// # Errors
 ///
 /// Returns an error as `run_batches` does, and `Memory` also if out of memory for the target. Nothing was written then.
-pub fn run_script<W: Write, T: Write + Drop, A: Allocator + Copy, G: Progress>(
+pub fn run_script<W: Write, T: Write + Drop, I: ItemsPrinter, A: Allocator + Copy, G: Progress>(
     alloc: A,
     script: &Script<A>,
     plan: Vec<Mark, A>,
     limits: Limits,
     writer: &mut W,
-    records: &mut Records<T, G>,
+    records: &mut Records<T, I, G>,
 ) -> Result<Finished, EngineFault>
     requires script { IsScriptRunnable (read_script_meaning script.now) }
     requires plan { IsLegalPlan plan.items }
-    ensures { ScriptRunAnswers limits.tries limits.resumes (read_script_meaning script.now) plan.items result
-        (W.contents writer.old) (W.contents writer.new) (run_files_of T.contents records.old)
-        (run_files_of T.contents records.new) }
+    ensures { ScriptRunAnswers limits (read_script_meaning script.now) plan.items result
+        (W.contents writer.old) (W.contents writer.new) (run_files_of T.contents I.text records.old)
+        (run_files_of T.contents I.text records.new) }
 {
     let Some(bench) = target_of(alloc, script, plan) else {
         return Err(EngineFault::Memory);
@@ -129,17 +130,25 @@ pub fn run_script<W: Write, T: Write + Drop, A: Allocator + Copy, G: Progress>(
 /// Returns `Texts` for the first error of the script or, if the script is valid, of the plan, or if a reader failed.
 /// Nothing was written then. Returns `Engine` as `run_batches` does, and with `Memory` also if out of memory for the
 /// target.
-pub fn run_text<S: Read, P: Read, W: Write, T: Write + Drop, A: Allocator + Copy, G: Progress>(
+pub fn run_text<
+    S: Read,
+    P: Read,
+    W: Write,
+    T: Write + Drop,
+    I: ItemsPrinter,
+    A: Allocator + Copy,
+    G: Progress,
+>(
     alloc: A,
     script: &mut S,
     plan: &mut P,
     limits: Limits,
     writer: &mut W,
-    records: &mut Records<T, G>,
+    records: &mut Records<T, I, G>,
 ) -> Result<Finished, RunFault>
-    ensures { RunsText limits.tries limits.resumes result (S.remaining script.old) (P.remaining plan.old)
-        (W.contents writer.old) (W.contents writer.new) (run_files_of T.contents records.old)
-        (run_files_of T.contents records.new) }
+    ensures { RunsText limits result (S.remaining script.old) (P.remaining plan.old)
+        (W.contents writer.old) (W.contents writer.new) (run_files_of T.contents I.text records.old)
+        (run_files_of T.contents I.text records.new) }
 {
     let Texts { script, plan } = match read_texts(alloc, script, plan) {
         Ok(texts) => texts,

@@ -5,6 +5,7 @@ use Rattle.swd_remote.specs.declared.kept.RemoteStreams.{RemoteStreams}
 use Rattle.swd_remote.specs.declared.remote.Fault.{Fault}
 use Rattle.swd_remote.specs.WholeRuns.{IsUnusedRemote}
 use Rattle.swd_text.specs.declared.fault.TextFault.{TextFault}
+use Rattle.swd_capture_text.specs.Captures.{accesses_text}
 use Rattle.swd_check.specs.declared.checked.Checked.{Checked}
 use Rattle.swd_run.specs.declared.engine.Finished.{Finished}
 use Rattle.swd_run.specs.Records.{RunFiles}
@@ -14,6 +15,7 @@ use Rattle.swd_command_line.specs.declared.command.RunLine.{RunLine}
 use Rattle.swd_console.specs.Connections.{CommandWentOver}
 use Rattle.swd_console.specs.Statuses.{command_status_of_run}
 use Rattle.swd_console.specs.Verdicts.{command_status_checked}
+use Rattle.swd_run_commands.specs.Runs.{run_command_limits}
 use Rattle.swd_run_commands.specs.Verdicts.{IsRunVerdict, is_remote_run_made}
 
 -- the status is 1 if the run has a report but the other end is gone, and otherwise that of the run
@@ -26,7 +28,7 @@ remote_command_status strict _ answer = command_status_of_run strict answer
 pub record AreRemoteCommandFiles (run : RunLine) (files : RunFiles) : Type 0 where
   pub trace : is_some files.trace ≡ (is_some run.trace || run.check)
   pub accesses : is_some files.accesses ≡ is_some run.accesses
-  pub reset : files.made ≡ false
+  pub shown : files.shown ≡ accesses_text false
 
 -- the run's status, or 1 in place of 0 if the session is checked and its verdict is that a rule is broken
 abbrev pub RemoteCommandEndsAs : RunLine → Option Fault → Result Finished RemoteFault → ℕ → Type 0
@@ -42,7 +44,7 @@ abbrev pub PerformsRemoteRun : {R W : Type 0} → (ℕ → Port) → RunLine →
 PerformsRemoteRun story run status remaining contents sent left line script =
     (answer : Result Finished RemoteFault) × (before : Option (List ℕ)) × (after : Option (List ℕ))
     × (unwritten : RunFiles) × (written : RunFiles) × AreRemoteCommandFiles run unwritten
-    × RunsRemote story run.tries run.resumes (CommandWentOver remaining contents sent left line)
+    × RunsRemote story (run_command_limits run) (CommandWentOver remaining contents sent left line)
     (IsUnusedRemote remaining contents sent left line)
     answer script before after unwritten written
     × RemoteCommandEndsAs run line.fault answer status

@@ -1,22 +1,28 @@
 -- What `swd run` does at a simulated target, and the status that it ends with.
 use Rattle.std.specs.Prelude.{◌≡◌, ◌⊎◌, ◌||◌, ℕ, Bool, false, true, List, [], Option, None, Some, Result, is_some}
+use Rattle.swd_capture_text.specs.Captures.{accesses_text}
 use Rattle.swd_run.specs.declared.engine.Finished.{Finished}
 use Rattle.swd_run.specs.declared.fault.RunFault.{RunFault}
+use Rattle.swd_run.specs.declared.limits.Limits.{Limits}
 use Rattle.swd_run.specs.Records.{RunFiles}
 use Rattle.swd_run.specs.Running.{RunsText}
 use Rattle.swd_command_line.specs.declared.command.RunLine.{RunLine}
 use Rattle.swd_console.specs.Statuses.{CommandNotOpened, command_status_of_run}
 
+-- what each call of a run may meet
+abbrev pub run_command_limits : RunLine → Limits
+run_command_limits run = record { tries = run.tries; resumes = run.resumes }
+
 -- whether a file is named that a run writes beside its report
 abbrev pub run_command_names_file : RunLine → Bool
 run_command_names_file run = is_some run.trace || is_some run.accesses
 
--- the files that a run writes beside its report are those that are named; `made` says that the target begins in its
--- reset state
+-- The files that a run writes beside its report are those that are named. Their accesses are printed as `swd decode
+-- --accesses` prints them; `made` says that the target begins in its reset state.
 pub record AreRunCommandFiles (run : RunLine) (made : Bool) (files : RunFiles) : Type 0 where
   pub trace : is_some files.trace ≡ is_some run.trace
   pub accesses : is_some files.accesses ≡ is_some run.accesses
-  pub reset : files.made ≡ made
+  pub shown : files.shown ≡ accesses_text made
 
 -- A run reads a script and a plan, and writes a report. Its status is that of its end. The trace and the accesses are
 -- written to the files that are named for them. Nothing else is known of these files.
@@ -26,7 +32,7 @@ PerformsRunCommandUnder run status script plan old new =
     ((run_command_names_file run ≡ true) × CommandNotOpened status old new)
     ⊎ ((answer : Result Finished RunFault) × (before : RunFiles) × (after : RunFiles)
     × AreRunCommandFiles run true before
-    × RunsText run.tries run.resumes answer script plan old new before after
+    × RunsText (run_command_limits run) answer script plan old new before after
     × (status ≡ command_status_of_run run.strict answer))
 
 -- Without a named plan the plan is empty. Otherwise it is some text: no contract knows the contents of a file.

@@ -8,11 +8,12 @@ use Rattle.swd_ends.specs.declared.remote.RemoteFault.{RemoteFault}
 use Rattle.swd_ends.specs.declared.remote.RemoteFault.TheVariants.{Script, Read, Engine}
 
 -- there is a writer of the trace if there is a file for it, or if it is checked
-pub record AreCheckedRecords {V W G H : Type 0} (check : Bool) (files : Records V G) (records : Records W H) : Type 0
+pub record AreCheckedRecords {V W I G H : Type 0} (check : Bool) (files : Records V I G) (records : Records W I H)
+    : Type 0
   where
     pub trace : is_some records.trace ≡ (is_some files.trace || check)
     pub accesses : is_some records.accesses ≡ is_some files.accesses
-    pub reset : records.made ≡ files.made
+    pub printer : records.printer ≡ files.printer
 
 -- a run was made over the line: its script was read
 abbrev pub is_remote_run_made : Result Finished RemoteFault → Bool

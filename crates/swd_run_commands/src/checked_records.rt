@@ -37,23 +37,23 @@ fn unchecked<W, A: Allocator + Copy>(file: Option<W>) -> Option<RecordFile<W, A>
 }
 
 /// Returns the writers of these files. If `check`, there is one for the trace, which is checked.
-pub(crate) fn checked_records<W, A: Allocator + Copy>(
+pub(crate) fn checked_records<W, I, A: Allocator + Copy>(
     alloc: A,
     check: bool,
-    records: Records<W>,
-) -> Records<RecordFile<W, A>>
+    records: Records<W, I>,
+) -> Records<RecordFile<W, A>, I>
     ensures { AreCheckedRecords check records result }
 {
     let Records {
         trace,
         accesses,
-        made,
+        printer,
         ..
     } = records;
     Records {
         trace: checked_trace(alloc, check, trace),
         accesses: unchecked(accesses),
-        made,
+        printer,
         progress: (),
     }
 }

@@ -3,6 +3,7 @@ ghost use Rattle.std.specs.Prelude.{◌≡◌, IfErr, IfOk, is_some, true};
 ghost use Rattle.swd_run_commands.specs.Runs.{run_command_names_file};
 
 use std::io::Write;
+use swd_capture_text::AccessesPrinter;
 use swd_command_line::RunLine;
 use swd_console::{Console, Files, InUse, Pace, Watched, WriteRole, cut_off_named, give_up_named};
 use swd_run::Records;
@@ -14,9 +15,9 @@ pub(crate) fn open_records<A, F: Files, C, E: Write>(
     made: bool,
     in_use: &mut InUse,
     console: &mut Console<'_, A, F, C, E>,
-) -> Result<Records<Watched<F::Made>>, u8>
+) -> Result<Records<Watched<F::Made>, AccessesPrinter>, u8>
     ensures ok { IfOk result (λ records. (is_some records.trace ≡ is_some run.now.trace)
-        × (is_some records.accesses ≡ is_some run.now.accesses) × (records.made ≡ made)) }
+        × (is_some records.accesses ≡ is_some run.now.accesses) × (records.printer.made ≡ made)) }
     ensures err { IfErr result (λ status. (status ≡ 2) × (run_command_names_file run.now ≡ true)) }
 {
     let trace = match in_use.open_named(&run.trace, WriteRole::Trace, console) {
@@ -37,7 +38,7 @@ pub(crate) fn open_records<A, F: Files, C, E: Write>(
         Ok(()) => Ok(Records {
             trace,
             accesses,
-            made,
+            printer: AccessesPrinter { made },
             progress: (),
         }),
         Err(status) => Err(status),
@@ -45,15 +46,15 @@ pub(crate) fn open_records<A, F: Files, C, E: Write>(
 }
 
 /// Returns these files, and what says on standard error how far the run is, if the arguments ask for that.
-pub(crate) fn paced<'a, T, E, C>(
+pub(crate) fn paced<'a, T, I, E, C>(
     run: &RunLine,
-    records: Records<T>,
+    records: Records<T, I>,
     errors: &'a mut E,
     clock: &'a C,
-) -> Records<T, Pace<'a, E, C>>
+) -> Records<T, I, Pace<'a, E, C>>
     ensures trace { result.trace ≡ records.trace }
     ensures accesses { result.accesses ≡ records.accesses }
-    ensures made { result.made ≡ records.made }
+    ensures printer { result.printer ≡ records.printer }
 {
     records.with_progress(Pace::new(run.progress, "accesses", errors, clock))
 }

@@ -1,6 +1,7 @@
 //! Performs `swd run --remote`: a run at a remote target on the standard streams.
 ghost use Rattle.std.specs.Prelude.{◌≡◌, ◌&&◌, IfErr};
 ghost use Rattle.swd_run.specs.Records.{run_files_of};
+ghost use Rattle.swd_capture_text.specs.Captures.{accesses_printed};
 ghost use Rattle.swd_check.specs.Checkings.{checking_contents};
 ghost use Rattle.swd_console.specs.Streams.{stream_watched};
 ghost use Rattle.swd_run_commands.specs.Remotes.{AreRemoteCommandFiles, PerformsRemoteRun, PerformsRemoteCommand};
@@ -11,6 +12,7 @@ use crate::checked_records::{RecordFile, checked_records, verdict_of};
 use crate::records::{open_records, paced};
 use std::alloc::Allocator;
 use std::io::{Read, Write};
+use swd_capture_text::AccessesPrinter;
 use swd_check::Checked;
 use swd_command_line::RunLine;
 use swd_console::{
@@ -126,7 +128,7 @@ struct RemoteRan<'a, R, W, T> {
     answer: Result<Finished, RemoteFault>,
     line: RemoteStreams<R, W>,
     report: Stream<'a>,
-    records: Records<T>,
+    records: Records<T, AccessesPrinter>,
 }
 
 // Runs the script, and writes its report to a file.
@@ -146,10 +148,11 @@ fn report_to_file<
     script: TrackedReader<'_, S>,
     line: Line<I, O>,
     file: M,
-    records: Records<RecordFile<T, A>>,
+    records: Records<RecordFile<T, A>, AccessesPrinter>,
     console: &mut Console<'_, A, F, C, E>,
 ) -> (u8, RemoteStreams<I, O>)
-    requires { AreRemoteCommandFiles run.now (run_files_of (stream_watched (checking_contents T.contents)) records) }
+    requires { AreRemoteCommandFiles run.now (run_files_of (stream_watched (checking_contents T.contents))
+        accesses_printed records) }
     ensures { PerformsRemoteRun P.at run.now result.0 I.remaining O.contents (O.contents line.writer)
         (I.remaining line.reader) result.1 (S.remaining script.entry.reader) }
 {
@@ -160,7 +163,7 @@ fn report_to_file<
         resumes: run.resumes,
     };
     let mut records = paced(run, records, &mut *console.errors, console.clock);
-    let (answer, line) = run_remote::<P, _, _, _, _, _, _, _>(
+    let (answer, line) = run_remote::<P, _, _, _, _, _, _, _, _>(
         alloc,
         &mut script,
         line,
@@ -192,10 +195,11 @@ fn report_to_errors<
     run: &RunLine,
     script: TrackedReader<'_, S>,
     line: Line<I, O>,
-    records: Records<RecordFile<T, A>>,
+    records: Records<RecordFile<T, A>, AccessesPrinter>,
     console: &mut Console<'_, A, F, C, E>,
 ) -> (u8, RemoteStreams<I, O>)
-    requires { AreRemoteCommandFiles run.now (run_files_of (stream_watched (checking_contents T.contents)) records) }
+    requires { AreRemoteCommandFiles run.now (run_files_of (stream_watched (checking_contents T.contents))
+        accesses_printed records) }
     ensures { PerformsRemoteRun P.at run.now result.0 I.remaining O.contents (O.contents line.writer)
         (I.remaining line.reader) result.1 (S.remaining script.entry.reader) }
 {
@@ -205,7 +209,7 @@ fn report_to_errors<
         resumes: run.resumes,
     };
     let mut report = Watched::new(&mut *console.errors);
-    let (answer, line) = run_remote::<P, _, _, _, _, _, _, _>(
+    let (answer, line) = run_remote::<P, _, _, _, _, _, _, _, _>(
         console.alloc,
         &mut script,
         line,
@@ -292,7 +296,7 @@ fn run_verdict<T: Drop, A: Allocator + Copy>(
 fn remote_streams<'a, T: KeepsError, S: KeepsError>(
     run: &'a RunLine,
     report: Stream<'a>,
-    records: &Records<T>,
+    records: &Records<T, AccessesPrinter>,
     script: &TrackedReader<'a, S>,
 ) -> [Stream<'a>; 4] {
     [

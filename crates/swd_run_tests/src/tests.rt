@@ -77,7 +77,7 @@ fn only_trace<T>(trace: T) -> Records<T> {
     Records {
         trace: Some(trace),
         accesses: None,
-        made: true,
+        printer: (),
         progress: (),
     }
 }

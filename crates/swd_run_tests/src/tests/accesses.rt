@@ -2,6 +2,7 @@
 use super::expect::expect_eq_at;
 use super::{ONE_READ, ONE_WRITE, WORKED, WORKED_REPORT, limits};
 use std::test::Fail;
+use swd_capture_text::AccessesPrinter;
 use swd_fakes::ShortWriter;
 use swd_run::{EngineFault, Finished, Records, RunFault, run_text};
 
@@ -33,7 +34,7 @@ fn run_on(rt: &HostRuntime, script: &[u8], plan: &[u8], trace: usize, accesses: 
     let mut records = Records {
         trace: Some(ShortWriter::new(rt.alloc(), trace, true)),
         accesses: Some(ShortWriter::new(rt.alloc(), accesses, true)),
-        made: true,
+        printer: AccessesPrinter { made: true },
         progress: (),
     };
     let answer = run_text(

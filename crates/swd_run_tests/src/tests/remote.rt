@@ -12,6 +12,7 @@ use super::{ended, limits, only_trace};
 use std::cell::Cell;
 use std::process::Abort;
 use std::test::Fail;
+use swd_capture_text::AccessesPrinter;
 use swd_ends::{Line, RemoteFault, run_remote};
 use swd_fakes::{CountingWriter, ShortWriter, WatchingReader};
 use swd_host::End;
@@ -48,7 +49,7 @@ fn a_script_sends_what_was_recorded(rt: HostRuntime) {
     let mut sent = Vec::new(rt.alloc());
     let mut report = Vec::new(rt.alloc());
     let mut script = SCRIPT;
-    let (answer, line) = run_remote::<Untold, _, _, _, _, _, _, _>(
+    let (answer, line) = run_remote::<Untold, _, _, _, _, _, _, _, _>(
         rt.alloc(),
         &mut script,
         Line {
@@ -81,11 +82,11 @@ fn a_remote_run_is_traced(rt: HostRuntime) {
     let mut records = Records {
         trace: Some(Vec::new(rt.alloc())),
         accesses: Some(Vec::new(rt.alloc())),
-        made: false,
+        printer: AccessesPrinter { made: false },
         progress: (),
     };
     let mut script = SCRIPT;
-    let (answer, line) = run_remote::<Untold, _, _, _, _, _, _, _>(
+    let (answer, line) = run_remote::<Untold, _, _, _, _, _, _, _, _>(
         rt.alloc(),
         &mut script,
         Line {
@@ -140,7 +141,7 @@ fn a_failed_write_ends_the_session(rt: HostRuntime) {
         let mut report = ShortWriter::new(rt.alloc(), report_room, true);
         let mut records = only_trace(ShortWriter::new(rt.alloc(), trace_room, false));
         let mut script = SCRIPT;
-        let (answer, _) = run_remote::<Untold, _, _, _, _, _, _, _>(
+        let (answer, _) = run_remote::<Untold, _, _, _, _, _, _, _, _>(
             rt.alloc(),
             &mut script,
             Line {
@@ -182,7 +183,7 @@ fn a_report_is_written_before_the_next_call(rt: HostRuntime) {
     let mut sent = Vec::new(rt.alloc());
     let mut report = CountingWriter { taken: &taken };
     let mut script = TWO_CALLS;
-    let (answer, _line) = run_remote::<Untold, _, _, _, _, _, _, _>(
+    let (answer, _line) = run_remote::<Untold, _, _, _, _, _, _, _, _>(
         rt.alloc(),
         &mut script,
         Line {
@@ -212,7 +213,7 @@ fn no_call_is_made_after_a_failed_write(rt: HostRuntime) {
         let mut sent = Vec::new(rt.alloc());
         let mut report = ShortWriter::new(rt.alloc(), room, true);
         let mut script = TWO_CALLS;
-        let (answer, line) = run_remote::<Untold, _, _, _, _, _, _, _>(
+        let (answer, line) = run_remote::<Untold, _, _, _, _, _, _, _, _>(
             rt.alloc(),
             &mut script,
             Line {
@@ -240,7 +241,7 @@ fn a_call_that_is_lost_is_the_last_one(rt: HostRuntime) {
     let mut report = Vec::new(rt.alloc());
     let mut script =
         b"memory 20000000 16\nw 20000000 deadbeef\nverify 20000000 5\nnext\nr 20000000\nnext\nr 20000000\n".as_slice();
-    let (answer, line) = run_remote::<Untold, _, _, _, _, _, _, _>(
+    let (answer, line) = run_remote::<Untold, _, _, _, _, _, _, _, _>(
         rt.alloc(),
         &mut script,
         Line {
@@ -290,7 +291,7 @@ fn a_target_that_goes_away_is_told(rt: HostRuntime) {
         let mut sent = Vec::new(rt.alloc());
         let mut report = Vec::new(rt.alloc());
         let mut script = SCRIPT;
-        let (answer, line) = run_remote::<Untold, _, _, _, _, _, _, _>(
+        let (answer, line) = run_remote::<Untold, _, _, _, _, _, _, _, _>(
             rt.alloc(),
             &mut script,
             Line {
@@ -320,7 +321,7 @@ fn a_script_at_fault_sends_nothing(rt: HostRuntime) {
     let mut sent = Vec::new(rt.alloc());
     let mut report = Vec::new(rt.alloc());
     let mut script = b"w 20000000 deadbeef\n".as_slice();
-    let (answer, line) = run_remote::<Untold, _, _, _, _, _, _, _>(
+    let (answer, line) = run_remote::<Untold, _, _, _, _, _, _, _, _>(
         rt.alloc(),
         &mut script,
         Line {
@@ -343,7 +344,7 @@ fn a_remote_script_of_a_thousand_calls_is_begun(rt: HostRuntime) -> Result<(), F
     let mut script = script.as_slice();
     let mut sent = Vec::new(rt.alloc());
     let mut report = Vec::new(rt.alloc());
-    let (answer, _line) = run_remote::<Untold, _, _, _, _, _, _, _>(
+    let (answer, _line) = run_remote::<Untold, _, _, _, _, _, _, _, _>(
         rt.alloc(),
         &mut script,
         Line {

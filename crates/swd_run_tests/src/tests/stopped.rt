@@ -118,7 +118,7 @@ fn batches_stop_where_no_target_answers_so(rt: HostRuntime) -> Result<(), Fail> 
             let mut records = Records {
                 trace: traced.then(|| Vec::new(rt.alloc())),
                 accesses: None,
-                made: false,
+                printer: (),
                 progress: (),
             };
             let mut report = Vec::new(rt.alloc());
@@ -147,7 +147,7 @@ fn a_remote_run_stops_where_no_target_answers_so(rt: HostRuntime) {
         let mut sent = Vec::new(rt.alloc());
         let mut report = Vec::new(rt.alloc());
         let mut script = SCRIPT;
-        let (answer, line) = run_remote::<Untold, _, _, _, _, _, _, _>(
+        let (answer, line) = run_remote::<Untold, _, _, _, _, _, _, _, _>(
             rt.alloc(),
             &mut script,
             Line {

@@ -60,7 +60,7 @@ fn run_at(
     let mut records = Records {
         trace: Some(watching(alloc, &asked, fails_at.1)),
         accesses: None,
-        made: true,
+        printer: (),
         progress: (),
     };
     let (answer, _) = run_batches(

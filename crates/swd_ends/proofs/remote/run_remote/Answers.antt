@@ -7,24 +7,25 @@ use Rattle.swd_script.specs.Scripts.{ScriptMeaning, script_of}
 use Rattle.swd_script.proofs.TextLaws.{script_is_runnable}
 use Rattle.swd_run.specs.declared.engine.Finished.{Finished}
 use Rattle.swd_run.specs.declared.fault.EngineFault.{EngineFault}
+use Rattle.swd_run.specs.declared.limits.Limits.{Limits}
 use Rattle.swd_run.specs.Records.{RunFiles}
 use Rattle.swd_ends.specs.RemoteRuns.{RanRemoteEnd, RanRemoteEndScript}
 use Rattle.swd_ends.proofs.remote.run_remote.Goals as goal
 
 -- the script of a reader was run so, with this result
-read_and_ran : {story : ℕ → Port} {tries resumes : ℕ} {Over : List Call → Type 0}
+read_and_ran : {story : ℕ → Port} {limits : Limits} {Over : List Call → Type 0}
     {answer told : Result Finished EngineFault} {script old new : Option (List ℕ)} {before after : RunFiles}
     (text : List ℕ) (meaning : ScriptMeaning) → IsReaderText script text → script_of text ≡ Ok meaning → answer ≡ told
-    → RanRemoteEndScript story tries resumes Over meaning.batches answer old new before after
-    → RanRemoteEnd story tries resumes Over told script old new before after
-read_and_ran {story} {tries} {resumes} {Over} {answer} {told} {script} {old} {new} {before} {after} text meaning is
+    → RanRemoteEndScript story limits Over meaning.batches answer old new before after
+    → RanRemoteEnd story limits Over told script old new before after
+read_and_ran {story} {limits} {Over} {answer} {told} {script} {old} {new} {before} {after} text meaning is
     means
     same ran = record {
       text = text;
       is_script = is;
       meaning = meaning;
       means = means;
-      ran = subst (λ (a : Result Finished EngineFault). RanRemoteEndScript story tries resumes Over meaning.batches a
+      ran = subst (λ (a : Result Finished EngineFault). RanRemoteEndScript story limits Over meaning.batches a
           old
           new before after) same ran;
     }

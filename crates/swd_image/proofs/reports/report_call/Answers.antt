@@ -40,6 +40,6 @@ returns-in-Err-clause-report g c =
     let now = g.O.Write.contents c.run_on_reporting.new.report in
     let told = host_report_of c.in-Some.reported.report in
     to_failed g.W.Wire c.args.limits c.args.wire.now t batch told c.in-Err.field-0 start now
-    (subst (λ w. ReportsBatchRun g.W.Wire c.args.limits.tries
-    c.args.limits.resumes batch c.args.wire.now t start now told w) c.in-Err.is c.in-Some.ensures.reports)
+    (subst (λ w. ReportsBatchRun g.W.Wire c.args.limits batch c.args.wire.now t start now told w) c.in-Err.is
+    c.in-Some.ensures.reports)
     c.requires.plain c.requires.batch

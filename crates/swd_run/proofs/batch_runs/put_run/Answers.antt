@@ -27,7 +27,7 @@ returns-clause-goes g c =
           (sym (report_lines_empty c.as_slice.result.now c.args.answers.now.items c.requires.none)) h;
     })).sends in
     let done : (x : List Stop) × RunsBatchFrom g.W.Wire c.args.options.opened
-    (batch_limit batch) c.args.options.limits.tries c.args.options.limits.resumes batch c.args.wire.now (record {
+    (batch_limit batch) c.args.options.limits batch c.args.wire.now (record {
       stops = x;
       told = host_report_to report.answers.now.items
           c.run_reporting.result;

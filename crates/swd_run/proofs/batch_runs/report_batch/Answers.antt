@@ -4,6 +4,7 @@ use Rattle.swd_port.specs.declared.wire.Wire.{Ghosts}
 use Rattle.swd_host.specs.Reports.{HostReport, host_report_of}
 use Rattle.swd_script.specs.Readers.{script_batch_listed}
 use Rattle.swd_script.specs.Scripts.{ScriptListed}
+use Rattle.swd_run.specs.declared.limits.Limits.{Limits}
 use Rattle.swd_run.specs.Reports.{IsBatchReported, ReportsBatchRunFrom, ReportWritesOn, script_run_report}
 use Rattle.swd_run.specs.Sessions.{ScriptRun, unsent}
 use Rattle.swd_run.proofs.UnfoldingLemmas.{cut_first, performed_once}
@@ -23,19 +24,19 @@ if_some (Some x) f p = f x p
 pub returns-in-None-clause-cut : goal.returns-in-None-clause-cut
 returns-in-None-clause-cut g c =
     if_none c.report_call.result
-    (λ same. cut_first g.W.Wire c.args.options.opened c.args.options.limits.tries c.args.options.limits.resumes
+    (λ same. cut_first g.W.Wire c.args.options.opened c.args.options.limits
     (script_batch_listed c.args.batch.now) c.args.wire.now c.requires.batch c.report_call.new.wire (unsent same)
     (λ plain. same)) c.report_call.ensures.unsent
 
 module _ {W : Type 0} (wire : Ghosts W) (opened : Bool)
-    (tries resumes : ℕ) (batch : ScriptListed) (s t : W) (old new : Option (List ℕ)) (told : HostReport)
+    (limits : Limits) (batch : ScriptListed) (s t : W) (old new : Option (List ℕ)) (told : HostReport)
     (written : Result ℕ ℕ) where
   -- the report of one run is that of a batch that is no `until`
   reported_once : batch.until ≡ None
-      → ReportsBatchRunFrom wire opened tries resumes batch s t old new told written
-      → IsBatchReported wire opened tries resumes batch s t old new told written
+      → ReportsBatchRunFrom wire opened limits batch s t old new told written
+      → IsBatchReported wire opened limits batch s t old new told written
   reported_once plain h =
-      let (runs, last_is, reads, performs) = performed_once wire opened tries resumes batch s h.run t plain h.goes
+      let (runs, last_is, reads, performs) = performed_once wire opened limits batch s h.run t plain h.goes
       in
       record {
         runs = runs;
@@ -48,8 +49,7 @@ module _ {W : Type 0} (wire : Ghosts W) (opened : Bool)
 pub returns-in-None-clause-reported : goal.returns-in-None-clause-reported
 returns-in-None-clause-reported g c =
     if_some c.report_call.result
-    (λ reported h. reported_once g.W.Wire c.args.options.opened c.args.options.limits.tries
-    c.args.options.limits.resumes
+    (λ reported h. reported_once g.W.Wire c.args.options.opened c.args.options.limits
     (script_batch_listed c.args.batch.now) c.args.wire.now c.report_call.new.wire
     (g.O.Write.contents c.args.report.now)
     (g.O.Write.contents c.report_call.new.report) (host_report_of reported.report) reported.written c.in-None.is h)

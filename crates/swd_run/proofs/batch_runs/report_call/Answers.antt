@@ -23,7 +23,7 @@ returns-clause-reports g c =
     let lines = report_lines_from None 0 stops batch.accesses answers in
     let number : c.len-2.result ≡ length answers = search rules in
     let done : ReportsBatchRunFrom g.W.Wire c.args.options.opened
-    c.args.options.limits.tries c.args.options.limits.resumes batch c.args.wire.now
+    c.args.options.limits batch c.args.wire.now
     c.put_run-ending.new.wire start now (host_report_of c.with.result) c.finish-written.result = record {
       run = run;
       last = sym c.with.ensures;

@@ -9,6 +9,7 @@ use Rattle.swd_run.proofs.engine.run_recorded.Goals as goal
 pub returns-clause-answer : goal.returns-clause-answer
 returns-clause-answer g c =
     let contents = g.T.Write.contents in
+    let text = g.I.ItemsPrinter.text in
     let noted = g.B.Origin.noted in
     let records = c.args.records.now in
     let ran = c.run_traced-answer in
@@ -17,13 +18,13 @@ returns-clause-answer g c =
     let old = g.O.Write.contents c.args.report.now in
     let new = g.O.Write.contents ran.new.report in
     let before : Option (Option (List ℕ)) → RunFiles =
-    λ trace. run_files_from trace (run_file_held contents records.accesses) records.made in
-    let after = run_files_of contents ran.new.records in
-    let over : BatchAnswers (run_recorder_wire noted) c.args.limits.tries c.args.limits.resumes batches start
+    λ trace. run_files_from trace (run_file_held contents records.accesses) (text records.printer) in
+    let after = run_files_of contents text ran.new.records in
+    let over : BatchAnswers (run_recorder_wire noted) c.args.limits batches start
     ran.result.1 ran.result.0 old new (before (run_file_held contents records.trace)) after =
-    subst (λ trace. BatchAnswers (run_recorder_wire noted) c.args.limits.tries c.args.limits.resumes batches start
+    subst (λ trace. BatchAnswers (run_recorder_wire noted) c.args.limits batches start
     ran.result.1 ran.result.0 old new (before trace) after) c.requires.before ran.ensures.answer in
-    batch_answers_recorded noted c.args.limits.tries c.args.limits.resumes batches start ran.result.1 c.args.wire
+    batch_answers_recorded noted c.args.limits batches start ran.result.1 c.args.wire
     c.into_wire.result
     c.new-traced.ensures.wire c.new-traced.ensures.calls c.into_wire.ensures.wire
     ran.result.0 old new (before (run_file_held contents records.trace)) after over

@@ -22,7 +22,7 @@ report_batch-requires-clause-batch g c =
 
 pub loop-batch-init : goal.loop-batch-init
 loop-batch-init g c = record {
-  so_far = none_yet g.W.Wire c.args.limits.tries c.args.limits.resumes
+  so_far = none_yet g.W.Wire c.args.limits
       (map script_batch_listed c.args.batches.now) c.args.wire.now (g.O.Write.contents c.args.report.now) _
       (record { ended = refl; never_came = refl; differs = refl; bus_fault = refl; full = refl });
   all = refl;
@@ -40,10 +40,10 @@ returns-in_default-clause-answer g c =
     let batch = c.batch-item.result in
     let many = batch_map_length script_batch_listed batches in
     let low = c.loop-batch-test.true in
-    subst (λ now. BatchAnswers g.W.Wire c.args.limits.tries c.args.limits.resumes
+    subst (λ now. BatchAnswers g.W.Wire c.args.limits
     (map script_batch_listed batches) c.args.wire.now c.report_batch.new.wire (Err Memory)
     (g.O.Write.contents c.args.report.now) now no_run_files no_run_files) (sym c.in_default.ensures.unwritten)
-    (refused_next g.W.Wire c.args.limits.tries c.args.limits.resumes
+    (refused_next g.W.Wire c.args.limits
     (map script_batch_listed batches) c.args.wire.now (g.O.Write.contents c.args.report.now) i c.loop-batch.wire
     (g.O.Write.contents c.loop-batch.report) c.loop-batch.finished c.loop-batch.written c.loop-batch.opened
     c.loop-batch.invariant.so_far
@@ -61,7 +61,7 @@ returns-in-Err-clause-answer g c =
     let many = batch_map_length script_batch_listed batches in
     let low = c.loop-batch-test.true in
     let done = c.in-Some.ensures.reported in
-    stopped_in g.W.Wire c.args.limits.tries c.args.limits.resumes (map script_batch_listed batches)
+    stopped_in g.W.Wire c.args.limits (map script_batch_listed batches)
     c.args.wire.now (g.O.Write.contents c.args.report.now) i c.loop-batch.wire
     (g.O.Write.contents c.loop-batch.report) c.loop-batch.finished c.loop-batch.written c.loop-batch.opened
     c.loop-batch.invariant.so_far
@@ -87,7 +87,7 @@ returns-in_default-ended-clause-answer g c =
     let low = c.loop-batch-test.true in
     let fits = each_batch_at IsScriptBatch script_batch_listed batches i batch c.requires.batches c.batch-item.is low in
     let done = c.in-Some.ensures.reported in
-    let so_far = one_more g.W.Wire c.args.limits.tries c.args.limits.resumes
+    let so_far = one_more g.W.Wire c.args.limits
     (map script_batch_listed batches) c.args.wire.now (g.O.Write.contents c.args.report.now) i c.loop-batch.wire
     (g.O.Write.contents c.loop-batch.report) c.loop-batch.finished c.loop-batch.written c.loop-batch.opened
     c.loop-batch.invariant.so_far
@@ -101,7 +101,7 @@ returns-in_default-ended-clause-answer g c =
     (g.O.Write.contents c.report_batch.new.report)
     (batch_report (script_batch_listed batch) done.runs)) c.in-Ok.is done.writes)
     c.saturating_add-written.ensures fits c.and-finished.result c.and-finished.ensures.finished in
-    all_told g.W.Wire c.args.limits.tries c.args.limits.resumes (map script_batch_listed batches)
+    all_told g.W.Wire c.args.limits (map script_batch_listed batches)
     c.args.wire.now (g.O.Write.contents c.args.report.now) (i + 1) c.report_batch.new.wire
     (g.O.Write.contents c.report_batch.new.report) c.and-finished.result c.saturating_add-written.result true so_far
     (omega (arith, many, low)) (λ all came. absurd (c.in_default-ended.not-All all))
@@ -116,7 +116,7 @@ returns-then-finished-clause-answer g c =
     let low = c.loop-batch-test.true in
     let fits = each_batch_at IsScriptBatch script_batch_listed batches i batch c.requires.batches c.batch-item.is low in
     let done = c.in-Some.ensures.reported in
-    let so_far = one_more g.W.Wire c.args.limits.tries c.args.limits.resumes
+    let so_far = one_more g.W.Wire c.args.limits
     (map script_batch_listed batches) c.args.wire.now (g.O.Write.contents c.args.report.now) i c.loop-batch.wire
     (g.O.Write.contents c.loop-batch.report) c.loop-batch.finished c.loop-batch.written c.loop-batch.opened
     c.loop-batch.invariant.so_far
@@ -130,7 +130,7 @@ returns-then-finished-clause-answer g c =
     (g.O.Write.contents c.report_batch.new.report)
     (batch_report (script_batch_listed batch) done.runs)) c.in-Ok.is done.writes)
     c.saturating_add-written.ensures fits c.and-finished.result c.and-finished.ensures.finished in
-    all_told g.W.Wire c.args.limits.tries c.args.limits.resumes (map script_batch_listed batches)
+    all_told g.W.Wire c.args.limits (map script_batch_listed batches)
     c.args.wire.now (g.O.Write.contents c.args.report.now) (i + 1) c.report_batch.new.wire
     (g.O.Write.contents c.report_batch.new.report) c.and-finished.result c.saturating_add-written.result true so_far
     (omega (arith, many, low)) (λ all came. apart c.and-finished.result.never_came c.if-finished.true came)
@@ -147,7 +147,7 @@ loop-batch-preserved g c =
     let fits = each_batch_at IsScriptBatch script_batch_listed batches i batch c.requires.batches c.batch-item.is low in
     let done = c.in-Some.ensures.reported in
     record {
-      so_far = one_more g.W.Wire c.args.limits.tries c.args.limits.resumes
+      so_far = one_more g.W.Wire c.args.limits
           (map script_batch_listed batches) c.args.wire.now (g.O.Write.contents c.args.report.now) i c.loop-batch.wire
           (g.O.Write.contents c.loop-batch.report) c.loop-batch.finished c.loop-batch.written c.loop-batch.opened
           c.loop-batch.invariant.so_far
@@ -164,7 +164,7 @@ loop-batch-preserved g c =
       all = c.in-All.is;
       came = c.if-finished.false;
       low = omega (arith, low);
-      due = due_then g.W.Wire c.args.limits.tries c.args.limits.resumes c.args.wire.now
+      due = due_then g.W.Wire c.args.limits c.args.wire.now
           (script_batch_listed batch) done.runs.last done.performs.between c.report_batch.new.wire
           (ap (λ told. told.ended) done.last ∙ sym c.and-finished.ensures.ended ∙ c.in-All.is) done.performs.last;
       plan = c.in-Some.ensures.plan ∙ c.loop-batch.invariant.plan;
@@ -177,7 +177,7 @@ returns-clause-answer g c =
     let many = batch_map_length script_batch_listed batches in
     let low = c.loop-batch.invariant.low in
     let end = c.loop-batch-test.false in
-    all_told g.W.Wire c.args.limits.tries c.args.limits.resumes (map script_batch_listed batches)
+    all_told g.W.Wire c.args.limits (map script_batch_listed batches)
     c.args.wire.now (g.O.Write.contents c.args.report.now) i c.loop-batch.wire
     (g.O.Write.contents c.loop-batch.report) c.loop-batch.finished c.loop-batch.written c.loop-batch.opened
     c.loop-batch.invariant.so_far

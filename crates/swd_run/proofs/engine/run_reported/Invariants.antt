@@ -7,7 +7,7 @@ use Rattle.swd_run.proofs.engine.run_reported.Given as goal
 
 abbrev pub invariant-loop-batch : goal.invariant-loop-batch
 invariant-loop-batch g l = record {
-  so_far : SoFar g.W.Wire l.limits.tries l.limits.resumes (map script_batch_listed l.batches)
+  so_far : SoFar g.W.Wire l.limits (map script_batch_listed l.batches)
       l.fn.wire (g.O.Write.contents l.fn.report) l.batch-index l.wire (g.O.Write.contents l.report) l.finished
       l.written l.opened;
   all : l.finished.ended ≡ All;

@@ -47,8 +47,7 @@ of_first true items calls whole part = inr (part refl)
 
 pub returns-clause-answer : goal.returns-clause-answer
 returns-clause-answer g c =
-    let tries = c.args.limits.tries in
-    let resumes = c.args.limits.resumes in
+    let limits = c.args.limits in
     let batches = map script_batch_listed c.args.batches.now in
     let start = c.args.traced.recorder in
     let wire = c.run_reported-ran.new.wire in
@@ -57,33 +56,35 @@ returns-clause-answer g c =
     let old = g.O.Write.contents c.args.report.now in
     let new = g.O.Write.contents c.run_reported-ran.new.report in
     let contents = g.T.Write.contents in
+    let text = g.I.ItemsPrinter.text in
     let noted : List Call → Type 0 = g.B.Origin.noted in
     let first = g.B.Origin.before in
     let file = c.finish-recorder.result.1 in
     let items = c.items-items.result.now in
-    let before = run_files_from first (run_file_held contents c.args.records.now.accesses) c.args.records.now.made in
-    let after = λ (records : Records _ _). run_files_from (run_file_held contents c.writer_of.result)
-    (run_file_held contents records.accesses) records.made in
+    let before = run_files_from first (run_file_held contents c.args.records.now.accesses)
+    (text c.args.records.now.printer) in
+    let after = λ (records : Records _ _ _). run_files_from (run_file_held contents c.writer_of.result)
+    (run_file_held contents records.accesses) (text records.printer) in
     let given : run_trace_contents contents file ≡ run_file_held contents c.writer_of.result =
     run_trace_file_returned contents file ∙ ap (run_file_held contents) (sym c.writer_of.ensures) in
     let has : ∥ IfRunTraceHasAll contents first items file ∥₁ =
     subst (λ l. ∥ IfRunTraceHasAll contents first l file ∥₁)
     (sym (c.items-items.ensures.items ∙ ap (λ r. (recorder_kept r).items) same)) c.finish-recorder.ensures.file in
-    let ran : BatchAnswers (run_recorder_wire noted) tries resumes batches start end
+    let ran : BatchAnswers (run_recorder_wire noted) limits batches start end
     c.run_reported-ran.result old new no_run_files no_run_files =
-    answers_by (λ traced. traced.recorder) (run_recorder_wire noted) tries resumes batches
+    answers_by (λ traced. traced.recorder) (run_recorder_wire noted) limits batches
     c.args.traced wire start end
     refl (sym same) c.run_reported-ran.result old new no_run_files no_run_files c.run_reported-ran.ensures.answer in
-    let kept = λ (over : RanBatches (run_recorder_wire noted) tries resumes batches start end)
+    let kept = λ (over : RanBatches (run_recorder_wire noted) limits batches start end)
     (law : recorder_lawful end) (rest : IsAtRest (recorder_port start)).
-    recorded (run_recorder_wire noted) tries resumes start rest (calls_of batches over.made)
+    recorded (run_recorder_wire noted) limits start rest (calls_of batches over.made)
     (runs_of over.made) end c.requires.asked over.are law in
     let so_far : AreItemsSoFar (run_recorder_wire noted) end items = record {
       read = c.items-items.ensures.read;
       of_calls = λ calls is. subst (λ l. AreItemsOfCalls l items) is.0 (of_first (recorder_kept end).is_cut items
           (recorder_calls end) c.items-items.ensures.whole c.items-items.ensures.cut);
     } in
-    let part : (over : RanBatches (run_recorder_wire noted) tries resumes batches start end)
+    let part : (over : RanBatches (run_recorder_wire noted) limits batches start end)
     → IsOfTraceOver over items =
     λ over. record {
       so_far = so_far;
@@ -96,7 +97,7 @@ returns-clause-answer g c =
     elim c.match-ran.branch [
       | in-Ok w ↦
           let finished = w.in-Ok.finished in
-          let all = subst (λ answer. BatchAnswers (run_recorder_wire noted) tries resumes batches
+          let all = subst (λ answer. BatchAnswers (run_recorder_wire noted) limits batches
           start end answer old new no_run_files no_run_files) w.in-Ok.is ran in
           let over = all.0 in
           let explained : recorder_lawful end → IsAtRest (recorder_port start) → c.is_cut-cut.result ≡ false
@@ -128,16 +129,16 @@ returns-clause-answer g c =
           idle (subst (λ s. RunCallsStepped s (recorder_calls end) (recorder_port end)) c.requires.start (steps law))
           (all_whole items (recorded_items_by (recorder_calls end)) (recorder_ask_count (recorder_calls end)) _ is count
           (kept over law rest).rests))) in
-          let reported_by = reported (run_recorder_wire noted) tries resumes start in
+          let reported_by = reported (run_recorder_wire noted) limits start in
           let told : RunFilesOutcome finished c.is_cut-cut.result items before
           (after w.write_records-answer.new.records) w.write_records-answer.result =
           subst (λ trace. RunFilesOutcome finished c.is_cut-cut.result items before
           (run_files_from trace (run_file_held contents w.write_records-answer.new.records.accesses)
-          w.write_records-answer.new.records.made)
+          (text w.write_records-answer.new.records.printer))
           w.write_records-answer.result) given (w.write_records-answer.ensures first has) in
-          let answered : BatchAnswers (run_recorder_wire noted) tries resumes batches start end
+          let answered : BatchAnswers (run_recorder_wire noted) limits batches start end
           w.write_records-answer.result old new before (after w.write_records-answer.new.records) =
-          recorded_in (run_recorder_wire noted) tries resumes batches start end old new finished
+          recorded_in (run_recorder_wire noted) limits batches start end old new finished
           c.is_cut-cut.result items over all.1 all.2 all.3 (λ whole.
           let uncut = sym c.is_cut-cut.ensures ∙ whole in
           record {
@@ -161,25 +162,25 @@ returns-clause-answer g c =
           })
           (part over) before (after w.write_records-answer.new.records) c.requires.wanted w.write_records-answer.result
           told in
-          subst (λ answer. BatchAnswers (run_recorder_wire noted) tries resumes batches start end
+          subst (λ answer. BatchAnswers (run_recorder_wire noted) limits batches start end
           answer old new before (after c.match-ran.records)) (sym w.answer-is)
-          (subst (λ records. BatchAnswers (run_recorder_wire noted) tries resumes batches start end
+          (subst (λ records. BatchAnswers (run_recorder_wire noted) limits batches start end
           w.write_records-answer.result old new before (after records)) (sym w.records-is) answered)
       | in-Err w ↦
           let fault = w.in-Err.fault in
-          let all = subst (λ answer. BatchAnswers (run_recorder_wire noted) tries resumes batches
+          let all = subst (λ answer. BatchAnswers (run_recorder_wire noted) limits batches
           start end answer old new no_run_files no_run_files) w.in-Err.is ran in
           let begun : AreRunFilesStarted items before (after c.args.records.now) = record {
             trace = subst (λ trace. ForRunFile (IsRunFileStarted (trace_text items)) first trace) given
                 (run_trace_file_started contents first items file has);
             accesses = run_file_unchanged (run_file_held contents c.args.records.now.accesses);
           } in
-          let answered : BatchAnswers (run_recorder_wire noted) tries resumes batches start end
+          let answered : BatchAnswers (run_recorder_wire noted) limits batches start end
           (Err fault) old new before (after c.args.records.now) =
-          begun_in (run_recorder_wire noted) tries resumes batches start end old new fault items
+          begun_in (run_recorder_wire noted) limits batches start end old new fault items
           so_far part before (after c.args.records.now) c.requires.wanted begun all in
-          subst (λ answer. BatchAnswers (run_recorder_wire noted) tries resumes batches start end
+          subst (λ answer. BatchAnswers (run_recorder_wire noted) limits batches start end
           answer old new before (after c.match-ran.records)) (sym w.answer-is)
-          (subst (λ records. BatchAnswers (run_recorder_wire noted) tries resumes batches start end
+          (subst (λ records. BatchAnswers (run_recorder_wire noted) limits batches start end
           (Err fault) old new before (after records)) (sym w.records-is) answered)
     ]

@@ -20,7 +20,7 @@ apart b e f = absurd cc
 pub returns-in_err-last-clause-cut : goal.returns-in_err-last-clause-cut
 returns-in_err-last-clause-cut g c =
     if_none c.from_residual.result
-    (cut_first g.W.Wire c.args.options.opened c.args.options.limits.tries c.args.options.limits.resumes
+    (cut_first g.W.Wire c.args.options.opened c.args.options.limits
     (script_batch_listed c.args.batch.now)
     c.args.wire.now c.requires.batch c.make_call.new.wire c.in_err-last.ensures.refused
     (λ plain. absurd (until_is_not_none (sym c.requires.until ∙ plain))))
@@ -30,7 +30,7 @@ loop-runs-init g c =
     let waits = subst (λ x. IfSome x (λ until. IsScriptUntil until (script_batch_listed c.args.batch.now)))
     c.requires.until c.requires.batch.waits in
     record {
-      asking = asking_first g.W.Wire c.args.options.opened c.args.options.limits.tries c.args.options.limits.resumes
+      asking = asking_first g.W.Wire c.args.options.opened c.args.options.limits
           (script_batch_listed c.args.batch.now) c.args.wire.now c.args.until (script_run_of c.in_ok-last.last)
           c.make_call.new.wire c.in_ok-last.ensures.goes;
       low = waits.some;
@@ -40,7 +40,7 @@ loop-runs-init g c =
 -- the word came, or the run didn't end `All`, or it was a bus error
 pub returns-then-not-asks_again-clause-performs : goal.returns-then-not-asks_again-clause-performs
 returns-then-not-asks_again-clause-performs g c =
-    performed g.W.Wire c.args.options.opened c.args.options.limits.tries c.args.options.limits.resumes
+    performed g.W.Wire c.args.options.opened c.args.options.limits
     (script_batch_listed c.args.batch.now) c.args.wire.now c.args.until c.loop-runs.runs
     (script_run_of c.loop-runs.last) c.loop-runs.wire
     c.loop-runs.invariant.asking c.requires.until c.loop-runs.invariant.low
@@ -51,14 +51,14 @@ pub make_call-requires-in-loop-runs-clause-due : goal.make_call-requires-in-loop
 make_call-requires-in-loop-runs-clause-due g c =
     let asked = sym c.asks_again.ensures ∙ c.if-not-asks_again.false in
     let asking = c.loop-runs.invariant.asking in
-    due_then g.W.Wire c.args.options.limits.tries c.args.options.limits.resumes c.args.wire.now
+    due_then g.W.Wire c.args.options.limits c.args.wire.now
     (script_batch_listed c.args.batch.now) (script_run_of c.loop-runs.last) asking.between c.loop-runs.wire
     (until_reread_ended_all c.args.until (script_run_of c.loop-runs.last) asked) asking.goes
 
 pub returns-in_err-last-2-clause-cut : goal.returns-in_err-last-2-clause-cut
 returns-in_err-last-2-clause-cut g c =
     if_none c.from_residual-in_err-last-2.result
-    (cut_later g.W.Wire c.args.options.opened c.args.options.limits.tries c.args.options.limits.resumes
+    (cut_later g.W.Wire c.args.options.opened c.args.options.limits
     (script_batch_listed c.args.batch.now)
     c.args.wire.now c.args.until c.loop-runs.runs (script_run_of c.loop-runs.last) c.loop-runs.wire
     c.loop-runs.invariant.asking c.requires.until (sym c.asks_again.ensures ∙ c.if-not-asks_again.false)
@@ -68,7 +68,7 @@ pub loop-runs-preserved : goal.loop-runs-preserved
 loop-runs-preserved g c =
     let low = c.loop-runs-test.true in
     record {
-      asking = asking_more g.W.Wire c.args.options.opened c.args.options.limits.tries c.args.options.limits.resumes
+      asking = asking_more g.W.Wire c.args.options.opened c.args.options.limits
           (script_batch_listed c.args.batch.now) c.args.wire.now c.args.until c.loop-runs.runs
           (script_run_of c.loop-runs.last) c.loop-runs.wire c.loop-runs.invariant.asking
           (sym c.asks_again.ensures ∙ c.if-not-asks_again.false)
@@ -83,7 +83,7 @@ returns-clause-performs g c =
     let low = c.loop-runs.invariant.low in
     let high = c.loop-runs-test.false in
     let most : c.loop-runs.runs ≡ c.args.until.most = omega (arith, low, high) in
-    let all = performed g.W.Wire c.args.options.opened c.args.options.limits.tries c.args.options.limits.resumes
+    let all = performed g.W.Wire c.args.options.opened c.args.options.limits
     (script_batch_listed c.args.batch.now) c.args.wire.now c.args.until c.loop-runs.runs
     (script_run_of c.loop-runs.last)
     c.loop-runs.wire c.loop-runs.invariant.asking c.requires.until low (λ asked. most) in

@@ -6,7 +6,7 @@ use Rattle.swd_run.proofs.performing.perform.Given as goal
 
 abbrev pub invariant-loop-runs : goal.invariant-loop-runs
 invariant-loop-runs g l = record {
-  asking : Asking g.W.Wire l.options.opened l.options.limits.tries l.options.limits.resumes
+  asking : Asking g.W.Wire l.options.opened l.options.limits
       (script_batch_listed l.batch) l.fn.wire l.until l.runs (script_run_of l.last) l.wire;
   low : l.runs ≤ l.until.most;
   plan : g.W.Wire.plan l.wire ≡ g.W.Wire.plan l.fn.wire;

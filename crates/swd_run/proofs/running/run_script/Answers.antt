@@ -51,7 +51,7 @@ returns-in_default g c =
           memory = script_bus script;
           are = record {
             unfolds = no_batch;
-            session = subst (λ calls. ScriptSession c.args.limits.tries c.args.limits.resumes c.args.plan.items
+            session = subst (λ calls. ScriptSession c.args.limits c.args.plan.items
                 (script_bus script)
                 calls [] (script_bus script)) (sym (unfolded_calls_empty script.batches)) none;
           };
@@ -65,7 +65,7 @@ returns-in_default g c =
           calls = [];
           told = none_told script.batches;
           of_calls = inl refl;
-        }) (run_files_of g.T.Write.contents c.args.records.now),
+        }) (run_files_of g.T.Write.contents g.I.ItemsPrinter.text c.args.records.now),
       ),
     )
 
@@ -75,15 +75,15 @@ returns g c =
     let script = read_script_meaning c.args.script.now in
     let old = g.W.Write.contents c.args.writer.now in
     let new = g.W.Write.contents ran.new.report in
-    let before = run_files_of g.T.Write.contents c.args.records.now in
-    let after = run_files_of g.T.Write.contents ran.new.records in
+    let before = run_files_of g.T.Write.contents g.I.ItemsPrinter.text c.args.records.now in
+    let after = run_files_of g.T.Write.contents g.I.ItemsPrinter.text ran.new.records in
     let memory = (bench_port bus_of ran.result.1).target.memory in
     let full : c.full_room.result ≡ full_room script.room memory = c.full_room.ensures
     ∙ ap (full_room script.room) (sym c.memory.ensures) in
-    subst (λ answer. ScriptRunAnswers c.args.limits.tries c.args.limits.resumes script c.args.plan.items answer old new
+    subst (λ answer. ScriptRunAnswers c.args.limits script c.args.plan.items answer old new
     before after)
     (sym (c.with_full.ensures ∙ ap (λ used. with_full_room used ran.result.0) full))
-    (script_run_answers bench_wire c.args.limits.tries c.args.limits.resumes script
+    (script_run_answers bench_wire c.args.limits script
     c.args.plan.items c.in-Some.bench ran.result.1 c.in-Some.ensures.port c.in-Some.ensures.plan tt
     (λ bench same. (
       subst (λ (x : List Mark). (bench_port bus_of bench).tally.disturbed ≤ port_disturbed_among x) same
@@ -91,6 +91,6 @@ returns g c =
       subst (λ (x : List Mark). (bench_port bus_of bench).tally.lost ≤ port_lost_among x) same
           (c.marks_used.ensures.lost_most bench),
     )) tt memory refl ran.result.0 old new before after
-    (subst (λ batches. BatchAnswersAt bench_wire c.args.limits.tries c.args.limits.resumes
+    (subst (λ batches. BatchAnswersAt bench_wire c.args.limits
     (map script_batch_listed batches) c.in-Some.bench ran.result.1 ran.result.0 old new before after)
     c.as_slice-batches.ensures.value ran.ensures.answer))

@@ -1,6 +1,7 @@
 use Rattle.std.proofs.Common.{subst, sym}
 use Rattle.swd_check.specs.Checkings.{checking_contents}
 use Rattle.swd_console.specs.Streams.{stream_watched}
+use Rattle.swd_capture_text.specs.Captures.{accesses_printed}
 use Rattle.swd_run.specs.Records.{run_files_of}
 use Rattle.swd_run_commands.specs.Remotes.{PerformsRemoteRun}
 use Rattle.swd_run_commands.proofs.remote_command.report_to_errors.Goals as goal
@@ -14,8 +15,8 @@ returns g c =
       c.run_remote-answer.result.0,
       _,
       _,
-      run_files_of contents c.args.records,
-      run_files_of contents c.run_remote-answer.new.records,
+      run_files_of contents accesses_printed c.args.records,
+      run_files_of contents accesses_printed c.run_remote-answer.new.records,
       c.requires,
       c.run_remote-answer.ensures,
       c.ended.ensures.status,

@@ -1,6 +1,7 @@
 use Rattle.std.proofs.Common.{subst, sym}
 use Rattle.swd_check.specs.Checkings.{checking_contents}
 use Rattle.swd_console.specs.Streams.{stream_watched}
+use Rattle.swd_capture_text.specs.Captures.{accesses_printed}
 use Rattle.swd_run.specs.Records.{run_files_of}
 use Rattle.swd_run_commands.specs.Remotes.{AreRemoteCommandFiles, PerformsRemoteRun}
 use Rattle.swd_run_commands.proofs.RecordLemmas.{run_files_told}
@@ -16,10 +17,10 @@ returns g c =
       c.run_remote-answer.result.0,
       _,
       _,
-      run_files_of contents c.paced-records.result,
-      run_files_of contents c.run_remote-answer.new.records,
+      run_files_of contents accesses_printed c.paced-records.result,
+      run_files_of contents accesses_printed c.run_remote-answer.new.records,
       subst (AreRemoteCommandFiles c.args.run.now)
-          (sym (run_files_told contents c.args.records c.paced-records.result told.trace told.accesses told.made))
+          (sym (run_files_told contents c.args.records c.paced-records.result told.trace told.accesses told.printer))
           c.requires,
       c.run_remote-answer.ensures,
       c.ended.ensures.status,
