@@ -5,8 +5,8 @@
 
 mod clocked_probe;
 pub mod laws;
-mod live_file;
 mod live_files;
+mod portions;
 mod remote;
 mod serving;
 mod target_log;

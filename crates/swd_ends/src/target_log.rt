@@ -1,5 +1,5 @@
 //! The lines of a served target's log.
-ghost use Rattle.std.specs.Prelude.{◌≡◌, ◌≤◌};
+ghost use Rattle.std.specs.Prelude.{◌≡◌, ◌≤◌, ◌++◌, ◌∷◌, []};
 ghost use Rattle.arrayvec.specs.ArrayString.{array_string_len};
 ghost use Rattle.swd_io.specs.Blocks.{BlockQueues};
 ghost use Rattle.swd_ends.specs.TargetLogs.{live_log_counts_line, live_log_line, live_log_lines};
@@ -26,10 +26,9 @@ fn transfer_line(transfer: &Transfer) -> LogLine
     text
 }
 
-/// Returns the last line without its line feed, such as `cycles 552 requests 16`.
+/// Returns the last line with its line feed, such as `cycles 552 requests 16`.
 pub(crate) fn counts_line(cycles: u64, requests: u64) -> LogLine
-    ensures bytes { result.bytes ≡ live_log_counts_line cycles requests }
-    ensures len { array_string_len result ≤ 64 }
+    ensures { result.bytes ≡ live_log_counts_line cycles requests ++ 10 ∷ [] }
 {
     let mut text = LogLine::new();
     let mut digits = itoa::Buffer::new();
@@ -37,6 +36,7 @@ pub(crate) fn counts_line(cycles: u64, requests: u64) -> LogLine
     text.push_str(digits.format(cycles));
     text.push_str(" requests ");
     text.push_str(digits.format(requests));
+    text.push_str("\n");
     text
 }
 

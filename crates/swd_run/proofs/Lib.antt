@@ -10,5 +10,6 @@ pub mod VerifiedLemmas
 pub mod WorkedReports
 pub mod RecordedLemmas
 pub mod TransferLemmas
+pub mod GrowingLemmas
 pub mod TraceLemmas
 pub mod ToldLemmas

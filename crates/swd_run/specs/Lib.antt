@@ -10,7 +10,7 @@ pub mod Transfers
 pub mod Unfoldings
 pub mod Reports
 pub mod Reporting
-pub mod TraceFiles
+pub mod GrowingFiles
 pub mod Verified
 pub mod Running
 pub mod Laws

@@ -5,25 +5,26 @@ ghost use Rattle.swd_port.specs.declared.wire.Due.TheVariants.{Nothing};
 ghost use Rattle.swd_port.specs.Laws.Calls.{port_with_asked};
 ghost use Rattle.swd_host.specs.Reports.{host_report_of};
 ghost use Rattle.swd_trace.specs.Listed.{AreLegalItems};
+ghost use Rattle.swd_trace.specs.Texts.{trace_text};
 ghost use Rattle.swd_recorder.specs.Recorders.{recorder_plan, recorder_port};
 ghost use Rattle.swd_script.specs.Readers.{script_batch_listed};
 ghost use Rattle.swd_script.specs.Laws.{IsScriptBatch};
 ghost use Rattle.swd_script.specs.Scripts.{ScriptListed};
 ghost use Rattle.swd_run.specs.Unfoldings.{AreRunsOfBatch, BatchRuns, Unfolds, until_never_came};
 ghost use Rattle.swd_run.specs.Engine.{BatchAnswersAt, BatchAnswers, IsScriptFinished, RunFilesOutcome};
+ghost use Rattle.swd_run.specs.GrowingFiles.{GrowingFileHas};
 ghost use Rattle.swd_run.specs.Wires.{run_recorder_wire, run_wire_seen};
 ghost use Rattle.swd_run.specs.Records.{run_files_from, run_files_of, run_file_held, wants_run_files, no_run_files};
-ghost use Rattle.swd_run.specs.TraceFiles.{IfRunTraceHasAll, run_trace_contents};
 
 use crate::batch_runs::{Reported, report_batch};
 use crate::counting::count_accesses;
 use crate::fault::EngineFault;
+use crate::growing::GrowingFile;
 use crate::limits::Limits;
 use crate::options::CallOptions;
 use crate::performing::never_came;
 use crate::progress::{CallProgress, Progress};
 use crate::records::{Records, write_accesses};
-use crate::trace_file::{TraceFile, sent_to, writer_of};
 use crate::traced::{Origin, Traced};
 use crate::verified::{Difference, or_bus_fault, or_difference_in};
 use std::alloc::Allocator;
@@ -142,20 +143,20 @@ fn run_reported<W: Wire, O: Write, A: Allocator + Copy, G: Progress>(
 // Writes the accesses that these items show, if there is a writer for them and that of the trace didn't fail. Returns
 // `finished`, or `TraceCut` if `cut`: the items are truncated.
 fn write_records<T: Write, I: ItemsPrinter, G>(
-    file: &Option<TraceFile<T>>,
+    file: &GrowingFile<T>,
     records: &mut Records<T, I, G>,
     items: &[Item],
     cut: bool,
     finished: Finished,
 ) -> Result<Finished, EngineFault>
     requires { AreLegalItems items.now }
-    ensures { (start : Option (Option (List ℕ))) → ∥ IfRunTraceHasAll T.contents start items.now file.now ∥₁
+    ensures { (start : Option (Option (List ℕ))) → ∥ GrowingFileHas T.contents start file.now (trace_text items.now) ∥₁
         → RunFilesOutcome finished cut items.now
         (run_files_from start (run_file_held T.contents records.old.accesses) (I.text records.old.printer))
-        (run_files_from (run_trace_contents T.contents file.now) (run_file_held T.contents records.new.accesses)
+        (run_files_from (run_file_held T.contents file.now.writer) (run_file_held T.contents records.new.accesses)
         (I.text records.new.printer)) result }
 {
-    if let Err(written) = sent_to(file) {
+    if let Err(written) = file.sent {
         return Err(EngineFault::Write { written });
     }
     if let Err(written) = write_accesses(&mut records.accesses, items, &records.printer) {
@@ -208,7 +209,7 @@ fn run_traced<
         Ok(finished) => write_records(&file, records, items, cut, finished),
         Err(fault) => Err(fault),
     };
-    records.trace = writer_of(file);
+    records.trace = file.writer;
     (answer, recorder)
 }
 

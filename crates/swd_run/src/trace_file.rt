@@ -1,10 +1,10 @@
 //! The file of a run's trace, which is written while the run goes on.
 ghost use Rattle.std.specs.Prelude.{◌≡◌, ◌-◌, ◌≤◌, List, Option, ℕ, length};
 ghost use Rattle.swd_trace.specs.Listed.{AreLegalItems};
-ghost use Rattle.swd_run.specs.TraceFiles.{RunTraceHasDone, IfRunTraceHasAll, IfRunTraceHasDone, IsFreshRunTrace};
-ghost use Rattle.swd_run.specs.TraceFiles.{IsFreshRunTraceIf, run_trace_count_done, run_trace_sent};
-ghost use Rattle.swd_run.specs.TraceFiles.{run_trace_writer_in};
+ghost use Rattle.swd_trace.specs.Texts.{trace_text};
+ghost use Rattle.swd_run.specs.GrowingFiles.{RunTraceHasDone};
 
+use crate::growing::{GrowingFile, Portion};
 use std::io::Write;
 use swd_io::Block;
 use swd_port::Cue;
@@ -14,80 +14,33 @@ use swd_trace::Item;
 /// The most items whose lines wait.
 const MOST_WAITING: usize = 1024;
 
-/// The file of a trace, and how much of it was written. Once its writer failed, nothing more is written.
-#[derive(Drop)]
-pub(crate) struct TraceFile<T> {
-    pub(crate) writer: T,
-    /// How many items were written, or would have been if the writer hadn't failed.
-    pub(crate) done: usize,
-    /// How many bytes were written, at most 2^64 - 1: all of these items, or if the writer failed, the first ones.
-    pub(crate) sent: Result<u64, u64>,
-}
+// The lines of some items.
+#[derive(Clone, Copy)]
+struct TraceLines<'a>(&'a [Item]);
 
-impl<T> TraceFile<T> {
-    // Returns a file to which nothing was written yet.
-    fn new(writer: T) -> TraceFile<T>
-        ensures { IsFreshRunTrace writer result }
-    {
-        TraceFile {
-            writer,
-            done: 0,
-            sent: Ok(0),
-        }
+impl Portion for TraceLines<'_> {
+    ghost text = { λ lines. trace_text lines.0.now };
+
+    ghost can_write = { λ lines. AreLegalItems lines.0.now };
+
+    fn write<W: Write>(&self, writer: &mut W, written: u64) -> Result<u64, u64> {
+        let mut block = Block::new(writer, written);
+        put_items(&mut block, self.0);
+        block.flush()
     }
 }
 
-impl<T: Write> TraceFile<T> {
-    // Writes the lines of the first `count` items, behind those that were written.
-    fn write_to(&mut self, items: &[Item], count: usize)
-        requires legal { AreLegalItems items.now }
-        requires more { self.old.done ≤ count }
-        requires within { count ≤ length items.now }
-        ensures done { self.new.done ≡ count }
-        ensures has { (start : Option (List ℕ)) → RunTraceHasDone T.contents start items.now self.old
-            → RunTraceHasDone T.contents start items.now self.new }
-    {
-        if let Ok(written) = self.sent {
-            let mut block = Block::new(&mut self.writer, written);
-            put_items(&mut block, &items[self.done..count]);
-            self.sent = block.flush();
-        }
-        self.done = count;
-    }
-}
-
-/// Returns a file to which nothing was written yet, if there is a writer.
-pub(crate) fn fresh<T>(writer: Option<T>) -> Option<TraceFile<T>>
-    ensures { IsFreshRunTraceIf writer result }
+/// Writes the lines of the first `count` items, behind those that were written.
+#[tactic(auto, using(crate::proofs::TraceLemmas::run_trace_legal_in, crate::proofs::TraceLemmas::run_trace_text_next))]
+pub(crate) fn write_to<T: Write>(file: &mut GrowingFile<T>, items: &[Item], count: usize)
+    requires legal { AreLegalItems items.now }
+    requires more { file.old.done ≤ count }
+    requires within { count ≤ length items.now }
+    ensures done { file.new.done ≡ count }
+    ensures has { (start : Option (Option (List ℕ))) → RunTraceHasDone T.contents start items.now file.old
+        → RunTraceHasDone T.contents start items.now file.new }
 {
-    match writer {
-        Some(writer) => Some(TraceFile::new(writer)),
-        None => None,
-    }
-}
-
-/// Returns the writer, if there is a file.
-pub(crate) fn writer_of<T>(file: Option<TraceFile<T>>) -> Option<T>
-    ensures { result ≡ run_trace_writer_in file }
-{
-    match file {
-        Some(file) => Some(file.writer),
-        None => None,
-    }
-}
-
-/// Returns how many bytes were written, at most 2^64 - 1. Without a file nothing was.
-///
-/// # Errors
-///
-/// The same number, if the writer failed.
-pub(crate) fn sent_to<T>(file: &Option<TraceFile<T>>) -> Result<u64, u64>
-    ensures { result ≡ run_trace_sent file.now }
-{
-    match file {
-        Some(file) => file.sent,
-        None => Ok(0),
-    }
+    file.add(&TraceLines(&items[file.done..count]), count);
 }
 
 // Returns whether a line reset begins.
@@ -101,30 +54,15 @@ fn is_reset(cue: Cue) -> bool {
 /// Writes the lines of the items that no further call changes: all but the last one. It does so after a line reset,
 /// with which each opening begins, and where many lines wait.
 #[inline]
-pub(crate) fn write_settled<T: Write>(file: &mut Option<TraceFile<T>>, items: &[Item], cue: Cue)
+pub(crate) fn write_settled<T: Write>(file: &mut GrowingFile<T>, items: &[Item], cue: Cue)
     requires legal { AreLegalItems items.now }
-    requires within { run_trace_count_done file.old ≤ length items.now - 1 }
-    ensures within { run_trace_count_done file.new ≤ length items.now - 1 }
-    ensures has { (start : Option (Option (List ℕ))) → IfRunTraceHasDone T.contents start items.now file.old
-        → IfRunTraceHasDone T.contents start items.now file.new }
+    requires within { file.old.done ≤ length items.now - 1 }
+    ensures within { file.new.done ≤ length items.now - 1 }
+    ensures has { (start : Option (Option (List ℕ))) → RunTraceHasDone T.contents start items.now file.old
+        → RunTraceHasDone T.contents start items.now file.new }
 {
-    let Some(file) = file else {
-        return;
-    };
     let settled = items.len().saturating_sub(1);
     if is_reset(cue) || settled - file.done >= MOST_WAITING {
-        file.write_to(items, settled);
-    }
-}
-
-/// Writes the lines of the items that weren't written yet.
-pub(crate) fn write_rest<T: Write>(file: &mut Option<TraceFile<T>>, items: &[Item])
-    requires legal { AreLegalItems items.now }
-    requires within { run_trace_count_done file.old ≤ length items.now }
-    ensures { (start : Option (Option (List ℕ))) → IfRunTraceHasDone T.contents start items.now file.old
-        → IfRunTraceHasAll T.contents start items.now file.new }
-{
-    if let Some(file) = file {
-        file.write_to(items, items.len());
+        write_to(file, items, settled);
     }
 }

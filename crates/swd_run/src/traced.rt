@@ -7,13 +7,15 @@ ghost use Rattle.swd_port.specs.declared.wire.Due.TheVariants.{Nothing};
 ghost use Rattle.swd_port.specs.Bus.{bus_of};
 ghost use Rattle.swd_port.specs.Port.{Port, port_made};
 ghost use Rattle.swd_port.specs.Laws.Calls.{port_with_asked};
+ghost use Rattle.swd_trace.specs.Texts.{trace_text};
 ghost use Rattle.swd_recorder.specs.Recorders.{recorder_calls, recorder_kept, recorder_lawful, recorder_port};
+ghost use Rattle.swd_run.specs.GrowingFiles.{GrowingFileHas, RunTraceHasDone};
 ghost use Rattle.swd_run.specs.Recorded.{RunCallsStepped};
 ghost use Rattle.swd_run.specs.Records.{run_file_held};
-ghost use Rattle.swd_run.specs.TraceFiles.{IfRunTraceHasAll, IfRunTraceHasDone, run_trace_count_done};
 ghost use Rattle.swd_run.specs.Wires.{run_wire_seen};
 
-use crate::trace_file::{TraceFile, fresh, write_rest, write_settled};
+use crate::growing::GrowingFile;
+use crate::trace_file::{write_settled, write_to};
 use std::alloc::Allocator;
 use std::io::Write;
 use std::marker::{Brand, PhantomData};
@@ -39,18 +41,18 @@ impl Origin for Brand {
 }
 
 /// A recorder that was made at the start of a run. If its wire is lawful, its calls are steps of the port model from
-/// `B.start` on. If there is a file for its trace, this gets the lines of the items while the run goes on, behind what
-/// its writer held at the start, `B.before`.
+/// `B.start` on. If the file of its trace is wanted, this gets the lines of the items while the run goes on, behind
+/// what its writer held at the start, `B.before`.
 #[derive(Drop)]
 pub(crate) struct Traced<W: Wire, T: Write, A: Allocator, B: Origin> {
     pub(crate) recorder: Recorder<W, A>,
-    pub(crate) file: Option<TraceFile<T>>,
+    pub(crate) file: GrowingFile<T>,
     origin: PhantomData<B>,
     ghost steps: { ∥ (recorder_lawful recorder
         → RunCallsStepped B.start (recorder_calls recorder) (recorder_port recorder)) ∥₁ },
     // No further call changes the items that are done.
-    ghost settled: { run_trace_count_done file ≤ length (recorder_kept recorder).items - 1 },
-    ghost has: { ∥ IfRunTraceHasDone T.contents B.before (recorder_kept recorder).items file ∥₁ },
+    ghost settled: { file.done ≤ length (recorder_kept recorder).items - 1 },
+    ghost has: { ∥ RunTraceHasDone T.contents B.before (recorder_kept recorder).items file ∥₁ },
 }
 
 impl<W: Wire, T: Write, A: Allocator, B: Origin> Traced<W, T, A, B> {
@@ -68,22 +70,24 @@ impl<W: Wire, T: Write, A: Allocator, B: Origin> Traced<W, T, A, B> {
     {
         Traced {
             recorder: Recorder::new(alloc, wire),
-            file: fresh(writer),
+            file: GrowingFile::new(writer),
             origin: PhantomData,
         }
     }
 
     /// Writes what isn't written yet of the trace. Returns the recorder, and the file.
-    pub(crate) fn finish(self) -> (Recorder<W, A>, Option<TraceFile<T>>)
+    pub(crate) fn finish(self) -> (Recorder<W, A>, GrowingFile<T>)
         ensures recorder { result.0 ≡ self.recorder }
-        ensures file { ∥ IfRunTraceHasAll T.contents B.before (recorder_kept self.recorder).items result.1 ∥₁ }
+        ensures file { ∥ GrowingFileHas T.contents B.before result.1
+            (trace_text (recorder_kept self.recorder).items) ∥₁ }
     {
         let Traced {
             recorder,
             mut file,
             ..
         } = self;
-        write_rest(&mut file, recorder.items());
+        let items = recorder.items();
+        write_to(&mut file, items, items.len());
         (recorder, file)
     }
 }

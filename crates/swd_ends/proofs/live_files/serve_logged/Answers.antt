@@ -1,7 +1,9 @@
 use Rattle.std.proofs.Common.{rules, ◌≡◌, ◌∙◌, ℕ, length, refl, subst}
-use Rattle.swd_ends.specs.LiveFiles.{IsLiveFileGiven, live_trace_first, live_log_first, live_log_at, live_trace_at}
-use Rattle.swd_ends.specs.LiveFiles.{live_transfers_at, live_log_whole, live_trace_whole}
-use Rattle.swd_ends.proofs.LiveLemmas.{live_file_given_if}
+use Rattle.swd_run.specs.GrowingFiles.{GrowingFileHas}
+use Rattle.swd_run.specs.Records.{run_file_held}
+use Rattle.swd_ends.specs.LiveFiles.{live_log_at, live_log_first, live_log_whole, live_trace_at, live_trace_first}
+use Rattle.swd_ends.specs.LiveFiles.{live_trace_whole, live_transfers_at}
+use Rattle.swd_ends.proofs.LiveLemmas.{live_file_given}
 use Rattle.swd_ends.proofs.live_files.serve_logged.Goals as goal
 
 pub returns-clause-log : goal.returns-clause-log
@@ -13,16 +15,17 @@ returns-clause-log g c = λ sound.
     let was : n ≡ length (live_transfers_at s) = search rules in
     let watched = c.serve_watched-served.ensures.watched sound in
     let m : ℕ = c.serve_watched-served.result.2.skipped in
-    subst (λ k. IsLiveFileGiven contents (live_log_whole k t) c.args.log c.finish.new.self.log) (watched.skipped ∙ was)
-    (live_file_given_if contents (live_log_first n s) (live_log_first m t) (length (live_log_at n s))
-    (length (live_log_at m t)) (live_log_whole m t)
-    c.args.log _ _ c.finish.new.self.log refl c.fresh.ensures watched.log c.finish.ensures.log)
+    let file = c.finish.new.self.log in
+    subst (λ k. GrowingFileHas contents (run_file_held contents c.args.log) file (live_log_whole k t))
+    (watched.skipped ∙ was)
+    (live_file_given contents (live_log_first n s) (live_log_first m t) (length (live_log_at n s))
+    (length (live_log_at m t)) (live_log_whole m t) c.args.log _ _ file refl c.new.ensures watched.log
+    c.finish.ensures.log)
 
 pub returns-clause-trace : goal.returns-clause-trace
 returns-clause-trace g c = λ sound.
-    let contents = g.M.Write.contents in
     let s = c.args.pins in
     let t = c.serve_watched-served.result.1 in
-    live_file_given_if contents (live_trace_first s) (live_trace_first t) (length (live_trace_at s))
-    (length (live_trace_at t)) (live_trace_whole t) c.args.trace _ _ c.finish.new.self.trace refl c.fresh-2.ensures
+    live_file_given g.M.Write.contents (live_trace_first s) (live_trace_first t) (length (live_trace_at s))
+    (length (live_trace_at t)) (live_trace_whole t) c.args.trace _ _ c.finish.new.self.trace refl c.new-2.ensures
     (c.serve_watched-served.ensures.watched sound).trace c.finish.ensures.trace

@@ -17,18 +17,18 @@ use Rattle.swd_script.specs.Readers.{script_batch_listed}
 use Rattle.swd_run.specs.Engine.{AreItemsOfCalls, AreItemsSoFar, BatchAnswers, IsOfTraceOver, RanBatches}
 use Rattle.swd_run.specs.Engine.{RunFilesOutcome}
 use Rattle.swd_run.specs.declared.records.Records.{Records}
-use Rattle.swd_run.specs.Records.{AreRunFilesStarted, ForRunFile, IsRunFileStarted, run_files_from, run_file_held}
+use Rattle.swd_run.specs.Records.{AreRunFilesStarted, run_files_from, run_file_held}
 use Rattle.swd_run.specs.Records.{no_run_files}
+use Rattle.swd_run.specs.GrowingFiles.{GrowingFileHas}
 use Rattle.swd_run.specs.Recorded.{RunCallsStepped}
 use Rattle.swd_run.specs.Sessions.{script_ended, script_requests}
-use Rattle.swd_run.specs.TraceFiles.{IfRunTraceHasAll, run_trace_contents}
 use Rattle.swd_run.specs.Unfoldings.{calls_of, runs_of}
 use Rattle.swd_run.specs.Wires.{run_recorder_wire}
 use Rattle.swd_run.proofs.EngineLemmas.{answers_by, begun_in, run_file_unchanged, recorded_in}
+use Rattle.swd_run.proofs.GrowingLemmas.{growing_file_started}
 use Rattle.swd_run.proofs.RecordedLemmas.{any_run_trace_accounted, run_trace_accounted}
 use Rattle.swd_run.proofs.RunLemmas.{run_trace_truncated, run_trace_complete}
 use Rattle.swd_run.proofs.SessionLemmas.{recorded}
-use Rattle.swd_run.proofs.TraceLemmas.{run_trace_file_returned, run_trace_file_started}
 use Rattle.swd_run.proofs.TransferLemmas.{reported}
 use Rattle.swd_run.proofs.engine.run_traced.Goals.{in-Err, in-Ok}
 use Rattle.swd_run.proofs.engine.run_traced.Goals as goal
@@ -63,12 +63,10 @@ returns-clause-answer g c =
     let items = c.items-items.result.now in
     let before = run_files_from first (run_file_held contents c.args.records.now.accesses)
     (text c.args.records.now.printer) in
-    let after = λ (records : Records _ _ _). run_files_from (run_file_held contents c.writer_of.result)
+    let after = λ (records : Records _ _ _). run_files_from (run_file_held contents file.writer)
     (run_file_held contents records.accesses) (text records.printer) in
-    let given : run_trace_contents contents file ≡ run_file_held contents c.writer_of.result =
-    run_trace_file_returned contents file ∙ ap (run_file_held contents) (sym c.writer_of.ensures) in
-    let has : ∥ IfRunTraceHasAll contents first items file ∥₁ =
-    subst (λ l. ∥ IfRunTraceHasAll contents first l file ∥₁)
+    let has : ∥ GrowingFileHas contents first file (trace_text items) ∥₁ =
+    subst (λ l. ∥ GrowingFileHas contents first file (trace_text l) ∥₁)
     (sym (c.items-items.ensures.items ∙ ap (λ r. (recorder_kept r).items) same)) c.finish-recorder.ensures.file in
     let ran : BatchAnswers (run_recorder_wire noted) limits batches start end
     c.run_reported-ran.result old new no_run_files no_run_files =
@@ -132,10 +130,7 @@ returns-clause-answer g c =
           let reported_by = reported (run_recorder_wire noted) limits start in
           let told : RunFilesOutcome finished c.is_cut-cut.result items before
           (after w.write_records-answer.new.records) w.write_records-answer.result =
-          subst (λ trace. RunFilesOutcome finished c.is_cut-cut.result items before
-          (run_files_from trace (run_file_held contents w.write_records-answer.new.records.accesses)
-          (text w.write_records-answer.new.records.printer))
-          w.write_records-answer.result) given (w.write_records-answer.ensures first has) in
+          w.write_records-answer.ensures first has in
           let answered : BatchAnswers (run_recorder_wire noted) limits batches start end
           w.write_records-answer.result old new before (after w.write_records-answer.new.records) =
           recorded_in (run_recorder_wire noted) limits batches start end old new finished
@@ -171,8 +166,7 @@ returns-clause-answer g c =
           let all = subst (λ answer. BatchAnswers (run_recorder_wire noted) limits batches
           start end answer old new no_run_files no_run_files) w.in-Err.is ran in
           let begun : AreRunFilesStarted items before (after c.args.records.now) = record {
-            trace = subst (λ trace. ForRunFile (IsRunFileStarted (trace_text items)) first trace) given
-                (run_trace_file_started contents first items file has);
+            trace = growing_file_started contents first file.writer file.sent (trace_text items) has;
             accesses = run_file_unchanged (run_file_held contents c.args.records.now.accesses);
           } in
           let answered : BatchAnswers (run_recorder_wire noted) limits batches start end

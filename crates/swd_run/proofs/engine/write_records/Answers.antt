@@ -1,14 +1,12 @@
-use Rattle.std.proofs.Common.{sym}
 use Rattle.swd_run.specs.Records.{run_file_held}
 use Rattle.swd_run.specs.Engine.{accesses_stop, short, trace_stops, whole}
 use Rattle.swd_run.proofs.EngineLemmas.{run_file_some, run_file_unchanged}
-use Rattle.swd_run.proofs.TraceLemmas.{run_trace_file_stopped, run_trace_file_whole}
+use Rattle.swd_run.proofs.GrowingLemmas.{growing_file_stopped, growing_file_whole}
 use Rattle.swd_run.proofs.engine.write_records.Goals as goal
 
 pub returns-in-Err : goal.returns-in-Err
 returns-in-Err g c = λ start h.
-    let stop = run_trace_file_stopped g.T.Write.contents start c.args.items.now c.args.file.now c.in-Err.written
-    (sym c.in-Err.ensures) h in
+    let stop = growing_file_stopped g.T.Write.contents start _ _ _ c.in-Err.written c.in-Err.is h in
     trace_stops (record {
       wanted = stop.0;
       trace = stop.1;
@@ -18,21 +16,18 @@ returns-in-Err g c = λ start h.
 pub returns-in-Err-write_accesses : goal.returns-in-Err-write_accesses
 returns-in-Err-write_accesses g c = λ start h. accesses_stop (record {
   wanted = run_file_some g.T.Write.contents c.args.records.now.accesses c.in-Err-write_accesses.ensures.err;
-  trace = run_trace_file_whole g.T.Write.contents start c.args.items.now c.args.file.now c.in_default.field-0
-      (sym c.in_default.ensures) h;
+  trace = growing_file_whole g.T.Write.contents start _ _ _ c.in_default.field-0 c.in_default.is h;
   accesses = c.in-Err-write_accesses.ensures.file;
 })
 
 pub returns-then-cut : goal.returns-then-cut
 returns-then-cut g c = λ start h. short c.if-cut.true (record {
-  trace = run_trace_file_whole g.T.Write.contents start c.args.items.now c.args.file.now c.in_default.field-0
-      (sym c.in_default.ensures) h;
+  trace = growing_file_whole g.T.Write.contents start _ _ _ c.in_default.field-0 c.in_default.is h;
   accesses = c.in_default-write_accesses.ensures.file;
 })
 
 pub returns-else-cut : goal.returns-else-cut
 returns-else-cut g c = λ start h. whole c.if-cut.false (record {
-  trace = run_trace_file_whole g.T.Write.contents start c.args.items.now c.args.file.now c.in_default.field-0
-      (sym c.in_default.ensures) h;
+  trace = growing_file_whole g.T.Write.contents start _ _ _ c.in_default.field-0 c.in_default.is h;
   accesses = c.in_default-write_accesses.ensures.file;
 })

@@ -1,10 +1,9 @@
-use Rattle.std.proofs.Common.{rules, ◌≡◌, List, drop, length, refl, ap, subst, ◌∙◌}
-use Rattle.swd_port.specs.declared.access.Transfer.{Transfer}
+use Rattle.std.proofs.Common.{ap, length, subst, sym}
 use Rattle.swd_ends.specs.TargetLogs.{live_log_lines}
-use Rattle.swd_ends.specs.LiveFiles.{LiveFileAddsRestIf, live_trace_first, live_log_first, live_log_at, live_trace_at}
+use Rattle.swd_ends.specs.LiveFiles.{LiveFileKeeps, live_log_at, live_log_first, live_trace_at, live_trace_first}
 use Rattle.swd_ends.specs.LiveFiles.{live_transfers_at}
-use Rattle.swd_ends.proofs.LiveLemmas.{live_log_first_alike, live_log_no_shorter, live_log_grows_behind}
-use Rattle.swd_ends.proofs.LiveLemmas.{live_file_keeps_if, live_log_lines_joined, live_trace_text_joined}
+use Rattle.swd_ends.proofs.LiveLemmas.{live_file_keeps, live_log_first_alike, live_log_grows_behind}
+use Rattle.swd_ends.proofs.LiveLemmas.{live_log_no_shorter}
 use Rattle.swd_ends.proofs.LogGrowth.{live_pins_reached_grow}
 use Rattle.swd_ends.proofs.live_files.LiveFilesWatchMemory.see.Goals as goal
 
@@ -13,26 +12,21 @@ returns g c = λ s reaches sound.
     let contents = g.M.Write.contents in
     let t = c.args.pins.now in
     let later = live_pins_reached_grow s t sound reaches in
-    let n = c.args.self.now.skipped in
-    let all : c.log.result.now ≡ live_transfers_at t = search rules in
-    let log : c.transfers_since.result.now ≡ live_log_at n t = c.transfers_since.ensures ∙ ap (drop n) all in
-    let grown = live_log_grows_behind n (live_transfers_at s) (live_transfers_at t) later.log in
-    let text : c.text.result.now ≡ live_trace_at t = search rules in
+    let self = c.args.self.now in
+    let old = live_log_at self.skipped s in
+    let new = live_log_at self.skipped t in
+    let grown = live_log_grows_behind self.skipped (live_transfers_at s) (live_transfers_at t) later.log in
+    let wrote = c.write.ensures in
     record {
       sound = later.sound;
-      skipped = refl;
-      log = live_file_keeps_if contents (live_log_first n s) (live_log_first n t)
-          (λ k. live_log_lines (drop k (live_log_at n t))) (length (live_log_at n s)) (length (live_log_at n t))
-          c.args.self.now.log c.log_on.new.file (live_log_no_shorter (live_log_at n s) (live_log_at n t) grown)
-          (λ k l. ap live_log_lines (live_log_first_alike (live_log_at n s) (live_log_at n t) grown k l))
-          (live_log_lines_joined (live_log_at n t))
-          (subst (λ (l : List Transfer). LiveFileAddsRestIf contents (λ k. live_log_lines (drop k l)) (length l)
-          c.args.self.now.log c.log_on.new.file) log c.log_on.ensures);
-      trace = live_file_keeps_if contents (live_trace_first s) (live_trace_first t) (λ n. drop n (live_trace_at t))
-          (length (live_trace_at s)) (length (live_trace_at t)) c.args.self.now.trace c.trace_on.new.file
+      skipped = wrote.skipped;
+      log = subst (λ k. LiveFileKeeps contents (live_log_first self.skipped s) (live_log_first k t) (length old)
+          (length (live_log_at k t)) self.log c.write.new.self.log) (sym wrote.skipped)
+          (live_file_keeps contents (live_log_first self.skipped s) (live_log_first self.skipped t) (length old)
+          (length new) self.log c.write.new.self.log (live_log_no_shorter old new grown)
+          (λ n l. ap live_log_lines (live_log_first_alike old new grown n l)) wrote.log);
+      trace = live_file_keeps contents (live_trace_first s) (live_trace_first t) (length (live_trace_at s))
+          (length (live_trace_at t)) self.trace c.write.new.self.trace
           (live_log_no_shorter (live_trace_at s) (live_trace_at t) later.trace)
-          (live_log_first_alike (live_trace_at s) (live_trace_at t) later.trace)
-          (live_trace_text_joined (live_trace_at t))
-          (subst (λ l. LiveFileAddsRestIf contents (λ n. drop n l) (length l) c.args.self.now.trace c.trace_on.new.file)
-          text c.trace_on.ensures);
+          (live_log_first_alike (live_trace_at s) (live_trace_at t) later.trace) wrote.trace;
     }
