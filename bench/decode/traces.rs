@@ -18,8 +18,10 @@ fn push(text: &mut Vec<u8>, bits: u64, len: u32) {
     text.extend((0..len).map(|i| b'0' + (bits >> i & 1) as u8));
 }
 
-fn transaction(random: &mut Random, text: &mut Vec<u8>) {
-    let asked = random.next() & 15;
+/// Adds a transaction; with `port` 1 one of the access port, with 0 one of either. Those of the access port leave overrun
+/// detection as it is, so that a trace of them is read alike as a capture: without a data phase after WAIT and FAULT.
+fn transaction(random: &mut Random, text: &mut Vec<u8>, port: u64) {
+    let asked = random.next() & 15 | port;
     let read = asked >> 1 & 1 == 1;
     let parity = u64::from(asked.count_ones() % 2);
     push(text, 0x81 | asked << 1 | parity << 5 | 1 << 8, 9);
@@ -38,13 +40,14 @@ fn transaction(random: &mut Random, text: &mut Vec<u8>) {
 /// Adds some of a trace of that kind.
 fn some(kind: &str, random: &mut Random, text: &mut Vec<u8>) -> io::Result<()> {
     match kind {
-        "transactions" => transaction(random, text),
+        "transactions" => transaction(random, text, 0),
+        "ap-transactions" => transaction(random, text, 1),
         "one-a-line" => {
-            transaction(random, text);
+            transaction(random, text, 0);
             text.push(b'\n');
         }
-        "with-8-idle" => {
-            transaction(random, text);
+        "with-8-idle" | "ap-with-8-idle" => {
+            transaction(random, text, u64::from(kind != "with-8-idle"));
             text.extend_from_slice(b"00000000");
         }
         "random-bits" => push(text, random.next(), 64),
@@ -54,7 +57,7 @@ fn some(kind: &str, random: &mut Random, text: &mut Vec<u8>) -> io::Result<()> {
             text.extend(std::iter::repeat_n(b'0', len));
         }
         "comments" => {
-            transaction(random, text);
+            transaction(random, text, 0);
             text.extend_from_slice(b" # a comment with 01 in it\n\t");
         }
         _ => return Err(io::Error::other("no such kind")),
