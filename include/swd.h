@@ -24,6 +24,16 @@
 #include <stddef.h>
 #include <stdint.h>
 
+/*
+ * Behind the functions that may refuse a call, whose result says whether they did: gcc and clang warn where it is
+ * ignored.
+ */
+#ifdef __GNUC__
+#define SWD_CHECKED __attribute__((warn_unused_result))
+#else
+#define SWD_CHECKED
+#endif
+
 #ifdef __cplusplus
 extern "C" {
 #endif
@@ -81,7 +91,9 @@ enum {
 	SWD_TAKE = 3, /* sample 33 bits, which are the reply; then a turnaround */
 	SWD_GIVE = 4, /* a turnaround; then send 33 bits */
 	SWD_PASS = 5, /* a turnaround */
-	SWD_REFUSED = 255 /* the call was refused; of swd_run_next and swd_run_opened `outcome` says why, below */
+	/* The call was refused; of swd_run_next and swd_run_opened `outcome` says why, below. *run is unchanged: it still
+	   says how the run before ended. */
+	SWD_REFUSED = 255
 };
 
 /* The sixteen bits that switch from JTAG to serial wire. */
@@ -179,10 +191,11 @@ void swd_run_blocks(struct swd_run *run, uint32_t tries);
  * those behind it, may be wrong; whatever holds, each call is safe, is refused as said here, and the run ends. After an
  * end other than SWD_ALL continue with swd_run_again, or open the target anew.
  *
- * SWD_REFUSED: the list isn't valid, with SWD_TOO_MANY or SWD_UNALIGNED in `outcome`. *run is unchanged.
+ * SWD_REFUSED: the list isn't valid, with SWD_TOO_MANY or SWD_UNALIGNED in `outcome`. *run is unchanged: it still says
+ * how the run before ended.
  */
 struct swd_cue swd_run_opened(struct swd_run *run, const struct swd_access *accesses, size_t count, uint8_t blocks,
-                              uint32_t tries);
+                              uint32_t tries) SWD_CHECKED;
 
 /*
  * Makes the run that continues after one that ended SWD_LOST or SWD_TRIES_OUT, over the same target and the same list,
@@ -192,11 +205,13 @@ struct swd_cue swd_run_opened(struct swd_run *run, const struct swd_access *acce
  *
  * If the line failed inside a cue, the target may be at a turnaround or inside an acknowledgement, and then drives for up
  * to four clocks more than the lead of the new run releases: release the line for four clocks before that lead. If it
- * failed inside the bits of SWD_GIVE, make the rest of them before these four, or the target may write another word.
+ * failed inside the bits of SWD_GIVE, end these before the four clocks, or the target may write another word: where the
+ * clock that failed may have been made or not, by bits after which the parity is wrong in both cases, as line_drop of
+ * examples/c/line.c does.
  *
  * Returns false: *run is invalid, or didn't end so.
  */
-bool swd_run_again(struct swd_run *run, uint32_t tries);
+bool swd_run_again(struct swd_run *run, uint32_t tries) SWD_CHECKED;
 
 /*
  * Returns what has to be sent next. SWD_REST: the run has ended; `outcome` is `end`. SWD_REFUSED: *run is invalid.
@@ -205,7 +220,8 @@ struct swd_cue swd_run_cue(const struct swd_run *run);
 
 /*
  * Takes the reply to the cue, and returns the next cue. `reply` is the three bits sampled at SWD_ASK (an undriven line
- * reads 1), or the 33 bits sampled at SWD_TAKE; at any other kind it is ignored. The answer of each access that ended,
+ * reads 1), or the 33 bits sampled at SWD_TAKE; at any other kind it is ignored. If the line failed inside this cue or
+ * before, it is 7 or 0x1ffffffff, whatever was sampled. The answer of each access that ended,
  * SWD_VALUE, SWD_WRITTEN or SWD_BUS_FAULT, is written to `answers`, which has `room` objects, at the access's index. In
  * each call `accesses` must be the same list of `count`. The call at the first cue checks all of it (of swd_run_opened,
  * that call), each later one only `count`.
@@ -213,7 +229,7 @@ struct swd_cue swd_run_cue(const struct swd_run *run);
  * SWD_REFUSED: for one of the reasons above, in `outcome`. *run and the answers are unchanged.
  */
 struct swd_cue swd_run_next(struct swd_run *run, const struct swd_access *accesses, size_t count,
-                            struct swd_outcome *answers, size_t room, uint64_t reply);
+                            struct swd_outcome *answers, size_t room, uint64_t reply) SWD_CHECKED;
 
 /*
  * The name of an outcome, for messages: "value", or as a report of the program says it, "lost".
@@ -318,7 +334,7 @@ struct swd_transfer swd_target_wants(const struct swd_target *target);
  *
  * Returns false: *target is invalid; nothing is pending; or a read, or a write, can't have this result.
  */
-bool swd_target_settle(struct swd_target *target, uint8_t kind, uint32_t word);
+bool swd_target_settle(struct swd_target *target, uint8_t kind, uint32_t word) SWD_CHECKED;
 
 /*
  * Makes the target busy, or ends that. While it is busy, a request that may get WAIT gets it in place of OK. A
@@ -326,7 +342,7 @@ bool swd_target_settle(struct swd_target *target, uint8_t kind, uint32_t word);
  *
  * Returns false: *target is invalid.
  */
-bool swd_target_hold(struct swd_target *target, uint8_t wait);
+bool swd_target_hold(struct swd_target *target, uint8_t wait) SWD_CHECKED;
 
 /* --------------------------------------------------------------------------------------- the decoder ---- */
 
@@ -381,7 +397,7 @@ void swd_decoder_new(struct swd_decoder *decoder);
  *
  * Returns 0: *decoder is invalid; an item is due; `count` is 0 or above 64; or `fed` + `count` is above 2^64 - 1.
  */
-uint8_t swd_decoder_take(struct swd_decoder *decoder, uint64_t bits, uint8_t count);
+uint8_t swd_decoder_take(struct swd_decoder *decoder, uint64_t bits, uint8_t count) SWD_CHECKED;
 
 /*
  * Writes the next item that no later bits can change. Call it until it returns false, before more bits are
@@ -389,28 +405,29 @@ uint8_t swd_decoder_take(struct swd_decoder *decoder, uint64_t bits, uint8_t cou
  *
  * Returns false, and leaves *item unchanged: no item is due, or *decoder is invalid.
  */
-bool swd_decoder_due(struct swd_decoder *decoder, struct swd_item *item);
+bool swd_decoder_due(struct swd_decoder *decoder, struct swd_item *item) SWD_CHECKED;
 
 /*
  * Writes the next item if the trace ends here. All items together are the reading of all bits.
  *
  * Returns false, and leaves *item unchanged: no item is left, or *decoder is invalid.
  */
-bool swd_decoder_last(struct swd_decoder *decoder, struct swd_item *item);
+bool swd_decoder_last(struct swd_decoder *decoder, struct swd_item *item) SWD_CHECKED;
 
 /* --------------------------------------------------------------------------------------- the checker ---- */
 
 /*
  * A checker of a trace: whether a target that conforms to the port model may show its items, or the first item that
  * none may show, with the rule that it breaks. docs/CONFORMANCE.md says what a verdict says, and what it doesn't. All
- * fields are private to the library. A struct of zeros is invalid. It has 4,168 bytes, and a call needs several times that
- * on the stack.
+ * fields are private to the library. A struct of zeros is invalid. It has 4,168 bytes. A call needs far more than that on
+ * the stack: some 115 kB on x86-64, 75 kB on a Cortex-M (examples/cortex-m/README.md).
  *
  *	struct swd_check check;
- *	swd_check_new(&check, SWD_MADE, 1);
- *	while (next_item(&item, &place))
- *		swd_check_watch(&check, &item, place);
- *	swd_check_verdict(&check, &verdict);
+ *	bool taken = swd_check_new(&check, SWD_MADE, 1);
+ *	while (taken && next_item(&item, &place))
+ *		taken = swd_check_watch(&check, &item, place);
+ *	if (!taken || !swd_check_verdict(&check, &verdict))
+ *		return false;
  */
 struct swd_held {
 	uint64_t places;
@@ -470,7 +487,7 @@ enum {
  *
  * Returns false: `start` is none of the three.
  */
-bool swd_check_new(struct swd_check *check, uint8_t start, uint8_t clean);
+bool swd_check_new(struct swd_check *check, uint8_t start, uint8_t clean) SWD_CHECKED;
 
 /*
  * Takes the next item. `place` is the number of bits before it, and is used in the verdict alone. After SWD_BREAKS it
@@ -479,14 +496,14 @@ bool swd_check_new(struct swd_check *check, uint8_t start, uint8_t clean);
  * Returns false: *check is invalid; or *item is no item: a kind that there isn't, a field that isn't 0 where the kind
  * doesn't name it, eight bits that are no request, an `ack` above 7, or more than 49 bits of SWD_CUT.
  */
-bool swd_check_watch(struct swd_check *check, const struct swd_item *item, uint64_t place);
+bool swd_check_watch(struct swd_check *check, const struct swd_item *item, uint64_t place) SWD_CHECKED;
 
 /*
  * Writes what the items so far show.
  *
  * Returns false, and leaves *verdict unchanged: *check is invalid.
  */
-bool swd_check_verdict(const struct swd_check *check, struct swd_verdict *verdict);
+bool swd_check_verdict(const struct swd_check *check, struct swd_verdict *verdict) SWD_CHECKED;
 
 /*
  * A rule in the words of the standard, as `swd check` prints it.

@@ -7,6 +7,7 @@ package alone, which searches the library when it is used. The same files give t
 `python3 backend.py FOLDER` writes the wheel to a folder, and prints its name."""
 import base64
 import hashlib
+import io
 import os
 import re
 import sys
@@ -51,14 +52,23 @@ def _package() -> Files:
 
 
 def _licenses() -> Files:
-    """The license texts, from here or from the repository; SWD_NOTICES names that of what is linked into the library."""
-    files = {"LICENSES-LINKED": _file(os.environ["SWD_NOTICES"])} if "SWD_NOTICES" in os.environ else {}
+    """The license texts, from here, as in a source archive, or from the repository."""
+    files: Files = {}
     for name in ("LICENSE-APACHE", "LICENSE-MIT"):
         for folder in (HERE, os.path.join(HERE, "..", "..")):
             if os.path.exists(os.path.join(folder, name)):
                 files[name] = _file(os.path.join(folder, name))
                 break
     return files
+
+
+def _notices() -> Files:
+    """The license texts of what is linked into the library, where SWD_NOTICES names them."""
+    return {"LICENSES-LINKED": _file(os.environ["SWD_NOTICES"])} if "SWD_NOTICES" in os.environ else {}
+
+
+def _metadata() -> bytes:
+    return METADATA.encode() + _file("README.md")
 
 
 def _library() -> Optional[bytes]:
@@ -91,9 +101,9 @@ def build_wheel(
         platform = os.environ.get("SWD_PLATFORM") or re.sub(r"[^A-Za-z0-9]", "_", sysconfig.get_platform())
     info, tag = f"swd-{VERSION}.dist-info", f"py3-none-{platform}"
     pure = "true" if library is None else "false"
-    files[f"{info}/METADATA"] = METADATA.encode() + _file("README.md")
+    files[f"{info}/METADATA"] = _metadata()
     files[f"{info}/WHEEL"] = f"Wheel-Version: 1.0\nGenerator: swd\nRoot-Is-Purelib: {pure}\nTag: {tag}\n".encode()
-    for license_name, text in _licenses().items():
+    for license_name, text in {**_licenses(), **_notices()}.items():
         files[f"{info}/{license_name}"] = text
     files[f"{info}/RECORD"] = _record(files, f"{info}/RECORD")
     name = f"swd-{VERSION}-{tag}.whl"
@@ -110,15 +120,13 @@ def build_wheel(
 def build_sdist(sdist_directory: str, config_settings: Optional[Dict[str, Any]] = None) -> str:
     """Writes the source archive, and returns its name (PEP 517)."""
     folder = f"swd-{VERSION}"
-
-    def plain(entry: tarfile.TarInfo) -> tarfile.TarInfo:
-        entry.uid = entry.gid = entry.mtime = 0
-        entry.uname = entry.gname = ""
-        return entry
-
+    files = {name: _file(name) for name in ("README.md", "backend.py", "pyproject.toml")}
+    files.update({**_package(), **_licenses(), "PKG-INFO": _metadata()})
     with tarfile.open(os.path.join(sdist_directory, f"{folder}.tar.gz"), "w:gz") as archive:
-        for name in ("README.md", "backend.py", "pyproject.toml", *_package()):
-            archive.add(os.path.join(HERE, name), f"{folder}/{name}", filter=plain)
+        for path, content in sorted(files.items()):
+            entry = tarfile.TarInfo(f"{folder}/{path}")
+            entry.size = len(content)
+            archive.addfile(entry, io.BytesIO(content))
     return f"{folder}.tar.gz"
 
 

@@ -14,7 +14,8 @@ int line_clock(int drive)
 {
 	int bit = board_clock(&board, drive);
 	/* The monitor is at the host's end, where the bit isn't changed yet. */
-	monitor_bit(&monitor, drive < 0 ? bit : drive);
+	if (bit >= 0)
+		monitor_bit(&monitor, drive < 0 ? bit : drive);
 	return bit;
 }
 
@@ -35,11 +36,35 @@ static bool checked(uint8_t clean, uint64_t spoils, uint8_t kind, uint64_t fault
 	return verdict.kind == kind && verdict.faults == faults;
 }
 
+/* Whether there is no verdict, nor that of the monitor before, where the checker refuses what it is made with. */
+static bool has_none(void)
+{
+	struct swd_verdict verdict;
+	monitor_new(&monitor, 0, 1);
+	monitor_bit(&monitor, 1);
+	verdict = monitor_end(&monitor);
+	monitor_print(&verdict);
+	return verdict.kind == 0;
+}
+
+/* Whether the check hasn't begun, where a target in any state showed nothing but a zero: "fits" says nothing then. */
+static bool has_not_begun(void)
+{
+	struct swd_verdict verdict;
+	monitor_new(&monitor, SWD_ANY, 1);
+	monitor_bit(&monitor, 0);
+	verdict = monitor_end(&monitor);
+	monitor_print(&verdict);
+	return verdict.kind == SWD_FITS && !verdict.has_began;
+}
+
 int main(void)
 {
 	bool good = checked(1, 0, SWD_FITS, 0);
 	/* One bit of the data of a write. */
 	good = checked(0, 750, SWD_FITS, 1) && good;
 	good = checked(1, 750, SWD_BREAKS, 0) && good;
+	good = has_none() && good;
+	good = has_not_begun() && good;
 	return good ? 0 : 1;
 }

@@ -67,17 +67,18 @@ static void list_due(struct swd_decoder *decoder)
 		list(&item);
 }
 
-/* Takes all of the bits, item by item. */
-static void take(struct swd_decoder *decoder, uint64_t bits, uint8_t count)
+/* Takes all of the bits, item by item. Gives whether the decoder took them. */
+static bool take(struct swd_decoder *decoder, uint64_t bits, uint8_t count)
 {
 	while (count > 0) {
 		uint8_t taken = swd_decoder_take(decoder, bits, count);
 		if (taken == 0)
-			return;
+			return false;
 		bits = taken < 64 ? bits >> taken : 0;
 		count = (uint8_t)(count - taken);
 		list_due(decoder);
 	}
+	return true;
 }
 
 /* Bits that wait to be taken. */
@@ -86,17 +87,19 @@ struct waiting {
 	uint8_t count;
 };
 
-static void add(struct swd_decoder *decoder, struct waiting *waiting, int bit)
+static bool add(struct swd_decoder *decoder, struct waiting *waiting, int bit)
 {
-	waiting->bits |= (uint64_t)bit << waiting->count;
-	if (++waiting->count == 64) {
-		take(decoder, waiting->bits, 64);
-		waiting->bits = 0;
-		waiting->count = 0;
+	uint64_t bits = waiting->bits | (uint64_t)bit << waiting->count;
+	if (++waiting->count < 64) {
+		waiting->bits = bits;
+		return true;
 	}
+	waiting->bits = 0;
+	waiting->count = 0;
+	return take(decoder, bits, 64);
 }
 
-/* Whether the text was one. */
+/* Lists the items of a trace. Gives whether the text was one, and the decoder took all of it. */
 static bool decode(FILE *in)
 {
 	struct swd_decoder decoder;
@@ -106,16 +109,19 @@ static bool decode(FILE *in)
 	int c;
 	swd_decoder_new(&decoder);
 	while ((c = getc(in)) != EOF) {
-		if (comment)
+		if (comment) {
 			comment = c != '\n';
-		else if (c == '0' || c == '1')
-			add(&decoder, &waiting, c == '1');
-		else if (c == '#')
+		} else if (c == '0' || c == '1') {
+			if (!add(&decoder, &waiting, c == '1'))
+				return false;
+		} else if (c == '#') {
 			comment = true;
-		else if (c != ' ' && c != '\t' && c != '\r' && c != '\n')
+		} else if (c != ' ' && c != '\t' && c != '\r' && c != '\n') {
 			return false;
+		}
 	}
-	take(&decoder, waiting.bits, waiting.count);
+	if (!take(&decoder, waiting.bits, waiting.count))
+		return false;
 	while (swd_decoder_last(&decoder, &item))
 		list(&item);
 	return !ferror(in);
@@ -126,6 +132,10 @@ int main(int argc, char **argv)
 	FILE *in = argc > 1 ? fopen(argv[1], "rb") : stdin;
 	if (!in || !decode(in)) {
 		fprintf(stderr, "decode: bad trace\n");
+		return 2;
+	}
+	if (fflush(stdout) || ferror(stdout)) {
+		perror("decode: standard output");
 		return 2;
 	}
 	return 0;

@@ -74,7 +74,7 @@ int gpiod_line_set_value(struct gpiod_line *line, int value)
 			pins.level = board_clock(&board, pins.drives ? pins.data : -1);
 		pins.clock = value;
 	}
-	return 0;
+	return pins.level < 0 ? -1 : 0;
 }
 
 int gpiod_line_get_value(struct gpiod_line *line)

@@ -18,23 +18,25 @@ static struct swd_outcome answers[WORDS];
 /* From this cycle on nobody answers. */
 static uint64_t silent_from;
 
-static void transfer(struct swd_transfer wanted)
+/* Makes a transfer, and gives whether the target takes what came of it. */
+static bool transfer(struct swd_transfer wanted)
 {
 	uint32_t place = (wanted.addr - BASE) / 4;
-	if (place >= WORDS) {
-		swd_target_settle(&target, SWD_BUS_FAULT, 0);
-	} else if (wanted.kind == SWD_READ) {
-		swd_target_settle(&target, SWD_VALUE, words[place]);
-	} else if (wanted.kind == SWD_WRITE) {
-		words[place] = wanted.word;
-		swd_target_settle(&target, SWD_WRITTEN, 0);
-	}
+	if (wanted.kind == SWD_NONE)
+		return true;
+	if (place >= WORDS)
+		return swd_target_settle(&target, SWD_BUS_FAULT, 0);
+	if (wanted.kind == SWD_READ)
+		return swd_target_settle(&target, SWD_VALUE, words[place]);
+	words[place] = wanted.word;
+	return swd_target_settle(&target, SWD_WRITTEN, 0);
 }
 
 int line_clock(int drive)
 {
 	uint8_t line = swd_target_cycle(&target, drive < 0 ? SWD_RELEASED : (uint8_t)drive);
-	transfer(swd_target_wants(&target));
+	if (line > 1 || !transfer(swd_target_wants(&target)))
+		return LINE_FAILED;
 	return drive < 0 && target.cycles > silent_from ? 1 : line;
 }
 

@@ -382,7 +382,8 @@ static struct swd_item item_of(struct swd_decoder *decoder, uint64_t bits, uint8
 		if (swd_decoder_due(decoder, &item) || taken == 0)
 			return item;
 	}
-	swd_decoder_last(decoder, &item);
+	if (!swd_decoder_last(decoder, &item))
+		item.kind = 0;
 	return item;
 }
 

@@ -63,6 +63,8 @@ static void decode(int bit)
 int line_clock(int drive)
 {
 	int bit = board_clock(&board, drive);
+	if (bit < 0)
+		fail("the board refused a clock");
 	if (drive == RELEASED && any() % 1000 < noise)
 		bit ^= 1;
 	cycles++;
@@ -118,7 +120,8 @@ static void poll(const struct swd_access *accesses, size_t count)
 		struct swd_run run;
 		if (any() % 8 == 0)
 			board.spoils = board.target.cycles + 1 + any() % 100;
-		swd_run_opened(&run, accesses + i, 1, 0, any() % 9);
+		if (swd_run_opened(&run, accesses + i, 1, 0, any() % 9).kind == SWD_REFUSED)
+			fail("a list of one was refused");
 		go_through(&run, accesses + i, 1, true);
 		if (run.end.kind != SWD_ALL)
 			return;

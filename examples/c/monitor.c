@@ -19,21 +19,23 @@ static uint64_t bits_in(const struct swd_item *item)
 
 static void watch(struct monitor *monitor, const struct swd_item *item)
 {
-	swd_check_watch(&monitor->check, item, monitor->place);
+	if (!swd_check_watch(&monitor->check, item, monitor->place))
+		monitor->refused = true;
 	monitor->place += bits_in(item);
 }
 
 void monitor_new(struct monitor *monitor, uint8_t start, uint8_t clean)
 {
 	swd_decoder_new(&monitor->decoder);
-	swd_check_new(&monitor->check, start, clean);
+	monitor->refused = !swd_check_new(&monitor->check, start, clean);
 	monitor->place = 0;
 }
 
 void monitor_bit(struct monitor *monitor, int bit)
 {
 	struct swd_item item;
-	swd_decoder_take(&monitor->decoder, bit != 0, 1);
+	if (swd_decoder_take(&monitor->decoder, bit != 0, 1) != 1)
+		monitor->refused = true;
 	while (swd_decoder_due(&monitor->decoder, &item))
 		watch(monitor, &item);
 }
@@ -41,8 +43,8 @@ void monitor_bit(struct monitor *monitor, int bit)
 struct swd_verdict monitor_verdict(const struct monitor *monitor)
 {
 	struct swd_verdict verdict;
-	memset(&verdict, 0, sizeof verdict);
-	swd_check_verdict(&monitor->check, &verdict);
+	if (monitor->refused || !swd_check_verdict(&monitor->check, &verdict))
+		memset(&verdict, 0, sizeof verdict);
 	return verdict;
 }
 
@@ -57,16 +59,20 @@ struct swd_verdict monitor_end(struct monitor *monitor)
 void monitor_print(const struct swd_verdict *verdict)
 {
 	static const char *const kinds[] = { "fits", "breaks", "crowded" };
-	if (verdict->kind < SWD_FITS || verdict->kind > SWD_CROWDED) {
+	uint8_t kind = verdict->kind;
+	/* A check that never began decides nothing. */
+	if (kind == SWD_FITS && !verdict->has_began)
+		kind = SWD_CROWDED;
+	if (kind < SWD_FITS || kind > SWD_CROWDED) {
 		printf("no verdict\n");
 		return;
 	}
-	printf("%s", kinds[verdict->kind - 1]);
-	if (verdict->kind != SWD_FITS)
+	printf("%s", kinds[kind - 1]);
+	if (kind != SWD_FITS)
 		printf(" @%llu", (unsigned long long)verdict->place);
-	if (verdict->kind == SWD_BREAKS)
+	if (kind == SWD_BREAKS)
 		printf(": %s", swd_rule_name(verdict->rule));
-	if (verdict->kind == SWD_FITS && verdict->faults)
+	if (kind == SWD_FITS && verdict->faults)
 		printf(" faults %llu", (unsigned long long)verdict->faults);
 	putchar('\n');
 }

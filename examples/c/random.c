@@ -318,7 +318,8 @@ static struct swd_check make_check(void)
 		fill(&check, sizeof check);
 	} else {
 		uint8_t start = (uint8_t)(1 + any() % 3);
-		swd_check_new(&check, start, (uint8_t)(any() % 2));
+		if (!swd_check_new(&check, start, (uint8_t)(any() % 2)))
+			fail("a start was refused");
 	}
 	return check;
 }

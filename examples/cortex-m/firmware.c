@@ -26,14 +26,21 @@ static struct swd_access accesses[MOST_ACCESSES];
 static struct swd_outcome answers[MOST_ACCESSES];
 extern uint32_t stack_end;
 
+/* Does the accesses by the run, and gives whether all were answered. */
+static bool does_all(void)
+{
+	struct swd_cue cue = line_run(&run, accesses, MOST_ACCESSES, answers);
+	return cue.kind == SWD_REST && cue.outcome.kind == SWD_ALL;
+}
+
 /* Opens a target and does the accesses; as long as all are answered, it does them again over the open target. */
 void reset(void);
 
 void reset(void)
 {
 	swd_run_new(&run, 8);
-	while (line_run(&run, accesses, MOST_ACCESSES, answers).outcome.kind == SWD_ALL)
-		swd_run_opened(&run, accesses, MOST_ACCESSES, 0, 8);
+	while (does_all() && swd_run_opened(&run, accesses, MOST_ACCESSES, 0, 8).kind != SWD_REFUSED)
+		;
 	for (;;)
 		;
 }

@@ -50,7 +50,7 @@ def move_fields(text):
 def prototypes(header):
     """Each function of the header: what it gives, and the types of what it takes."""
     bare = re.sub(r"/\*.*?\*/|^#.*?$", "", header, flags=re.S | re.M)
-    for gives, name, takes in re.findall(r"^([a-z][\w *]*?) ?(swd_\w+)\(([^)]*)\);", bare, re.M):
+    for gives, name, takes in re.findall(r"^([a-z][\w *]*?) ?(swd_\w+)\(([^)]*)\)(?: SWD_CHECKED)?;", bare, re.M):
         params = [] if takes == "void" else takes.split(",")
         yield name, gives.strip(), [re.sub(r"\w+$", "", it).strip() for it in params]
 

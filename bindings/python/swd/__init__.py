@@ -29,7 +29,7 @@ The library, libswd_c.so, is searched in this order; `Library` checks it once, f
     1. the argument `library` of each class and function: a `Library`, or a path
     2. the path in the environment variable SWD_LIBRARY
     3. libswd_c.so in the folder of this package
-    4. libswd_c.so where the system's loader finds it
+    4. libswd_c.so.0, then libswd_c.so, where the system's loader finds it
 """
 from ._accesses import (
     MOST_ACCESSES, Access, Answer, BusFault, End, Read, Report, Value, Write, Written, block,

@@ -97,8 +97,8 @@ class Report:
 
     `answers` has the answers of the first accesses of the list, in order; an access behind them has none. `begun` is
     the number of accesses after these that were in flight: 0 or 1, in a block up to 2. Whether such an access took
-    effect is unknown. `requests` is the number of requests that this call sent, and `ended` how it ended. `accesses` is
-    the list; reports are compared without it."""
+    effect is unknown. `requests` is the number of requests that this call sent, without those that bring the target to
+    rest first, and `ended` how it ended. `accesses` is the list; reports are compared without it."""
 
     answers: Tuple[Answer, ...]
     begun: int
@@ -117,12 +117,20 @@ class Report:
         if not bus_errors:
             for index, answer in enumerate(self.answers):
                 if isinstance(answer, BusFault):
-                    raise AccessFaulted(f"access {index}{self._shown(index)} was a bus error", self)
+                    raise self._faulted(index)
         return self
 
     def words(self) -> List[int]:
-        """Returns the words that were read, in the order of the reads."""
-        return [answer.word for answer in self.answers if isinstance(answer, Value)]
+        """Returns the words that were read, in the order of the reads.
+
+        Raises `AccessFaulted` if a read was a bus error: the words behind it would take its place. `answers` has them."""
+        words = []
+        for index, answer in enumerate(self.answers):
+            if isinstance(answer, Value):
+                words.append(answer.word)
+            elif isinstance(answer, BusFault) and not isinstance(self._access(index), Write):
+                raise self._faulted(index)
+        return words
 
     def lines(self, accesses: Optional[Sequence[Access]] = None) -> List[str]:
         """Returns the report as `swd run` prints it, without line ends: a line for each answer, and one for the end.
@@ -142,8 +150,13 @@ class Report:
         among = f" of {len(self.accesses)}" if self.accesses else ""
         return f"{len(self.answers)}{among} answered, {self.begun} in flight"
 
-    def _shown(self, index: int) -> str:
-        return f" ({self.accesses[index]})" if index < len(self.accesses) else ""
+    def _access(self, index: int) -> Optional[Access]:
+        return self.accesses[index] if index < len(self.accesses) else None
+
+    def _faulted(self, index: int) -> AccessFaulted:
+        access = self._access(index)
+        shown = "" if access is None else f" ({access})"
+        return AccessFaulted(f"access {index}{shown} was a bus error", self)
 
 
 def made_report(

@@ -1,12 +1,13 @@
 """The checker of a trace: whether a target that conforms to the port model may show its items."""
 import ctypes
 from dataclasses import dataclass
-from typing import Any, Dict, Iterable, List, Optional, Union
+from typing import Any, Dict, Iterable, List, Optional, Union, get_args
 
 from ._decoding import Bits, Cut, Decoder, Idle, Item, Junk, Reset, Switch, Transaction
 from ._errors import DecoderFinished, LibraryRefused, NotAnItem, OutOfRange, number
 from ._library import CheckStruct, ItemStruct, LibraryOrPath, VerdictStruct, library_functions
 
+_ITEMS = get_args(Item)
 _STARTS = {"made": 1, "rest": 2, "any": 3}
 _KINDS = {1: "fits", 2: "breaks", 3: "crowded"}
 # As swd.h has them.
@@ -33,9 +34,9 @@ class Verdict:
     at `place`: `rule` is the rule that it breaks, in the standard's words. It is `"crowded"` if that isn't decided from
     `place` on: more states of the target are possible than a checker holds.
 
-    A place is a number of bits. `began` is that of the first item that was checked, or None if none was. `faults` is
-    how many requests were damaged or lost at least, and `gaps` how many times stray bits hid what came before a line
-    reset."""
+    A place is a number of bits. `began` is that of the first item that was checked, or None if none was: `"fits"` says
+    nothing then, and `swd check` prints `crowded @0`. `faults` is how many requests were damaged or lost at least, and
+    `gaps` how many times stray bits hid what came before a line reset."""
 
     kind: str
     place: Optional[int]
@@ -54,16 +55,16 @@ def _count(name: str, value: object) -> Dict[str, int]:
 
 
 def _cut_fields(bits: object) -> Dict[str, int]:
-    if not isinstance(bits, str) or len(bits) > 49 or bits.strip("01"):
-        raise NotAnItem(f"Cut.bits is {bits!r}: it has to be up to 49 characters 0 and 1")
-    return {"kind": 6, "count": len(bits), "bits": int(bits[::-1] or "0", 2)}
+    if not isinstance(bits, str) or not 1 <= len(bits) <= 49 or bits.strip("01"):
+        raise NotAnItem(f"Cut.bits is {bits!r}: it has to be 1 to 49 characters 0 and 1")
+    return {"kind": 6, "count": len(bits), "bits": int(bits[::-1], 2)}
 
 
 def _request(item: Transaction) -> int:
     """Returns the eight bits of the request."""
     if item.addr not in (0, 4, 8, 12):
         raise NotAnItem(f"Transaction.addr is {item.addr!r}: it has to be 0, 4, 8 or 12")
-    asked = bool(item.ap) | bool(item.read) << 1 | item.addr
+    asked = bool(item.ap) | bool(item.read) << 1 | number("Transaction.addr", item.addr, 12)
     return 0x81 | asked << 1 | (bin(asked).count("1") & 1) << 5
 
 
@@ -144,7 +145,7 @@ class Checker:
 
     def feed(self, bits_or_items: Union[Bits, Iterable[Item]]) -> None:
         """Takes bits as `Decoder.feed` does, a string of 0 and 1 or an iterable of such numbers, or an iterable of
-        items in the order of the trace. A checker takes bits alone, or items alone.
+        items in the order of the trace. A checker takes bits alone, or items alone: what has no item is taken for bits.
 
         Raises `NotABit`, `NotAnItem` or `OutOfRange` before it takes any, and `DecoderFinished` after `finish`."""
         if self._finished:
@@ -152,19 +153,22 @@ class Checker:
         given: Any = bits_or_items if isinstance(bits_or_items, str) else list(bits_or_items)
         if not given:
             return
-        if isinstance(given, str) or all(isinstance(it, int) for it in given):
-            self._watch([_fields(it) for it in self._decoding().feed(given)])
+        if isinstance(given, str) or not any(isinstance(it, _ITEMS) for it in given):
+            decoder = self._decoding()
+            items = decoder.feed(given)
+            # Only now: bits that are refused leave the checker as it was.
+            self._decoder = decoder
+            self._watch([_fields(it) for it in items])
         elif self._decoder is not None:
             raise NotAnItem("this checker was fed bits: it takes no items")
         else:
             self._watch([_fields(it) for it in given])
 
     def _decoding(self) -> Decoder:
-        if self._decoder is None:
-            if self._place:
-                raise NotAnItem("this checker was fed items: it takes no bits")
-            self._decoder = Decoder(library=self._library)
-        return self._decoder
+        """Returns the decoder of the bits so far, or a new one."""
+        if self._decoder is None and self._place:
+            raise NotAnItem("this checker was fed items: it takes no bits")
+        return self._decoder or Decoder(library=self._library)
 
     def finish(self) -> None:
         """Ends the trace: also takes the items that its last bits are."""

@@ -1,17 +1,20 @@
 """Cues: what a run has to send next, and as which sequences of clocks."""
 from dataclasses import dataclass
-from typing import Any, Callable, ClassVar, Dict, List, Tuple, Union
+from typing import Any, Callable, ClassVar, Dict, Iterator, List, Tuple, Union
 
 from ._library import ASK, GIVE, LEAD, PASS, TAKE
 
 _SWITCH_BITS = 0xE79E
 # The bits of a data phase: a word and its parity.
 DATA_BITS = 33
+# The clocks that a call makes at most: as many as a sequence of a probe may have.
+_MOST_CLOCKS = 64
 
 
 @dataclass(frozen=True)
 class Drive:
-    """In each of `count` clocks the host drives one of the low bits of `bits`, the least significant one first."""
+    """In each of `count` clocks, at most 64, the host drives one of the low bits of `bits`, the least significant one
+    first."""
 
     bits: int
     count: int
@@ -19,7 +22,7 @@ class Drive:
 
 @dataclass(frozen=True)
 class Release:
-    """In each of `count` clocks the host releases SWDIO, and ignores its level."""
+    """In each of `count` clocks, at most 64, the host releases SWDIO, and ignores its level."""
 
     count: int
 
@@ -33,6 +36,12 @@ class Sample:
 
 
 Sequence = Union[Drive, Release, Sample]
+
+
+def _pieces(count: int) -> Iterator[int]:
+    """Yields how many clocks each call makes, so that they come to so many."""
+    for made in range(0, count, _MOST_CLOCKS):
+        yield min(count - made, _MOST_CLOCKS)
 
 
 class Performer:
@@ -64,17 +73,17 @@ class Performer:
 
     def _lead(self, cue: Any) -> None:
         undriven = min(cue.undriven, cue.ones)
-        if undriven > 0:
-            self.release(undriven)
+        for count in _pieces(undriven):
+            self.release(count)
         self._drive_ones(cue.ones - undriven)
         if cue.with_switch:
             self.drive(_SWITCH_BITS, 16)
             self._drive_ones(cue.ones)
-        if cue.zeros > 0:
-            self.drive(0, cue.zeros)
+        for count in _pieces(cue.zeros):
+            self.drive(0, count)
 
-    def _drive_ones(self, count: int) -> None:
-        if count > 0:
+    def _drive_ones(self, ones: int) -> None:
+        for count in _pieces(ones):
             self.drive((1 << count) - 1, count)
 
 

@@ -92,7 +92,8 @@ class RunStopped(RunFailed):
 
 
 class AccessFaulted(RunFailed):
-    """Every access was answered, but one or more as a bus error. The message names the first one."""
+    """Every access was answered, but one or more as a bus error; or a read of which `Report.words` wants the word was a
+    bus error. The message names the first one."""
 
 
 class ConditionNotMet(RunFailed):
@@ -113,11 +114,15 @@ class CallbackFailed(RunFailed):
 
 
 class Interrupted(KeyboardInterrupt):
-    """Ctrl-C came during a run. `report` has what is certain, as that of a `RunFailed`; `resume` continues it."""
+    """Ctrl-C came during a run, or before its call returned. `report` has what is certain, as that of a `RunFailed`; if not
+    all was answered, `resume` continues it. In a pause of `Session.until`, `report` is that of the last read."""
 
     def __init__(self, message: str, report: "Report") -> None:
         super().__init__(message)
         self.report = report
+
+    def __reduce__(self) -> Tuple[Any, ...]:
+        return type(self), (self.args[0], self.report)
 
 
 class ImageStopped(RunFailed):
@@ -139,12 +144,15 @@ class ImageStopped(RunFailed):
 
 
 class ImageInterrupted(Interrupted):
-    """Ctrl-C came during a `load`, `verify` or `dump`. `addr`, `done`, `data` and `report` are as those of
-    `ImageStopped`."""
+    """Ctrl-C came during a `load`, `verify` or `dump`, after its first run began. `addr`, `done`, `data` and `report` are as
+    those of `ImageStopped`."""
 
     def __init__(self, message: str, report: "Report", addr: int, done: int, data: bytes = b"") -> None:
         super().__init__(message, report)
         self.addr, self.done, self.data = addr, done, data
+
+    def __reduce__(self) -> Tuple[Any, ...]:
+        return type(self), (self.args[0], self.report, self.addr, self.done, self.data)
 
 
 class ImageDiffers(SwdError):

@@ -1,14 +1,14 @@
 """Hosts, which drive a line through runs."""
 import contextlib
-import threading
 import time
+from dataclasses import replace
 from types import TracebackType
-from typing import Any, Callable, Iterable, Optional, Set, Tuple, Type, TypeVar
+from typing import Any, Callable, Dict, Hashable, Iterable, Optional, Tuple, Type, TypeVar
 
 from . import _images
 from ._accesses import Access, Answer, End, Read, Report, Write, block, counts, listed_accesses
 from ._errors import (
-    CallbackFailed, ConditionNotMet, Interrupted, LineFailed, Reentered, RunFailed, RunStopped, fail, number,
+    CallbackFailed, ConditionNotMet, Interrupted, LineFailed, Reentered, RunFailed, RunStopped, fail, number, report_of,
     word as checked_word,
 )
 from ._identities import Identification, Opening, Watch
@@ -20,17 +20,8 @@ from ._runs import OnAnswer, Run, accepted
 _Result = TypeVar("_Result")
 _Perform = Callable[[int, Any], int]
 
-# The lines that calls use now, and what guards that set.
-_in_use: Set[int] = set()
-_guard = threading.Lock()
-
-
-def _claim(line: Any) -> None:
-    """Takes the line for one call, which discards it from the set in the end."""
-    with _guard:
-        if id(line) in _in_use:
-            raise Reentered("the line is in use by another call, which would lose its place on it")
-        _in_use.add(id(line))
+# The lines that calls use now, and what each call takes its line with: `setdefault` is one step for threads and signals.
+_in_use: Dict[Hashable, object] = {}
 
 
 def _failed(run: Run, kind: Type[RunFailed], failure: Exception) -> RunFailed:
@@ -38,6 +29,27 @@ def _failed(run: Run, kind: Type[RunFailed], failure: Exception) -> RunFailed:
     report = run.report()
     what = "the callback" if kind is CallbackFailed else "the line"
     return kind(f"{what} failed: {failure!r}: {counts(report)}", report)
+
+
+def _interrupted(run: Run) -> Interrupted:
+    """Returns what is raised at Ctrl-C."""
+    report = run.report()
+    return Interrupted(f"interrupted: {counts(report)}", report)
+
+
+def _checking(check: bool, bus_errors: bool) -> Callable[[Run], Report]:
+    """Returns what makes of a run that ended the result of a call."""
+    return lambda run: run.report().check(bus_errors=bus_errors) if check else run.report()
+
+
+# The result of a call that allows nothing.
+_whole = _checking(True, False)
+
+
+def _word(run: Run) -> int:
+    """Returns the word of a run of one read."""
+    word = run.only_word()
+    return run.report().check().words()[0] if word is None else word
 
 
 def _attempt(run: Run, call: Callable[[], object]) -> None:
@@ -56,21 +68,34 @@ class _Driver:
 
     def __init__(self, line: AnyLine, tries: int = 8, *, library: LibraryOrPath = None) -> None:
         self._wire = Wire(line)
-        self.tries = number("tries", tries, 0xFFFF_FFFF)
+        self.tries = tries
         self._library = library
         library_functions(library)
         # How the last run over this line ended, if there was one. The target is open after End.ALL.
         self._last: Optional[End] = None
+        # Whether `close` was called since the last run began.
+        self._is_closed = False
+        # The last run that was started.
+        self._newest: Optional[Run] = None
         self._opening = Opening()
         # Whether the line isn't known to be between two cues.
         self._inside = True
+
+    @property
+    def tries(self) -> int:
+        """The number of events that the opening, and each access, may meet."""
+        return self._tries
+
+    @tries.setter
+    def tries(self, tries: int) -> None:
+        self._tries = number("tries", tries, 0xFFFF_FFFF)
 
     def run(
         self, accesses: Iterable[Access], *, check: bool = True, bus_errors: bool = False, on_answer: OnAnswer = None,
     ) -> Report:
         """Performs the accesses in order, each once. Returns the report, or raises `RunStopped` if the run ended early,
         and `AccessFaulted` if an access was a bus error. `bus_errors` allows bus errors; without `check` the report is
-        returned in any case.
+        returned in any case, but for a target that isn't brought to rest first: that raises `RunStopped`.
 
         `on_answer(index, answer)` is called for each answer as it comes.
 
@@ -78,19 +103,20 @@ class _Driver:
 
         Raises `NotAnAccess`, `OutOfRange`, `Unaligned` or `TooManyAccesses` before anything is sent, and `Reentered` if
         the line is in use. Raises `LineFailed` if the line raises an `Exception`, `CallbackFailed` if `on_answer` does,
-        and `Interrupted` at Ctrl-C. All that is raised after the run began has its `report` (see `report_of`)."""
+        and `Interrupted` at Ctrl-C. All that is raised after the run began has its `report` (see `report_of`). A Ctrl-C
+        before it, or after the call, is a plain `KeyboardInterrupt`."""
         run = self._made(accesses, False)
-        return self._checked(self._perform(run, on_answer), check, bus_errors)
+        return self._performed(run, on_answer, _checking(check, bus_errors))
 
     def run_block(
         self, addr: int, count: int, *, check: bool = True, bus_errors: bool = False, on_answer: OnAnswer = None,
     ) -> Report:
         """Reads `count` words at `addr`, `addr + 4` and so on, at one request per word in place of two. `words()` of
-        the report has them.
+        the report has them, unless one was a bus error.
 
         Raises what `block` and `run` raise. `resume` continues it with the list `block(addr, count)`."""
         run = self._made(block(addr, count), True)
-        return self._checked(self._perform(run, on_answer), check, bus_errors)
+        return self._performed(run, on_answer, _checking(check, bus_errors))
 
     def resume(
         self, accesses: Iterable[Access], report: Report, *, check: bool = True, bus_errors: bool = False,
@@ -99,20 +125,24 @@ class _Driver:
         """Continues a run of these accesses that ended with `End.LOST` or `End.TRIES`, over the same target, from the
         first access that wasn't answered. The report is that of the whole list, but `requests` counts this call alone.
 
-        An access that was in flight may be done again. Raises `NotResumable` if the report ended otherwise or has more
-        answers than there are accesses, and what `run` raises."""
-        run = Run.resumed(accesses, report, self.tries, library=self._library)
-        return self._checked(self._perform(run, on_answer), check, bus_errors)
+        An access that was in flight may be done again. Raises `NotResumable` if the report ended otherwise, is of another
+        list, or has more answers than there are accesses, and what `run` raises."""
+        run = Run.resumed(accesses, report, self._tries, library=self._library)
+        return self._performed(run, on_answer, _checking(check, bus_errors))
 
     def identify(self) -> Identification:
         """Opens the target, also one that is open, and returns its DPIDR. No memory is read or written.
 
         Raises what `run` raises. The message of a `RunStopped` says how far the opening came."""
         is_astray = self._last is not None and self._last is not End.ALL
-        run = self._settling() if is_astray else Run.of_checked((), self.tries, False, False, self._library)
+        run = self._settling() if is_astray else Run.of_checked((), self._tries, False, False, self._library)
         watch = Watch(self._wire.perform)
         try:
-            self._performed(run, None, Run.report, watch.perform).check()
+            self._performed(run, None, _whole, watch.perform)
+        except Reentered:
+            # Nothing was sent: what was read before stands.
+            watch.opening = self._opening
+            raise
         except RunStopped as stop:
             raise RunStopped(f"{stop}; {watch}", stop.report) from None
         finally:
@@ -135,67 +165,82 @@ class _Driver:
 
         Raises `NotBytes`, and `OutOfRange` if the bytes pass the end of the address space, before anything is sent.
         Raises `ImageStopped` if a run ended early or met a bus error, if the line or `on_progress` failed, and
-        `ImageInterrupted` at Ctrl-C: these say which bytes are certainly written, and where to continue."""
-        _images.load(self.run, addr, data, on_progress)
+        `ImageInterrupted` at Ctrl-C: these say which bytes are certainly written, and where to continue. A Ctrl-C before
+        the first run, or after the call, is a plain `KeyboardInterrupt`."""
+        _images.load(self.run, self._newest_run, addr, data, on_progress)
 
     def verify(self, addr: int, data: Buffer, *, on_progress: OnProgress = None) -> None:
         """Reads as many bytes as `data` has, as `dump` does, and compares them with it once all are read. Returns if
         they are equal.
 
         Raises `ImageDiffers` with the first byte that differs, and what `load` raises."""
-        _images.verify(self.run_block, addr, data, on_progress)
+        _images.verify(self.run_block, self._newest_run, addr, data, on_progress)
 
     def dump(self, addr: int, count: int, *, on_progress: OnProgress = None) -> bytes:
         """Returns `count` bytes from `addr` on, which need not be a multiple of 4. Each word that has one of them is
         read once, by blocks of at most 65,536 words. `on_progress` is as for `load`.
 
         Raises what `load` raises but for `NotBytes`; `data` of an `ImageStopped` has the bytes that were read."""
-        return _images.dump("dump", self.run_block, addr, count, on_progress)
+        return _images.dump(self.run_block, self._newest_run, addr, count, on_progress)
 
     def _made(self, accesses: Iterable[Access], of_block: bool) -> Run:
         """Returns a run of a list, over a target that is at rest from here on."""
         checked = listed_accesses(accesses)
         if self._last is not None and self._last is not End.ALL:
-            self._perform(self._settling(), None).check()
+            self._settle(checked)
         opened = not self._opens_each and self._last is not None
-        return Run.of_checked(checked, self.tries, of_block, opened, self._library)
+        return Run.of_checked(checked, self._tries, of_block, opened, self._library)
+
+    def _settle(self, accesses: Tuple[Access, ...]) -> None:
+        """Brings a target to rest, and opens it, before a run of these accesses. What is raised has the report of that
+        run, of which nothing was done, also where each request was answered."""
+        try:
+            self._performed(self._settling(), None, _whole)
+        except BaseException as stop:
+            report = report_of(stop)
+            if isinstance(report, Report):
+                ended = End.LOST if report.ended is End.ALL else report.ended
+                unbegun = replace(report, requests=0, ended=ended, accesses=accesses)
+                stop.report = unbegun  # type: ignore[attr-defined]
+            raise
 
     def _settling(self) -> Run:
         """Returns the run that brings a target to rest, and opens it, after one that ended early: it may be inside a
         transaction. This run continues that one, over a list of no access."""
-        return Run.resumed([], Report((), 0, 0, End.LOST), self.tries, library=self._library)
+        return Run.resumed([], Report((), 0, 0, End.LOST), self._tries, library=self._library)
 
-    def _perform(self, run: Run, on_answer: OnAnswer) -> Report:
-        """Performs a run over the line, and returns its report."""
-        return self._performed(run, on_answer, Run.report)
+    def _newest_run(self) -> Optional[Run]:
+        """Returns the last run that was started, for an image: Ctrl-C may come before a call has returned its report."""
+        return self._newest
 
     def _performed(
         self, run: Run, on_answer: OnAnswer, result: Callable[[Run], _Result], perform: Optional[_Perform] = None,
     ) -> _Result:
-        """Performs a run over the line, and returns what this makes of it. Nothing else does. `perform` takes the place of
-        the line's."""
-        line = self._wire.over
-        _claim(line)
+        """Performs a run over the line, and returns what `result` makes of it. Nothing else does. `perform` takes the place
+        of the line's. `result` is called in here, so that a Ctrl-C in it has the report, too."""
+        line, claim = self._wire.key, object()
         try:
-            self._last = End.LOST
+            if _in_use.setdefault(line, claim) is not claim:
+                raise Reentered("the line is in use by another call, which would lose its place on it")
+            self._last, self._is_closed, self._newest = End.LOST, False, run
             if run.continues and self._inside:
                 _attempt(run, self._wire.leave)
             self._inside = True
             self._follow(run, on_answer, perform or self._wire.perform)
-            made = result(run)
-            self._last, self._inside = run.ended, False
-            return made
-        except RunFailed:
+            self._last, self._inside = None if self._is_closed and run.ended is End.ALL else run.ended, False
+            return result(run)
+        except (RunFailed, Reentered):
             raise
         except KeyboardInterrupt as stop:
-            report = run.report()
-            raise Interrupted(f"interrupted: {counts(report)}", report) from stop
+            raise _interrupted(run) from stop
         except BaseException as failure:
             with contextlib.suppress(AttributeError):
                 failure.report = run.report()  # type: ignore[attr-defined]
             raise
         finally:
-            _in_use.discard(id(line))
+            # Without a call, at which Ctrl-C could come before the line is given back.
+            if line in _in_use and _in_use[line] is claim:
+                del _in_use[line]
 
     def _follow(self, run: Run, on_answer: OnAnswer, perform: _Perform) -> None:
         step, cue, told = run.step, run.first(), run.answered
@@ -222,10 +267,6 @@ class _Driver:
             except Exception as failure:  # pylint: disable=broad-except
                 raise _failed(run, CallbackFailed, failure) from failure
         return run.answered
-
-    @staticmethod
-    def _checked(report: Report, check: bool, bus_errors: bool) -> Report:
-        return report.check(bus_errors=bus_errors) if check else report
 
 
 class Host(_Driver):
@@ -278,7 +319,9 @@ class Session(_Driver):
             self.run([])
 
     def close(self) -> None:
-        """Forgets that the target is open. Nothing is sent: its power stays on."""
+        """Forgets that the target is open, from the end of the call that is made, if there is one. Nothing is sent: its
+        power stays on."""
+        self._is_closed = True
         if self.is_open:
             self._last = None
 
@@ -295,7 +338,7 @@ class Session(_Driver):
         `interval` seconds between two of them. Returns the word.
 
         Raises `OutOfRange` if `value` has bits outside `mask`, since they would never come, `ConditionNotMet` after the
-        last read, and what `run` raises."""
+        last read, and what `run` raises. Ctrl-C in a pause is `Interrupted`, too, with the report of the read before."""
         mask, value = checked_word("mask", mask), checked_word("value", value)
         if value & ~mask:
             fail("value", value, f"within mask, {mask:#x}")
@@ -305,18 +348,20 @@ class Session(_Driver):
             found, run = self._poll(addr)
             if found & mask == value:
                 return found
-            if left > 0 and interval > 0:
-                time.sleep(interval)
+            try:
+                if left > 0 and interval > 0:
+                    time.sleep(interval)
+            except KeyboardInterrupt as stop:
+                raise _interrupted(run) from stop
         raise ConditionNotMet(f"r {addr:08x} was {found:08x} at the last of {reads} reads", run.report())
 
     def _poll(self, addr: int) -> Tuple[int, Run]:
         """Reads the word at an address, and returns it with its run. A read like the last one takes its run once more."""
         at, run = self._polled
-        if run is not None and self.is_open and type(addr) is int and addr == at and run.tries == self.tries:
+        if run is not None and self.is_open and type(addr) is int and addr == at and run.tries == self._tries:
             run.reopen()
         else:
             run = self._made([Read(addr)], False)
             # A run with an opening can't be taken once more.
             self._polled = (addr, run) if run.opened else (None, None)
-        word = self._performed(run, None, Run.only_word)
-        return (run.report().check().words()[0] if word is None else word), run
+        return self._performed(run, None, _word), run

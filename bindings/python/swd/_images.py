@@ -3,12 +3,15 @@ import contextlib
 import struct
 from typing import Any, Callable, Iterator, List, Optional, Tuple, Union
 
-from ._accesses import MOST_ACCESSES, Answer, BusFault, Read, Report, Write
-from ._errors import ImageDiffers, ImageInterrupted, ImageStopped, NotBytes, OutOfRange, number, report_of
+from ._accesses import MOST_ACCESSES, Answer, BusFault, Read, Report, Value, Write
+from ._errors import ImageDiffers, ImageInterrupted, ImageStopped, NotBytes, OutOfRange, Reentered, number, report_of
+from ._runs import Run
 
 Buffer = Union[bytes, bytearray, memoryview]
 OnProgress = Optional[Callable[[int, int], object]]
 Call = Callable[..., Report]
+# Returns the newest run of the host, which may have ended.
+Newest = Callable[[], Optional[Run]]
 # The words from one call of `on_progress` to the next.
 _PROGRESS_WORDS = 1024
 
@@ -46,18 +49,18 @@ class _Range:
 class _Transfer:
     """The calls for the words of a range, and how many of these are certainly done."""
 
-    def __init__(self, name: str, span: _Range, on_progress: OnProgress) -> None:
-        self.name, self.span, self.on_progress = name, span, on_progress
+    def __init__(self, name: str, span: _Range, on_progress: OnProgress, newest: Newest) -> None:
+        self.name, self.span, self.on_progress, self.newest = name, span, on_progress, newest
         # How many words are done, and the bytes of those that were read.
         self.done, self.read = 0, bytearray()
         # The report of the last call.
         self.report: Optional[Report] = None
-        # Whether a call for the words in their order is being made.
-        self.in_order = False
+        # Whether a call for the words in their order is being made, and the last run that isn't to be counted for it.
+        self.in_order, self.counted = False, newest()
 
     def call(self, perform: Call, *arguments: Any) -> None:
         """Makes a call for the next words in their order."""
-        self.in_order = True
+        self.counted, self.in_order = self.newest(), True
         report = perform(*arguments, on_answer=self._counting() if self.on_progress else None)
         self._take(report)
         self.in_order = False
@@ -82,27 +85,32 @@ class _Transfer:
         return count
 
     def _take(self, report: Report) -> None:
-        """Counts the accesses of a call that are done, up to a bus error, and keeps the words that were read."""
+        """Counts the accesses of a call that are done, up to a bus error, and keeps the words that were read. May be
+        called again where Ctrl-C came in it."""
         self.report = report
         faults = (index for index, answer in enumerate(report.answers) if isinstance(answer, BusFault))
         count = next(faults, len(report.answers))
-        words = report.words()[:count]
+        words = [answer.word for answer in report.answers[:count] if isinstance(answer, Value)]
+        del self.read[4 * self.done:]
         self.read += struct.pack(f"<{len(words)}I", *words)
-        self.done += count
+        self.done, self.counted = self.done + count, self.newest()
 
-    @contextlib.contextmanager
-    def telling(self) -> Iterator[None]:
-        """Says how far the image came in what ends it after a call began."""
-        try:
-            yield
-        except BaseException as failure:
-            report = report_of(failure)
-            if report is not None and self.in_order:
-                self._take(report)
-            report = report or self.report
-            if report is not None:
-                self._stop(failure, report)
-            raise
+    def _uncounted(self) -> Optional[Report]:
+        """Returns the report of the last run, if Ctrl-C came before it was returned or counted."""
+        run = self.newest()
+        return None if run is None or run is self.counted else run.report()
+
+    def tell(self, failure: BaseException) -> None:
+        """Says how far the image came in what ended it after a call began: raises the exception of an image in its place."""
+        report = report_of(failure)
+        # A call that is refused has no run: the last one is that of whoever uses the line.
+        if report is None and not isinstance(failure, Reentered):
+            report = self._uncounted()
+        if report is not None and self.in_order:
+            self._take(report)
+        report = report or self.report
+        if report is not None:
+            self._stop(failure, report)
 
     def _stop(self, failure: BaseException, report: Report) -> None:
         """Raises the exception of an image in place of what ended it."""
@@ -125,12 +133,12 @@ def _bytes_of(data: Buffer) -> bytes:
         raise NotBytes(f"data is {type(data).__name__}: it has to be bytes, a bytearray or a memoryview") from None
 
 
-def load(run: Call, addr: int, data: Buffer, on_progress: OnProgress) -> None:
+def load(run: Call, newest: Newest, addr: int, data: Buffer, on_progress: OnProgress) -> None:
     """Loads an image by calls of `run`."""
     image = _bytes_of(data)
     span = _Range(addr, len(image))
-    transfer = _Transfer("load", span, on_progress)
-    with transfer.telling():
+    transfer = _Transfer("load", span, on_progress, newest)
+    try:
         words = bytearray(4 * span.words)
         for word in span.partial_words():
             struct.pack_into("<I", words, 4 * word, transfer.read_word(run, span.first + 4 * word))
@@ -138,22 +146,43 @@ def load(run: Call, addr: int, data: Buffer, on_progress: OnProgress) -> None:
         for word, count in span.blocks():
             listed = enumerate(struct.unpack_from(f"<{count}I", words, 4 * word), word)
             transfer.call(run, [Write(span.first + 4 * place, value) for place, value in listed])
+    except BaseException as failure:
+        transfer.tell(failure)
+        raise
 
 
-def dump(name: str, run_block: Call, addr: int, count: int, on_progress: OnProgress) -> bytes:
+def _read(transfer: _Transfer, run_block: Call) -> bytes:
     """Reads the bytes of a range by calls of `run_block`."""
+    for word, count in transfer.span.blocks():
+        transfer.call(run_block, transfer.span.first + 4 * word, count)
+    return transfer.span.cut(bytes(transfer.read))
+
+
+def dump(run_block: Call, newest: Newest, addr: int, count: int, on_progress: OnProgress) -> bytes:
+    """Reads the bytes of a range."""
     span = _Range(addr, number("count", count, 1 << 32))
-    transfer = _Transfer(name, span, on_progress)
-    with transfer.telling():
-        for word, many in span.blocks():
-            transfer.call(run_block, span.first + 4 * word, many)
-    return span.cut(bytes(transfer.read))
+    transfer = _Transfer("dump", span, on_progress, newest)
+    try:
+        return _read(transfer, run_block)
+    except BaseException as failure:
+        transfer.tell(failure)
+        raise
 
 
-def verify(run_block: Call, addr: int, data: Buffer, on_progress: OnProgress) -> None:
+def _difference(found: bytes, image: bytes) -> Optional[int]:
+    """Returns the place of the first byte that differs."""
+    return None if found == image else next(place for place, byte in enumerate(image) if found[place] != byte)
+
+
+def verify(run_block: Call, newest: Newest, addr: int, data: Buffer, on_progress: OnProgress) -> None:
     """Reads the range of an image, and compares it."""
     image = _bytes_of(data)
-    found = dump("verify", run_block, addr, len(image), on_progress)
-    if found != image:
-        place = next(place for place, byte in enumerate(image) if found[place] != byte)
+    transfer = _Transfer("verify", _Range(addr, len(image)), on_progress, newest)
+    try:
+        found = _read(transfer, run_block)
+        place = _difference(found, image)
+    except BaseException as failure:
+        transfer.tell(failure)
+        raise
+    if place is not None:
         raise ImageDiffers(addr + place, found[place], image[place])

@@ -126,6 +126,8 @@ _FUNCTIONS: Dict[str, Tuple[Any, Optional[Tuple[Any, ...]]]] = {
 
 
 NAME = "libswd_c.so"
+# By which programs find the library: its soname, with the number of release/shared. NAME is the linker's.
+_SONAME = "libswd_c.so.0"
 
 
 class Library:
@@ -199,7 +201,7 @@ def _load(path: Union[None, str, "os.PathLike[str]"]) -> Tuple[str, ctypes.PyDLL
         path = os.environ.get("SWD_LIBRARY")
     beside = os.path.join(os.path.dirname(os.path.abspath(__file__)), NAME)
     # The system's loader searches a bare name: no compiler or linker is asked where the library is.
-    tried = [os.fspath(path)] if path else [beside, NAME]
+    tried = [os.fspath(path)] if path else [beside, _SONAME, NAME]
     reasons = []
     for name in tried:
         try:

@@ -2,7 +2,8 @@
 import inspect
 import operator
 from dataclasses import dataclass
-from typing import Any, Callable, List, Optional, Protocol, Sequence, Tuple, Union
+from types import BuiltinMethodType, MethodType
+from typing import Any, Callable, Hashable, List, Optional, Protocol, Sequence, Tuple, Union
 
 from ._cues import DATA_BITS, Performer
 from ._errors import NotABit, NotALine, OutOfRange
@@ -40,10 +41,10 @@ class SequenceLine(Protocol):
     inside, the target may write another word."""
 
     def drive(self, bits: int, count: int) -> object:
-        """Makes `count` clocks, in which the host drives the low bits of `bits`."""
+        """Makes `count` clocks, at most 64, in which the host drives the low bits of `bits`."""
 
     def release(self, count: int) -> object:
-        """Makes `count` clocks in which the host doesn't drive SWDIO. Its level is ignored."""
+        """Makes `count` clocks, at most 64, in which the host doesn't drive SWDIO. Its level is ignored."""
 
     def sample(self, count: int) -> int:
         """Makes `count` clocks, at most 33, in which the host doesn't drive SWDIO. Returns its levels before the rising
@@ -110,8 +111,13 @@ def _check_call(name: str, call: Any) -> None:
         raise NotALine(f"{name} is a coroutine, which nobody would await: use swd.Run in async code")
 
 
+def _key(call: Any) -> Hashable:
+    """Returns what equals that of the same function. Each look-up of a method makes another object, and these are equal."""
+    return call if isinstance(call, (MethodType, BuiltinMethodType)) else id(call)
+
+
 class Wire(Performer):
-    """Performs cues over any line."""
+    """Performs cues over any line. `key` is the same for each wire over one line, or over the same functions."""
 
     def __init__(self, line: AnyLine) -> None:
         if isinstance(line, Sequences):
@@ -123,6 +129,8 @@ class Wire(Performer):
             self.over, self._flush = line, None
             self._clocks = _Clocks(line)
             super().__init__(self._clocks.drive, self._clocks.release, self._clocks.sample)
+        # `over` is kept, lest another object gets its identity.
+        self.key: Hashable = tuple(map(_key, self.over)) if isinstance(self.over, tuple) else id(self.over)
 
     def leave(self) -> None:
         """Leaves the cue inside which the line failed, before a run that continues: has the target drop the data phase

@@ -90,13 +90,18 @@ class Run:
     ) -> "Run":
         """Makes the run that continues after a run of these accesses with this report, which ended with `End.LOST` or
         `End.TRIES`, from the first access on that wasn't answered. An access in flight may be done again. If that run
-        was broken off inside a cue, release the line for four clocks before. Inside the bits of a `Give`, drive the
-        rest of them before that, or the target may write another word.
+        was broken off inside a cue, release the line for four clocks before. Inside the bits of a `Give`, end them
+        before that so that the parity is wrong, whether the clock that failed was made or not, or the target may write
+        another word: `Host` and `Session` do.
 
-        Raises `NotResumable` if the report ended otherwise, or has more answers than there are accesses."""
+        Raises `NotResumable` if the report ended otherwise, is of another list, or has more answers than there are
+        accesses."""
         run = cls(accesses, tries, library=library)
         if report.ended not in (End.LOST, End.TRIES):
             raise NotResumable(f"report ended with '{report.ended}': only 'lost' and 'tries' can be resumed")
+        # A report that was made without its list, as of answers that were kept, is taken for one of these accesses.
+        if report.accesses and report.accesses != run.accesses:
+            raise NotResumable("report is of another list of accesses")
         if len(report.answers) > len(run.accesses):
             raise NotResumable(f"report has {len(report.answers)} answers, accesses has {len(run.accesses)}")
         run._continue(report)

@@ -4,12 +4,14 @@ import itertools
 import pickle
 import random
 import struct
+import threading
 import unittest
 import unittest.mock
 
 import swd
 from plain import Damaged, MemoryBus, PlainMemory, PlainTarget
 from swd import BusFault, End, Read, Value, Written
+from test_sessions import CtrlC, Sequenced
 from test_swd import BASE, COUNT, SEED, TARGETS, library_target, plan_of, random_mark
 
 HEAD = BASE + 0x10
@@ -349,6 +351,45 @@ class Failures(unittest.TestCase):
                     self.assertEqual(content_of(memory), after)
         self.assertIsInstance(self.broken(900, OSError("unplugged"))[0].__cause__, swd.LineFailed)
 
+    def test_an_interrupt_at_each_place(self):
+        """Of the package, also where a call has just ended. The bytes that are told are written, and no word behind the
+        one at `addr`. Where nothing is told, nothing is written."""
+        after = filled(self.CONTENT, BASE + 1, self.DATA)
+        memory = memory_of(self.CONTENT)
+        # Behind the last call the image is loaded, and Ctrl-C is the caller's.
+        how = ("call", "c_return", "return"), (("return", "load"),)
+        with unittest.mock.patch("swd._images.MOST_ACCESSES", 3), \
+                swd.Session(swd.Sequences(Sequenced(Damaged(library_target(memory), [])))) as session:
+            for place, raised in CtrlC.at_each(lambda: session.load(BASE + 1, self.DATA), *how):
+                with self.subTest(place):
+                    now, at, rest = content_of(memory), BASE + 1, self.DATA
+                    if isinstance(raised, swd.ImageInterrupted):
+                        at, rest = raised.addr, self.DATA[raised.done:]
+                        self.assertEqual(raised.done + len(rest), len(self.DATA))
+                        begun = (at - BASE & ~3) + 4
+                        self.assertEqual((now[:at - BASE], now[begun:]), (after[:at - BASE], self.CONTENT[begun:]))
+                    else:
+                        self.assertEqual(now, self.CONTENT)
+                    session.load(at, rest)
+                    self.assertEqual(content_of(memory), after)
+                    session.load(BASE, self.CONTENT)
+        self.assertEqual(content_of(memory), after)
+
+    def test_an_interrupt_at_each_place_of_a_reading(self):
+        """The bytes that are told were read, also where Ctrl-C came behind the last call."""
+        content = self.CONTENT[1:23]
+        session = swd.Session(swd.Sequences(Sequenced(Damaged(library_target(memory_of(self.CONTENT)), []))))
+        calls = {"dump": lambda: session.dump(BASE + 1, 22), "verify": lambda: session.verify(BASE + 1, content)}
+        for name, call in calls.items():
+            session.open()
+            with unittest.mock.patch("swd._images.MOST_ACCESSES", 3):
+                for place, raised in CtrlC.at_each(call, ("call", "c_return", "return"), (("return", name),)):
+                    with self.subTest(name, place=place):
+                        told = raised.data if isinstance(raised, swd.ImageInterrupted) else b""
+                        self.assertEqual((told, getattr(raised, "done", 0)), (content[:len(told)], len(told)))
+                        session.open()
+            self.assertGreater(place, 100)
+
     def test_other_exceptions(self):
         raised, _, memory, _ = self.broken(1000, SystemExit(3))
         self.assertIsInstance(raised, SystemExit)
@@ -376,6 +417,51 @@ class Failures(unittest.TestCase):
         session = swd.Session(library_target(memory_of(self.CONTENT)))
         session.run = unittest.mock.Mock(side_effect=swd.Reentered("in use"))
         self.assertRaises(swd.Reentered, session.load, BASE, self.DATA)
+
+    def test_another_thread_on_the_line(self):
+        """It begins a list before a call of the image, which is refused. Its answers are none of the image's."""
+        data = self.CONTENT[:24]
+        rows = [("load", "run", lambda session: session.load(BASE, bytes(24))),
+                ("verify", "run_block", lambda session: session.verify(BASE, data)),
+                ("dump", "run_block", lambda session: session.dump(BASE, 24))]
+        for (name, inner, image), refused in itertools.product(rows, (0, 1)):
+            with self.subTest(name, refused=refused), unittest.mock.patch("swd._images.MOST_ACCESSES", 3):
+                memory = memory_of(self.CONTENT)
+                raised = self.refused(swd.Session(library_target(memory)), inner, image, refused)
+                done = 12 * refused
+                written, read = (bytes(done), b"") if name == "load" else (b"", data[:done])
+                self.assertEqual(content_of(memory), filled(self.CONTENT, BASE, written))
+                if refused:
+                    self.assertEqual((raised.addr, raised.done, raised.data), (BASE + done, done, read))
+                    raised = raised.__cause__
+                self.assertIsInstance(raised, swd.Reentered)
+
+    def refused(self, session, inner, image, number):
+        """What an image raises, if another thread is inside a list when its call with this number begins."""
+        calls, inside, leaves = itertools.count(), threading.Event(), threading.Event()
+        perform = getattr(session, inner)
+
+        def hold(index, answer):
+            if index == 4:
+                inside.set()
+                leaves.wait()
+
+        other = threading.Thread(target=session.run, args=([Read(BASE + 28)] * 8,), kwargs={"on_answer": hold})
+
+        def meet(*arguments, **how):
+            if next(calls) == number:
+                other.start()
+                inside.wait()
+            return perform(*arguments, **how)
+
+        setattr(session, inner, meet)
+        try:
+            with self.assertRaises(swd.SwdError) as caught:
+                image(session)
+        finally:
+            leaves.set()
+            other.join()
+        return caught.exception
 
     def test_progress(self):
         """Every 1,024 words and at the end, of each call; and where it fails, all before it is told."""

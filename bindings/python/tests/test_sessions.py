@@ -1,13 +1,17 @@
 """Tests of sessions, of failures, and of runs without I/O. They are run as those of test_swd.py."""
 import asyncio
+import copy
 import itertools
 import os
+import pickle
+import re
 import signal
 import subprocess
 import sys
 import tempfile
 import threading
 import unittest
+import unittest.mock
 
 import swd
 from plain import Damaged, PlainMemory, PlainTarget
@@ -25,6 +29,19 @@ def damaged(marks=None, words=16):
     """A line to the library's target, and its memory."""
     memory = PlainMemory(BASE, words, 65_536)
     return Damaged(library_target(memory), plan_of(marks or {})), memory
+
+
+def fail_at(line, at, failure):
+    """Has a damaged line raise this once, after so many clocks more."""
+    cycle, left = line.cycle, iter(range(at, -1, -1))
+
+    def failing(drive):
+        if next(left) == 0:
+            line.cycle = cycle
+            raise failure
+        return cycle(drive)
+
+    line.cycle = failing
 
 
 class Breaking:
@@ -83,6 +100,47 @@ class Sequenced:
         return sum(self.line.sample() << place for place in range(count))
 
 
+class CtrlC:
+    """Raises KeyboardInterrupt at one of the places of the package at which Python handles a signal: where a function
+    begins, and behind a builtin; up to Python 3.10 also where a function ends. Only the files of hosts count, not the
+    target at the other end of the line."""
+
+    FILES = {os.path.join(os.path.dirname(swd.__file__), f"_{name}.py")
+             for name in ("accesses", "cues", "hosts", "identities", "images", "lines", "runs")}
+
+    def __init__(self, place, events=("call", "c_return"), without=()):
+        self.left, self.events, self.without = place, events, without
+
+    def __enter__(self):
+        sys.setprofile(self._meet)
+        return self
+
+    def __exit__(self, *raised):
+        sys.setprofile(None)
+
+    def _meet(self, frame, event, _):
+        code = frame.f_code
+        if event not in self.events or code.co_filename not in self.FILES or (event, code.co_name) in self.without:
+            return
+        self.left -= 1
+        if self.left < 0:
+            sys.setprofile(None)
+            raise KeyboardInterrupt
+
+    @classmethod
+    def at_each(cls, call, *how):
+        """Makes this call with Ctrl-C at each place in turn. Yields the place and what was raised, up to a call that passed
+        all of its places."""
+        for place in itertools.count():
+            try:
+                with cls(place, *how):
+                    call()
+            except KeyboardInterrupt as raised:
+                yield place, raised
+            else:
+                return
+
+
 class Sessions(unittest.TestCase):
     """Lists over a target that is opened once."""
 
@@ -127,6 +185,38 @@ class Sessions(unittest.TestCase):
             self.assertEqual([session.read(BASE), session.read(BASE)], [3, 3])
             session.close()
             self.assertEqual([session.read(BASE) for _ in range(3)], [3, 3, 3])
+
+    def test_close_in_a_callback(self):
+        """The target is opened again by the next call, as after any other `close`: the call that is made goes on."""
+        for kept in (False, True):
+            with self.subTest(kept=kept):
+                line, memory = damaged({15: "deaf"} if kept else {})
+                session = swd.Session(line)
+                report = session.run(LIST, check=False, on_answer=lambda index, answer: session.close())
+                self.assertEqual((report.ended, len(report.answers)), (End.LOST, 2) if kept else (End.ALL, 4))
+                self.assertFalse(session.is_open)
+                # Nine requests of the opening. After a loss another run comes before, which brings the target to rest.
+                self.assertEqual(session.run([Read(BASE)]).requests, POLL_REQUESTS + (0 if kept else 9))
+                self.assertTrue(session.is_open)
+                self.assertEqual(session.run([Read(BASE)]).requests, POLL_REQUESTS)
+                self.assertEqual(session.read(BASE), WORD)
+
+    def test_tries_that_are_changed(self):
+        """They are checked as the argument is: a C library would take other numbers for them."""
+        line, memory = damaged({11: "wait", 12: "wait"})
+        for host in (swd.Session(line), swd.Host(line)):
+            self.assertEqual(host.tries, 8)
+            for tries in (-1, 1 << 32, 1.5, "8", None, True):
+                with self.subTest(tries), self.assertRaises(swd.OutOfRange) as caught:
+                    host.tries = tries
+                self.assertIn("tries is", str(caught.exception))
+                self.assertEqual(host.tries, 8)
+            host.tries = 0xFFFFFFFF
+            self.assertEqual(host.tries, 0xFFFFFFFF)
+        session = swd.Session(line)
+        session.tries = 1
+        self.assertIs(session.run([Write(BASE, 1)], check=False).ended, End.TRIES)
+        self.assertEqual(memory.log, [])
 
     def test_until(self):
         line, memory = damaged()
@@ -254,6 +344,20 @@ class Identities(unittest.TestCase):
         self.assertEqual((half.has_debug_power, half.has_system_power), (True, False))
         self.assertEqual(str(half), "DPIDR was 2ba01477, and CTRL/STAT acknowledged no system power")
 
+    def test_an_identification_that_is_refused(self):
+        """Nothing is sent, and what was read before stands. Where the line fails, nothing was read."""
+        line, _ = damaged()
+        session = swd.Session(line)
+        opening = swd.Opening(session.identify(), 0xF0000000)
+        self.assertEqual(session.opening, opening)
+        with self.assertRaises(swd.CallbackFailed) as caught:
+            session.run([Write(BASE, 1)], on_answer=lambda index, answer: session.identify())
+        self.assertIsInstance(caught.exception.__cause__, swd.Reentered)
+        self.assertEqual(session.opening, opening)
+        line.cycle = None
+        self.assertRaises(swd.LineFailed, session.identify)
+        self.assertEqual(session.opening, swd.Opening())
+
     def test_a_target_that_was_lost_before(self):
         """It is brought to rest, and identified by the opening that does so."""
         line, memory = damaged({12: "deaf"})
@@ -295,6 +399,23 @@ class Failures(unittest.TestCase):
             self.assertEqual(session.run([Read(0x30000000)], check=False).answers, (BusFault(),))
             self.assertEqual(session.read(BASE), 0)
 
+    def test_words_behind_a_bus_error(self):
+        """They would take the place of the word that wasn't read. A write has no word, and takes none."""
+        line, memory = damaged()
+        del memory.words[BASE + 8]
+        memory.words.update({BASE + 4 * place: place for place in (0, 1, 3)})
+        with swd.Session(line) as session:
+            for report in (session.run_block(BASE, 4, bus_errors=True),
+                           session.run(swd.block(BASE, 4), check=False)):
+                with self.assertRaises(swd.AccessFaulted) as caught:
+                    report.words()
+                self.assertIn("access 2 (r 20000008) was a bus error", str(caught.exception))
+                self.assertIs(caught.exception.report, report)
+                self.assertEqual(report.answers, (Value(0), Value(1), BusFault(), Value(3)))
+            written = session.run([Write(BASE + 8, 1), Read(BASE + 4)], bus_errors=True)
+            self.assertEqual((written.answers, written.words()), ((BusFault(), Value(1)), [1]))
+        self.assertRaises(swd.AccessFaulted, swd.Report((BusFault(), Value(1)), 0, 9, End.ALL).words)
+
     def test_check(self):
         whole = swd.Report(ANSWERS, 0, 15, End.ALL)
         self.assertIs(whole.check(), whole)
@@ -309,15 +430,8 @@ class Failures(unittest.TestCase):
         """A run whose line raises this at a clock: the exception, the clocks made, and the memory."""
         memory = PlainMemory(BASE, 16, 100)
         line = Damaged(PlainTarget(memory), [])
-        cycle, left = line.cycle, iter(range(at, -1, -1))
-
-        def failing(drive):
-            if next(left, 0) == 0 and at >= 0:
-                line.cycle = cycle
-                raise failure
-            return cycle(drive)
-
-        line.cycle = failing if at >= 0 else cycle
+        if at >= 0:
+            fail_at(line, at, failure)
         host = kind(line)
         try:
             host.run(LIST)
@@ -440,6 +554,101 @@ class Failures(unittest.TestCase):
                 sure_of(self, LIST, caught.exception.report, memory, 65_536, 16)
                 self.assertEqual(host.resume(LIST, caught.exception.report).answers, ANSWERS)
 
+    def test_a_run_inside_a_run_over_functions(self):
+        """Each call makes a tuple of its own, of an object's methods, or of functions, whether they have a hash or not."""
+        class Unhashable:
+            """A function as an object that is compared by its value."""
+
+            def __init__(self, call):
+                self.call = call
+
+            def __eq__(self, other):
+                return self.call == other
+
+            def __call__(self, *bits):
+                return self.call(*bits)
+
+        for kind in ("methods", "functions", "objects"):
+            for at in range(0, 900, 13):
+                line, memory = damaged()
+                clocks, cycle = itertools.count(), line.cycle
+                calls = {"functions": [lambda bit: line.drive(bit), lambda: line.sample()],
+                         "objects": [Unhashable(line.drive), Unhashable(line.sample)]}
+
+                def made():
+                    return (line.drive, line.sample) if kind == "methods" else tuple(calls[kind])
+
+                def reenter(bit):
+                    if next(clocks) == at:
+                        swd.Host(made()).run([Write(BASE, 5)])
+                    return cycle(bit)
+
+                line.cycle = reenter
+                with self.subTest(kind, clock=at):
+                    host = swd.Host(made())
+                    with self.assertRaises(swd.LineFailed) as caught:
+                        host.run(LIST)
+                    self.assertIsInstance(caught.exception.__cause__, swd.Reentered)
+                    sure_of(self, LIST, caught.exception.report, memory, 65_536, 16)
+                    self.assertEqual(host.resume(LIST, caught.exception.report).answers, ANSWERS)
+
+    def test_an_interrupt_at_each_place(self):
+        """Of the package, and not only in the line. Without a report, nothing was sent."""
+        for accesses in ([Write(BASE, WORD)], LIST):
+            line, memory = damaged()
+            with swd.Session(swd.Sequences(Sequenced(line))) as session:
+                for place, raised in CtrlC.at_each(lambda: session.run(accesses)):
+                    with self.subTest(accesses, place=place):
+                        report = swd.report_of(raised)
+                        if report is None:
+                            self.assertEqual(memory.log, [])
+                        else:
+                            self.assertIsInstance(raised, swd.Interrupted)
+                            sure_of(self, accesses, report, memory, 65_536, 16)
+                        session.open()
+                        memory.log.clear()
+                        memory.words.update(dict.fromkeys(memory.words, 0))
+            self.assertEqual(len(memory.log), len(accesses))
+
+    def test_an_interrupt_of_a_read(self):
+        """It has the report that tells how far it came, also where the same run is taken once more."""
+        line, memory = damaged()
+        with swd.Session(swd.Sequences(Sequenced(line))) as session:
+            for place, raised in CtrlC.at_each(lambda: session.read(BASE)):
+                with self.subTest(place):
+                    report = swd.report_of(raised)
+                    if report is None:
+                        self.assertEqual(memory.log, [])
+                    else:
+                        sure_of(self, [Read(BASE)], report, memory, 65_536, 16)
+                    session.open()
+                    self.assertEqual(session.read(BASE), 0)
+                    memory.log.clear()
+
+    def test_an_interrupt_in_a_pause(self):
+        """It comes between two reads, and has the report of the one before."""
+        for reads in (1, 2, 3):
+            line, memory = damaged()
+            with swd.Session(line) as session:
+                pauses = [None] * (reads - 1) + [KeyboardInterrupt()]
+                with unittest.mock.patch("time.sleep", side_effect=pauses), \
+                        self.assertRaises(swd.Interrupted) as caught:
+                    session.until(BASE, 1, 1, interval=0.1)
+                self.assertEqual(caught.exception.report, swd.Report((Value(0),), 0, POLL_REQUESTS, End.ALL))
+                self.assertIs(caught.exception.__cause__, pauses[-1])
+                self.assertEqual(len(memory.log), reads)
+                self.assertTrue(session.is_open)
+
+    def test_a_line_is_free_after_each_interrupt(self):
+        """Another call isn't refused, wherever Ctrl-C came in the one before."""
+        line, _ = damaged()
+        with swd.Session(swd.Sequences(Sequenced(line))) as session:
+            for place, _ in CtrlC.at_each(lambda: session.write(BASE, 1), ("call", "c_return", "return")):
+                with self.subTest(place):
+                    session.write(BASE, WORD)
+                    self.assertEqual(session.read(BASE), WORD)
+        self.assertGreater(place, 50)
+
     def test_answers_as_they_come(self):
         line, _ = damaged()
         seen = []
@@ -467,6 +676,39 @@ class Failures(unittest.TestCase):
                 sure_of(self, LIST, caught.exception.report, memory, 65_536, 16)
                 self.assertEqual(host.resume(LIST, caught.exception.report).answers, ANSWERS)
 
+    def test_a_report_of_another_list(self):
+        """It isn't taken for one of this list: its answers would be those of other accesses."""
+        line, memory = damaged({15: "deaf"})
+        host = swd.Host(line)
+        lost = host.run(LIST, check=False)
+        self.assertEqual((lost.ended, lost.answers), (End.LOST, (Written(), Written())))
+        done = list(memory.log)
+        for other in (LIST[::-1], LIST[:3], [*LIST, Read(BASE)], [Write(BASE, 0), *LIST[1:]], swd.block(BASE, 4)):
+            with self.subTest(other):
+                self.assertRaises(swd.NotResumable, host.resume, other, lost)
+                self.assertRaises(swd.NotResumable, swd.Run.resumed, other, lost)
+        self.assertEqual(memory.log, done)
+        self.assertEqual(host.resume(tuple(LIST), lost).answers, ANSWERS)
+
+    def test_a_report_of_another_block(self):
+        host = swd.Host(damaged({14: "deaf"})[0])
+        lost = host.run_block(BASE, 4, check=False)
+        self.assertIs(lost.ended, End.LOST)
+        for other in (swd.block(BASE, 3), swd.block(BASE + 4, 4)):
+            self.assertRaises(swd.NotResumable, host.resume, other, lost)
+        self.assertEqual(host.resume(swd.block(BASE, 4), lost).words(), [0] * 4)
+
+    def test_failures_that_are_copied(self):
+        """Each keeps its fields, also those of Ctrl-C, as `multiprocessing` needs them."""
+        report = swd.Report((Written(),), 1, 12, End.LOST)
+        image = (report, BASE + 3, 3, b"abc")
+        for failure in (swd.RunStopped("told", report), swd.Interrupted("told", report),
+                        swd.ImageStopped("told", *image), swd.ImageInterrupted("told", *image)):
+            for copied in (pickle.loads(pickle.dumps(failure)), copy.copy(failure), copy.deepcopy(failure)):
+                with self.subTest(type(failure)):
+                    self.assertIs(type(copied), type(failure))
+                    self.assertEqual((str(copied), vars(copied)), (str(failure), vars(failure)))
+
     def test_a_report_that_was_kept(self):
         """A run is resumed by another host, from nothing but the number of answers."""
         line, memory = damaged({15: "deaf"})
@@ -474,6 +716,100 @@ class Failures(unittest.TestCase):
         kept = swd.Report(lost.answers, lost.begun, 0, End.LOST)
         self.assertEqual(swd.Host(line).resume(LIST, kept).answers, ANSWERS)
         self.assertEqual(memory.words[BASE + 4], 2)
+
+
+class Settling(unittest.TestCase):
+    """Calls after one that was lost: they begin by bringing the target to rest. What fails then has a report of the
+    call, of which nothing was done, and it is resumed."""
+
+    CALLS = [
+        ("a host's list", swd.Host, lambda host: host.run(LIST), LIST),
+        ("a list", swd.Session, lambda session: session.run(LIST, check=False), LIST),
+        ("a block", swd.Session, lambda session: session.run_block(BASE, 4), swd.block(BASE, 4)),
+        ("a read", swd.Session, lambda session: session.read(BASE), [Read(BASE)]),
+        ("a write", swd.Session, lambda session: session.write(BASE, WORD), [Write(BASE, WORD)]),
+    ]
+    FAILURES = [
+        (OSError("unplugged"), swd.LineFailed), (KeyboardInterrupt(), swd.Interrupted), (SystemExit(3), SystemExit),
+    ]
+
+    class Queue(Sequenced):
+        """A probe that raises this once, as it makes its queue, after so many times more. The queue is dropped then."""
+
+        left, failure = None, None
+
+        def flush(self):
+            left, self.left = self.left, None if self.left is None else self.left - 1
+            if left == 0:
+                self.queue.clear()
+                raise self.failure
+            Sequenced.flush(self)
+
+    def lost(self, kind, over=lambda line: line, marks=()):
+        """A host whose last run was lost, over a line, and its memory, as if nothing had been done yet."""
+        line, memory = damaged({12: "deaf", **dict(marks)})
+        host = kind(over(line))
+        self.assertIs(host.run([Write(BASE, 1)], check=False).ended, End.LOST)
+        memory.log.clear()
+        memory.words[BASE] = 0
+        return host, line, memory
+
+    def resumed(self, host, raised, accesses, memory):
+        """Whether the report says that nothing was done; and the call is resumed."""
+        report = swd.report_of(raised)
+        self.assertEqual(report, swd.Report((), 0, 0, End.LOST))
+        self.assertEqual(report.accesses, tuple(accesses))
+        self.assertRaises(swd.RunStopped, report.check)
+        self.assertEqual(memory.log, [])
+        whole = host.resume(accesses, report)
+        self.assertIs(whole.ended, End.ALL)
+        sure_of(self, accesses, whole, memory, 65_536, 16)
+
+    def test_a_failure_at_each_clock(self):
+        """The last eight are idle cycles, behind the answers of the opening."""
+        host, line, _ = self.lost(swd.Session)
+        before = len(line.calls)
+        host.identify()
+        clocks = len(line.calls) - before
+        places = [*range(0, clocks - 12, 53), *range(clocks - 12, clocks)]
+        for at, (failure, kind) in itertools.product(places, self.FAILURES):
+            for name, host_kind, call, accesses in self.CALLS:
+                with self.subTest(name, clock=at, of=clocks, kind=kind):
+                    host, line, memory = self.lost(host_kind)
+                    fail_at(line, at, failure)
+                    with self.assertRaises(kind) as caught:
+                        call(host)
+                    self.resumed(host, caught.exception, accesses, memory)
+
+    def test_a_target_that_is_lost_again(self):
+        """At each request that brings it to rest."""
+        for number, (name, kind, call, accesses) in itertools.product(range(13, 22), self.CALLS):
+            with self.subTest(name, request=number):
+                host, _, memory = self.lost(kind, marks={number: "deaf"})
+                with self.assertRaises(swd.RunStopped) as caught:
+                    call(host)
+                self.resumed(host, caught.exception, accesses, memory)
+
+    def test_a_failure_of_each_queue(self):
+        """The last one is flushed at the end of the run that brings the target to rest."""
+        probe = self.Queue(None)
+
+        def over(line):
+            probe.line, probe.left = line, None
+            return swd.Sequences(probe)
+
+        host, _, _ = self.lost(swd.Session, over)
+        probe.left = 1000
+        host.identify()
+        queues = 1000 - probe.left
+        for at, (failure, kind) in itertools.product(range(queues), self.FAILURES):
+            for name, host_kind, call, accesses in self.CALLS:
+                with self.subTest(name, queue=at, of=queues, kind=kind):
+                    host, _, memory = self.lost(host_kind, over)
+                    probe.left, probe.failure = at, failure
+                    with self.assertRaises(kind) as caught:
+                        call(host)
+                    self.resumed(host, caught.exception, accesses, memory)
 
 
 class WithoutIo(unittest.TestCase):
@@ -537,6 +873,39 @@ class WithoutIo(unittest.TestCase):
         swd.Session(swd.Sequences(Sequenced(sequenced))).run(LIST)
         self.assertEqual(sequenced.calls, plainly.calls)
 
+    def test_a_probe_of_64_clocks(self):
+        """A sequence of CMSIS-DAP has no more. Where a run continues, the line reset has 66 ones that are driven."""
+        counts = set()
+
+        class Probe(Sequenced):
+            """A probe whose calls make at most 64 clocks."""
+
+            def drive(self, bits, count):
+                counts.add(count)
+                self.queue.append((int.from_bytes(bits.to_bytes(8, "little"), "little"), count))
+
+            def release(self, count):
+                counts.add(count)
+                Sequenced.release(self, count)
+
+            def sample(self, count):
+                counts.add(count)
+                return Sequenced.sample(self, count)
+
+        for mark, number in itertools.product(("wait", "flip 0", "deaf", "mute 0", "mute 1"), range(1, 18)):
+            with self.subTest(mark, number=number):
+                session = swd.Session(swd.Sequences(Probe(damaged({number: mark})[0])))
+                report = session.run(LIST, check=False)
+                if report.ended is End.LOST:
+                    report = session.resume(LIST, report)
+                self.assertEqual(report.answers, ANSWERS)
+        self.assertLessEqual(max(counts), 64)
+        for run in (swd.Run([]), swd.Run.resumed([], swd.Report((), 0, 0, End.LOST)), swd.Run([], opened=True)):
+            self.assertLessEqual(max(step.count for step in run.cue().sequences()), 64)
+        steps = swd.Lead(200, 70, False, 65).sequences()
+        self.assertEqual([step.count for step in steps], [64, 6, 64, 64, 2, 64, 1])
+        self.assertEqual([step.bits for step in steps[2:]], [(1 << 64) - 1, (1 << 64) - 1, 3, 0, 0])
+
     def test_sequences_that_are_refused(self):
         for level in (8, -1, None, True, "1"):
             with self.subTest(level):
@@ -598,7 +967,30 @@ class WithoutIo(unittest.TestCase):
 
 
 class FirstUse(unittest.TestCase):
-    """The library beside the package is found by the package alone, and one that SWD_LIBRARY names before it."""
+    """The library beside the package is found by the package alone, one that SWD_LIBRARY names before it, and one of the
+    system after it."""
+
+    CODE = """import swd
+try:
+    print(swd.decode("000"), swd._library._found.path)
+except swd.LibraryNotFound:
+    print("none")"""
+
+    def package(self, folder):
+        """Makes a package without a library, and returns its folder."""
+        package = os.path.join(folder, "package", "swd")
+        os.makedirs(package)
+        sources = os.path.dirname(swd.__file__)
+        for name in os.listdir(sources):
+            if name.endswith(".py"):
+                os.symlink(os.path.join(sources, name), os.path.join(package, name))
+        return package
+
+    def told(self, package, **environment):
+        """What a program over this package prints: the items of a trace, and the path of the library."""
+        environment["PYTHONPATH"] = os.path.dirname(package)
+        return subprocess.run([sys.executable, "-B", "-c", self.CODE], env=environment, check=True,
+                              stdout=subprocess.PIPE, universal_newlines=True).stdout
 
     def test_no_program_is_run(self):
         """PATH has nothing but programs that leave a trace of themselves."""
@@ -608,22 +1000,29 @@ class FirstUse(unittest.TestCase):
                 with open(path, "w", encoding="ascii") as script:
                     script.write(f"#!/bin/sh\n: >{folder}/{name}.ran\n")
                 os.chmod(path, 0o755)
-            package = os.path.join(folder, "package", "swd")
-            os.makedirs(package)
-            sources = os.path.dirname(swd.__file__)
-            for name in os.listdir(sources):
-                if name.endswith(".py"):
-                    os.symlink(os.path.join(sources, name), os.path.join(package, name))
-            os.symlink(swd.Library().path, os.path.join(package, "libswd_c.so"))
-            environment = {"PATH": folder, "PYTHONPATH": os.path.dirname(package)}
+            package = self.package(folder)
+            beside = os.path.join(package, "libswd_c.so")
+            os.symlink(swd.Library().path, beside)
             for found, named in ((True, {}), (False, {"SWD_LIBRARY": "/nowhere/libswd_c.so"}), (False, {})):
                 if not found and not named:
-                    os.remove(os.path.join(package, "libswd_c.so"))
-                code = "import swd\ntry: print(swd.decode('000'))\nexcept swd.LibraryNotFound: print('none')"
-                told = subprocess.run([sys.executable, "-B", "-c", code], env={**environment, **named}, check=True,
-                                      stdout=subprocess.PIPE, universal_newlines=True).stdout
-                self.assertEqual(told, "[Idle(count=3)]\n" if found else "none\n")
+                    os.remove(beside)
+                told = self.told(package, PATH=folder, **named)
+                self.assertEqual(told, f"[Idle(count=3)] {beside}\n" if found else "none\n")
                 self.assertEqual([name for name in os.listdir(folder) if name.endswith(".ran")], [])
+
+    def test_the_names_that_the_loader_searches(self):
+        """A package of a distribution for programs has the library's soname alone, one for building also the name without
+        its number, which may lead to another version."""
+        with open(os.path.join(ROOT, "release", "shared"), encoding="ascii") as script:
+            soname = f"libswd_c.so.{re.findall('^abi=([0-9]+)$', script.read(), re.MULTILINE)[0]}"
+        with tempfile.TemporaryDirectory() as folder:
+            package = self.package(folder)
+            os.symlink(swd.Library().path, os.path.join(folder, soname))
+            self.assertEqual(self.told(package, LD_LIBRARY_PATH=folder), f"[Idle(count=3)] {soname}\n")
+            with open(os.path.join(folder, "libswd_c.so"), "wb"):
+                self.assertEqual(self.told(package, LD_LIBRARY_PATH=folder), f"[Idle(count=3)] {soname}\n")
+            os.replace(os.path.join(folder, soname), os.path.join(folder, "libswd_c.so"))
+            self.assertEqual(self.told(package, LD_LIBRARY_PATH=folder), "[Idle(count=3)] libswd_c.so\n")
 
 
 if __name__ == "__main__":

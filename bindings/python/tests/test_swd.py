@@ -736,6 +736,21 @@ class Pages(unittest.TestCase):
             with self.subTest(ended), self.assertRaises(ended):
                 asyncio.run(names["monitor"](swclk, swdio))
 
+    def test_resume(self):
+        """The program of that page that resumes a run: after a loss it does, and at a bus error it raises what it met."""
+        program = program_of_the_page("host.resume(accesses")
+        for words, marks, failure in ((8, {14: "deaf"}, None), (4, {}, swd.AccessFaulted)):
+            memory = PlainMemory(BASE, words, 100)
+            names = {"swd": swd, "MyProbe": lambda: Damaged(library_target(memory), plan_of(marks))}
+            output = io.StringIO()
+            with self.subTest(failure), contextlib.redirect_stdout(output):
+                if failure is None:
+                    exec(program, names)  # pylint: disable=exec-used
+                else:
+                    self.assertRaises(failure, exec, program, names)
+            self.assertIn("end all 8" if failure else "end lost", output.getvalue())
+            self.assertEqual(list(memory.words.values()), list(range(words)))
+
     def test_programs(self):
         line = library_target(PlainMemory(BASE, 64, 1000))
         names = {"swd": swd, "MyProbe": lambda: line}

@@ -22,21 +22,25 @@ pub struct Access(pub(crate) ffi::Access);
 
 impl Access {
     /// Reads the word at an address.
+    #[must_use]
     pub const fn read(addr: u32) -> Access {
         Access(ffi::Access { addr, word: 0, write: 0 })
     }
 
     /// Writes a word at an address.
+    #[must_use]
     pub const fn write(addr: u32, word: u32) -> Access {
         Access(ffi::Access { addr, word, write: 1 })
     }
 
     /// The address.
+    #[must_use]
     pub const fn addr(self) -> u32 {
         self.0.addr
     }
 
     /// The word that is written, or `None` of a read.
+    #[must_use]
     pub const fn word(self) -> Option<u32> {
         if self.0.write == 0 {
             None
@@ -101,6 +105,7 @@ impl Slot {
     pub const EMPTY: Slot = Slot(ffi::Outcome { word: 0, kind: 0 });
 
     /// The answer, or `None` where the access wasn't answered.
+    #[must_use]
     pub const fn answer(self) -> Option<Answer> {
         match self.0.kind {
             VALUE => Some(Answer::Value(self.0.word)),
@@ -111,6 +116,7 @@ impl Slot {
     }
 
     /// The word that was read, or `None` for any other answer, and for none.
+    #[must_use]
     pub const fn word(self) -> Option<u32> {
         match self.answer() {
             Some(Answer::Value(word)) => Some(word),
@@ -173,7 +179,7 @@ pub struct Report {
     pub answered: usize,
     /// How many accesses after these were in flight: 0 or 1, in a block up to 2. Such an access took effect or didn't.
     pub begun: u8,
-    /// How many requests were sent, by this call alone.
+    /// How many requests were sent, by this call alone, without those that bring the target to rest first.
     pub requests: u64,
     /// How the run ended.
     pub ended: End,

@@ -23,8 +23,10 @@ fn parity(bits: u64, count: u32) -> u64 {
 }
 
 impl Cut {
-    /// The line failed once, after so many clocks of the data phase with these bits.
+    /// The line failed once, after so many clocks of the data phase with these bits. If it says that all were made, the last
+    /// one was or wasn't, which is less than what it says.
     pub fn new(bits: u64, made: u32) -> Cut {
+        let made = made.min(DATA_CLOCKS - 1);
         Cut { made, parity: parity(bits, made), level: bits >> made & 1, failed: 1 }
     }
 
@@ -39,9 +41,10 @@ impl Cut {
         (levels & !(1 << place) | deciding << place, count)
     }
 
-    /// The line failed once more, after so many clocks of the rest.
+    /// The line failed once more, after so many clocks of the rest; if it says after all, as in `new`.
     pub fn again(&self, made: u32) -> Cut {
-        let (bits, _) = self.rest();
+        let (bits, count) = self.rest();
+        let made = made.min(count - 1);
         let parity = self.parity ^ parity(bits, made);
         Cut { made: self.made + made, parity, level: self.level, failed: self.failed + 1 }
     }
@@ -67,6 +70,22 @@ mod tests {
             Some((0..left).fold(parity, |sum, place| sum ^ rest.0 >> place & 1))
         });
         phases.collect()
+    }
+
+    // A line that makes all clocks of a command, or says so, may fail behind them.
+    #[test]
+    fn the_last_clock_is_in_doubt_if_all_were_made() {
+        for (word, made) in
+            [0, 0xdead_beef, 0x7fff_ffff].iter().flat_map(|word| [33, 34, 64, u32::MAX].map(|made| (word, made)))
+        {
+            let bits = data_bits(*word);
+            assert_eq!(Cut::new(bits, made), Cut::new(bits, 32), "{word:x} {made}");
+            for first in 0..33 {
+                let cut = Cut::new(bits, first);
+                assert_eq!(cut.again(made), cut.again(32 - first), "{word:x} {first} {made}");
+                assert_eq!(cut.again(33 - first), cut.again(32 - first), "{word:x} {first}");
+            }
+        }
     }
 
     fn data_bits(word: u32) -> u64 {

@@ -157,11 +157,13 @@ pub struct Decoder(ffi::Decoder);
 
 impl Decoder {
     /// Makes a decoder that was fed no bit.
+    #[must_use]
     pub fn new() -> Decoder {
         Decoder(ffi::Decoder::new())
     }
 
     /// How many bits it was fed.
+    #[must_use]
     pub fn fed(&self) -> u64 {
         self.0.fed
     }
@@ -203,6 +205,7 @@ impl Default for Decoder {
 
 /// The items of a trace, as [`decode`] returns them.
 #[derive(Clone, Debug)]
+#[must_use = "iterators are lazy and do nothing unless consumed"]
 pub struct Items<I> {
     bits: I,
     decoder: ffi::Decoder,

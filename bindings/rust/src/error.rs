@@ -34,6 +34,8 @@ pub enum Refused {
     },
     /// A value that is awaited has bits outside the mask, which would never come.
     OutsideMask,
+    /// The line panicked in an earlier call of this host or session; [`Line`](crate::Line) says what to do then.
+    Panicked,
 }
 
 impl fmt::Display for Refused {
@@ -49,6 +51,7 @@ impl fmt::Display for Refused {
                 write!(f, "the report has {answered} answers, where there are {accesses} accesses")
             }
             Refused::OutsideMask => f.write_str("the value has bits outside the mask"),
+            Refused::Panicked => f.write_str("the line panicked in an earlier call"),
         }
     }
 }
@@ -83,15 +86,32 @@ pub enum Error<E> {
     NeverCame {
         /// The word.
         word: u32,
+        /// The report of the last read.
+        report: Report,
     },
 }
 
 impl<E> Error<E> {
-    /// The report of the run, or `None` where nothing of it was sent.
+    /// The report of the run, or `None` where it was refused.
+    #[must_use]
     pub fn report(&self) -> Option<&Report> {
         match self {
-            Error::Refused(_) | Error::NeverCame { .. } => None,
-            Error::Stopped(report) | Error::BusFault { report, .. } | Error::Line { report, .. } => Some(report),
+            Error::Refused(_) => None,
+            Error::Stopped(report)
+            | Error::BusFault { report, .. }
+            | Error::Line { report, .. }
+            | Error::NeverCame { report, .. } => Some(report),
+        }
+    }
+
+    /// The error of a run of which nothing was done, since what was to bring the target to rest before it ended so.
+    pub(crate) fn before_run(self) -> Error<E> {
+        match self {
+            Error::Stopped(report) => Error::Stopped(Report { requests: 0, ..report }),
+            Error::Line { error, report } => {
+                Error::Line { error, report: Report { requests: 0, ended: End::Lost, ..report } }
+            }
+            other => other,
         }
     }
 
@@ -117,7 +137,7 @@ impl<E> fmt::Display for Error<E> {
             Error::Stopped(report) => write!(f, "the run ended early: {report}"),
             Error::BusFault { index, access, .. } => write!(f, "access {index} ({access}) was a bus error"),
             Error::Line { report, .. } => write!(f, "the line failed: {report}"),
-            Error::NeverCame { word } => write!(f, "the word was {word:08x} at the last read"),
+            Error::NeverCame { word, .. } => write!(f, "the word was {word:08x} at the last read"),
         }
     }
 }

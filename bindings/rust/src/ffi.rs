@@ -2,7 +2,11 @@
 //!
 //! What makes them safe: no function has a condition on what a struct holds, none keeps a pointer, calls back or
 //! allocates, and a struct has numbers alone. So a call needs nothing but references to whole structs, which Rust
-//! gives.
+//! gives. And the library has to be the one that this crate is for: what makes a struct checks that before.
+
+mod library;
+
+use library::{check, Layout, RunLayout};
 
 #[repr(C)]
 #[derive(Clone, Copy, Debug, Default, PartialEq, Eq)]
@@ -186,6 +190,9 @@ pub(crate) struct Item {
 
 #[link(name = "swd_c", kind = "static")]
 extern "C" {
+    fn swd_version() -> u32;
+    fn swd_layout(layout: *mut Layout);
+    fn swd_run_layout(layout: *mut RunLayout);
     fn swd_run_new(run: *mut Run, tries: u32);
     fn swd_run_blocks(run: *mut Run, tries: u32);
     fn swd_run_opened(run: *mut Run, accesses: *const Access, count: usize, blocks: u8, tries: u32) -> Cue;
@@ -224,6 +231,7 @@ pub(crate) fn stored(slots: &mut [crate::Slot]) -> &mut [Outcome] {
 
 impl Run {
     pub fn new(tries: u32) -> Run {
+        check();
         let mut run = Run::default();
         // SAFETY: the pointer is of a whole struct that nobody else has.
         unsafe { swd_run_new(&mut run, tries) };
@@ -231,6 +239,7 @@ impl Run {
     }
 
     pub fn blocks(tries: u32) -> Run {
+        check();
         let mut run = Run::default();
         // SAFETY: the pointer is of a whole struct that nobody else has.
         unsafe { swd_run_blocks(&mut run, tries) };
@@ -239,6 +248,7 @@ impl Run {
 
     /// Makes a run over an open target. The cue is its first, or says why the list was refused.
     pub fn opened(accesses: &[Access], blocks: bool, tries: u32) -> (Run, Cue) {
+        check();
         let mut run = Run::default();
         // SAFETY: the pointers are of a whole struct that nobody else has, and of as many accesses as the count says.
         let cue = unsafe { swd_run_opened(&mut run, accesses.as_ptr(), accesses.len(), u8::from(blocks), tries) };
@@ -266,6 +276,7 @@ impl Run {
 
 impl Target {
     pub fn new(wraps: bool, filler: u32) -> Target {
+        check();
         let mut target = Target::default();
         // SAFETY: the pointer is of a whole struct that nobody else has.
         unsafe { swd_target_new(&mut target, u8::from(wraps), filler) };
@@ -295,6 +306,7 @@ impl Target {
 
 impl Decoder {
     pub fn new() -> Decoder {
+        check();
         let mut decoder = Decoder::default();
         // SAFETY: the pointer is of a whole struct that nobody else has.
         unsafe { swd_decoder_new(&mut decoder) };
@@ -316,141 +328,5 @@ impl Decoder {
         let mut item = Item::default();
         // SAFETY: the pointers are of two whole structs that nobody else has.
         unsafe { swd_decoder_last(self, &mut item) }.then_some(item)
-    }
-}
-
-#[cfg(test)]
-mod tests {
-    use super::*;
-    use core::mem::MaybeUninit;
-    use std::vec::Vec;
-
-    #[repr(C)]
-    #[derive(Clone, Copy, Debug)]
-    struct Layout {
-        engine: Engine,
-        cue: Cue,
-        access: Access,
-        decoder: Decoder,
-        item: Item,
-        target: Target,
-        transfer: Transfer,
-        engine_size: u64,
-        cue_size: u64,
-        access_size: u64,
-        decoder_size: u64,
-        item_size: u64,
-        target_size: u64,
-        transfer_size: u64,
-        layout_size: u64,
-    }
-
-    #[repr(C)]
-    #[derive(Clone, Copy, Debug)]
-    struct RunLayout {
-        run: Run,
-        run_size: u64,
-        layout_size: u64,
-    }
-
-    extern "C" {
-        fn swd_layout(layout: *mut Layout);
-        fn swd_run_layout(layout: *mut RunLayout);
-    }
-
-    /// A layout with room behind it, for a library whose structs are larger.
-    #[repr(C)]
-    struct Room<L> {
-        layout: MaybeUninit<L>,
-        more: [u64; 1024],
-    }
-
-    fn written<L: Copy>(write: unsafe extern "C" fn(*mut L)) -> L {
-        let mut room = Room { layout: MaybeUninit::<L>::zeroed(), more: [0; 1024] };
-        // SAFETY: there is room for the struct also where it is larger than ours by 8 kB.
-        unsafe { write(room.layout.as_mut_ptr()) };
-        assert!(room.more.iter().all(|word| *word == 0), "the library's layout is larger");
-        // SAFETY: zeros are a value of each struct, and the library wrote all of it.
-        unsafe { room.layout.assume_init() }
-    }
-
-    fn bytes(number: u64) -> u64 {
-        number * 0x0101_0101_0101_0101
-    }
-
-    /// The numbers of the fields, in order, cut to a byte each. A field of more bytes has the same in each.
-    macro_rules! fields {
-        ($of:expr; $($($field:ident).+),+ $(,)?) => {
-            Vec::from([$({
-                let value = $of.$($field).+;
-                let size = core::mem::size_of_val(&value) as u32;
-                let number = u64::from(value);
-                assert_eq!(number, bytes(number & 0xff) >> (64 - 8 * size), stringify!($($field).+));
-                number & 0xff
-            }),+])
-        };
-    }
-
-    #[test]
-    fn each_field_stands_where_the_library_has_it() {
-        let layout = written(swd_layout);
-        let found = fields![layout;
-            engine.requests, engine.state.outcome.word, engine.state.outcome.kind, engine.state.job.kind,
-            engine.state.job.place, engine.state.job.error, engine.state.job.damaged, engine.state.kind,
-            engine.state.phase, engine.task.addr, engine.task.word, engine.task.kind, engine.tar.word,
-            engine.tar.known, engine.tries, engine.events, engine.aims, engine.bursts, engine.ahead, engine.begun,
-            engine.stray,
-            cue.bits, cue.ones, cue.zeros, cue.undriven, cue.outcome.word, cue.outcome.kind, cue.kind, cue.request,
-            cue.with_switch, cue.begun,
-            access.addr, access.word, access.write,
-            decoder.fed, decoder.run, decoder.bits, decoder.mode, decoder.one, decoder.len,
-            item.count, item.bits, item.word, item.kind, item.request, item.ack, item.parity_ok,
-            target.cycles, target.frame.line.bits, target.frame.line.kind, target.frame.line.reg,
-            target.frame.line.flips, target.frame.line.flip, target.frame.kind, target.frame.place,
-            target.frame.byte, target.frame.reply, target.target.tar.word, target.target.tar.known,
-            target.target.buffer.word, target.target.buffer.known, target.target.last_returned.word,
-            target.target.last_returned.known, target.target.pending.word, target.target.pending.kind,
-            target.target.filler, target.target.wrap, target.target.late, target.target.reset,
-            target.target.sticky_error, target.target.write_error, target.target.read_ok,
-            target.target.debug_power, target.target.system_power, target.target.power_up, target.target.apsel,
-            target.target.apbanksel, target.target.dpbanksel, target.target.increments, target.target.csw_upper,
-            target.waits,
-            transfer.addr, transfer.word, transfer.kind,
-        ];
-        assert_eq!(found, (1..=84).collect::<Vec<u64>>());
-    }
-
-    #[test]
-    fn each_field_of_a_run_stands_where_the_library_has_it() {
-        let layout = written(swd_run_layout);
-        let found = fields![layout;
-            run.engine.requests, run.engine.state.outcome.word, run.engine.state.outcome.kind,
-            run.engine.state.job.kind, run.engine.state.job.place, run.engine.state.job.error,
-            run.engine.state.job.damaged, run.engine.state.kind, run.engine.state.phase, run.engine.task.addr,
-            run.engine.task.word, run.engine.task.kind, run.engine.tar.word, run.engine.tar.known, run.engine.tries,
-            run.engine.events, run.engine.aims, run.engine.bursts, run.engine.ahead, run.engine.begun,
-            run.engine.stray, run.requests, run.end.word, run.end.kind, run.answered, run.begun, run.stage,
-        ];
-        assert_eq!(found, (1..=27).collect::<Vec<u64>>());
-    }
-
-    #[test]
-    fn each_struct_has_the_size_that_the_library_says() {
-        let (layout, of_run) = (written(swd_layout), written(swd_run_layout));
-        let sizes = [
-            ("engine", layout.engine_size, size_of::<Engine>()),
-            ("cue", layout.cue_size, size_of::<Cue>()),
-            ("access", layout.access_size, size_of::<Access>()),
-            ("decoder", layout.decoder_size, size_of::<Decoder>()),
-            ("item", layout.item_size, size_of::<Item>()),
-            ("target", layout.target_size, size_of::<Target>()),
-            ("transfer", layout.transfer_size, size_of::<Transfer>()),
-            ("layout", layout.layout_size, size_of::<Layout>()),
-            ("run", of_run.run_size, size_of::<Run>()),
-            ("run layout", of_run.layout_size, size_of::<RunLayout>()),
-        ];
-        for (name, told, size) in sizes {
-            assert_eq!(told, size as u64, "{name}");
-        }
     }
 }

@@ -18,6 +18,8 @@ enum Standing {
     Open,
     /// The last run ended otherwise, or was broken off. The target may be inside a transaction.
     Astray,
+    /// The line is being driven. A call finds this if the line panicked in an earlier one.
+    Driven,
 }
 
 /// What hosts share.
@@ -49,10 +51,11 @@ impl Driver {
         slots: &mut [Slot],
         blocks: bool,
     ) -> Result<Report, Error<L::Error>> {
+        slots.fill(Slot::EMPTY);
         check(accesses, slots)?;
-        slots[..accesses.len()].fill(Slot::EMPTY);
+        self.check_line()?;
         if self.standing == Standing::Astray {
-            self.settle(line)?;
+            self.settle(line).map_err(Error::before_run)?;
         }
         let mut run = if self.opens_each || self.standing == Standing::Fresh {
             if blocks {
@@ -75,6 +78,7 @@ impl Driver {
         earlier: &Report,
     ) -> Result<Report, Error<L::Error>> {
         check(accesses, slots)?;
+        self.check_line()?;
         if !matches!(earlier.ended, End::Lost | End::TriesOut) {
             return Err(Refused::NotResumable(earlier.ended).into());
         }
@@ -82,13 +86,21 @@ impl Driver {
         if answered > count {
             return Err(Refused::OtherReport { accesses: count, answered }.into());
         }
-        slots[answered..count].fill(Slot::EMPTY);
+        slots[answered..].fill(Slot::EMPTY);
         let mut run = again(answered, self.tries);
         let report = self
             .leave(line, &run)
             .and_then(|()| self.conduct(line, &mut run, accesses, slots))
             .map_err(|error| error.since(earlier))?;
         self.checked(accesses, slots, report)
+    }
+
+    /// Refuses to drive a line that panicked: how far the target is in a data phase isn't known.
+    fn check_line(&self) -> Result<(), Refused> {
+        match self.standing {
+            Standing::Driven => Err(Refused::Panicked),
+            Standing::Fresh | Standing::Open | Standing::Astray => Ok(()),
+        }
     }
 
     /// Brings a target to rest, and opens it: continues the last run over no access.
@@ -98,6 +110,7 @@ impl Driver {
     }
 
     fn identify<L: Line>(&mut self, line: &mut L) -> Result<Identification, Error<L::Error>> {
+        self.check_line()?;
         self.opening = Opening::default();
         if self.standing == Standing::Astray {
             self.settle(line)?;
@@ -109,9 +122,11 @@ impl Driver {
 
     /// Leaves the cue in which a run may have been broken off, before a run that continues it.
     fn leave<L: Line>(&mut self, line: &mut L, run: &ffi::Run) -> Result<(), Error<L::Error>> {
+        self.standing = Standing::Driven;
+        let left = self.leave_cue(line);
         self.standing = Standing::Astray;
         let report = Report { answered: run.answered as usize, begun: 0, requests: 0, ended: End::Lost };
-        self.leave_cue(line).map_err(|error| Error::Line { error, report })
+        left.map_err(|error| Error::Line { error, report })
     }
 
     /// Has the target drop the data phase that was cut, and releases the line up to the end of an acknowledgement.
@@ -138,7 +153,7 @@ impl Driver {
         accesses: &[Access],
         slots: &mut [Slot],
     ) -> Result<Report, Error<L::Error>> {
-        self.standing = Standing::Astray;
+        self.standing = Standing::Driven;
         self.inside = true;
         let mut wire = Wire::new(line);
         let mut cue = run.cue();
@@ -147,6 +162,7 @@ impl Driver {
             cue = run.next(listed(accesses), stored(slots), reply);
         }
         wire.flush();
+        self.standing = Standing::Astray;
         self.cut = wire.cut;
         self.opening = wire.opening.unwrap_or(self.opening);
         let mut report = Report::of(run);
@@ -211,6 +227,7 @@ pub struct Host<L> {
 impl<L: Line> Host<L> {
     /// Makes a host. The opening, and each access, may meet as many events as `tries`: a WAIT, a word with wrong
     /// parity, or write data that arrived changed.
+    #[must_use = "a host does nothing until it runs a list"]
     pub fn new(line: L, tries: u32) -> Host<L> {
         Host { line, driver: Driver::new(tries, true) }
     }
@@ -246,7 +263,7 @@ impl<L: Line> Host<L> {
     ///
     /// [`Error::Refused`] for a list that can't be performed, or where there are too few slots. [`Error::Stopped`]
     /// where the run ended early, [`Error::BusFault`] where an access was a bus error, and [`Error::Line`] where the
-    /// line failed: the first slots have the answers of the accesses before, and the others are empty.
+    /// line failed: the first slots have the answers of the accesses before, and all others are empty.
     pub fn run(&mut self, accesses: &[Access], slots: &mut [Slot]) -> Result<Report, Error<L::Error>> {
         self.driver.run(&mut self.line, accesses, slots, false)
     }
@@ -283,7 +300,8 @@ impl<L: Line> Host<L> {
     ///
     /// # Errors
     ///
-    /// As [`Host::run`], and [`Refused::NotResumable`] or [`Refused::OtherReport`] for a report of another run.
+    /// As [`Host::run`], and [`Refused::NotResumable`] or [`Refused::OtherReport`] for a report of another run. A call
+    /// that is refused leaves the slots as they are.
     pub fn resume(
         &mut self,
         accesses: &[Access],
@@ -308,6 +326,7 @@ pub struct Session<'l, L> {
 
 impl<'l, L: Line> Session<'l, L> {
     /// Makes a session over a line. The first call opens the target. `tries` are as of [`Host::new`].
+    #[must_use = "a session does nothing until its first call"]
     pub fn new(line: &'l mut L, tries: u32) -> Session<'l, L> {
         Session { line, driver: Driver::new(tries, false) }
     }
@@ -320,6 +339,7 @@ impl<'l, L: Line> Session<'l, L> {
     }
 
     /// Whether the last call left the target open.
+    #[must_use]
     pub fn is_open(&self) -> bool {
         self.driver.standing == Standing::Open
     }
@@ -353,6 +373,7 @@ impl<'l, L: Line> Session<'l, L> {
     }
 
     /// What was read of the target while it was opened the last time, also where that failed.
+    #[must_use]
     pub fn opening(&self) -> Opening {
         self.driver.opening
     }
@@ -395,9 +416,15 @@ impl<'l, L: Line> Session<'l, L> {
     ///
     /// As [`Host::run`]; a bus error is an [`Error::BusFault`] in any case.
     pub fn read(&mut self, addr: u32) -> Result<u32, Error<L::Error>> {
+        self.read_word(addr).map(|(word, _)| word)
+    }
+
+    /// Reads the word at an address, and returns it with the report of that run.
+    fn read_word(&mut self, addr: u32) -> Result<(u32, Report), Error<L::Error>> {
         let (access, mut slots) = (Access::read(addr), [Slot::EMPTY]);
         let report = self.run(&[access], &mut slots)?;
-        slots[0].word().ok_or(Error::BusFault { index: 0, access, report })
+        let word = slots[0].word().ok_or(Error::BusFault { index: 0, access, report })?;
+        Ok((word, report))
     }
 
     /// Writes a word at an address, once.
@@ -425,17 +452,17 @@ impl<'l, L: Line> Session<'l, L> {
         if value & !mask != 0 {
             return Err(Refused::OutsideMask.into());
         }
-        let mut word = self.read(addr)?;
+        let (mut word, mut report) = self.read_word(addr)?;
         for _ in 1..reads {
             if word & mask == value {
                 break;
             }
-            word = self.read(addr)?;
+            (word, report) = self.read_word(addr)?;
         }
         if word & mask == value {
             Ok(word)
         } else {
-            Err(Error::NeverCame { word })
+            Err(Error::NeverCame { word, report })
         }
     }
 }

@@ -11,26 +11,31 @@ pub struct Identification {
 
 impl Identification {
     /// The JEP106 code of its designer: 0x23b is Arm.
+    #[must_use]
     pub const fn designer(self) -> u32 {
         self.word >> 1 & 0x7ff
     }
 
     /// The version of the debug port architecture that it implements: 1 or 2.
+    #[must_use]
     pub const fn version(self) -> u32 {
         self.word >> 12 & 0xf
     }
 
     /// Whether it is a minimal debug port, without pushed operations.
+    #[must_use]
     pub const fn is_minimal(self) -> bool {
         self.word >> 16 & 1 == 1
     }
 
     /// The part number that its designer gave it.
+    #[must_use]
     pub const fn part(self) -> u32 {
         self.word >> 20 & 0xff
     }
 
     /// The revision that its designer gave it.
+    #[must_use]
     pub const fn revision(self) -> u32 {
         self.word >> 28
     }
@@ -60,11 +65,13 @@ pub struct Opening {
 
 impl Opening {
     /// Whether the target acknowledged debug power.
+    #[must_use]
     pub const fn has_debug_power(self) -> bool {
         self.has(DEBUG_REQUEST << 1)
     }
 
     /// Whether the target acknowledged system power.
+    #[must_use]
     pub const fn has_system_power(self) -> bool {
         self.has(SYSTEM_REQUEST << 1)
     }

@@ -82,7 +82,10 @@
 //!
 //! The build script links `libswd_c.a` from the folder that the environment variable `SWD_LIB_DIR` names. Without it
 //! the archive is searched where a release and where the repository have it. The archive is for x86-64 and aarch64
-//! Linux; it needs `memcpy` alone.
+//! Linux; it needs `memcpy`, `memmove` and `memset`.
+//!
+//! The archive has to be the one of this version: what first makes a run, a target or a decoder compares its version and
+//! each field of its structs with the crate's. It panics if they differ, before a struct is passed.
 //!
 //! # Threads
 //!
@@ -112,6 +115,26 @@ pub use host::{Host, Session};
 pub use identity::{Identification, Opening};
 pub use line::{Broken, Line};
 pub use target::{Bus, BusError, Target};
+
+/// What does nothing unless it is used is a warning where it isn't.
+///
+/// ```compile_fail
+/// #![deny(unused_must_use)]
+/// swd::decode([true]);
+/// ```
+///
+/// ```compile_fail
+/// #![deny(unused_must_use)]
+/// swd::Access::write(0x2000_0000, 7);
+/// ```
+///
+/// ```
+/// #![deny(unused_must_use)]
+/// let _items = swd::decode([true]);
+/// let _access = swd::Access::write(0x2000_0000, 7);
+/// ```
+#[cfg(doctest)]
+struct Unused;
 
 /// The most accesses of one run.
 pub const MOST_ACCESSES: usize = 65_536;

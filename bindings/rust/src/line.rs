@@ -5,7 +5,8 @@ use core::fmt;
 /// Why driving several bits failed, and where.
 #[derive(Clone, Copy, Debug, PartialEq, Eq)]
 pub struct Broken<E> {
-    /// How many of the clocks were made. The next one was made or wasn't, and no other was.
+    /// How many of the clocks were made. The next one was made or wasn't, and no other was. A probe that certainly made
+    /// all of them says so; one that made all or none, and doesn't know which, says 0.
     pub made: u32,
     /// Why it failed.
     pub error: E,
@@ -39,6 +40,10 @@ impl<E: core::error::Error + 'static> core::error::Error for Broken<E> {
 /// next run of the same host drives the rest of it so that the parity is wrong, and the target drops the word. That is
 /// certain unless the line fails in that phase again, at its 32nd bit. A line that queues makes each of its calls as a whole
 /// or not at all, also where the queue fails.
+///
+/// Where a call panics, no error says how far it came, and what is driven next might end a word that the target then
+/// writes. Each later call of the same host or session is [`Refused::Panicked`](crate::Refused::Panicked), and drives
+/// nothing. Make another one once the target has lost its power: that ends the data phase.
 pub trait Line {
     /// Why a clock could not be made.
     type Error;
@@ -70,7 +75,7 @@ pub trait Line {
     }
 
     /// Makes `count` clocks, at most 33, in which the host doesn't drive SWDIO. Returns its levels, the first in time
-    /// least significant.
+    /// least significant. Bits above these `count` are ignored.
     fn sample_bits(&mut self, count: u32) -> Result<u64, Self::Error> {
         let mut bits = 0;
         for place in 0..count {

@@ -74,10 +74,10 @@ impl<'l, L: Line> Wire<'l, L> {
                 self.request = cue.request;
                 self.drive(u64::from(cue.request), 8)?;
                 self.line.release_for(1)?;
-                return self.line.sample_bits(3);
+                return self.sample(3);
             }
             TAKE => {
-                let bits = self.line.sample_bits(DATA_CLOCKS)?;
+                let bits = self.sample(DATA_CLOCKS)?;
                 self.line.release_for(1)?;
                 if bits.count_ones() % 2 == 0 {
                     self.note(bits as u32);
@@ -95,6 +95,11 @@ impl<'l, L: Line> Wire<'l, L> {
             kind => unreachable!("cue {kind}"),
         }
         Ok(0)
+    }
+
+    /// Samples so many levels, without what a probe may have above them.
+    fn sample(&mut self, count: u32) -> Result<u64, L::Error> {
+        self.line.sample_bits(count).map(|bits| bits & ((1 << count) - 1))
     }
 
     /// Keeps a word that was read with right parity, if it says what the target is.

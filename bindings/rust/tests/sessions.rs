@@ -2,10 +2,13 @@
 
 mod common;
 
-use common::{answers, plan_of, report_of, Call, Damaged, Mark, PlainMemory, Transfer, Unplugged, BASE, WORD};
+use common::{answers, is_sure, plan_of, report_of, Call, Damaged, Mark, PlainMemory, Transfer, Unplugged, BASE, WORD};
+use std::convert::Infallible;
 use std::error::Error as _;
+use std::panic::{catch_unwind, resume_unwind, AssertUnwindSafe};
 use swd::{
-    block, Access, Answer, Broken, End, Error, Host, Identification, Line, Opening, Refused, Session, Slot, Target,
+    block, Access, Answer, Broken, End, Error, Host, Identification, Line, Opening, Refused, Report, Session, Slot,
+    Target,
 };
 
 const POLL_REQUESTS: u64 = 3;
@@ -51,7 +54,10 @@ fn words_and_lists_over_one_opening() {
     assert_eq!(session.run_block(&accesses, &mut slots).map(|report| report.requests), Ok(6));
     assert_eq!(slots.map(|slot| slot.word()), [Some(WORD), Some(2), Some(0), Some(0)]);
     assert_eq!(session.until(BASE, 0xff, 0xef, 1), Ok(WORD));
-    assert_eq!(session.until(BASE, 0xff, 0xee, 5), Err(Error::NeverCame { word: WORD }));
+    let report = Report { answered: 1, begun: 0, requests: POLL_REQUESTS, ended: End::All };
+    let never = session.until(BASE, 0xff, 0xee, 5).unwrap_err();
+    assert_eq!(never, Error::NeverCame { word: WORD, report });
+    assert_eq!(never.report(), Some(&report));
     assert_eq!(session.until(BASE, 1, 2, 5), Err(Error::Refused(Refused::OutsideMask)));
     session.close();
     assert!(!session.is_open());
@@ -312,6 +318,111 @@ fn no_other_word_is_written_where_the_line_fails_twice() {
     }
 }
 
+/// A line that panics once, after so many clocks. The clock is made or isn't.
+struct Panicking {
+    target: Target<PlainMemory>,
+    made: bool,
+    left: Option<usize>,
+    clocks: usize,
+}
+
+impl Panicking {
+    fn cycle(&mut self, drive: Option<bool>) -> bool {
+        let panics = self.left == Some(self.clocks);
+        if panics && !self.made {
+            self.left = None;
+            resume_unwind(Box::new(()));
+        }
+        self.clocks += 1;
+        let level = self.target.cycle(drive);
+        if panics {
+            self.left = None;
+            resume_unwind(Box::new(()));
+        }
+        level
+    }
+}
+
+impl Line for Panicking {
+    type Error = Infallible;
+
+    fn drive(&mut self, bit: bool) -> Result<(), Infallible> {
+        self.cycle(Some(bit));
+        Ok(())
+    }
+
+    fn release(&mut self) -> Result<(), Infallible> {
+        self.cycle(None);
+        Ok(())
+    }
+
+    fn sample(&mut self) -> Result<bool, Infallible> {
+        Ok(self.cycle(None))
+    }
+}
+
+// Each clock of a run of one write. Where in a data phase the target is then isn't known: nothing more is sent.
+#[test]
+fn nothing_is_sent_after_a_line_that_panicked() {
+    let mut whole = line_with(&[]);
+    Session::new(&mut whole, 8).write(BASE, WORD).unwrap();
+    let (lost, refused) =
+        (Report { answered: 0, begun: 0, requests: 0, ended: End::Lost }, Err(Error::Refused(Refused::Panicked)));
+    for (word, made) in WRITTEN_WORDS.iter().flat_map(|word| [(*word, false), (*word, true)]) {
+        for at in 0..whole.calls.len() {
+            let target = Target::new(PlainMemory::new(BASE, 4, 100));
+            let mut line = Panicking { target, made, left: Some(at), clocks: 0 };
+            let mut session = Session::new(&mut line, 8);
+            assert!(catch_unwind(AssertUnwindSafe(|| session.write(BASE, word))).is_err());
+            assert!(!session.is_open());
+            session.close();
+            let (list, mut slots) = ([Access::write(BASE, word)], [Slot::EMPTY]);
+            assert_eq!(session.open(), refused);
+            assert_eq!(session.identify().map(|_| ()), refused);
+            assert_eq!(session.read(BASE).map(|_| ()), refused);
+            assert_eq!(session.run_block(&[Access::read(BASE)], &mut slots).map(|_| ()), refused);
+            assert_eq!(session.resume(&list, &mut slots, &lost).map(|_| ()), refused);
+            assert_eq!(line.clocks, at + usize::from(made));
+            let log = &line.target.bus().log;
+            assert!(
+                log.is_empty() || *log == [Transfer::Write(BASE, word)],
+                "{word:08x} at {at}, made: {made}: {log:x?}"
+            );
+        }
+    }
+}
+
+// The line fails inside a data phase, and panics while the rest of it is driven.
+#[test]
+fn nothing_is_sent_after_a_panic_in_what_is_left() {
+    struct Both(Breaking, bool);
+    impl Line for Both {
+        type Error = Unplugged;
+        fn drive(&mut self, bit: bool) -> Result<(), Unplugged> {
+            let driven = self.0.drive(bit);
+            if driven.is_err() && std::mem::replace(&mut self.1, true) {
+                resume_unwind(Box::new(()));
+            }
+            driven
+        }
+        fn release(&mut self) -> Result<(), Unplugged> {
+            self.0.release()
+        }
+        fn sample(&mut self) -> Result<bool, Unplugged> {
+            self.0.sample()
+        }
+    }
+    let data = opening_clocks() + 46 + 13;
+    for (first, second) in [(0, 0), (0, 32), (16, 8), (31, 1)] {
+        let mut line = Both(Breaking::new(true, &[data + first, second]), false);
+        let mut session = Session::new(&mut line, 8);
+        assert!(session.write(BASE, WORD).is_err());
+        assert!(catch_unwind(AssertUnwindSafe(|| session.open())).is_err());
+        assert_eq!(session.open(), Err(Error::Refused(Refused::Panicked)), "{first} {second}");
+        assert_eq!(line.0.target.bus().log, []);
+    }
+}
+
 /// The clocks of an opening, in front of the first access.
 fn opening_clocks() -> usize {
     let mut line = line_with(&[]);
@@ -343,6 +454,31 @@ fn old_answers_are_no_answers() {
     host.run(&[Access::write(BASE, 1), Access::write(BASE + 4, 2)], &mut slots).unwrap();
     let lost = report_of(host.run(&[Access::read(BASE), Access::read(BASE + 4)], &mut slots));
     assert_eq!((lost.answered, slots[0].answer(), slots[1].answer()), (0, None, None));
+}
+
+// Of the first list both slots have answers. None of them is left by a shorter list, one that is refused, or a run that is
+// resumed behind one answer.
+#[test]
+fn no_slot_keeps_an_answer_of_another_list() {
+    let long = [Access::write(BASE, 1), Access::write(BASE + 4, 2)];
+    let unaligned = [Access::read(BASE + 1)];
+    let mut line = line_with(&[]);
+    let mut session = Session::new(&mut line, 8);
+    let lost = Report { answered: 1, begun: 0, requests: 0, ended: End::Lost };
+    let mut left = |list: &[Access], earlier: Option<&Report>| {
+        let mut slots = [Slot::EMPTY; 2];
+        session.run(&long, &mut slots).unwrap();
+        let _ = match earlier {
+            None => session.run(list, &mut slots),
+            Some(report) => session.resume(list, &mut slots, report),
+        };
+        slots.map(|slot| slot.answer())
+    };
+    assert_eq!(left(&[Access::read(BASE)], None), [Some(Answer::Value(1)), None]);
+    assert_eq!(left(&[], None), [None, None]);
+    assert_eq!(left(&unaligned, None), [None, None]);
+    assert_eq!(left(&[Access::read(BASE); 3], None), [None, None]);
+    assert_eq!(left(&long[..1], Some(&lost)), [Some(Answer::Written), None]);
 }
 
 #[test]
@@ -410,6 +546,183 @@ impl Line for Probe {
             }
         }
         Ok(())
+    }
+}
+
+/// A line whose flush fails once, after so many others.
+struct Unflushed {
+    line: Damaged,
+    left: Option<u32>,
+}
+
+impl Line for Unflushed {
+    type Error = Unplugged;
+
+    fn drive(&mut self, bit: bool) -> Result<(), Unplugged> {
+        self.line.drive(bit)
+    }
+
+    fn release(&mut self) -> Result<(), Unplugged> {
+        self.line.release()
+    }
+
+    fn sample(&mut self) -> Result<bool, Unplugged> {
+        self.line.sample()
+    }
+
+    fn flush(&mut self) -> Result<(), Unplugged> {
+        let left = self.left;
+        self.left = left.and_then(|left| left.checked_sub(1));
+        if left == Some(0) {
+            return Err(Unplugged);
+        }
+        Ok(())
+    }
+}
+
+/// Loses a run, and then performs a list or a block of which nothing is done, as its report says: what brings the
+/// target to rest before ends early. Each access is done once by what resumes it.
+fn is_resumed_from_its_beginning<L>(mut line: L, memory: impl Fn(&L) -> &PlainMemory, blocks: bool, told: &str)
+where
+    L: Line<Error = Unplugged>,
+{
+    let (reads, writes, mut slots) = (block(BASE, 4).collect::<Vec<_>>(), list(), [Slot::EMPTY; 4]);
+    let accesses = if blocks { &reads[..] } else { &writes[..] };
+    let mut session = Session::new(&mut line, 8);
+    assert!(session.write(BASE, 1).is_err(), "{told}");
+    let ended = if blocks { session.run_block(accesses, &mut slots) } else { session.run(accesses, &mut slots) };
+    let report = ended.unwrap_err().report().copied();
+    assert_eq!(report, Some(Report { answered: 0, begun: 0, requests: 0, ended: End::Lost }), "{told}");
+    assert!(slots.iter().all(|slot| *slot == Slot::EMPTY), "{told}");
+    let resumed = session.resume(accesses, &mut slots, &report.unwrap()).expect(told);
+    let mut made = PlainMemory::new(BASE, 16, 65_536);
+    made.answer(Access::write(BASE, 1));
+    is_sure(accesses, &slots, &resumed, memory(&line), made);
+}
+
+// At each clock, the last eight of which are idle cycles behind the answers of the opening, and at the flush behind.
+#[test]
+fn a_line_that_fails_while_the_target_is_brought_to_rest() {
+    let lossy = || line_with(&[(12, Mark::Deaf)]);
+    let mut host = Host::new(lossy(), 8);
+    assert!(host.run(&[Access::write(BASE, 1)], &mut [Slot::EMPTY]).is_err());
+    let first = host.line().calls.len();
+    host.identify().unwrap();
+    let end = host.line().calls.len();
+    for blocks in [false, true] {
+        for at in first..end {
+            let (line, told) = (Plug { line: lossy(), fails_at: Some(at) }, format!("clock {at} of {first} to {end}"));
+            is_resumed_from_its_beginning(line, |line| line.line.memory(), blocks, &told);
+        }
+        let line = Unflushed { line: lossy(), left: Some(1) };
+        is_resumed_from_its_beginning(line, |line| line.line.memory(), blocks, "flush");
+    }
+}
+
+#[test]
+fn a_target_that_is_lost_while_it_is_brought_to_rest() {
+    for (number, blocks) in (13..22).flat_map(|number| [(number, false), (number, true)]) {
+        let line = line_with(&[(12, Mark::Deaf), (number, Mark::Deaf)]);
+        is_resumed_from_its_beginning(line, Damaged::memory, blocks, &format!("request {number}"));
+    }
+}
+
+/// A probe that returns ones above the bits that it was asked for.
+struct Wide(Target<PlainMemory>);
+
+impl Line for Wide {
+    type Error = Infallible;
+
+    fn drive(&mut self, bit: bool) -> Result<(), Infallible> {
+        self.0.drive(bit)
+    }
+
+    fn release(&mut self) -> Result<(), Infallible> {
+        self.0.release()
+    }
+
+    fn sample(&mut self) -> Result<bool, Infallible> {
+        self.0.sample()
+    }
+
+    fn sample_bits(&mut self, count: u32) -> Result<u64, Infallible> {
+        self.0.sample_bits(count).map(|bits| bits | u64::MAX << count)
+    }
+}
+
+#[test]
+fn bits_above_those_that_were_sampled() {
+    let mut line = Wide(Target::new(PlainMemory::new(BASE, 4, 100)));
+    let mut session = Session::new(&mut line, 8);
+    assert_eq!(session.identify(), Ok(Identification { word: 0x2ba0_1477 }));
+    session.write(BASE, WORD).unwrap();
+    assert_eq!(session.read(BASE), Ok(WORD));
+}
+
+/// A probe that makes the bits of a data phase and then says that it failed after so many, as often as there are numbers.
+struct Unconfirmed {
+    target: Target<PlainMemory>,
+    /// The data phases that are made before the first failure.
+    before: u32,
+    /// Whether it has failed.
+    is_broken: bool,
+    /// What it says at each failure, the next one last.
+    made: Vec<u32>,
+}
+
+impl Line for Unconfirmed {
+    type Error = Unplugged;
+
+    fn drive(&mut self, bit: bool) -> Result<(), Unplugged> {
+        self.target.cycle(Some(bit));
+        Ok(())
+    }
+
+    fn release(&mut self) -> Result<(), Unplugged> {
+        self.target.cycle(None);
+        Ok(())
+    }
+
+    fn sample(&mut self) -> Result<bool, Unplugged> {
+        Ok(self.target.cycle(None))
+    }
+
+    fn drive_bits(&mut self, bits: u64, count: u32) -> Result<(), Broken<Unplugged>> {
+        for place in 0..count {
+            self.target.cycle(Some(bits >> place & 1 == 1));
+        }
+        if count == 33 && self.before > 0 {
+            self.before -= 1;
+            return Ok(());
+        }
+        // (the rest of a data phase is the next command)
+        self.is_broken |= count == 33;
+        if !self.is_broken {
+            return Ok(());
+        }
+        self.made.pop().map_or(Ok(()), |made| Err(Broken { made, error: Unplugged }))
+    }
+}
+
+// A probe's reply to the command is lost: it says that all 33 bits were made, or more than there are, or 0, as one that
+// made all or none. The opening and TAR have five data phases before the word's, which the target takes each time. The
+// rest is driven, and may fail likewise.
+#[test]
+fn a_data_phase_that_was_made_whole() {
+    let counts = [0, 32, 33, 34, 63, 64, u32::MAX];
+    for (word, made) in WRITTEN_WORDS.iter().flat_map(|word| counts.map(|made| (*word, made))) {
+        for again in [None, Some(0), Some(1), Some(2), Some(64), Some(u32::MAX)] {
+            let made = again.into_iter().chain([made]).collect::<Vec<_>>();
+            let told = format!("{word:08x}, {made:?}");
+            let target = Target::new(PlainMemory::new(BASE, 4, 100));
+            let mut line = Unconfirmed { target, before: 5, is_broken: false, made };
+            let mut session = Session::new(&mut line, 8);
+            assert!(matches!(session.write(BASE, word), Err(Error::Line { .. })), "{told}");
+            assert_eq!(session.open().is_err(), again.is_some(), "{told}");
+            session.open().unwrap();
+            assert_eq!(session.read(BASE), Ok(word), "{told}");
+            assert_eq!(line.target.bus().log, [Transfer::Write(BASE, word), Transfer::Read(BASE, word)], "{told}");
+        }
     }
 }
 

@@ -60,13 +60,14 @@ pub extern "C" fn swd_check_new(check: &mut CheckerFields, start: u8, clean: u8)
     true
 }
 
-/// Takes the next item. `place` is the number of bits before it. Returns false, and leaves the fields unchanged, only
-/// if they are those of no checker, or the item's are those of no item.
+/// Takes the next item. `place` is the number of bits before it. Once a rule is broken the fields stay unchanged.
+/// Returns false, and leaves them unchanged, only if they are those of no checker, or the item's are those of no item.
 #[unsafe(no_mangle)]
 pub extern "C" fn swd_check_watch(check: &mut CheckerFields, item: &SwdItem, place: u64) -> bool
     ensures is { IsTrue result → IsChecker check.new }
     ensures takes { IsTrue result ↔ (IsChecker check.old × CApiIsItem item.now) }
     ensures watches { IsTrue result → CApiCheckWatches check.old item.now check.new }
+    ensures ended { (check.old.rule ≡ 0 → ⊥) → check.new ≡ check.old }
     ensures same { result ≡ false → check.new ≡ check.old }
 {
     let Some(mut now) = check.checker() else {

@@ -8,8 +8,7 @@ use Rattle.swd_port.specs.declared.register.Register.{Register}
 use Rattle.swd_port.specs.declared.state.Reset.{Reset}
 use Rattle.swd_port.specs.declared.state.Reply.{Reply}
 use Rattle.swd_port.specs.declared.state.Reply.TheVariants.{Okay, Faults, Silent}
-use Rattle.swd_port.specs.Port.{Target, port_register, port_dp_register, mem_ap_register}
-use Rattle.swd_port.specs.Port.{port_other_ap_register}
+use Rattle.swd_port.specs.Port.{Target, port_register, port_register_where}
 use Rattle.swd_port.specs.Choices.{Choice}
 use Rattle.swd_port.specs.Answers.{is_exempt_register, port_answer_by}
 use Rattle.swd_port.specs.Answers.{port_is_answered, is_port_unpowered}
@@ -19,14 +18,16 @@ use Rattle.swd_observer.proofs.StepLemmas.{observed_first_clear, observed_ap_pow
 use Rattle.swd_checker.specs.Worlds.{World, Transfer, world_success_of, world_succeeded, world_failed, world_confirmed}
 use Rattle.swd_checker.specs.Worlds.{world_after_fault}
 use Rattle.swd_checker.specs.Described.{IsWorldNow, WorldDescribes, now, done, failed}
-use Rattle.swd_checker.specs.Steps.{checked_register, world_register, world_due, WorldAccepts}
+use Rattle.swd_checker.specs.Steps.{world_register, world_due, WorldAccepts}
 use Rattle.swd_checker.proofs.DescribedLemmas.{checked_power_there, world_at_fault}
 use Rattle.swd_checker.proofs.DescribedLemmas.{world_fault_now, world_success_pends_nothing}
 use Rattle.swd_checker.proofs.OkayLemmas.{world_at_okay}
 
 -- REGISTERS
-named_by : (s m : Bool) (d b : Bool) (q : Request) → s ≡ m → d ≡ b → checked_register s d q ≡ checked_register m b q
-named_by s m d b q e f = ap (λ x. checked_register x d q) e ∙ ap (λ x. checked_register m x q) f
+named_by : (s m : Bool) (d b : Bool) (q : Request) → s ≡ m → d ≡ b
+    → port_register_where s d q.ap q.read q.addr ≡ port_register_where m b q.ap q.read q.addr
+named_by s m d b q e f = ap (λ x. port_register_where x d q.ap q.read q.addr) e
+    ∙ ap (λ x. port_register_where m x q.ap q.read q.addr) f
 
 -- and names the same registers
 pub register_now : (w : World) (x : Target) (q : Request) → IsWorldNow w x
@@ -47,8 +48,7 @@ world_names w x q (done pends h) = register_now (world_succeeded w) x q h ∙ re
 world_names w x q (failed pends h) = register_now (world_failed w) x q h
 
 access_by : (ap m b read : Bool) (addr : Reg4)
-    → is_access_port_register (if ap then (if m then mem_ap_register read addr else port_other_ap_register read)
-    else port_dp_register read addr b) ≡ ap
+    → is_access_port_register (port_register_where m b ap read addr) ≡ ap
 access_by true true b true R0 = refl
 access_by true true b true R4 = refl
 access_by true true b true R8 = refl

@@ -1,18 +1,17 @@
 -- DPIDR's word: it never changes, and a read returns it.
 use Rattle.std.proofs.Common.{◌≡◌, ℕ, Bool, true, false, refl, sym, ap, subst, ◌∙◌}
-use Rattle.std.specs.Prelude.{Option, Some, None, IfSome, if◌then◌else◌}
+use Rattle.std.specs.Prelude.{Option, Some, None, IfSome}
 use Rattle.swd_bits.specs.declared.request.Request.{Request}
 use Rattle.swd_bits.specs.declared.request.Reg4.{Reg4}
 use Rattle.swd_bits.specs.declared.request.Reg4.TheVariants.{R0, R4, R8, RC}
 use Rattle.swd_bits.specs.declared.tx.TxEnd.{TxEnd}
 use Rattle.swd_bits.specs.declared.tx.TxEnd.TheVariants.{Moved, Wait, Fault, NoAck}
 use Rattle.swd_port.specs.declared.register.Register.TheVariants.{DpidrRead}
-use Rattle.swd_port.specs.Port.{Port, Target, port_dp_register, mem_ap_register, port_other_ap_register}
+use Rattle.swd_port.specs.Port.{Port, Target, port_register_where}
 use Rattle.swd_port.proofs.RequestLaws.{port_steady_after}
 use Rattle.swd_checker.specs.declared.near.Near.{Near}
 use Rattle.swd_checker.specs.Described.{IsCheckedNear}
 use Rattle.swd_checker.specs.Checked.{CheckedTransacts}
-use Rattle.swd_checker.specs.Steps.{checked_register}
 use Rattle.swd_checker.specs.Standing.{IsSeenIn, checked_reads_dpidr}
 use Rattle.swd_checker.specs.Words.{IsSomeNear}
 use Rattle.swd_checker.proofs.KeepingLemmas.{KeepsFact, transact_keeps}
@@ -36,8 +35,7 @@ same_identification clean end q s t h = transact_keeps (IsIdentifiedBy s.target.
     end s t (identification_keeps s.target.identification q) h refl
 
 dpidr_by : (ap m b read : Bool) (addr : Reg4) → checked_reads_dpidr addr ap read ≡ true
-    → (read ≡ true) × ((if ap then (if m then mem_ap_register read addr else port_other_ap_register read)
-    else port_dp_register read addr b) ≡ DpidrRead)
+    → (read ≡ true) × (port_register_where m b ap read addr ≡ DpidrRead)
 dpidr_by false m b true R0 e = (refl, refl)
 dpidr_by false m b false R0 e = absurd (cc)
 dpidr_by true m b read R0 e = absurd (cc)
@@ -49,7 +47,7 @@ dpidr_read : (q : Request) → checked_reads_dpidr q.addr q.ap q.read ≡ true �
 dpidr_read q e = (dpidr_by q.ap true true q.read q.addr e).0
 
 dpidr_named : (q : Request) → checked_reads_dpidr q.addr q.ap q.read ≡ true → (mem_ap bank0 : Bool)
-    → checked_register mem_ap bank0 q ≡ DpidrRead
+    → port_register_where mem_ap bank0 q.ap q.read q.addr ≡ DpidrRead
 dpidr_named q e mem_ap bank0 = (dpidr_by q.ap mem_ap bank0 q.read q.addr e).1
 
 unseen : (n : ℕ) (seen : Option Near) → seen ≡ None → IfSome seen (λ near. IsCheckedNear near n)

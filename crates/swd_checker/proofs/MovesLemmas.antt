@@ -13,8 +13,7 @@ use Rattle.swd_port.specs.declared.register.Register.TheVariants.{SelectWrite}
 use Rattle.swd_port.specs.declared.register.Register.TheVariants.{DpIgnoredWrite, CswWrite, TarWrite}
 use Rattle.swd_port.specs.declared.register.Register.TheVariants.{DrwWrite, ApOtherWrite}
 use Rattle.swd_port.specs.declared.state.Reply.TheVariants.{Okay}
-use Rattle.swd_port.specs.Port.{Port, Target, port_register, port_dp_register, mem_ap_register}
-use Rattle.swd_port.specs.Port.{port_other_ap_register}
+use Rattle.swd_port.specs.Port.{Port, Target, port_register, port_register_where}
 use Rattle.swd_port.specs.Choices.{Choice, IsPortChoice}
 use Rattle.swd_port.specs.Answers.{is_exempt_register, port_is_answered, is_port_unpowered}
 use Rattle.swd_port.specs.Asking.{port_answer, port_value_in, port_after_okay, debug_up_after}
@@ -251,8 +250,7 @@ is_write_register ApOtherWrite = true
 is_write_register r = false
 
 write_by : (ap m b read : Bool) (addr : Reg4)
-    → is_write_register (if ap then (if m then mem_ap_register read addr else port_other_ap_register read)
-    else port_dp_register read addr b) ≡ not read
+    → is_write_register (port_register_where m b ap read addr) ≡ not read
 write_by true true b true R0 = refl
 write_by true true b true R4 = refl
 write_by true true b true R8 = refl

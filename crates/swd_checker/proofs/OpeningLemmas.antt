@@ -1,6 +1,6 @@
 -- What transactions leave of what is known of a target before its worlds are held.
 use Rattle.std.proofs.Common.{◌≡◌, ℕ, Bool, true, false, refl, sym, ap, subst, ◌∙◌, ◌⊎◌, inl, inr}
-use Rattle.std.specs.Prelude.{Option, Some, None, ◌==◌, ◌||◌, if◌then◌else◌}
+use Rattle.std.specs.Prelude.{Option, Some, None, ◌==◌, ◌||◌}
 use Rattle.swd_bits.specs.declared.request.Request.{Request}
 use Rattle.swd_bits.specs.declared.request.Reg4.{Reg4}
 use Rattle.swd_bits.specs.declared.request.Reg4.TheVariants.{R0, R4, R8, RC}
@@ -13,8 +13,7 @@ use Rattle.swd_port.specs.declared.select.Select.{Select}
 use Rattle.swd_port.specs.declared.state.Drw.{Drw}
 use Rattle.swd_port.specs.declared.state.Reply.{Reply}
 use Rattle.swd_port.specs.declared.state.Reply.TheVariants.{Okay, Waits, Faults, Silent}
-use Rattle.swd_port.specs.Port.{Port, Target, port_selects_mem_ap, port_dp_register}
-use Rattle.swd_port.specs.Port.{mem_ap_register, port_other_ap_register}
+use Rattle.swd_port.specs.Port.{Port, Target, port_selects_mem_ap, port_register_where}
 use Rattle.swd_port.specs.Answers.{is_exempt_register}
 use Rattle.swd_port.specs.Choices.{Choice, port_flip_of}
 use Rattle.swd_port.specs.Registers.{select_of}
@@ -27,7 +26,6 @@ use Rattle.swd_port.proofs.CompletionLaws.{port_completion_keeps_fact}
 use Rattle.swd_checker.specs.declared.opening.Opening.{Opening}
 use Rattle.swd_checker.specs.declared.opening.Opening.TheVariants.{Anything, Resting, Selected, Over}
 use Rattle.swd_checker.specs.declared.worlds.Worlds.{Worlds}
-use Rattle.swd_checker.specs.Steps.{checked_register}
 use Rattle.swd_checker.specs.Checked.{CheckedHasMoved, checked_phase}
 use Rattle.swd_checker.specs.Openings.{IsCheckedResting, IsCheckedSelected, OpeningHolds, OpeningLeads}
 use Rattle.swd_checker.specs.Openings.{checked_passes, checked_may_be_refused, checked_leaves_rest}
@@ -52,12 +50,8 @@ IsCheckedUnmoving DrwWrite = ⊥
 IsCheckedUnmoving SelectWrite = ⊥
 IsCheckedUnmoving r = Unit {0}
 
-abbrev register_by : Bool → Bool → Bool → Bool → Reg4 → Register
-register_by ap m b read addr = if ap then (if m then mem_ap_register read addr else port_other_ap_register read)
-    else port_dp_register read addr b
-
 passing_by : (ap m b read : Bool) (addr : Reg4) → checked_passes addr ap read ≡ true
-    → (read ≡ true) × IsCheckedPassing (register_by ap m b read addr)
+    → (read ≡ true) × IsCheckedPassing (port_register_where m b ap read addr)
 passing_by false m b true R0 e = (refl, tt)
 passing_by false m true true R4 e = (refl, tt)
 passing_by false m false true R4 e = (refl, tt)
@@ -69,7 +63,7 @@ passing_by ap m b read R8 e = absurd (cc)
 passing_by ap m b read RC e = absurd (cc)
 
 unmoving_by : (ap m b read : Bool) (addr : Reg4) → checked_leaves_rest addr ap read ≡ true
-    → IsCheckedUnmoving (register_by ap m b read addr)
+    → IsCheckedUnmoving (port_register_where m b ap read addr)
 unmoving_by true true b true R0 e = tt
 unmoving_by true true b true R4 e = tt
 unmoving_by true true b true R8 e = tt
@@ -91,7 +85,7 @@ unmoving_by false m b true RC e = tt
 unmoving_by false m b false RC e = tt
 
 plain_by : (ap m b read : Bool) (addr : Reg4) → checked_may_be_refused addr ap read ≡ true
-    → is_exempt_register (register_by ap m b read addr) ≡ false
+    → is_exempt_register (port_register_where m b ap read addr) ≡ false
 plain_by true true b true R0 e = refl
 plain_by true true b true R4 e = refl
 plain_by true true b true R8 e = refl
@@ -113,7 +107,7 @@ plain_by false m b false RC e = refl
 
 -- the register of a request that can be refused
 pub plain_named : (q : Request) (mem_ap bank0 : Bool) → checked_may_be_refused q.addr q.ap q.read ≡ true
-    → is_exempt_register (checked_register mem_ap bank0 q) ≡ false
+    → is_exempt_register (port_register_where mem_ap bank0 q.ap q.read q.addr) ≡ false
 plain_named q mem_ap bank0 e = plain_by q.ap mem_ap bank0 q.read q.addr e
 
 -- A TARGET AT REST
@@ -227,7 +221,8 @@ select_damaged : (word : ℕ) (refuses : Bool) (x : Target) → x.pending ≡ No
 select_damaged word refuses x none = record { pending = none; arrived = inl refl }
 
 pub select_moved : (clean : Bool) (q : Request) (word : ℕ) (s t : Port) → q.read ≡ false
-    → ((mem_ap bank0 : Bool) → checked_register mem_ap bank0 q ≡ SelectWrite) → CheckedHasMoved clean q word true s t
+    → ((mem_ap bank0 : Bool) → port_register_where mem_ap bank0 q.ap q.read q.addr ≡ SelectWrite)
+    → CheckedHasMoved clean q word true s t
     → IsCheckedSelected word t.target
 select_moved clean q word s t write named h =
     let k = checked_okay_seen clean s q h.asked SelectWrite h.asks
@@ -241,7 +236,7 @@ select_moved clean q word s t write named h =
     (subst SelectPends (sym k.target) (k.settled refl))
 
 select_by : (ap m read : Bool) (addr : Reg4) (b : Bool) → checked_selects addr ap read ≡ true
-    → (read ≡ false) × (register_by ap m b read addr ≡ SelectWrite)
+    → (read ≡ false) × (port_register_where m b ap read addr ≡ SelectWrite)
 select_by false m false R8 b e = (refl, refl)
 select_by false m true R8 b e = absurd (cc)
 select_by true m read R8 b e = absurd (cc)

@@ -1,7 +1,7 @@
 -- What a read leads to, from a state that a world stands for exactly, where a word was seen.
 use Rattle.std.proofs.Common.{◌≡◌, ◌<◌, ◌^◌, ◌/◌, ◌%◌, ℕ, zero, suc, Bool, true, false, refl, sym, ap}
 use Rattle.std.proofs.Common.{subst, ◌∙◌, arith}
-use Rattle.std.specs.Prelude.{Some, None, is_some, not, ◌&&◌, ◌==◌, if◌then◌else◌, unwrap_or}
+use Rattle.std.specs.Prelude.{Some, None, is_some, not, ◌&&◌, ◌==◌, unwrap_or}
 use Rattle.swd_bits.specs.Bits.{bit}
 use Rattle.swd_bits.specs.declared.request.Reg4.{Reg4}
 use Rattle.swd_bits.specs.declared.request.Reg4.TheVariants.{R0, R4, R8, RC}
@@ -14,7 +14,7 @@ use Rattle.swd_port.specs.declared.register.Register.TheVariants.{ResendRead, Rd
 use Rattle.swd_port.specs.declared.register.Register.TheVariants.{CswRead, TarRead}
 use Rattle.swd_port.specs.declared.register.Register.TheVariants.{DrwRead, ApOtherRead}
 use Rattle.swd_port.specs.declared.state.PowerUp.{PowerUp}
-use Rattle.swd_port.specs.Port.{Target, port_dp_register, mem_ap_register, port_other_ap_register}
+use Rattle.swd_port.specs.Port.{Target, port_register_where}
 use Rattle.swd_port.specs.Choices.{Choice}
 use Rattle.swd_port.specs.Answers.{is_exempt_register, is_port_power_there}
 use Rattle.swd_port.specs.Asking.{power_up_after, ctrl_stat_word_in, is_port_posted}
@@ -93,8 +93,7 @@ dpidr_reads n clean ok word m small may near = record {
 
 -- a request of this register
 dpidr_by_register : (ap m b read : Bool) (addr : Reg4)
-    → (if ap then (if m then mem_ap_register read addr else port_other_ap_register read)
-    else port_dp_register read addr b) ≡ DpidrRead → checked_reads_dpidr addr ap read ≡ true
+    → port_register_where m b ap read addr ≡ DpidrRead → checked_reads_dpidr addr ap read ≡ true
 dpidr_by_register false m b true R0 e = refl
 dpidr_by_register true true b true R0 e = absurd (cc)
 dpidr_by_register true true b true R4 e = absurd (cc)

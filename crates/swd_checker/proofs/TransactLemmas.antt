@@ -1,7 +1,7 @@
 -- What the worlds hold after a whole transaction: the request, its answer, the data phase, and what takes effect
 -- between these.
 use Rattle.std.proofs.Common.{◌≡◌, ◌<◌, ◌^◌, ℕ, Bool, true, false, refl, sym, ap, subst, ◌∙◌, inl, inr, List}
-use Rattle.std.specs.Prelude.{Option, Some, None, IfSome, not, ◌==◌, if◌then◌else◌}
+use Rattle.std.specs.Prelude.{Option, Some, None, IfSome, not, ◌==◌}
 use Rattle.std.specs.List.{Any}
 use Rattle.swd_bits.specs.declared.request.Request.{Request}
 use Rattle.swd_bits.specs.declared.request.Reg4.{Reg4}
@@ -16,8 +16,7 @@ use Rattle.swd_port.specs.declared.mark.Mark.TheVariants.{Clean, Wait, Flip, Dea
 use Rattle.swd_port.specs.Phases.{port_flipped}
 use Rattle.swd_port.specs.declared.state.AfterAck.{AfterAck}
 use Rattle.swd_port.specs.declared.state.AfterAck.TheVariants.{Awaits, Drives}
-use Rattle.swd_port.specs.Port.{Port, Target, port_dp_register, port_selects_mem_ap}
-use Rattle.swd_port.specs.Port.{mem_ap_register, port_other_ap_register}
+use Rattle.swd_port.specs.Port.{Port, Target, port_selects_mem_ap, port_register_where}
 use Rattle.swd_port.specs.Choices.{Choice, port_flip_of, IsPortMark, PortMayBeLate}
 use Rattle.swd_port.specs.Answers.{is_exempt_register}
 use Rattle.swd_port.specs.Asking.{port_answer, port_after_okay, port_after_wait, port_after_fault, port_value_in}
@@ -36,7 +35,7 @@ use Rattle.swd_checker.specs.Worlds.{World}
 use Rattle.swd_checker.specs.Described.{WorldDescribes, IsCheckedNear, checked_changed_at}
 use Rattle.swd_checker.specs.Holding.{KeptDescribes, WorldsHold, WorldsKeep, WorldsHoldPort}
 use Rattle.swd_checker.specs.Laws.{WorldDescribesPort}
-use Rattle.swd_checker.specs.Steps.{WorldAccepts, checked_register, world_register, world_due}
+use Rattle.swd_checker.specs.Steps.{WorldAccepts, world_register, world_due}
 use Rattle.swd_checker.specs.Asking.{IsAskedBy, IsAskedAlike, IsAskedAccepted, IsAskedTo}
 use Rattle.swd_checker.specs.Adding.{IsCheckedPrompt, WorldsReturn, WorldsRead, WorldsArrive, WorldsDamage}
 use Rattle.swd_checker.specs.Adding.{WorldsLose}
@@ -294,7 +293,7 @@ record DpidrMoved (clean : Bool) (q : Request) (word : ℕ) (ok : Bool) (s t : P
   same : h.asks.before.target.identification ≡ s.target.identification
 
 dpidr_moved : (clean : Bool) (q : Request) (word : ℕ) (ok : Bool) (s t : Port) → q.read ≡ true
-    → ((mem_ap bank0 : Bool) → checked_register mem_ap bank0 q ≡ DpidrRead)
+    → ((mem_ap bank0 : Bool) → port_register_where mem_ap bank0 q.ap q.read q.addr ≡ DpidrRead)
     → (h : CheckedHasMoved clean q word ok s t) → DpidrMoved clean q word ok s t h
 dpidr_moved clean q word ok s t read named h =
     let k : CheckedOkayed h.asks.mark h.asks.choice q DpidrRead h.asks.before h.asks.after =
@@ -310,7 +309,8 @@ dpidr_moved clean q word ok s t read named h =
 
 -- a read of DPIDR with right parity returns its word,
 pub dpidr_whole : (clean : Bool) (q : Request) (word : ℕ) (s t : Port) → q.read ≡ true
-    → ((mem_ap bank0 : Bool) → checked_register mem_ap bank0 q ≡ DpidrRead) → CheckedHasMoved clean q word true s t
+    → ((mem_ap bank0 : Bool) → port_register_where mem_ap bank0 q.ap q.read q.addr ≡ DpidrRead)
+    → CheckedHasMoved clean q word true s t
     → word ≡ s.target.identification
 dpidr_whole clean q word s t read named h =
     let k : DpidrMoved clean q word true s t h = dpidr_moved clean q word true s t read named h in
@@ -318,7 +318,8 @@ dpidr_whole clean q word s t read named h =
 
 -- and one with wrong parity returns it with one bit changed
 pub dpidr_changed : (clean : Bool) (q : Request) (word : ℕ) (s t : Port) → q.read ≡ true
-    → ((mem_ap bank0 : Bool) → checked_register mem_ap bank0 q ≡ DpidrRead) → CheckedHasMoved clean q word false s t
+    → ((mem_ap bank0 : Bool) → port_register_where mem_ap bank0 q.ap q.read q.addr ≡ DpidrRead)
+    → CheckedHasMoved clean q word false s t
     → (place : ℕ) × (place < 33) × (s.target.identification ≡ checked_changed_at word place)
 dpidr_changed clean q word s t read named h =
     let k : DpidrMoved clean q word false s t h = dpidr_moved clean q word false s t read named h in
@@ -406,8 +407,7 @@ record WritesOnly (r : Register) : Type 0 where
   status : r ≡ CtrlStatRead → ⊥
 
 write_names : (ap m b read : Bool) (addr : Reg4) → read ≡ false → (r : Register)
-    → (if ap then (if m then mem_ap_register read addr else port_other_ap_register read)
-    else port_dp_register read addr b) ≡ r → WritesOnly r
+    → port_register_where m b ap read addr ≡ r → WritesOnly r
 write_names true true b false R0 e r f = subst WritesOnly f
     (record { posted = refl; other = λ g. cc; status = λ g. cc })
 write_names true true b false R4 e r f = subst WritesOnly f

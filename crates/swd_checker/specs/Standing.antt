@@ -21,7 +21,8 @@ use Rattle.swd_checker.specs.declared.checker.CheckStart.{CheckStart}
 use Rattle.swd_checker.specs.declared.checker.CheckStart.TheVariants.{Made, Rest, Any}
 use Rattle.swd_checker.specs.declared.checker.Checker.{Checker}
 use Rattle.swd_checker.specs.declared.checker.Verdict.{Verdict}
-use Rattle.swd_checker.specs.declared.checker.Verdict.TheVariants.{Breaks}
+use Rattle.swd_checker.specs.declared.checker.Verdict.TheVariants.{Fits, Breaks, Crowded}
+use Rattle.swd_checker.specs.declared.rule.Rule.{Rule}
 use Rattle.swd_checker.specs.Described.{IsCheckedNear, checked_changed_at}
 use Rattle.swd_checker.specs.Openings.{OpeningHolds, IsCheckedResting}
 use Rattle.swd_checker.specs.Checked.{CheckedTransacts}
@@ -153,6 +154,12 @@ pub record CheckerLeaves (c now : Checker) : Type 0 where
   pub wire : now.clean ≡ c.clean
   pub gap : checker_gap now ≡ checked_gap_at c.stray true
   pub broken : now.broken ≡ c.broken
+
+-- the verdict, by the place and the rule of the first item that broke one, and the first place that was crowded
+abbrev pub checked_verdict : Option (ℕ × Rule) → Option ℕ → Verdict
+checked_verdict (Some broken) crowded = Breaks broken.0 broken.1
+checked_verdict None (Some place) = Crowded place
+checked_verdict None None = Fits
 
 -- a verdict that is red
 abbrev pub is_checked_broken : Verdict → Bool

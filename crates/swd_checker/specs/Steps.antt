@@ -1,13 +1,12 @@
 -- What the worlds before a transaction have to do with the targets after it.
-use Rattle.std.specs.Prelude.{ℕ, ◌≡◌, ◌&&◌, ◌==◌, not, Bool, true, false, if◌then◌else◌, Option, Some, None}
+use Rattle.std.specs.Prelude.{ℕ, ◌≡◌, ◌&&◌, ◌==◌, not, Bool, true, false, Option, Some, None}
 use Rattle.swd_bits.specs.declared.request.Request.{Request}
 use Rattle.swd_port.specs.declared.register.Register.{Register}
 use Rattle.swd_port.specs.declared.state.PowerUp.{PowerUp}
 use Rattle.swd_port.specs.declared.register.Register.TheVariants.{CtrlStatRead}
 use Rattle.swd_port.specs.declared.state.Reset.TheVariants.{Live}
 use Rattle.swd_port.specs.declared.state.Reply.{Reply}
-use Rattle.swd_port.specs.Port.{Target, port_dp_register, mem_ap_register}
-use Rattle.swd_port.specs.Port.{port_other_ap_register, port_selects_mem_ap}
+use Rattle.swd_port.specs.Port.{Target, port_register_where, port_selects_mem_ap}
 use Rattle.swd_port.specs.Choices.{Choice}
 use Rattle.swd_port.specs.Answers.{is_exempt_register, port_answer_by, is_port_unpowered, is_port_power_there}
 use Rattle.swd_port.specs.Asking.{debug_up_after, power_up_after}
@@ -17,14 +16,9 @@ use Rattle.swd_checker.specs.Worlds.{is_checked_power_there}
 use Rattle.swd_checker.specs.Described.{IsWorldNow, WorldDescribes, CheckedPower}
 use Rattle.swd_checker.specs.Words.{is_checked_power_on, is_checked_power_seen}
 
--- the register that a request names, where SELECT names bank 0 of access port 0 or doesn't, and DPBANKSEL is 0 or isn't
-abbrev pub checked_register : Bool → Bool → Request → Register
-checked_register mem_ap bank0 q =
-    if q.ap then (if mem_ap then mem_ap_register q.read q.addr else port_other_ap_register q.read)
-    else port_dp_register q.read q.addr bank0
-
+-- the register that a request names
 abbrev pub world_register : World → Request → Register
-world_register w q = checked_register w.mem_ap w.bank0 q
+world_register w q = port_register_where w.mem_ap w.bank0 q.ap q.read q.addr
 
 -- the answer where nothing is pending, and no WAIT is asked for
 abbrev pub world_due : World → Request → Reply

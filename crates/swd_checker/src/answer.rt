@@ -4,7 +4,6 @@ ghost use Rattle.swd_port.specs.Answers.{is_port_unpowered, port_is_answered};
 ghost use Rattle.swd_checker.specs.Worlds.{is_checked_power_there};
 ghost use Rattle.swd_checker.specs.Steps.{world_register, world_due};
 
-use crate::register::{is_exempt, register_named};
 use crate::world::World;
 use swd_bits::Request;
 use swd_port::{Register, Reply, Reset};
@@ -15,7 +14,7 @@ impl World {
     pub(crate) fn register(self, request: Request) -> Register
         ensures { result ≡ world_register self request }
     {
-        register_named(self.mem_ap, self.bank0, request)
+        Register::named_where(self.mem_ap, self.bank0, request)
     }
 
     /// Returns the answer to a request where nothing is pending, and no WAIT is asked for.
@@ -26,7 +25,7 @@ impl World {
         let register = self.register(request);
         if !self.answers(register) {
             Reply::Silent
-        } else if is_exempt(register) {
+        } else if register.is_exempt() {
             Reply::Okay
         } else if self.sticky_error || self.write_error || self.is_unpowered(request) {
             Reply::Faults

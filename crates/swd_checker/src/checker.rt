@@ -1,6 +1,6 @@
 //! The checker of a trace.
 
-ghost use Rattle.std.specs.Prelude.{ℕ, ◌≡◌, ◌≤◌, Bool, true, false, None, length};
+ghost use Rattle.std.specs.Prelude.{ℕ, ◌≡◌, ◌≤◌, Bool, true, false, None, is_some, length};
 ghost use Rattle.swd_bits.specs.Transactions.{IsTx};
 ghost use Rattle.arrayvec.specs.ArrayVec.{array_vec_len};
 ghost use Rattle.swd_port.specs.Port.{Port};
@@ -11,7 +11,7 @@ ghost use Rattle.swd_checker.specs.Openings.{OpeningHolds};
 ghost use Rattle.swd_checker.specs.Standing.{CheckerHolds, CheckerStarts, CheckerWatches, CheckerLeaves};
 ghost use Rattle.swd_checker.specs.Standing.{CheckerKeeps, CheckerKeepsWorlds, CheckerChecks, CheckerIdentifies};
 ghost use Rattle.swd_checker.specs.Standing.{checker_gap, checked_gap_none, checked_stray_after};
-ghost use Rattle.swd_checker.specs.Standing.{is_checked_broken};
+ghost use Rattle.swd_checker.specs.Standing.{checked_verdict, is_checked_broken};
 ghost use Rattle.swd_checker.specs.Fitting.{CheckerBegins, CheckerFollows, CheckerStays, CheckerSettles, CheckerSteps};
 ghost use Rattle.swd_checker.specs.Fitting.{CheckerFirst, CheckerOpens, CheckerBeginsBy};
 ghost use Rattle.swd_checker.specs.Reaching.{IdentificationNarrows};
@@ -142,6 +142,7 @@ impl Checker {
         ensures watches { CheckerWatches item.now self.old self.new }
         ensures follows { CheckerFollows item.now self.old self.new }
         ensures begins { CheckerBeginsBy item.now place self.old self.new }
+        ensures ended { is_some self.old.broken ≡ true → self.new ≡ self.old }
     {
         if self.broken.is_none() {
             self.take(item, place);
@@ -164,6 +165,7 @@ impl Checker {
         ensures breaks { is_checked_broken result ≡ true → self.now.broken ≡ None → ⊥ }
         ensures goes_on { is_checked_broken result ≡ false → self.now.broken ≡ None }
         ensures fits { result ≡ Verdict.Fits → (self.now.broken ≡ None) × (self.now.crowded ≡ None) }
+        ensures exact { result ≡ checked_verdict self.now.broken self.now.crowded }
     {
         if let Some((place, rule)) = self.broken {
             return Verdict::Breaks { place, rule };
@@ -182,7 +184,9 @@ impl Checker {
     }
 
     /// Returns how many gaps there were.
-    pub fn gaps(&self) -> u64 {
+    pub fn gaps(&self) -> u64
+        ensures { result ≡ self.now.gaps }
+    {
         self.gaps
     }
 

@@ -26,7 +26,6 @@ mod near;
 mod opening;
 mod origins;
 mod reason;
-mod register;
 mod rule;
 mod step;
 mod tar;

@@ -1,6 +1,5 @@
 //! The rules that a target may break.
 
-use crate::register::is_exempt;
 use crate::world::World;
 use swd_bits::{Tx, TxEnd};
 use swd_port::{Register, Reply};
@@ -40,7 +39,7 @@ pub(crate) fn broken_rule(world: World, tx: &Tx, clean: bool) -> Rule {
         (TxEnd::NoAck(_), _) => Rule::Acknowledgement,
         (_, Reply::Silent) => Rule::Silence,
         (TxEnd::Wait, Reply::Faults) => Rule::FaultFirst,
-        (TxEnd::Wait | TxEnd::Fault, _) if is_exempt(register) => Rule::NeverRefused,
+        (TxEnd::Wait | TxEnd::Fault, _) if register.is_exempt() => Rule::NeverRefused,
         (TxEnd::Moved { parity_ok, .. }, Reply::Okay) => {
             if clean && !parity_ok {
                 Rule::Parity

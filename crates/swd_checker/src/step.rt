@@ -36,7 +36,6 @@ use crate::after::{
 };
 use crate::held::Held;
 use crate::near::{Near, Words};
-use crate::register::{is_exempt, is_posted};
 use crate::tar::Tar;
 use crate::world::{Transfer, World};
 use crate::worlds::Worlds;
@@ -246,7 +245,7 @@ impl Worlds {
             → (now.register ≡ Register.ResendRead → ⊥) → (ok : Bool)
             → WorldsReadSeen link now.world now.register seen ok → WorldsReach link self.new }
     {
-        if is_posted(now.register) {
+        if now.register.is_posted() {
             self.read_posted(now, seen);
         } else {
             self.return_unseen(now);
@@ -338,7 +337,7 @@ impl Worlds {
             → (now.register ≡ Register.DpidrRead → ⊥) → (now.register ≡ Register.CtrlStatRead → ⊥)
             → WorldsReturnAny link now.world now.register → WorldsReach link self.new }
     {
-        if is_posted(now.register) {
+        if now.register.is_posted() {
             self.post(now, now.world.buffer);
         } else {
             self.add(now.world, now.faults);
@@ -653,7 +652,7 @@ impl Asked {
             → port_answer x self.request ≡ Reply.Okay → WorldAccepts result.world self.register c x }
         ensures exact { result.world ≡ world_accepted awaits self.register self.request.ap self.world }
     {
-        if is_exempt(self.register) {
+        if self.register.is_exempt() {
             Asked {
                 world: World {
                     awaits,
@@ -705,7 +704,7 @@ impl Asked {
         ensures { (result ≡ true) ↔ ((world_due self.world self.request ≡ Reply.Okay)
             × (is_exempt_register self.register ≡ false)) }
     {
-        self.world.due(self.request) == Reply::Okay && !is_exempt(self.register)
+        self.world.due(self.request) == Reply::Okay && !self.register.is_exempt()
     }
 
     // Counts one request more that was damaged or lost.

@@ -12,7 +12,6 @@ ghost use Rattle.swd_checker.specs.Joining.{WorldCovers, AreWorldsAlike};
 
 use crate::held::Held;
 use crate::near::bit;
-use crate::register::is_posted;
 use crate::tar::Tar;
 use swd_port::{Register, Reset};
 
@@ -204,7 +203,7 @@ impl World {
         ensures { result ≡ world_after_wait register self }
     {
         World {
-            read_ok: self.read_ok && !is_posted(register),
+            read_ok: self.read_ok && !register.is_posted(),
             ..self
         }
     }
@@ -214,7 +213,7 @@ impl World {
         ensures { result ≡ world_after_fault register ap self }
     {
         World {
-            read_ok: self.read_ok && !is_posted(register),
+            read_ok: self.read_ok && !register.is_posted(),
             sticky_error: self.sticky_error || (ap && !self.debug.is_there()),
             ..self
         }

@@ -51,6 +51,13 @@ command_status_of_check (Ok (Crowded place)) = 2
 command_status_of_check (Ok (Outside place)) = 2
 command_status_of_check (Err fault) = 2
 
+-- The same of a conformance run: 2 if the port answered no request, so that nothing was checked, and 1 if a transfer
+-- without memory was no bus error.
+abbrev pub command_status_of_conform : Bool → Bool → Checked → ℕ
+command_status_of_conform answered unrefused (Fits items from faults gaps) =
+    if answered then (if unrefused then 1 else 0) else 2
+command_status_of_conform answered unrefused checked = command_status_of_check (Ok checked)
+
 -- the state of the target before the first item
 abbrev pub command_check_start : CheckLine → CheckStart
 command_check_start check = if check.made then Made else if check.rest then Rest else Any

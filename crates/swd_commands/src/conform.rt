@@ -1,6 +1,6 @@
 //! `swd conform`: sends the requests of a conformance run to a port, and writes the verdict on what came.
-ghost use Rattle.std.specs.Prelude.{◌≡◌, ◌⊎◌, Ok};
-ghost use Rattle.swd_commands.specs.Conversions.{command_status_of_check as status_of};
+ghost use Rattle.std.specs.Prelude.{◌≡◌};
+ghost use Rattle.swd_commands.specs.Conversions.{command_status_of_conform as status_of};
 
 use crate::check::{checked_status, plain_memory};
 use crate::program::SHOWN;
@@ -57,10 +57,17 @@ fn begun<A: Allocator + Copy, F, C, E: Write>(
 ) -> Result<ConformRun<A>, u8> {
     let (base, words) = (conform.plain.base, conform.plain.words);
     let Some(plan) = Plan::new(base, words, conform.hole) else {
-        let _ = writeln!(
-            console.errors,
-            "swd: --plain has to name at least {LEAST_WORDS} words of memory"
-        );
+        let _ = if words < LEAST_WORDS {
+            writeln!(
+                console.errors,
+                "swd: --plain has to name at least {LEAST_WORDS} words of memory"
+            )
+        } else {
+            writeln!(
+                console.errors,
+                "swd: --hole has to be a multiple of 4, and no word of --plain"
+            )
+        };
         return Err(FAULT);
     };
     let Ok(plain) = plain_memory(console.alloc, &[conform.plain]) else {
@@ -156,6 +163,13 @@ fn tell_sent<E: Write>(conformed: &Conformed, errors: &mut E) {
 // Prints how many requests and clocks were sent, and what the run couldn't reach.
 fn tell_run<E: Write>(conform: &ConformLine, conformed: &Conformed, errors: &mut E) {
     tell_sent(conformed, errors);
+    if !conformed.answered && fits(&conformed.checked) {
+        let _ = writeln!(
+            errors,
+            "swd: not reached: anything, since the port answered no request"
+        );
+        return;
+    }
     if !conformed.waited {
         let _ = writeln!(
             errors,
@@ -174,6 +188,11 @@ fn tell_run<E: Write>(conform: &ConformLine, conformed: &Conformed, errors: &mut
     }
 }
 
+// Returns whether no rule was broken, and the items could be followed.
+fn fits(checked: &Checked) -> bool {
+    matches!(checked, Checked::Fits { .. })
+}
+
 // Returns whether requests were damaged or lost.
 fn has_faults(checked: &Checked) -> bool {
     match checked {
@@ -182,15 +201,16 @@ fn has_faults(checked: &Checked) -> bool {
     }
 }
 
-// Returns the status of a run whose other end stayed: that of the verdict, but 1 where a transfer at HOLE was no bus
-// error.
+// Returns the status of a run whose other end stayed: that of the verdict, but for `fits` 2 where no request was
+// answered, and 1 where a transfer at HOLE was no bus error.
 fn conformed_status(conformed: &Conformed) -> u8
-    ensures { (result ≡ status_of (Ok conformed.now.checked)) ⊎ (result ≡ 1) }
+    ensures { result ≡ status_of conformed.now.answered conformed.now.unrefused conformed.now.checked }
 {
-    if conformed.unrefused && matches!(conformed.checked, Checked::Fits { .. }) {
-        return STOPPED;
+    match &conformed.checked {
+        Checked::Fits { .. } if !conformed.answered => FAULT,
+        Checked::Fits { .. } if conformed.unrefused => STOPPED,
+        checked => checked_status(checked),
     }
-    checked_status(&conformed.checked)
 }
 
 // Prints what the plan leaves out.

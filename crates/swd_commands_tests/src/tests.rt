@@ -27,6 +27,7 @@ mod image_files;
 mod image_reports;
 mod images;
 mod memory_target;
+mod outputs;
 mod pen;
 mod plan;
 mod progress;
@@ -340,7 +341,7 @@ fn a_lost_run_is_resumed_and_traced(rt: HostRuntime) {
     );
 }
 
-// The file of the trace is made before anything is read, and so stands there, empty, where the script is at fault.
+// The trace is truncated once the script is read: where that has an error, it is as it was.
 #[test]
 fn a_run_is_traced(rt: HostRuntime) {
     for (script, plan, output, traced, status) in [
@@ -356,6 +357,7 @@ fn a_run_is_traced(rt: HostRuntime) {
         );
         expect_eq(&rt, &ran.output.as_slice(), &output);
         expect_eq(&rt, &ran.traced, &traced);
+        expect_eq(&rt, &ran.cuts, &usize::from(status == 0));
         expect_eq(&rt, &ran.status, &status);
     }
 }

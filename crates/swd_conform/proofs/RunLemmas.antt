@@ -8,12 +8,13 @@ use Rattle.swd_check.specs.declared.check.Check.{Check}
 use Rattle.swd_check.specs.Watched.{CheckHolds, CheckSays, CheckTakes}
 use Rattle.swd_recorder.specs.Items.{recorded_in_hand_by}
 use Rattle.swd_check.specs.Calls.{checked_call_items, checked_items_by}
+use Rattle.swd_conform.specs.Aims.{ConformStays}
 use Rattle.swd_conform.specs.Calls.{conform_asked, conform_requests_by}
+use Rattle.swd_conform.specs.declared.aim.Bounds.{Bounds}
 use Rattle.swd_host.specs.Sent.{HostCalls}
 use Rattle.swd_conform.specs.Runs.{ConformCame}
-use Rattle.swd_conform.specs.Runs.{ConformBegins, ConformFinds, ConformGoes, ConformMakes, ConformReports}
+use Rattle.swd_conform.specs.Runs.{ConformFinds, ConformGoes, ConformMakes, ConformReports}
 use Rattle.swd_conform.specs.Runs.{conform_run_left}
-use Rattle.swd_conform.specs.declared.plan.Plan.{Plan}
 use Rattle.swd_conform.specs.declared.run.Conformed.{Conformed}
 use Rattle.swd_conform.specs.declared.run.ConformRun.{ConformRun}
 
@@ -27,11 +28,12 @@ conform_counts cue seen n m calls now e a b =
 module _ {A W : Type 0} (notes : List Call → W → Type 0) where
   -- no call was made, and nothing that counts changed
   pub conform_goes_none : (u : W) (r t : ConformRun A) → t.noted.calls ≡ r.noted.calls → t.items.check ≡ r.items.check
-      → ConformGoes notes u r u t
-  conform_goes_none u r t e f = record {
+      → t.bounds ≡ r.bounds → ConformGoes notes u r u t
+  conform_goes_none u r t e f g = record {
     made = [];
     noted = λ calls n. n;
     calls = e;
+    bounds = g;
     takes = λ i seen x.
         subst (λ (check : Check A). CheckHolds i check (seen ++ checked_items_by t.noted.calls)) (sym f)
         (subst (λ (calls : List Call). CheckHolds i r.items.check (seen ++ checked_items_by calls)) (sym e) x);
@@ -45,6 +47,7 @@ module _ {A W : Type 0} (notes : List Call → W → Type 0) where
     noted = λ calls n. subst (λ (l : List Call). notes l w) (sym (append_assoc h.made g.made calls))
         (h.noted (g.made ++ calls) (g.noted calls n));
     calls = h.calls ∙ ap (λ (l : List Call). h.made ++ l) g.calls ∙ sym (append_assoc h.made g.made r.noted.calls);
+    bounds = h.bounds ∙ g.bounds;
     takes = λ i seen x. h.takes i seen (g.takes i seen x);
   }
 
@@ -53,11 +56,12 @@ module _ {A W : Type 0} (notes : List Call → W → Type 0) where
       → ((calls : List Call) → notes calls u → notes (record { cue = cue; seen = seen } ∷ calls) v)
       → t.noted.calls ≡ record { cue = cue; seen = seen } ∷ r.noted.calls
       → CheckTakes (checked_call_items (recorded_in_hand_by r.noted.calls) cue seen) r.items.check t.items.check
-      → ConformGoes notes u r v t
-  conform_goes_step cue seen u v r t h e takes = record {
+      → t.bounds ≡ r.bounds → ConformGoes notes u r v t
+  conform_goes_step cue seen u v r t h e takes same = record {
     made = record { cue = cue; seen = seen } ∷ [];
     noted = λ calls n. h calls n;
     calls = e;
+    bounds = same;
     takes = λ i before x.
         let items = checked_items_by r.noted.calls in
         let more = checked_call_items (recorded_in_hand_by r.noted.calls) cue seen in
@@ -68,10 +72,10 @@ module _ {A W : Type 0} (notes : List Call → W → Type 0) where
 
   -- a run that made no call, and whose check took nothing
   pub conform_makes_none : (u : W) (r t : ConformRun A) → t.noted.calls ≡ r.noted.calls
-      → t.items.check ≡ r.items.check → t.requests ≡ r.requests
+      → t.items.check ≡ r.items.check → t.requests ≡ r.requests → t.bounds ≡ r.bounds
       → conform_run_left t ≡ conform_run_left r → ConformMakes notes 0 u r u t
-  conform_makes_none u r t e f g h = record {
-    goes = conform_goes_none u r t e f;
+  conform_makes_none u r t e f g same h = record {
+    goes = conform_goes_none u r t e f same;
     requests = omega (arith, g);
     left = h;
   }
@@ -95,20 +99,22 @@ module _ {A W : Type 0} (notes : List Call → W → Type 0) where
   }
 
   -- what a run reports that made no call before
-  pub conform_reports : (plan : Plan) (check : Check A) (told : Conformed) (u v : W) (r t : ConformRun A)
-      → ConformBegins plan check r → ConformGoes notes u r v t → ConformFinds t told
-      → HostCalls notes (ConformReports check told) u v
-  conform_reports plan check told u v r t b g f calls n =
+  pub conform_reports : (bounds : Bounds) (check : Check A) (told : Conformed) (u v : W) (r t : ConformRun A)
+      → r.bounds ≡ bounds → r.items.check ≡ check → r.noted.calls ≡ [] → ConformGoes notes u r v t → ConformFinds t told
+      → HostCalls notes (ConformReports bounds check told) u v
+  conform_reports bounds check told u v r t same is none g f calls n =
       let all : t.noted.calls ≡ g.made =
-      g.calls ∙ ap (λ (l : List Call). g.made ++ l) b.calls ∙ append-nil g.made in (
+      g.calls ∙ ap (λ (l : List Call). g.made ++ l) none ∙ append-nil g.made in (
         g.made,
         g.noted calls n,
         record {
+          stays = subst (λ (l : List Call). ∥ ConformStays bounds l ∥₁) all
+              (subst (λ (here : Bounds). ∥ ConformStays here t.noted.calls ∥₁) (g.bounds ∙ same) t.stays);
           says = λ i seen x.
               let first : CheckHolds i r.items.check (seen ++ checked_items_by r.noted.calls) =
-              subst (λ (l : List Call). CheckHolds i r.items.check (seen ++ checked_items_by l)) (sym b.calls)
+              subst (λ (l : List Call). CheckHolds i r.items.check (seen ++ checked_items_by l)) (sym none)
               (subst (λ (l : List Item). CheckHolds i r.items.check l) (sym (append-nil seen))
-              (subst (λ (check : Check A). CheckHolds i check seen) (sym b.check_of) x)) in
+              (subst (λ (check : Check A). CheckHolds i check seen) (sym is) x)) in
               subst (λ (l : List Call). CheckSays i (seen ++ checked_items_by l) told.checked) all
               (f.says i (seen ++ checked_items_by t.noted.calls) (g.takes i seen first));
           requests = f.requests ∙ t.counted ∙ ap conform_requests_by all;
@@ -120,11 +126,6 @@ pub conform_came : {A W : Type 0} (calls_of : W → List Call) (told : Conformed
     → calls_of u ≡ [] → ConformGoes (λ calls w. calls_of w ≡ calls) u r v t → ConformFinds t told
     → ConformCame r told (calls_of v)
 conform_came {A} {W} calls_of told u v r t empty g f none =
-    let begins : ConformBegins r.plan r.items.check r = record {
-      plan_of = refl;
-      check_of = refl;
-      calls = none;
-      requests = r.counted ∙ ap conform_requests_by none;
-    } in
-    let out = conform_reports (λ calls w. calls_of w ≡ calls) r.plan r.items.check told u v r t begins g f [] empty in
-    subst (λ (l : List Call). ConformReports r.items.check told l) (sym (out.1 ∙ append-nil out.0)) out.2
+    let out = conform_reports (λ calls w. calls_of w ≡ calls) r.bounds r.items.check told u v r t refl refl none g f []
+    empty in
+    subst (λ (l : List Call). ConformReports r.bounds r.items.check told l) (sym (out.1 ∙ append-nil out.0)) out.2

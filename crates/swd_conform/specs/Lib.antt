@@ -1,4 +1,5 @@
 pub mod Plans
+pub mod Aims
 pub mod Calls
 pub mod Runs
 pub mod Sessions

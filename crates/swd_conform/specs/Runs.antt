@@ -5,15 +5,19 @@ use Rattle.swd_check.specs.declared.check.Check.{Check}
 use Rattle.swd_check.specs.Watched.{CheckIndex, CheckHolds, CheckSays}
 use Rattle.swd_trace.specs.declared.item.Item.{Item}
 use Rattle.swd_check.specs.Calls.{checked_items_by}
+use Rattle.swd_conform.specs.Aims.{ConformStays}
 use Rattle.swd_conform.specs.Calls.{conform_requests_by}
+use Rattle.swd_conform.specs.declared.aim.Bounds.{Bounds}
 use Rattle.swd_conform.specs.Plans.{conform_steps_left}
 use Rattle.swd_conform.specs.declared.plan.Plan.{Plan}
 use Rattle.swd_conform.specs.declared.run.Conformed.{Conformed}
 use Rattle.swd_conform.specs.declared.run.ConformRun.{ConformRun}
 
 -- The verdict is what a check says of the items of these calls, behind those that it took before. The requests are
--- those of these calls.
-pub record ConformReports {A : Type 0} (check : Check A) (told : Conformed) (calls : List Call) : Type 0 where
+-- those of these calls, and each transfer that they ask for is where a plan may make one.
+pub record ConformReports {A : Type 0} (bounds : Bounds) (check : Check A) (told : Conformed) (calls : List Call)
+    : Type 0 where
+  pub stays : ∥ ConformStays bounds calls ∥₁
   pub says : (i : CheckIndex) (seen : List Item) → CheckHolds i check seen
       → CheckSays i (seen ++ checked_items_by calls) told.checked
   pub requests : told.requests ≡ conform_requests_by calls
@@ -21,6 +25,7 @@ pub record ConformReports {A : Type 0} (check : Check A) (told : Conformed) (cal
 -- a run of this plan, with this check, that made no call
 pub record ConformBegins {A : Type 0} (plan : Plan) (check : Check A) (run : ConformRun A) : Type 0 where
   pub plan_of : run.plan ≡ plan
+  pub bounds_of : run.bounds ≡ plan.bounds
   pub check_of : run.items.check ≡ check
   pub calls : run.noted.calls ≡ []
   pub requests : run.requests ≡ 0
@@ -36,7 +41,7 @@ pub record ConformFinds {A : Type 0} (run : ConformRun A) (told : Conformed) : T
 
 -- what a run that made no call before says of these calls of a wire
 abbrev pub ConformCame : {A : Type 0} → ConformRun A → Conformed → List Call → Type 0
-ConformCame run told calls = run.noted.calls ≡ [] → ConformReports run.items.check told calls
+ConformCame run told calls = run.noted.calls ≡ [] → ConformReports run.bounds run.items.check told calls
 
 -- A run made further calls of a wire, the last one first, and its check took their items.
 pub record ConformGoes {A W : Type 0} (notes : List Call → W → Type 0) (u : W) (run : ConformRun A) (v : W)
@@ -44,6 +49,7 @@ pub record ConformGoes {A W : Type 0} (notes : List Call → W → Type 0) (u : 
   pub made : List Call
   pub noted : (calls : List Call) → notes calls u → notes (made ++ calls) v
   pub calls : now.noted.calls ≡ made ++ run.noted.calls
+  pub bounds : now.bounds ≡ run.bounds
   pub takes : (i : CheckIndex) (seen : List Item) → CheckHolds i run.items.check (seen ++ checked_items_by
       run.noted.calls)
       → CheckHolds i now.items.check (seen ++ checked_items_by now.noted.calls)

@@ -6,10 +6,10 @@ use crate::line::{
     RDBUFF, SELECT, Send, TAR_WRITE, Word,
 };
 use crate::rounds::{
-    ADDRESSES, AFTER_ERRORS, AGAIN, AP_8, AT_HOLE, AT_MEMORY, BANK_WORDS, BUFFER, CLEAR,
-    CONTROL_WORDS, CSW, CSW_WORDS, CUTS, DAMAGED_WRITES, DRW, FLAGS, IDENTIFY, INCREMENTS, OFF,
-    ONE_ROUND, POWER_UP, REFUSED, SELECT_0, SELECT_WORDS, SILENT_REQUESTS, SINGLE, TAR, TAR_WORDS,
-    TRANSFERS, UNPOWERED_ACCESSES,
+    ADDRESSES, AFTER_ERRORS, AFTER_FAULT, AGAIN, AP_8, AT_HOLE, AT_MEMORY, BANK_WORDS, BUFFER,
+    CLEAR, CONTROL_WORDS, CSW, CSW_WORDS, CUTS, DAMAGED_WRITES, DRW, FLAGS, IDENTIFY, INCREMENTS,
+    OFF, ONE_ROUND, POWER_UP, REFUSED, SELECT_0, SELECT_WORDS, SILENT_REQUESTS, SINGLE, TAR,
+    TAR_WORDS, TRANSFERS, UNPOWERED_ACCESSES,
 };
 
 // Before any line reset no request is answered.
@@ -99,7 +99,8 @@ const UNBANKED: [Line; 8] = [
     The(BUFFER),
 ];
 
-// A write at c of the debug port, and at 8 of the access port, has no effect.
+// A write at c of the debug port, and at 8 of the access port, has no effect. There, a port with 64-bit addresses has
+// their high half: it gets 0 alone.
 const UNUSED: [Line; 13] = [
     The(CLEAR),
     The(AT_MEMORY),
@@ -109,7 +110,7 @@ const UNUSED: [Line; 13] = [
     The(AP_8),
     The(TAR),
     The(BUFFER),
-    The(Send::Write(AP_8_WRITE, Word::Is(0x1234))),
+    The(Send::Write(AP_8_WRITE, Word::Is(0))),
     The(TAR),
     The(BUFFER),
     The(AP_8),
@@ -368,6 +369,24 @@ const REFUSED_ERRORS: [Line; 20] = [
     The(BUFFER),
 ];
 
+// Transfers, too, once FAULT was seen.
+const REFUSED_TRANSFERS: [Line; 14] = [
+    The(AT_HOLE),
+    Outer,
+    The(BUFFER),
+    Inner,
+    The(FLAGS),
+    The(IDENTIFY),
+    The(BUFFER),
+    The(FLAGS),
+    The(CLEAR),
+    The(FLAGS),
+    The(AT_MEMORY),
+    The(DRW),
+    The(TAR),
+    The(BUFFER),
+];
+
 // Each flag is cleared by its own bit of ABORT.
 const BOTH_FLAGS: [Line; 23] = [
     The(AT_HOLE),
@@ -521,7 +540,7 @@ const POWERED_DOWN: [Line; 6] = [
 ];
 
 /// The groups of the plan, in order.
-pub(crate) static GROUPS: [Group; 31] = [
+pub(crate) static GROUPS: [Group; 32] = [
     Group {
         needs: Needs::Nothing,
         outer: &ONE_ROUND,
@@ -665,6 +684,12 @@ pub(crate) static GROUPS: [Group; 31] = [
         outer: &TRANSFERS,
         inner: &AFTER_ERRORS,
         lines: &REFUSED_ERRORS,
+    },
+    Group {
+        needs: Needs::Hole,
+        outer: &TRANSFERS,
+        inner: &AFTER_FAULT,
+        lines: &REFUSED_TRANSFERS,
     },
     Group {
         needs: Needs::Hole,

@@ -4,6 +4,7 @@
 //! `Plan` is the list of steps, which sends and reads nothing. `conform` sends them.
 #![tactic(auto)]
 
+mod aim;
 mod groups;
 mod line;
 mod over_wire;

@@ -17,10 +17,11 @@ use swd_remote::LineJob;
 /// says of the items that were sent and seen, in the words of [`Check::checked`]. A target in its reset state is what
 /// `CheckStart::Made` is for.
 ///
-/// It makes at most [`REQUESTS_PER_STEP`] requests for each step.
+/// It makes at most [`REQUESTS_PER_STEP`] requests for each step. It leaves out a request of a transfer that could be
+/// at another address than that of one of the plan's words, or the one without memory.
 pub fn conform<W: Wire, A: Allocator + Copy>(wire: &mut W, plan: Plan, check: Check<A>) -> Conformed
     requires { (W.port wire.old).link.due ≡ Nothing }
-    ensures reports { HostCalls W.notes (ConformReports check result) wire.old wire.new }
+    ensures reports { HostCalls W.notes (ConformReports plan.bounds check result) wire.old wire.new }
     ensures bound { result.requests ≤ REQUESTS_PER_STEP * conform_steps_left plan }
 {
     let mut run = ConformRun::new(plan, check);

@@ -1,6 +1,7 @@
 //! The plan: a list of steps, made from the tables of groups.
 ghost use Rattle.std.specs.Prelude.{◌≡◌, ◌+◌, ◌≤◌, IfNone, IfSome};
 
+use crate::aim::Bounds;
 use crate::groups::GROUPS;
 use crate::line::{Group, Line, Needs, Send, Word};
 use swd_bits::Request;
@@ -29,8 +30,8 @@ pub enum Step {
     },
     /// Sends a request once. A write has the word 0. On a lost line, a line reset comes before it.
     Once(Request),
-    /// Sends a read until it doesn't get WAIT. The transfer before it was at the address without memory, so it has to
-    /// get FAULT.
+    /// Sends a read until it doesn't get WAIT. The transfer before it was at the address without memory, so it isn't to
+    /// get OK.
     Refused(Request),
     /// Sends a write once, with a line reset in place of its data phase.
     Cut(Request),
@@ -51,8 +52,9 @@ pub struct Without {
 
 /// The steps of a conformance run, in order, for a target in its reset state. It sends and reads nothing.
 ///
-/// A target that conforms to the port model makes no transfer at another address than that of one of the words that
-/// the plan was made for, or the one without memory.
+/// Where nothing is damaged or lost, and no request gets WAIT eight times, a target that conforms to the port model
+/// makes no transfer at another address than that of one of the words that the plan was made for, or the one without
+/// memory. [`ConformRun`](crate::ConformRun) leaves out those that could be elsewhere.
 #[derive(Clone, Copy)]
 pub struct Plan {
     groups: &'static [Group],
@@ -62,22 +64,32 @@ pub struct Plan {
     memory: u32,
     page: Option<u32>,
     kilobyte: Option<u32>,
-    hole: Option<u32>,
+    pub(crate) bounds: Bounds,
     fresh: u32,
     pub(crate) left: u32,
     ghost few: { left ≤ 2000 },
 }
 
 impl Plan {
-    ghost use Rattle.swd_conform.specs.Plans.{conform_steps_left};
+    ghost use Rattle.swd_conform.specs.Aims.{conform_bounds};
+    ghost use Rattle.swd_conform.specs.Plans.{IsConformMemory, conform_steps_left};
 
-    /// Returns a plan for this many words of memory from `base` on, a multiple of 4, and an address without memory. The
-    /// words are at least [`LEAST_WORDS`], and none is past `ffffffff`; otherwise it returns `None`.
+    /// Returns a plan for this many words of memory from `base` on, a multiple of 4, and an address without memory, a
+    /// multiple of 4 that isn't one of these. The words are at least [`LEAST_WORDS`], and none is past `ffffffff`;
+    /// otherwise it returns `None`.
     pub fn new(base: u32, words: u32, hole: Option<u32>) -> Option<Plan>
-        ensures { IfSome result (λ plan. conform_steps_left plan ≡ MOST_STEPS) }
+        ensures steps { IfSome result (λ plan. conform_steps_left plan ≡ MOST_STEPS) }
+        ensures bounds { IfSome result (λ plan. plan.bounds ≡ conform_bounds base words hole) }
+        ensures some { IfSome result (λ _. IsConformMemory base words hole) }
+        ensures none { IfNone result (IsConformMemory base words hole → ⊥) }
     {
         let end = u64::from(base) + 4 * u64::from(words);
         if base % 4 != 0 || words < LEAST_WORDS || end > 1 << 32 {
+            return None;
+        }
+        if let Some(at) = hole
+            && (at % 4 != 0 || at >= base && u64::from(at) < end)
+        {
             return None;
         }
         let mut plan = Plan {
@@ -88,7 +100,11 @@ impl Plan {
             memory: first_of(base),
             page: page_in(base, end),
             kilobyte: within(last_of_kilobyte(base), end),
-            hole,
+            bounds: Bounds {
+                first: base,
+                last: base + 4 * (words - 1),
+                hole,
+            },
             fresh: SEED,
             left: MOST_STEPS,
         };
@@ -99,7 +115,7 @@ impl Plan {
     /// Returns what the plan leaves out.
     pub fn without(&self) -> Without {
         Without {
-            errors: self.hole.is_none(),
+            errors: self.bounds.hole.is_none(),
             page: self.page.is_none(),
             kilobyte: self.kilobyte.is_none(),
         }
@@ -164,7 +180,7 @@ impl Plan {
             Word::Memory(behind) => self.memory.wrapping_add(behind),
             Word::Page(behind) => self.page.unwrap_or(self.memory).wrapping_add(behind),
             Word::Kilobyte(behind) => self.kilobyte.unwrap_or(self.memory).wrapping_add(behind),
-            Word::Hole => self.hole.unwrap_or(self.memory),
+            Word::Hole => self.bounds.hole.unwrap_or(self.memory),
             Word::Fresh => {
                 self.fresh = self
                     .fresh
@@ -207,7 +223,8 @@ impl Plan {
 
     // Begins the first of the groups that can be sent.
     fn enter(&mut self)
-        ensures { conform_steps_left self.new ≡ conform_steps_left self.old }
+        ensures left { conform_steps_left self.new ≡ conform_steps_left self.old }
+        ensures bounds { self.new.bounds ≡ self.old.bounds }
     {
         let groups = self.groups;
         for (index, group) in groups.iter().enumerate() {
@@ -229,7 +246,7 @@ impl Plan {
             Needs::Nothing => true,
             Needs::Page => self.page.is_some(),
             Needs::Kilobyte => self.kilobyte.is_some(),
-            Needs::Hole => self.hole.is_some(),
+            Needs::Hole => self.bounds.hole.is_some(),
         }
     }
 }

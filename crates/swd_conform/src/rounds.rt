@@ -93,7 +93,7 @@ pub(crate) const CSW_WORDS: [Send; 6] = [
 /// Words of SELECT.
 pub(crate) const SELECT_WORDS: [Send; 7] = [
     Send::Write(SELECT, Word::Is(0xf0)),
-    Send::Write(SELECT, Word::Is(0x10)),
+    Send::Write(SELECT, Word::Is(0x40)),
     Send::Write(SELECT, Word::Is(0x0100_0000)),
     Send::Write(SELECT, Word::Is(1)),
     Send::Write(SELECT, Word::Is(8)),
@@ -160,7 +160,7 @@ pub(crate) const DAMAGED_WRITES: [Send; 8] = [
     Send::Damaged(CONTROL, Word::Is(0)),
     Send::Damaged(ABORT, Word::Is(0x1e)),
     Send::Damaged(DP_C_WRITE, Word::Is(1)),
-    Send::Damaged(AP_8_WRITE, Word::Is(3)),
+    Send::Damaged(AP_8_WRITE, Word::Is(0)),
 ];
 
 /// Requests that are refused while a flag is set.
@@ -178,13 +178,11 @@ pub(crate) const REFUSED: [Send; 10] = [
 ];
 
 /// Requests after a bus error.
-pub(crate) const AFTER_ERRORS: [Send; 13] = [
+pub(crate) const AFTER_ERRORS: [Send; 11] = [
     BUFFER,
     AGAIN,
     CSW,
-    DRW,
     Send::Write(TAR_WRITE, Word::Is(0)),
-    Send::Write(DRW_WRITE, Word::Is(5)),
     Send::Write(CSW_WRITE, Word::Is(0)),
     Send::Write(SELECT, Word::Is(0xf0)),
     Send::Write(CONTROL, Word::Is(0)),
@@ -193,6 +191,9 @@ pub(crate) const AFTER_ERRORS: [Send; 13] = [
     IDENTIFY,
     Send::Write(ABORT, Word::Is(4)),
 ];
+
+/// Transfers after a bus error.
+pub(crate) const AFTER_FAULT: [Send; 2] = [DRW, Send::Write(DRW_WRITE, Word::Is(5))];
 
 /// Writes that a line reset cuts.
 pub(crate) const CUTS: [Send; 3] = [

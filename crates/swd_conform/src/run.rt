@@ -5,8 +5,11 @@ ghost use Rattle.swd_port.specs.declared.wire.Due.TheVariants.{Nothing, Take, Gi
 ghost use Rattle.swd_check.specs.Calls.{IsCheckedCue, checked_call_items};
 ghost use Rattle.swd_check.specs.Watched.{CheckTakes};
 ghost use Rattle.swd_recorder.specs.Items.{recorded_in_hand_by};
+ghost use Rattle.swd_port.specs.declared.cue.Cue.TheVariants.{Ask};
+ghost use Rattle.swd_conform.specs.Aims.{ConformMayMake, ConformStays, IsConformAim};
 ghost use Rattle.swd_conform.specs.Calls.{conform_asked, conform_requests_by};
 
+use crate::aim::{Aim, Bounds, is_transfer};
 use crate::line::{DPIDR, STATUS};
 use crate::plan::{Plan, Step};
 use std::alloc::Allocator;
@@ -27,10 +30,10 @@ const ONES: u32 = 100;
 // The idle cycles after a line reset, and after the last request.
 const ZEROS: u32 = 8;
 
-// The bits of WAIT and FAULT, the first in time least significant.
-const WAITS: u64 = 2;
+// The bits of OK and WAIT, the first in time least significant.
+const OKAY: u64 = 1;
 
-const FAULTS: u64 = 4;
+const WAITS: u64 = 2;
 
 // The bit of a data phase that is the parity.
 const PARITY: u64 = 1 << 32;
@@ -44,6 +47,8 @@ pub struct Conformed {
     pub requests: u64,
     /// The number of clocks, at most 2^64 - 1.
     pub clocks: u64,
+    /// Whether a request was answered OK.
+    pub answered: bool,
     /// Whether a request was answered WAIT.
     pub waited: bool,
     /// Whether a transfer at the address without memory was no bus error.
@@ -64,16 +69,21 @@ pub struct ConformRun<A: Allocator> {
     pub(crate) plan: Plan,
     pub(crate) items: CheckedItems<A>,
     in_hand: Option<InHand>,
+    pub(crate) bounds: Bounds,
+    aim: Aim,
     requests: u64,
     clocks: u64,
+    answered: bool,
     waited: bool,
     unrefused: bool,
-    // The three bits that were seen last in answer to a request.
+    // The three bits that were seen last in answer to a request of a step.
     answer: u64,
     pub(crate) noted: NotedCalls,
     ghost held: { in_hand ≡ recorded_in_hand_by noted.calls },
     ghost bounded: { requests + 32 * plan.left ≤ 64000 },
     ghost counted: { requests ≡ conform_requests_by noted.calls },
+    ghost aimed: { ∥ IsConformAim bounds aim noted.calls ∥₁ },
+    ghost stays: { ∥ ConformStays bounds noted.calls ∥₁ },
 }
 
 impl<A: Allocator + Copy> ConformRun<A> {
@@ -88,8 +98,11 @@ impl<A: Allocator + Copy> ConformRun<A> {
             plan,
             items: CheckedItems::new(check),
             in_hand: None,
+            bounds: plan.bounds,
+            aim: Aim::Unpowered,
             requests: 0,
             clocks: 0,
+            answered: false,
             waited: false,
             unrefused: false,
             answer: 0,
@@ -125,6 +138,7 @@ impl<A: Allocator + Copy> ConformRun<A> {
             checked: self.items.checked(),
             requests: self.requests,
             clocks: self.clocks,
+            answered: self.answered,
             waited: self.waited,
             unrefused: self.unrefused,
         }
@@ -152,8 +166,9 @@ impl<A: Allocator + Copy> ConformRun<A> {
                 let _ = self.transact(wire, zero_of(request));
             }
             Step::Refused(request) => {
+                let used = matches!(self.aim, Aim::Behind { used: true, .. });
                 self.ask_live(wire, zero_of(request));
-                self.unrefused |= self.answer != FAULTS;
+                self.unrefused |= used && self.answer == OKAY;
             }
             Step::Cut(request) => self.cut(wire, request),
             Step::Reset => self.reset(wire),
@@ -208,6 +223,7 @@ impl<A: Allocator + Copy> ConformRun<A> {
             return true;
         }
         let _ = self.transact(wire, zero_of(STATUS));
+        self.answer = WAITS;
         !is_lost(wire) && !self.items.is_broken()
     }
 
@@ -221,14 +237,26 @@ impl<A: Allocator + Copy> ConformRun<A> {
         waits
     }
 
-    // Sends a request. On a lost line, a line reset comes before it. Returns whether it was answered WAIT.
+    // Returns whether a request asks for no transfer, or for one that may be asked for.
+    fn may_ask(&self, request: Request) -> bool
+        ensures { result ≡ true → ∥ ConformMayMake self.now.bounds (Ask request) self.now.noted.calls ∥₁ }
+    {
+        !is_transfer(request) || self.bounds.allows(self.aim)
+    }
+
+    // Sends a request, unless its transfer could be at another address than the memory's. On a lost line, a line reset
+    // comes before it. Returns whether it was answered WAIT.
     fn request<W: Wire>(&mut self, wire: &mut W, request: Request) -> bool
         requires { ConformHasRoom 1 self.old }
         ensures { ConformMakes W.notes 1 wire.old self.old wire.new self.new }
     {
         self.free(wire);
+        if !self.may_ask(request) {
+            return false;
+        }
         let seen = self.step(wire, Cue::Ask(request));
         self.answer = seen;
+        self.answered |= seen == OKAY;
         self.waited |= seen == WAITS;
         seen == WAITS
     }
@@ -323,6 +351,7 @@ impl<A: Allocator + Copy> ConformRun<A> {
     fn step<W: Wire>(&mut self, wire: &mut W, cue: Cue) -> u64
         requires may { PortMayStep (W.port wire.old).link.due cue }
         requires sends { IsCheckedCue cue }
+        requires stays { ∥ ConformMayMake self.old.bounds cue self.old.noted.calls ∥₁ }
         requires room { ConformHasRoom (conform_asked cue) self.old }
         ensures makes { ConformMakes W.notes (conform_asked cue) wire.old self.old wire.new self.new }
         ensures due { (W.port wire.new).link.due ≡ port_due_once cue result }
@@ -336,14 +365,17 @@ impl<A: Allocator + Copy> ConformRun<A> {
     fn record(&mut self, cue: Cue, seen: u64)
         requires may { IsCheckedCue cue }
         requires seen { IsPortSeen cue seen }
+        requires stays { ∥ ConformMayMake self.old.bounds cue self.old.noted.calls ∥₁ }
         requires room { ConformHasRoom (conform_asked cue) self.old }
         ensures calls { self.new.noted.calls ≡ record { cue = cue; seen = seen } ∷ self.old.noted.calls }
         ensures takes { CheckTakes (checked_call_items (recorded_in_hand_by self.old.noted.calls) cue seen)
             self.old.items.check self.new.items.check }
         ensures asked { self.new.requests ≡ self.old.requests + conform_asked cue }
         ensures left { conform_run_left self.new ≡ conform_run_left self.old }
+        ensures bounds { self.new.bounds ≡ self.old.bounds }
     {
         self.items.take(self.in_hand, cue, seen);
+        self.aim = self.aim.after(&self.bounds, self.in_hand, cue, seen);
         self.clocks = self.clocks.saturating_add(clocks_of(cue));
         self.requests += requests_of(cue);
         self.in_hand = in_hand_once(cue, seen);

@@ -1,3 +1,4 @@
 //! The tests.
+mod aims;
 mod plans;
 mod runs;

@@ -1,5 +1,6 @@
 -- The error of a stream's last failed call, and the status where the reader of standard output is gone.
-use Rattle.std.specs.Prelude.{◌≡◌, ◌==◌, ◌||◌, not, ℕ, Bool, true, false, List, length, Option, None, Some, Result, Ok}
+use Rattle.std.specs.Prelude.{◌≡◌, ◌⊎◌, ◌==◌, ◌||◌, not, ℕ, Bool, true, false, List, length, Option, None, Some}
+use Rattle.std.specs.Prelude.{Result, Ok}
 use Rattle.std.specs.Prelude.{Err}
 use Rattle.std.specs.Prelude.{if◌then◌else◌}
 use Rattle.std.specs.Option.{option_map}
@@ -7,7 +8,9 @@ use Rattle.std.specs.IoError.{error_kind}
 use Rattle.std_io.specs.declared.io.error.Error.{Error}
 use Rattle.std_io.specs.declared.io.kind.ErrorKind.{ErrorKind}
 use Rattle.std_io.specs.declared.io.kind.ErrorKind.TheVariants.{BrokenPipe, WriteZero}
+use Rattle.swd_console.specs.declared.open_files.Opened.{Opened}
 use Rattle.swd_console.specs.declared.watched.Watched.{Watched}
+use Rattle.swd_console.specs.Statuses.{CommandNotOpened}
 
 -- the bytes of a watched stream are those of the stream itself
 abbrev pub stream_watched : {S : Type 0} → (S → Option (List ℕ)) → Watched S → Option (List ℕ)
@@ -45,3 +48,13 @@ command_status_over error status = if is_command_stream_closed error then 141 el
 -- a command ends with the status that it has by P, or with 141
 abbrev pub CommandEndsOver : Option Error → (ℕ → Type 0) → ℕ → Type 0
 CommandEndsOver error P result = (status : ℕ) × P status × (result ≡ command_status_over error status)
+
+-- The input of a command is in a file. It can't be opened, or it was opened so, and P holds of its text, of what is
+-- left of that, and of what standard output held before and after. `remaining` is the text of a file, if it is known.
+abbrev pub CommandReadsFile : {F : Type 0} → (Opened F → Type 0) → (F → Option (List ℕ)) → Option Error
+    → (ℕ → Option (List ℕ) → Option (List ℕ) → Option (List ℕ) → Option (List ℕ) → Type 0) → ℕ → Option (List ℕ)
+    → Option (List ℕ) → Type 0
+CommandReadsFile {F} Opens remaining error P result old new =
+    CommandNotOpened result old new
+    ⊎ ((opened : Opened F) × Opens opened × (left : Option (List ℕ))
+    × CommandEndsOver error (λ status. P status (remaining opened.file) left old new) result)

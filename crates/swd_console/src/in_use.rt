@@ -1,6 +1,9 @@
 //! Opens the files of a command, each in a role, and refuses a file that is already in use.
-ghost use Rattle.std.specs.Prelude.{◌≡◌, ◌≢◌, IfErr, IfNone, IfOk, IfSome, OnOk, codes, is_some, true};
-ghost use Rattle.swd_console.specs.Roles.{MayReadFile, MayReadName, MayWriteFile};
+ghost use Rattle.std.specs.Prelude.{◌≡◌, ◌≢◌, IfErr, IfNone, IfOk, IfSome, MatchOption, OnErr, OnOk, codes};
+ghost use Rattle.std.specs.Prelude.{is_some, true};
+ghost use Rattle.std.specs.String.{string_bytes};
+ghost use Rattle.swd_console.specs.Roles.{MayReadFile, MayReadName, MayWriteFile, WritesConsoleFile};
+ghost use Rattle.swd_console.specs.Roles.{console_files_read, console_files_written, no_console_files};
 
 use crate::machine::Console;
 use crate::open_files::{Files, Identity, Opened};
@@ -98,7 +101,9 @@ pub fn named_file_of(name: &str) -> Option<&str>
 
 impl InUse {
     /// Only these streams are in use.
-    pub fn new(streams: StreamsInUse) -> InUse {
+    pub fn new(streams: StreamsInUse) -> InUse
+        ensures { result ≡ no_console_files streams }
+    {
         InUse {
             script: None,
             plan: None,
@@ -110,34 +115,44 @@ impl InUse {
         }
     }
 
-    /// Opens a file for reading. At an error it prints a line and returns the status 2: also if the file is in use in
-    /// another role, under any name, or may be, or is a standard stream that is in use. The contract leaves out the
-    /// streams.
+    /// Opens a file for reading, which is in use then. At an error it prints a line and returns the status 2: also if
+    /// the file is in use in another role, under any name, or may be, or is a standard stream that is in use. The
+    /// contract leaves out the streams.
     pub fn open_read<A, F: Files, C, E: Write>(
         &mut self,
         name: &str,
         role: ReadRole,
         console: &mut Console<'_, A, F, C, E>,
     ) -> Result<Opened<F::File>, u8>
+        ensures opens { IfOk result (F.opens console.old.files.now name.now) }
         ensures file { IfOk result (λ opened. MayReadFile role opened.identity self.old) }
+        ensures used { IfOk result (λ opened. self.new ≡ console_files_read role opened.identity self.old) }
+        ensures same { OnErr result (self.new ≡ self.old) }
         ensures name { OnOk result (MayReadName role name.now) }
         ensures status { IfErr result (λ status. status ≡ 2) }
     {
         match self.find_read(name, role, console.files) {
             Ok(opened) => {
-                let file = Some(opened.identity);
-                match role {
-                    ReadRole::Script => self.script = file,
-                    ReadRole::Plan => self.plan = file,
-                    ReadRole::Memory => self.memory = file,
-                    ReadRole::Image => self.image = file,
-                }
+                self.note_read(role, opened.identity);
                 Ok(opened)
             }
             Err(why) => Err(match role {
                 ReadRole::Memory => cannot_open_memory(console.errors, name, &why),
                 _ => cannot_open(console.errors, name, &why),
             }),
+        }
+    }
+
+    // Notes a file that was opened for reading.
+    fn note_read(&mut self, role: ReadRole, identity: Identity)
+        ensures { self.new ≡ console_files_read role identity self.old }
+    {
+        let file = Some(identity);
+        match role {
+            ReadRole::Script => self.script = file,
+            ReadRole::Plan => self.plan = file,
+            ReadRole::Memory => self.memory = file,
+            ReadRole::Image => self.image = file,
         }
     }
 
@@ -148,6 +163,7 @@ impl InUse {
         role: ReadRole,
         files: &F,
     ) -> io::Result<Opened<F::File>>
+        ensures opens { IfOk result (F.opens files.now name.now) }
         ensures file { IfOk result (λ opened. MayReadFile role opened.identity self.now) }
         ensures name { OnOk result (MayReadName role name.now) }
     {
@@ -227,32 +243,43 @@ impl InUse {
         }
     }
 
-    /// Opens a file for writing, or creates it. An existing file is unchanged: `cut_off` truncates it once all files of
-    /// the command are open. At an error it prints a line and returns the status 2: also for `-`, and if the file is in
-    /// use in another role, under any name, or may be, or is a standard stream that is in use. The contract leaves out
-    /// the streams. A memory's file has to be the one that was read, and no other process may have locked it.
+    /// Opens a file for writing, or creates it. It is in use then, if a command opens others after it. An existing file
+    /// is unchanged: `cut_off` truncates it once all files of the command are open. At an error it prints a line and
+    /// returns the status 2: also for `-`, and if the file is in use in another role, under any name, or may be, or is
+    /// a standard stream that is in use. The contract leaves out the streams. A memory's file has to be the one that
+    /// was read, and no other process may have locked it.
     pub fn open_write<A, F: Files, C, E: Write>(
         &mut self,
         name: &str,
         role: WriteRole,
         console: &mut Console<'_, A, F, C, E>,
     ) -> Result<Opened<F::Made>, u8>
+        ensures makes { IfOk result (F.makes console.old.files.now name.now) }
         ensures file { IfOk result (λ opened. MayWriteFile role opened.identity self.old) }
+        ensures used { IfOk result (λ opened. self.new ≡ console_files_written role opened.identity self.old) }
+        ensures same { OnErr result (self.new ≡ self.old) }
         ensures name { OnOk result (name.now ≢ codes "-") }
         ensures status { IfErr result (λ status. status ≡ 2) }
     {
         match self.find_write(name, role, console.files) {
             Ok(opened) => {
-                let file = Some(opened.identity);
-                match role {
-                    WriteRole::Report => self.report = file,
-                    WriteRole::Trace => self.trace = file,
-                    WriteRole::Dump => self.image = file,
-                    WriteRole::Accesses | WriteRole::Calls | WriteRole::Memory => {}
-                }
+                self.note_written(role, opened.identity);
                 Ok(opened)
             }
             Err(why) => Err(cannot_open(console.errors, name, &why)),
+        }
+    }
+
+    // Notes a file that was opened for writing.
+    fn note_written(&mut self, role: WriteRole, identity: Identity)
+        ensures { self.new ≡ console_files_written role identity self.old }
+    {
+        let file = Some(identity);
+        match role {
+            WriteRole::Report => self.report = file,
+            WriteRole::Trace => self.trace = file,
+            WriteRole::Dump => self.image = file,
+            WriteRole::Accesses | WriteRole::Calls | WriteRole::Memory => {}
         }
     }
 
@@ -264,6 +291,10 @@ impl InUse {
         console: &mut Console<'_, A, F, C, E>,
     ) -> Result<Option<Watched<F::Made>>, u8>
         ensures ok { IfOk result (λ opened. is_some opened ≡ is_some name.now) }
+        ensures used { IfOk result (λ opened. MatchOption opened (self.new ≡ self.old) (λ file.
+            IfSome name.now (λ name. WritesConsoleFile (F.makes console.old.files.now (string_bytes name)) role
+            file.stream self.old self.new))) }
+        ensures same { OnErr result (self.new ≡ self.old) }
         ensures named { IfErr result (λ status. is_some name.now ≡ true) }
         ensures status { IfErr result (λ status. status ≡ 2) }
     {
@@ -283,15 +314,13 @@ impl InUse {
         role: WriteRole,
         files: &F,
     ) -> io::Result<Opened<F::Made>>
+        ensures makes { IfOk result (F.makes files.now name.now) }
         ensures file { IfOk result (λ opened. MayWriteFile role opened.identity self.now) }
         ensures name { OnOk result (name.now ≢ codes "-") }
     {
         named_file(name)?;
         let (input, output) = (self.input(files)?, self.output(files)?);
-        let opened = match role {
-            WriteRole::Dump | WriteRole::Memory => files.open_to_replace(name)?,
-            _ => files.open_to_write(name)?,
-        };
+        let opened = open_as(name, role, files)?;
         self.refuse_write(role, opened.identity)?;
         refuse_written_stream(role, opened.identity, input, output)?;
         if let WriteRole::Memory = role {
@@ -326,6 +355,16 @@ impl InUse {
             WriteRole::Calls | WriteRole::Dump | WriteRole::Memory => return Ok(()),
         };
         Err(refusal(why))
+    }
+}
+
+// Opens a file for writing in this role, or creates it.
+fn open_as<F: Files>(name: &str, role: WriteRole, files: &F) -> io::Result<Opened<F::Made>>
+    ensures { IfOk result (F.makes files.now name.now) }
+{
+    match role {
+        WriteRole::Dump | WriteRole::Memory => files.open_to_replace(name),
+        _ => files.open_to_write(name),
     }
 }
 

@@ -20,6 +20,10 @@ impl<F: Files> Files for LineFiles<'_, F> {
 
     type Made = F::Made;
 
+    ghost opens = { λ line name opened. F.opens line.files.now name opened };
+
+    ghost makes = { λ line name opened. F.makes line.files.now name opened };
+
     fn open(&self, name: &str) -> io::Result<Opened<F::File>> {
         self.files.open(name)
     }

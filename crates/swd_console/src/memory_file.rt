@@ -1,9 +1,10 @@
 //! Reads and writes the file of a simulated target's memory, and reads its plan.
-ghost use Rattle.std.specs.Prelude.{◌≡◌, ◌+◌, ◌≤◌, ◌^◌, [], ℕ, IfErr, IfOk, List, None, Option};
+ghost use Rattle.std.specs.Prelude.{◌≡◌, ◌+◌, ◌≤◌, ◌^◌, [], ℕ, IfErr, IfOk, List, None, OnOk, Option};
 ghost use Rattle.swd_io.specs.Pieces.{IsReaderText};
 ghost use Rattle.swd_target.specs.Marks.{IsLegalPlan};
 ghost use Rattle.swd_image_ends.specs.Memories.{AreImageEndWholeWords};
 ghost use Rattle.swd_console.specs.MemoryFiles.{CommandWritesBack};
+ghost use Rattle.swd_console.specs.Roles.{ReadsConsoleMemory, ReadsConsolePlan};
 
 use crate::in_use::{InUse, ReadRole};
 use crate::machine::Console;
@@ -66,6 +67,7 @@ pub fn read_target_files<'a, A: Allocator + Copy, F: Files, C, E: Write>(
     ensures text { IfOk result (λ held. (text : Option (List ℕ)) × IsReaderText text held.bytes.items) }
     ensures legal { IfOk result (λ held. IsLegalPlan held.marks.items) }
     ensures none { IfOk result (λ held. memory.now.plan ≡ None → held.marks.items ≡ []) }
+    ensures used { OnOk result (ReadsConsoleMemory memory.now.plan in_use.old in_use.new) }
     ensures status { IfErr result (λ status. status ≡ 2) }
 {
     let name = memory.file.as_str();
@@ -126,6 +128,7 @@ fn read_marks<A: Allocator + Copy, F: Files, C, E: Write>(
 ) -> Result<Vec<Mark, A>, u8>
     ensures legal { IfOk result (λ marks. IsLegalPlan marks.items) }
     ensures none { IfOk result (λ marks. memory.now.plan ≡ None → marks.items ≡ []) }
+    ensures used { OnOk result (ReadsConsolePlan memory.now.plan in_use.old in_use.new) }
     ensures status { IfErr result (λ status. status ≡ 2) }
 {
     let Some(name) = &memory.plan else {

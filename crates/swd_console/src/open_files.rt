@@ -1,5 +1,6 @@
 //! Opens files by name, and identifies them.
-ghost use Rattle.std.specs.Prelude.{◌≡◌};
+ghost use Rattle.std.specs.Prelude.{◌≡◌, ℕ, IfOk, List};
+ghost use Rattle.swd_console.specs.declared.open_files.Opened.{Opened};
 
 use std::io;
 use std::io::{Read, Write};
@@ -26,11 +27,20 @@ pub trait Files {
 
     type Made: Write + Drop;
 
+    // This file was opened for reading under this name. What that means is up to the file system: a contract that is
+    // proved for each holds only if the file was opened.
+    ghost opens: { Self → List ℕ → Opened Self.File → Type 0 } = { λ _ _ _. Unit {0} };
+
+    // The same for writing.
+    ghost makes: { Self → List ℕ → Opened Self.Made → Type 0 } = { λ _ _ _. Unit {0} };
+
     /// Opens a file for reading.
-    fn open(&self, name: &str) -> io::Result<Opened<Self::File>>;
+    fn open(&self, name: &str) -> io::Result<Opened<Self::File>>
+        ensures { IfOk result (opens self.now name.now) };
 
     /// Opens a file for writing, or creates an empty one. An existing file isn't truncated.
-    fn open_to_write(&self, name: &str) -> io::Result<Opened<Self::Made>>;
+    fn open_to_write(&self, name: &str) -> io::Result<Opened<Self::Made>>
+        ensures { IfOk result (makes self.now name.now) };
 
     /// Opens a file that leads from a target, to be read. It is opened for writing too: so opening a fifo waits for no
     /// other end, and reading it comes to no end.
@@ -45,7 +55,8 @@ pub trait Files {
 
     /// Opens a file whose contents are to be replaced as a whole, or creates an empty one. Fails where its folder lets
     /// no file be created beside it.
-    fn open_to_replace(&self, name: &str) -> io::Result<Opened<Self::Made>>;
+    fn open_to_replace(&self, name: &str) -> io::Result<Opened<Self::Made>>
+        ensures { IfOk result (makes self.now name.now) };
 
     /// Locks a file that `open_to_replace` opened, until it is dropped. Fails if another process has locked it, and if
     /// the name is another file's by now.

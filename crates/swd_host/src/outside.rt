@@ -9,7 +9,7 @@ ghost use Rattle.swd_host.specs.Sent.{HostReportsCalls};
 use crate::outcome::{Refused, Report};
 use crate::running::run;
 use std::alloc::Allocator;
-use swd_port::{Access, Story, Transport, TransportWire};
+use swd_port::{Access, Story, Tie, Transport, TransportWire};
 
 /// Performs the accesses in order, over a wire of which no call was made yet.
 ///
@@ -21,9 +21,9 @@ use swd_port::{Access, Story, Transport, TransportWire};
 /// # Errors
 ///
 /// Returns `TooMany`, `Unaligned` and `Memory` as [`run`] does. No call is made in these cases.
-pub fn run_over_transport<T: Transport, S: Story, A: Allocator>(
+pub fn run_over_transport<T: Transport, S: Story, K: Tie, A: Allocator>(
     alloc: A,
-    wire: &mut TransportWire<T, S>,
+    wire: &mut TransportWire<T, S, K>,
     accesses: &[Access],
     tries: u32,
 ) -> Result<Report<A>, Refused>

@@ -4,7 +4,7 @@ ghost use Rattle.std.specs.Prelude.{◌≡◌, ◌+◌, ◌/◌, ◌%◌, ◌<�
 ghost use Rattle.std.specs.FinMap.{get, insert};
 ghost use Rattle.swd_host.specs.Reports.{IsAtRest};
 ghost use Rattle.swd_image.specs.Bytes.{image_byte_at, image_bytes_at};
-ghost use Rattle.swd_target.specs.Benches.{bench_plan, bench_port};
+ghost use Rattle.swd_target.specs.Benches.{bench_plan, bench_port, bench_simulation};
 ghost use Rattle.swd_target.specs.Marks.{IsLegalPlan};
 ghost use Rattle.swd_target.specs.MemoryWords.{target_words_from};
 ghost use Rattle.swd_image_ends.specs.Memories.{ImageEndHasRoom, image_end_words_in};
@@ -60,8 +60,8 @@ pub fn memory_with<A: Allocator + Copy>(
 }
 
 /// Creates the simulated target of `swd run` under a plan. Its memory has the words of `bytes`, from address `base` on,
-/// the least significant byte first, and no other word. Its log has room for `spare` transfers. Returns `None` if out
-/// of memory.
+/// the least significant byte first, and no other word. Its log has room for `spare` transfers, as that of
+/// [`memory_with`]. Returns `None` if out of memory.
 pub fn simulated_target<A: Allocator + Copy>(
     alloc: A,
     base: u32,
@@ -75,6 +75,9 @@ pub fn simulated_target<A: Allocator + Copy>(
     requires plan { IsLegalPlan plan.items }
     ensures words { IfSome result (λ bench. (plain_of (bench_port bus_of bench).target.memory).words
         ≡ target_words_from base (image_end_words_in bytes.now)) }
+    ensures room { IfSome result (λ bench. ImageEndHasRoom (length bytes.now / 4) spare
+        (plain_of (bench_port bus_of bench).target.memory)) }
+    ensures quirks { IfSome result (λ bench. (bench_simulation bus_of bench).quirks ≡ QUIRKS) }
     ensures rests { IfSome result (λ bench. IsAtRest (bench_port bus_of bench)) }
     ensures plan { IfSome result (λ bench. bench_plan bench ≡ plan.items) }
 {

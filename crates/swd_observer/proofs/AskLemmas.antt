@@ -11,7 +11,7 @@ use Rattle.swd_port.specs.declared.state.Reply.{Reply}
 use Rattle.swd_port.specs.declared.state.Reply.TheVariants.{Okay, Waits, Faults, Silent}
 use Rattle.swd_port.specs.declared.mark.Mark.{Mark}
 use Rattle.swd_port.specs.declared.mark.Mark.TheVariants.{Clean, Wait, Flip, Deaf, Mute}
-use Rattle.swd_port.specs.Port.{Port, Target, port_register, port_dp_register, port_ap_register, mem_ap_register}
+use Rattle.swd_port.specs.Port.{Port, Target, port_register, port_dp_register, port_register_where, mem_ap_register}
 use Rattle.swd_port.specs.Port.{port_other_ap_register, port_selects_mem_ap}
 use Rattle.swd_port.specs.Choices.{Choice, port_flip_of}
 use Rattle.swd_port.specs.Answers.{is_exempt_register, port_may_wait, port_reply_under, PortSees, is_port_unpowered}
@@ -136,7 +136,7 @@ plain_ap false false addr = refl
 plain_by : (ap other : Bool) (s : Select) (read : Bool) (addr : Reg4)
     → (if ap then Confirms else observed_class_dp other read addr) ≡ Confirms
     → (other ≡ true → (s.dpbanksel == 0) ≡ false)
-    → is_exempt_register (if ap then port_ap_register s read addr else port_dp_register read addr (s.dpbanksel == 0))
+    → is_exempt_register (port_register_where (port_selects_mem_ap s) (s.dpbanksel == 0) ap read addr)
     ≡ false
 plain_by true other s read addr e f = plain_ap (port_selects_mem_ap s) read addr
 plain_by false other s read addr e f = plain_dp other read addr (s.dpbanksel == 0) e f
@@ -229,15 +229,17 @@ fits_some false true read addr = harmless_no read
 fits_some false false read addr = harmless_no read
 
 fits_ap : (known : Option Select) (s : Select) (read : Bool) (addr : Reg4) → IfSome known (λ v. s ≡ v)
-    → ObservedKindFits (observed_kind_ap known read addr) (port_ap_register s read addr)
+    → ObservedKindFits (observed_kind_ap known read addr)
+    (if port_selects_mem_ap s then mem_ap_register read addr else port_other_ap_register read)
 fits_ap None s read addr h = fits_none (port_selects_mem_ap s) read addr
 fits_ap (Some v) s read addr h =
-    subst (λ z. ObservedKindFits (observed_kind_ap (Some v) read addr) (port_ap_register z read addr)) (sym h)
+    subst (λ z. ObservedKindFits (observed_kind_ap (Some v) read addr)
+    (if port_selects_mem_ap z then mem_ap_register read addr else port_other_ap_register read)) (sym h)
     (fits_some (port_selects_mem_ap v) (is_observed_data_register v addr) read addr)
 
 fits_by : (ap : Bool) (known : Option Select) (s : Select) (read : Bool) (addr : Reg4) → IfSome known (λ v. s ≡ v)
     → ObservedKindFits (if ap then observed_kind_ap known read addr else observed_kind_dp read addr)
-    (if ap then port_ap_register s read addr else port_dp_register read addr (s.dpbanksel == 0))
+    (port_register_where (port_selects_mem_ap s) (s.dpbanksel == 0) ap read addr)
 fits_by true known s read addr h = fits_ap known s read addr h
 fits_by false known s read addr h = fits_dp read addr (s.dpbanksel == 0)
 
@@ -258,7 +260,7 @@ posted_mem false addr chosen x = refl
 
 posted_by : (ap : Bool) (s : Select) (read : Bool) (addr : Reg4) (chosen : Choice) (x : Target)
     → (read && (ap || is_observed_rc addr)) ≡ true
-    → port_value_in chosen (if ap then port_ap_register s read addr else port_dp_register read addr (s.dpbanksel == 0))
+    → port_value_in chosen (port_register_where (port_selects_mem_ap s) (s.dpbanksel == 0) ap read addr)
     x ≡ unwrap_or x.buffer chosen.filler
 posted_by true s true addr chosen x e = posted_mem (port_selects_mem_ap s) addr chosen x
 posted_by true s false addr chosen x e = absurd (cc)
@@ -356,7 +358,7 @@ ap_drw_write b false RC e = cc
 
 drw_by : (ap : Bool) (s : Select) (read : Bool) (addr : Reg4) (r : Register)
     → (r ≡ DrwRead) ⊎ (r ≡ DrwWrite)
-    → (if ap then port_ap_register s read addr else port_dp_register read addr (s.dpbanksel == 0)) ≡ r → ap ≡ true
+    → port_register_where (port_selects_mem_ap s) (s.dpbanksel == 0) ap read addr ≡ r → ap ≡ true
 drw_by true s read addr r h e = refl
 drw_by false s read addr r (inl h) e = absurd (ap_drw_read (s.dpbanksel == 0) read addr (e ∙ h))
 drw_by false s read addr r (inr h) e = absurd (ap_drw_write (s.dpbanksel == 0) read addr (e ∙ h))

@@ -11,7 +11,8 @@ use Rattle.swd_port.specs.declared.mark.Mark.{Mark}
 use Rattle.swd_port.specs.declared.register.Register.TheVariants.{DpidrRead, AbortWrite}
 use Rattle.swd_port.specs.declared.state.AfterAck.TheVariants.{Awaits}
 use Rattle.swd_port.specs.Phases.{port_flipped}
-use Rattle.swd_port.specs.Port.{Port, Target, port_register, port_dp_register, port_ap_register}
+use Rattle.swd_port.specs.Port.{Port, Target, port_register, port_dp_register, port_register_where}
+use Rattle.swd_port.specs.Port.{port_selects_mem_ap}
 use Rattle.swd_port.specs.Choices.{Choice}
 use Rattle.swd_port.specs.Completion.{PortCompletes}
 use Rattle.swd_port.specs.Asking.{PortAsks, PortAsksNow, port_after_okay}
@@ -52,7 +53,7 @@ abort_dp other false RC b e = absurd (cc)
 
 abort_by : (ap other : Bool) (s : Select) (read : Bool) (addr : Reg4)
     → (if ap then Confirms else observed_class_dp other read addr) ≡ Aborts
-    → ((if ap then port_ap_register s read addr else port_dp_register read addr (s.dpbanksel == 0)) ≡ AbortWrite)
+    → (port_register_where (port_selects_mem_ap s) (s.dpbanksel == 0) ap read addr ≡ AbortWrite)
     × (read ≡ false)
 abort_by true other s read addr e = absurd (cc)
 abort_by false other s read addr e = abort_dp other read addr (s.dpbanksel == 0) e
@@ -75,7 +76,7 @@ dpidr_dp other false RC b e = absurd (cc)
 
 dpidr_by : (ap other : Bool) (s : Select) (read : Bool) (addr : Reg4)
     → (if ap then Confirms else observed_class_dp other read addr) ≡ Passes
-    → ((if ap then port_ap_register s read addr else port_dp_register read addr (s.dpbanksel == 0)) ≡ DpidrRead)
+    → (port_register_where (port_selects_mem_ap s) (s.dpbanksel == 0) ap read addr ≡ DpidrRead)
     × (read ≡ true)
 dpidr_by true other s read addr e = absurd (cc)
 dpidr_by false other s read addr e = dpidr_dp other read addr (s.dpbanksel == 0) e

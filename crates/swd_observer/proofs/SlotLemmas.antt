@@ -13,7 +13,7 @@ use Rattle.swd_port.specs.declared.register.Register.TheVariants.{DrwRead, Resen
 use Rattle.swd_port.specs.declared.select.Select.{Select}
 use Rattle.swd_port.specs.declared.state.AfterAck.TheVariants.{Drives}
 use Rattle.swd_port.specs.Phases.{port_flipped}
-use Rattle.swd_port.specs.Port.{Port, Target, port_register, port_dp_register, port_ap_register, mem_ap_register}
+use Rattle.swd_port.specs.Port.{Port, Target, port_register, port_register_where, mem_ap_register}
 use Rattle.swd_port.specs.Choices.{Choice}
 use Rattle.swd_port.specs.Port.{port_other_ap_register, port_selects_mem_ap}
 use Rattle.swd_port.specs.Answers.{is_exempt_register, is_port_unpowered}
@@ -68,7 +68,7 @@ posted_mem true RC = refl
 posted_mem false addr = refl
 
 posted_by : (ap : Bool) (s : Select) (read : Bool) (addr : Reg4) → (read && (ap || is_observed_rc addr)) ≡ true
-    → (is_port_posted (if ap then port_ap_register s read addr else port_dp_register read addr (s.dpbanksel == 0))
+    → (is_port_posted (port_register_where (port_selects_mem_ap s) (s.dpbanksel == 0) ap read addr)
     ≡ true)
     × (read ≡ true)
 posted_by true s true addr e = (posted_mem (port_selects_mem_ap s) addr, refl)
@@ -84,7 +84,7 @@ posted_is : (s : Select) (q : Request) → is_observed_posted_read q ≡ true
 posted_is s q e = posted_by q.ap s q.read q.addr e
 
 resend_by : (ap : Bool) (s : Select) (read : Bool) (addr : Reg4) → (no ap && (read && is_observed_r8 addr)) ≡ true
-    → ((if ap then port_ap_register s read addr else port_dp_register read addr (s.dpbanksel == 0)) ≡ ResendRead)
+    → (port_register_where (port_selects_mem_ap s) (s.dpbanksel == 0) ap read addr ≡ ResendRead)
     × (read ≡ true)
 resend_by true s read addr e = absurd (cc)
 resend_by false s false addr e = absurd (cc)

@@ -13,7 +13,8 @@ use Rattle.swd_port.specs.declared.register.Register.TheVariants.{CtrlStatRead, 
 use Rattle.swd_port.specs.declared.state.AfterAck.TheVariants.{Drives}
 use Rattle.swd_port.specs.Phases.{port_flipped}
 use Rattle.swd_port.specs.Registers.{register_bit}
-use Rattle.swd_port.specs.Port.{Port, Target, port_register, port_dp_register, port_ap_register}
+use Rattle.swd_port.specs.Port.{Port, Target, port_register, port_dp_register, port_register_where}
+use Rattle.swd_port.specs.Port.{port_selects_mem_ap}
 use Rattle.swd_port.specs.Choices.{Choice}
 use Rattle.swd_port.specs.Completion.{PortCompletes}
 use Rattle.swd_port.specs.Asking.{PortAsks, PortAsksNow, port_after_okay, port_value_in, ctrl_stat_word_in}
@@ -252,7 +253,7 @@ status_dp other false RC b e = absurd (cc)
 
 status_by : (ap other : Bool) (s : Select) (read : Bool) (addr : Reg4)
     → (if ap then Confirms else observed_class_dp other read addr) ≡ Status
-    → ((if ap then port_ap_register s read addr else port_dp_register read addr (s.dpbanksel == 0))
+    → (port_register_where (port_selects_mem_ap s) (s.dpbanksel == 0) ap read addr
     ≡ (if s.dpbanksel == 0 then CtrlStatRead else DpOtherRead)) × (read ≡ true)
 status_by true other s read addr e = absurd (cc)
 status_by false other s read addr e = status_dp other read addr (s.dpbanksel == 0) e

@@ -55,13 +55,16 @@ port_other_ap_register false = ApOtherWrite
 abbrev pub port_selects_mem_ap : Select → Bool
 port_selects_mem_ap s = (s.apsel == 0) && (s.apbanksel == 0)
 
--- the access port's registers under a SELECT
-abbrev pub port_ap_register : Select → Bool → Reg4 → Register
-port_ap_register s read addr = if port_selects_mem_ap s then mem_ap_register read addr else port_other_ap_register read
+-- the register at an address of an access port or of the debug port, by direction, where SELECT names AP 0 and AP
+-- bank 0 or doesn't, and DPBANKSEL is 0 or isn't
+abbrev pub port_register_where : Bool → Bool → Bool → Bool → Reg4 → Register
+port_register_where mem_ap bank0 ap read addr =
+    if ap then (if mem_ap then mem_ap_register read addr else port_other_ap_register read)
+    else port_dp_register read addr bank0
 
 -- the register that a request names
 abbrev pub port_register : Select → Request → Register
-port_register s q = if q.ap then port_ap_register s q.read q.addr else port_dp_register q.read q.addr (s.dpbanksel == 0)
+port_register s q = port_register_where (port_selects_mem_ap s) (s.dpbanksel == 0) q.ap q.read q.addr
 
 -- the request for each register, under a SELECT that reaches it
 abbrev pub port_request_for : Register → Request

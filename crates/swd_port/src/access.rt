@@ -1,5 +1,5 @@
 //! Accesses of a bus, their answers, and the transfers in its log.
-ghost use Rattle.std.specs.Prelude.{◌≡◌, ◌+◌, ◌*◌, ◌≤◌, ◌^◌, ◌++◌, OnOk};
+ghost use Rattle.std.specs.Prelude.{◌≡◌, ◌+◌, ◌*◌, ◌≤◌, ◌<◌, ◌^◌, ◌++◌, OnErr, OnOk, ℕ};
 ghost use Rattle.swd_port.specs.PlainMemory.{plain_reads};
 
 use std::alloc::{AllocError, Allocator};
@@ -64,14 +64,16 @@ impl fmt::Display for Answer {
 ///
 /// # Errors
 ///
-/// Returns `AllocError` if out of memory. Some of the reads may have been appended then.
+/// Returns `AllocError` if out of memory. The first of the reads were appended then, or none.
 pub fn push_reads<A: Allocator>(
     list: &mut Vec<Access, A>,
     addr: u32,
     count: u32,
 ) -> Result<(), AllocError>
     requires { addr + 4 * count ≤ 2 ^ 32 }
-    ensures { OnOk result (list.new.items ≡ list.old.items ++ plain_reads addr count) }
+    ensures whole { OnOk result (list.new.items ≡ list.old.items ++ plain_reads addr count) }
+    ensures part { OnErr result ((done : ℕ) × (done < count)
+        × (list.new.items ≡ list.old.items ++ plain_reads addr done)) }
 {
     for index in 0..count {
         list.push(Access::Read(addr + 4 * index))?;

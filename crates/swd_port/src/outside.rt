@@ -216,11 +216,12 @@ fn fetch<T: Transport>(transport: &mut T, request: Request, fetched: u64) -> Met
 }
 
 impl<T: Transport, S: Story> TransportWire<T, S> {
-    ghost use Rattle.swd_port.specs.Outside.{wire_calls};
+    ghost use Rattle.swd_port.specs.Outside.{is_wire_gone, wire_calls};
 
     /// Creates a wire without calls.
     pub fn new(transport: T) -> TransportWire<T, S>
-        ensures { wire_calls result ≡ [] }
+        ensures calls { wire_calls result ≡ [] }
+        ensures works { is_wire_gone result ≡ false }
     {
         TransportWire {
             transport,
@@ -235,13 +236,14 @@ impl<T: Transport, S: Story> TransportWire<T, S> {
 }
 
 impl<T: Transport, S: Story> TransportWire<T, S, Tied> {
-    ghost use Rattle.swd_port.specs.Outside.{wire_calls};
+    ghost use Rattle.swd_port.specs.Outside.{is_wire_gone, wire_calls};
 
     /// Creates a wire without calls, over a transport of which no call was made either. What the transport states of
     /// its calls then holds for those that the wire makes of it.
     pub fn begun(transport: T) -> TransportWire<T, S, Tied>
         requires { T.tells [] transport }
-        ensures { wire_calls result ≡ [] }
+        ensures calls { wire_calls result ≡ [] }
+        ensures works { is_wire_gone result ≡ false }
     {
         let noted = NotedCalls::new();
         TransportWire {

@@ -1,8 +1,13 @@
 //! The registers that a request can name.
 ghost use Rattle.std.specs.Prelude.{◌≡◌, true};
-ghost use Rattle.swd_port.specs.Port.{port_register, port_request_for, is_port_register_reached};
-ghost use Rattle.swd_port.specs.declared.select.Select.{Select};
+ghost use Rattle.swd_port.specs.Port.{port_register, port_register_where, port_dp_register, mem_ap_register};
+ghost use Rattle.swd_port.specs.Port.{port_request_for, is_port_register_reached};
+ghost use Rattle.swd_port.specs.Answers.{is_exempt_register};
+ghost use Rattle.swd_port.specs.Asking.{is_access_port_register, is_port_posted};
+ghost use Rattle.swd_port.specs.Moving.{is_ap_write_register};
+ghost use Rattle.swd_port.specs.declared.select.Select.{Select as SelectType};
 
+use crate::select::Select;
 use swd_bits::{Reg4, Request};
 
 /// The register that a request names under a SELECT, with a direction. The debug port's registers are at addresses 0 to
@@ -48,11 +53,81 @@ pub enum Register {
 }
 
 impl Register {
+    /// Returns the register that a request names under a SELECT.
+    #[inline(always)]
+    pub fn named(select: Select, request: Request) -> Register
+        ensures { result ≡ port_register select request }
+    {
+        let mem_ap = select.apsel == 0 && select.apbanksel == 0;
+        Register::named_where(mem_ap, select.dpbanksel == 0, request)
+    }
+
+    /// Returns the register that a request names, where SELECT names bank 0 of access port 0 (`mem_ap`) or doesn't, and
+    /// DPBANKSEL is 0 (`bank0`) or isn't.
+    #[inline(always)]
+    pub fn named_where(mem_ap: bool, bank0: bool, request: Request) -> Register
+        ensures { result ≡ port_register_where mem_ap bank0 request.ap request.read request.addr }
+    {
+        if !request.ap {
+            Register::of_debug_port(bank0, request)
+        } else if mem_ap {
+            Register::of_mem_ap(request)
+        } else if request.read {
+            Register::ApOtherRead
+        } else {
+            Register::ApOtherWrite
+        }
+    }
+
+    // Returns the debug port's register. DPBANKSEL decides the one at address 4 alone.
+    fn of_debug_port(bank0: bool, request: Request) -> Register
+        ensures { result ≡ port_dp_register request.read request.addr bank0 }
+    {
+        match (request.read, request.addr) {
+            (true, Reg4::R0) => Register::DpidrRead,
+            (false, Reg4::R0) => Register::AbortWrite,
+            (true, Reg4::R4) => {
+                if bank0 {
+                    Register::CtrlStatRead
+                } else {
+                    Register::DpOtherRead
+                }
+            }
+            (false, Reg4::R4) => {
+                if bank0 {
+                    Register::CtrlStatWrite
+                } else {
+                    Register::DpIgnoredWrite
+                }
+            }
+            (true, Reg4::R8) => Register::ResendRead,
+            (false, Reg4::R8) => Register::SelectWrite,
+            (true, Reg4::RC) => Register::RdbuffRead,
+            (false, Reg4::RC) => Register::DpIgnoredWrite,
+        }
+    }
+
+    // Returns the register in bank 0 of access port 0.
+    fn of_mem_ap(request: Request) -> Register
+        ensures { result ≡ mem_ap_register request.read request.addr }
+    {
+        match (request.read, request.addr) {
+            (true, Reg4::R0) => Register::CswRead,
+            (false, Reg4::R0) => Register::CswWrite,
+            (true, Reg4::R4) => Register::TarRead,
+            (false, Reg4::R4) => Register::TarWrite,
+            (true, Reg4::R8) => Register::ApOtherRead,
+            (false, Reg4::R8) => Register::ApOtherWrite,
+            (true, Reg4::RC) => Register::DrwRead,
+            (false, Reg4::RC) => Register::DrwWrite,
+        }
+    }
+
     /// Returns the request that names this register, under a SELECT that reaches it. SELECT 0 reaches all but
     /// `DpOtherRead`, which has no address in bank 0 of the debug port.
     pub fn request(self) -> Request
         ensures exact { result ≡ port_request_for self }
-        ensures named { (select : Select) → is_port_register_reached select self ≡ true
+        ensures named { (select : SelectType) → is_port_register_reached select self ≡ true
             → port_register select result ≡ self }
     {
         let (ap, read, addr) = match self {
@@ -74,5 +149,58 @@ impl Register {
             Register::DrwWrite => (true, false, Reg4::RC),
         };
         Request { ap, read, addr }
+    }
+
+    /// Returns whether a request for this register is never answered WAIT or FAULT: a read of DPIDR or CTRL/STAT, or a
+    /// write of ABORT.
+    pub fn is_exempt(self) -> bool
+        ensures { result ≡ is_exempt_register self }
+    {
+        matches!(
+            &self,
+            Register::DpidrRead | Register::CtrlStatRead | Register::AbortWrite
+        )
+    }
+
+    /// Returns whether it is a read that returns the read buffer, of which READOK tells: of an access port, or RDBUFF.
+    pub fn is_posted(self) -> bool
+        ensures { result ≡ is_port_posted self }
+    {
+        matches!(
+            &self,
+            Register::RdbuffRead
+                | Register::CswRead
+                | Register::TarRead
+                | Register::DrwRead
+                | Register::ApOtherRead
+        )
+    }
+
+    /// Returns whether it is a register of an access port.
+    pub fn is_access_port(self) -> bool
+        ensures { result ≡ is_access_port_register self }
+    {
+        matches!(
+            &self,
+            Register::CswRead
+                | Register::CswWrite
+                | Register::TarRead
+                | Register::TarWrite
+                | Register::DrwRead
+                | Register::DrwWrite
+                | Register::ApOtherRead
+                | Register::ApOtherWrite
+        )
+    }
+
+    /// Returns whether it is a write of an access port, which leaves the read buffer and the value that RESEND returns
+    /// unknown.
+    pub fn is_access_port_write(self) -> bool
+        ensures { result ≡ is_ap_write_register self }
+    {
+        matches!(
+            &self,
+            Register::CswWrite | Register::TarWrite | Register::DrwWrite | Register::ApOtherWrite
+        )
     }
 }

@@ -294,9 +294,9 @@ fn run_recorded<
 ///
 /// Returns `Write` too if the trace's writer failed: the reports are complete, exactly the first `written` bytes of
 /// the trace were written, and nothing of the accesses. Returns `WriteAccesses` if the accesses' writer failed: the
-/// reports and the trace are complete, and exactly the first `written` bytes of the accesses were written. Returns
-/// `TraceCut` if the items are truncated, as when an allocation for an item failed: the reports are complete, and the
-/// other files have these items. Nothing is retried.
+/// reports are complete, the trace has all items, which may be truncated, and exactly the first `written` bytes of the
+/// accesses were written. Returns `TraceCut` if the items are truncated, as when an allocation for an item failed: the
+/// reports are complete, and the other files have these items. Nothing is retried.
 pub fn run_batches<
     W: Wire,
     O: Write,

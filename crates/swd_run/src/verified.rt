@@ -1,7 +1,7 @@
 //! Compares read words with those that a script expects, and finds bus errors.
 ghost use Rattle.std.specs.Prelude.{◌≡◌, ◌||◌};
 ghost use Rattle.swd_run.specs.Verified.{verify_difference_in, verify_read_differs, verify_read_differs_in};
-ghost use Rattle.swd_run.specs.Verified.{report_has_bus_fault, report_is_bus_fault, verify_or_else};
+ghost use Rattle.swd_run.specs.Verified.{report_has_bus_fault, verify_or_else};
 
 use swd_port::Answer;
 use swd_script::Expected;
@@ -71,18 +71,12 @@ pub(crate) fn or_difference_in(
     }
 }
 
-fn is_bus_fault(answer: Answer) -> bool
-    ensures { result ≡ report_is_bus_fault answer }
-{
-    matches!(answer, Answer::BusFault)
-}
-
 // Returns whether one of these answers is a bus error.
 fn has_bus_fault(answers: &[Answer]) -> bool
     ensures { result ≡ report_has_bus_fault answers.now }
 {
     for answer in answers {
-        if is_bus_fault(*answer) {
+        if let Answer::BusFault = answer {
             return true;
         }
     }

@@ -1,5 +1,6 @@
 -- The status of a run at a remote target.
-use Rattle.std.specs.Prelude.{◌≡◌, ◌⊎◌, ◌&&◌, ◌||◌, ℕ, Bool, false, List, Option, Some, Result, Ok, is_some}
+use Rattle.std.specs.Prelude.{◌≡◌, ◌⊎◌, ◌||◌, ℕ, Bool, false, List, Option, Some, Result, Ok, is_some}
+use Rattle.swd_io.specs.Pieces.{IsReaderText}
 use Rattle.swd_port.specs.Port.{Port}
 use Rattle.swd_remote.specs.declared.kept.RemoteStreams.{RemoteStreams}
 use Rattle.swd_remote.specs.declared.remote.Fault.{Fault}
@@ -7,19 +8,20 @@ use Rattle.swd_remote.specs.WholeRuns.{IsUnusedRemote}
 use Rattle.swd_text.specs.declared.fault.TextFault.{TextFault}
 use Rattle.swd_capture_text.specs.Captures.{accesses_text}
 use Rattle.swd_check.specs.declared.checked.Checked.{Checked}
+use Rattle.swd_script.specs.Scripts.{ScriptListed, ScriptMeaning, script_of}
 use Rattle.swd_run.specs.declared.engine.Finished.{Finished}
+use Rattle.swd_run.specs.declared.fault.EngineFault.{EngineFault}
 use Rattle.swd_run.specs.Records.{RunFiles}
-use Rattle.swd_ends.specs.declared.remote.RemoteFault.{RemoteFault}
-use Rattle.swd_ends.specs.RemoteRuns.{RunsRemote}
+use Rattle.swd_ends.specs.RemoteRuns.{RanRemoteEndScript}
 use Rattle.swd_command_line.specs.declared.command.RunLine.{RunLine}
 use Rattle.swd_console.specs.Connections.{CommandWentOver}
 use Rattle.swd_console.specs.Statuses.{command_status_of_run}
 use Rattle.swd_console.specs.Verdicts.{command_status_checked}
 use Rattle.swd_run_commands.specs.Runs.{run_command_limits}
-use Rattle.swd_run_commands.specs.Verdicts.{IsRunVerdict, is_remote_run_made}
+use Rattle.swd_run_commands.specs.Verdicts.{IsRunVerdict}
 
 -- the status is 1 if the run has a report but the other end is gone, and otherwise that of the run
-abbrev pub remote_command_status : Bool → Option Fault → Result Finished RemoteFault → ℕ
+abbrev pub remote_command_status : Bool → Option Fault → Result Finished EngineFault → ℕ
 remote_command_status strict (Some fault) (Ok finished) = 1
 remote_command_status strict _ answer = command_status_of_run strict answer
 
@@ -31,25 +33,31 @@ pub record AreRemoteCommandFiles (run : RunLine) (files : RunFiles) : Type 0 whe
   pub shown : files.shown ≡ accesses_text false
 
 -- the run's status, or 1 in place of 0 if the session is checked and its verdict is that a rule is broken
-abbrev pub RemoteCommandEndsAs : RunLine → Option Fault → Result Finished RemoteFault → ℕ → Type 0
+abbrev pub RemoteCommandEndsAs : RunLine → Option Fault → Result Finished EngineFault → ℕ → Type 0
 RemoteCommandEndsAs run gone answer status =
-    (verdict : Option (Result Checked TextFault)) × IsRunVerdict (run.check && is_remote_run_made answer) verdict
+    (verdict : Option (Result Checked TextFault)) × IsRunVerdict run.check verdict
     × (status ≡ command_status_checked verdict (remote_command_status run.strict gone answer))
 
--- The script is run over a line. Its report is written to a file or to standard error, and its trace and accesses to
--- the files that are named for them. Nothing else is known of these files. Only tests show that the line is over the
--- standard streams.
+-- A script that was read is run over a line. Its report is written to a file or to standard error, and its trace and
+-- accesses to the files that are named for them. Nothing else is known of these files. Only tests show that the line is
+-- over the standard streams.
+abbrev pub RunsRemoteScript : {R W : Type 0} → (ℕ → Port) → RunLine → ℕ → (R → Option (List ℕ)) → (W → Option (List ℕ))
+    → Option (List ℕ) → Option (List ℕ) → RemoteStreams R W → List ScriptListed → Type 0
+RunsRemoteScript story run status remaining contents sent left line batches =
+    (answer : Result Finished EngineFault) × (before : Option (List ℕ)) × (after : Option (List ℕ))
+    × (unwritten : RunFiles) × (written : RunFiles) × AreRemoteCommandFiles run unwritten
+    × RanRemoteEndScript story (run_command_limits run) (CommandWentOver remaining contents sent left line)
+    batches answer before after unwritten written
+    × RemoteCommandEndsAs run line.fault answer status
+
+-- the reader's script was read, and run so
 abbrev pub PerformsRemoteRun : {R W : Type 0} → (ℕ → Port) → RunLine → ℕ → (R → Option (List ℕ)) → (W → Option (List ℕ))
     → Option (List ℕ) → Option (List ℕ) → RemoteStreams R W → Option (List ℕ) → Type 0
 PerformsRemoteRun story run status remaining contents sent left line script =
-    (answer : Result Finished RemoteFault) × (before : Option (List ℕ)) × (after : Option (List ℕ))
-    × (unwritten : RunFiles) × (written : RunFiles) × AreRemoteCommandFiles run unwritten
-    × RunsRemote story (run_command_limits run) (CommandWentOver remaining contents sent left line)
-    (IsUnusedRemote remaining contents sent left line)
-    answer script before after unwritten written
-    × RemoteCommandEndsAs run line.fault answer status
+    (text : List ℕ) × IsReaderText script text × (meaning : ScriptMeaning) × (script_of text ≡ Ok meaning)
+    × RunsRemoteScript story run status remaining contents sent left line meaning.batches
 
--- or a file can't be opened: the status is 2, and nothing was sent or read
+-- or the script wasn't read, or a file can't be opened: the status is 2, and nothing was sent or read
 abbrev pub PerformsRemoteCommand : {R W : Type 0} → (ℕ → Port) → RunLine → ℕ → (R → Option (List ℕ))
     → (W → Option (List ℕ)) → Option (List ℕ) → Option (List ℕ) → RemoteStreams R W → Option (List ℕ) → Type 0
 PerformsRemoteCommand story run status remaining contents sent left line script =

@@ -1,11 +1,14 @@
 -- What `swd run` does at a simulated target, and the status that it ends with.
 use Rattle.std.specs.Prelude.{◌≡◌, ◌⊎◌, ◌||◌, ℕ, Bool, false, true, List, [], Option, None, Some, Result, is_some}
 use Rattle.swd_capture_text.specs.Captures.{accesses_text}
+use Rattle.swd_port.specs.declared.mark.Mark.{Mark}
+use Rattle.swd_script.specs.Scripts.{ScriptMeaning}
 use Rattle.swd_run.specs.declared.engine.Finished.{Finished}
+use Rattle.swd_run.specs.declared.fault.EngineFault.{EngineFault}
 use Rattle.swd_run.specs.declared.fault.RunFault.{RunFault}
 use Rattle.swd_run.specs.declared.limits.Limits.{Limits}
 use Rattle.swd_run.specs.Records.{RunFiles}
-use Rattle.swd_run.specs.Running.{RunsText}
+use Rattle.swd_run.specs.Running.{RunsText, ScriptRunAnswers}
 use Rattle.swd_command_line.specs.declared.command.RunLine.{RunLine}
 use Rattle.swd_console.specs.Statuses.{CommandNotOpened, command_status_of_run}
 
@@ -23,6 +26,15 @@ pub record AreRunCommandFiles (run : RunLine) (made : Bool) (files : RunFiles) :
   pub trace : is_some files.trace ≡ is_some run.trace
   pub accesses : is_some files.accesses ≡ is_some run.accesses
   pub shown : files.shown ≡ accesses_text made
+
+-- A script that was read is run under the marks of a plan, and the report is written. The status is that of its end.
+-- The trace and the accesses are written to the files that are named for them.
+abbrev pub RunsCommandScript : RunLine → ℕ → ScriptMeaning → List Mark → Option (List ℕ) → Option (List ℕ) → Type 0
+RunsCommandScript run status script marks old new =
+    (answer : Result Finished EngineFault) × (before : RunFiles) × (after : RunFiles)
+    × AreRunCommandFiles run true before
+    × ScriptRunAnswers (run_command_limits run) script marks answer old new before after
+    × (status ≡ command_status_of_run run.strict answer)
 
 -- A run reads a script and a plan, and writes a report. Its status is that of its end. The trace and the accesses are
 -- written to the files that are named for them. Nothing else is known of these files.

@@ -9,6 +9,7 @@ mod remote_command;
 mod run_command;
 mod session;
 mod target_command;
+mod unread;
 
 pub use info_command::perform_info;
 pub use run_command::perform_run;

@@ -4,7 +4,9 @@ ghost use Rattle.swd_target.specs.Marks.{IsLegalPlan};
 ghost use Rattle.swd_run_commands.specs.MemoryTargets.{ServesBytes, ServesMemory, TargetCommandServes};
 ghost use Rattle.swd_run_commands.specs.MemoryTargets.{target_command_room};
 
-use crate::session::{SessionFiles, are_complete, open_session, served_status, served_streams};
+use crate::session::{
+    SessionFiles, are_complete, cut_off_session, open_session, served_status, served_streams,
+};
 use std::alloc::Allocator;
 use std::io::{Read, Write};
 use swd_bitbang::Pins;
@@ -93,6 +95,9 @@ fn serve_held<
         Ok(files) => files,
         Err(status) => return status,
     };
+    if let Err(status) = cut_off_session(target, &files, console) {
+        return status;
+    }
     let trace = files.empty_trace(console.alloc);
     let pins = target_pins(words, marks, target.idr, trace);
     let back = MemoryFile {

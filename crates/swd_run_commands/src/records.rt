@@ -1,4 +1,4 @@
-//! Opens the files that a run writes beside its report, and says how far the run is.
+//! Opens and truncates the files that a run writes beside its report, and says how far the run is.
 ghost use Rattle.std.specs.Prelude.{◌≡◌, IfErr, IfOk, is_some, true};
 ghost use Rattle.swd_run_commands.specs.Runs.{run_command_names_file};
 
@@ -8,8 +8,8 @@ use swd_command_line::RunLine;
 use swd_console::{Console, Files, InUse, Pace, Watched, WriteRole, cut_off_named, give_up_named};
 use swd_run::Records;
 
-/// Opens the files that a run writes beside its report, as far as they are named, and truncates them once both are
-/// open. `made` says that the target begins in its reset state. At an error it prints a line and returns the status 2.
+/// Opens the files that a run writes beside its report, as far as they are named. `made` says that the target begins in
+/// its reset state. At an error it prints a line and returns the status 2.
 pub(crate) fn open_records<A, F: Files, C, E: Write>(
     run: &RunLine,
     made: bool,
@@ -24,25 +24,49 @@ pub(crate) fn open_records<A, F: Files, C, E: Write>(
         Ok(trace) => trace,
         Err(status) => return Err(status),
     };
-    let accesses = match in_use.open_named(&run.accesses, WriteRole::Accesses, console) {
-        Ok(accesses) => accesses,
-        Err(status) => {
-            give_up_named(&run.trace, trace, console);
-            return Err(status);
-        }
-    };
-    if let Err(status) = cut_off_named(&run.trace, &trace, console) {
-        return Err(status);
-    }
-    match cut_off_named(&run.accesses, &accesses, console) {
-        Ok(()) => Ok(Records {
+    match in_use.open_named(&run.accesses, WriteRole::Accesses, console) {
+        Ok(accesses) => Ok(Records {
             trace,
             accesses,
             printer: AccessesPrinter { made },
             progress: (),
         }),
-        Err(status) => Err(status),
+        Err(status) => {
+            give_up_named(&run.trace, trace, console);
+            Err(status)
+        }
     }
+}
+
+/// Truncates these files once the run's texts are read: until then they have what they had. At an error it prints a
+/// line and returns the status 2.
+pub(crate) fn cut_off_records<A, F: Files, C, E: Write>(
+    run: &RunLine,
+    records: &Records<Watched<F::Made>, AccessesPrinter>,
+    console: &mut Console<'_, A, F, C, E>,
+) -> Result<(), u8>
+    ensures { IfErr result (λ status. (status ≡ 2) × (run_command_names_file run.now ≡ true)) }
+{
+    if let Err(status) = cut_off_named(&run.trace, &records.trace, console) {
+        return Err(status);
+    }
+    cut_off_named(&run.accesses, &records.accesses, console)
+}
+
+/// Gives up these files, of which none was written: one that was created for the run is removed, and any other has what
+/// it had.
+pub(crate) fn give_up_records<A, F: Files, C, E>(
+    run: &RunLine,
+    records: Records<Watched<F::Made>, AccessesPrinter>,
+    console: &Console<'_, A, F, C, E>,
+) {
+    let Records {
+        trace,
+        accesses,
+        ..
+    } = records;
+    give_up_named(&run.trace, trace, console);
+    give_up_named(&run.accesses, accesses, console);
 }
 
 /// Returns these files, and what says on standard error how far the run is, if the arguments ask for that.

@@ -1,30 +1,34 @@
 //! Performs `swd run --remote`: a run at a remote target on the standard streams.
-ghost use Rattle.std.specs.Prelude.{◌≡◌, ◌&&◌, IfErr};
-ghost use Rattle.swd_run.specs.Records.{run_files_of};
+ghost use Rattle.std.specs.Prelude.{◌≡◌, IfErr};
 ghost use Rattle.swd_capture_text.specs.Captures.{accesses_printed};
+ghost use Rattle.swd_script.specs.Laws.{IsScriptRunnable};
+ghost use Rattle.swd_script.specs.Readers.{read_script_meaning};
+ghost use Rattle.swd_run.specs.Records.{run_files_of};
 ghost use Rattle.swd_check.specs.Checkings.{checking_contents};
 ghost use Rattle.swd_console.specs.Streams.{stream_watched};
-ghost use Rattle.swd_run_commands.specs.Remotes.{AreRemoteCommandFiles, PerformsRemoteRun, PerformsRemoteCommand};
-ghost use Rattle.swd_run_commands.specs.Remotes.{RemoteCommandEndsAs, remote_command_status};
-ghost use Rattle.swd_run_commands.specs.Verdicts.{IsRunVerdict, is_remote_run_made};
+ghost use Rattle.swd_run_commands.specs.Remotes.{AreRemoteCommandFiles, PerformsRemoteCommand, RemoteCommandEndsAs};
+ghost use Rattle.swd_run_commands.specs.Remotes.{RunsRemoteScript, remote_command_status};
+ghost use Rattle.swd_run_commands.specs.Verdicts.{IsRunVerdict};
 
 use crate::checked_records::{RecordFile, checked_records, verdict_of};
-use crate::records::{open_records, paced};
+use crate::records::{cut_off_records, give_up_records, open_records, paced};
+use crate::unread::unread_script_status;
 use std::alloc::Allocator;
 use std::io::{Read, Write};
 use swd_capture_text::AccessesPrinter;
 use swd_check::Checked;
 use swd_command_line::RunLine;
 use swd_console::{
-    Clock, Console, Destination, ERRORS, FAULT, Files, InUse, KeepsError, Seen, Stream,
-    TrackedReader, Watched, WriteRole, cannot_open, cut_off, gone_status, line_streams,
-    name_or_nothing, run_status, script_status, tell, tell_failure, verdict_status,
+    Clock, Console, Destination, ERRORS, FAULT, Files, InUse, KeepsError, Stream, TrackedReader,
+    Watched, WriteRole, cannot_open, cut_off, gone_status, line_streams, name_or_nothing,
+    run_status, tell, tell_failure, verdict_status,
 };
-use swd_ends::{Line, RemoteFault, run_remote};
+use swd_ends::{Line, run_remote_script};
 use swd_host::End;
 use swd_port::Story;
 use swd_remote::RemoteStreams;
-use swd_run::{Finished, Limits, Records};
+use swd_run::{EngineFault, Finished, Limits, Records};
+use swd_script::{Script, read_script};
 use swd_text::TextFault;
 
 // Opens the file of the report, which isn't truncated yet. `-` is standard error. At an error it prints a line and
@@ -63,9 +67,24 @@ fn give_up_report<A, F: Files, C, E>(
     }
 }
 
-/// Opens the report's file, and those of the trace and the accesses if they are named. Then runs the script at the
-/// target behind the streams. Returns the status, and the streams with the error that ended the connection, if any. If
-/// a file can't be opened, the streams weren't used.
+// Truncates the file of a report. At an error it prints a line and returns the status 2.
+fn cut_off_report<A, F: Files, C, E: Write>(
+    name: &str,
+    report: &Destination<F::Made>,
+    console: &mut Console<'_, A, F, C, E>,
+) -> Result<(), u8>
+    ensures { IfErr result (λ status. status ≡ 2) }
+{
+    match report {
+        Destination::File(file) => cut_off(name, file, console),
+        Destination::Errors => Ok(()),
+    }
+}
+
+/// Opens the report's file, and those of the trace and the accesses if they are named, and reads the script. Then
+/// truncates these files, and runs the script at the target behind the streams. Returns the status, and the streams
+/// with the error that ended the connection, if any. If a file can't be opened, or the script has an error, the streams
+/// weren't used, and the files have what they had.
 pub(crate) fn perform_remote<
     P: Story,
     S: Read + KeepsError + Drop,
@@ -102,6 +121,22 @@ pub(crate) fn perform_remote<
             return (status, RemoteStreams::unused(input, output));
         }
     };
+    let mut script = script;
+    let read = match read_script(console.alloc, &mut script) {
+        Ok(read) => read,
+        Err(unread) => {
+            give_up_report(name.as_str(), report, console);
+            give_up_records(run, records, console);
+            let status = unread_script_status(console.errors, unread, &script);
+            return (status, RemoteStreams::unused(input, output));
+        }
+    };
+    if let Err(status) = cut_off_report(name.as_str(), &report, console) {
+        return (status, RemoteStreams::unused(input, output));
+    }
+    if let Err(status) = cut_off_records(run, &records, console) {
+        return (status, RemoteStreams::unused(input, output));
+    }
     let records = checked_records(console.alloc, run.check, records);
     let line = Line {
         reader: input,
@@ -109,15 +144,10 @@ pub(crate) fn perform_remote<
     };
     match report {
         Destination::File(file) => {
-            if let Err(status) = cut_off(name.as_str(), &file, console) {
-                return (status, RemoteStreams::unused(line.reader, line.writer));
-            }
-            report_to_file::<P, _, _, _, _, _, _, _, _, _>(
-                run, script, line, file, records, console,
-            )
+            report_to_file::<P, _, _, _, _, _, _, _, _>(run, &read, line, file, records, console)
         }
         Destination::Errors => {
-            report_to_errors::<P, _, _, _, _, _, _, _, _>(run, script, line, records, console)
+            report_to_errors::<P, _, _, _, _, _, _, _>(run, &read, line, records, console)
         }
     }
 }
@@ -125,7 +155,7 @@ pub(crate) fn perform_remote<
 // A run at a remote target: its result, its connection, its report, and its other files.
 #[derive(Drop)]
 struct RemoteRan<'a, R, W, T> {
-    answer: Result<Finished, RemoteFault>,
+    answer: Result<Finished, EngineFault>,
     line: RemoteStreams<R, W>,
     report: Stream<'a>,
     records: Records<T, AccessesPrinter>,
@@ -134,7 +164,6 @@ struct RemoteRan<'a, R, W, T> {
 // Runs the script, and writes its report to a file.
 fn report_to_file<
     P: Story,
-    S: Read + KeepsError + Drop,
     I: Read + KeepsError + Drop,
     O: Write + KeepsError + Drop,
     M: Write + Drop,
@@ -145,27 +174,28 @@ fn report_to_file<
     E: Write,
 >(
     run: &RunLine,
-    script: TrackedReader<'_, S>,
+    script: &Script<A>,
     line: Line<I, O>,
     file: M,
     records: Records<RecordFile<T, A>, AccessesPrinter>,
     console: &mut Console<'_, A, F, C, E>,
 ) -> (u8, RemoteStreams<I, O>)
-    requires { AreRemoteCommandFiles run.now (run_files_of (stream_watched (checking_contents T.contents))
+    requires script { IsScriptRunnable (read_script_meaning script.now) }
+    requires files { AreRemoteCommandFiles run.now (run_files_of (stream_watched (checking_contents T.contents))
         accesses_printed records) }
-    ensures { PerformsRemoteRun P.at run.now result.0 I.remaining O.contents (O.contents line.writer)
-        (I.remaining line.reader) result.1 (S.remaining script.entry.reader) }
+    ensures { RunsRemoteScript P.at run.now result.0 I.remaining O.contents (O.contents line.writer)
+        (I.remaining line.reader) result.1 (read_script_meaning script.now).batches }
 {
-    let (mut script, mut report) = (script, Watched::new(file));
+    let mut report = Watched::new(file);
     let alloc = console.alloc;
     let limits = Limits {
         tries: run.tries,
         resumes: run.resumes,
     };
     let mut records = paced(run, records, &mut *console.errors, console.clock);
-    let (answer, line) = run_remote::<P, _, _, _, _, _, _, _, _>(
+    let (answer, line) = run_remote_script::<P, _, _, _, _, _, _, _>(
         alloc,
-        &mut script,
+        script,
         line,
         limits,
         &mut report,
@@ -177,13 +207,12 @@ fn report_to_file<
         report: Stream::written(name_or_nothing(&run.report), &report),
         records: records.with_progress(()),
     };
-    ended(run, &script, ran, console)
+    ended(run, ran, console)
 }
 
 // Runs the script, and writes its report to standard error, which then has no lines that say how far the run is.
 fn report_to_errors<
     P: Story,
-    S: Read + KeepsError + Drop,
     I: Read + KeepsError + Drop,
     O: Write + KeepsError + Drop,
     T: Write + Drop,
@@ -193,25 +222,26 @@ fn report_to_errors<
     E: Write,
 >(
     run: &RunLine,
-    script: TrackedReader<'_, S>,
+    script: &Script<A>,
     line: Line<I, O>,
     records: Records<RecordFile<T, A>, AccessesPrinter>,
     console: &mut Console<'_, A, F, C, E>,
 ) -> (u8, RemoteStreams<I, O>)
-    requires { AreRemoteCommandFiles run.now (run_files_of (stream_watched (checking_contents T.contents))
+    requires script { IsScriptRunnable (read_script_meaning script.now) }
+    requires files { AreRemoteCommandFiles run.now (run_files_of (stream_watched (checking_contents T.contents))
         accesses_printed records) }
-    ensures { PerformsRemoteRun P.at run.now result.0 I.remaining O.contents (O.contents line.writer)
-        (I.remaining line.reader) result.1 (S.remaining script.entry.reader) }
+    ensures { RunsRemoteScript P.at run.now result.0 I.remaining O.contents (O.contents line.writer)
+        (I.remaining line.reader) result.1 (read_script_meaning script.now).batches }
 {
-    let (mut script, mut records) = (script, records);
+    let mut records = records;
     let limits = Limits {
         tries: run.tries,
         resumes: run.resumes,
     };
     let mut report = Watched::new(&mut *console.errors);
-    let (answer, line) = run_remote::<P, _, _, _, _, _, _, _, _>(
+    let (answer, line) = run_remote_script::<P, _, _, _, _, _, _, _>(
         console.alloc,
-        &mut script,
+        script,
         line,
         limits,
         &mut report,
@@ -225,12 +255,11 @@ fn report_to_errors<
         report: written,
         records,
     };
-    ended(run, &script, ran, console)
+    ended(run, ran, console)
 }
 
 // Prints how a run ended, and the verdict on its session if that was checked. Returns the status, and the connection.
 fn ended<
-    S: Read + KeepsError,
     I: Read + KeepsError,
     O: Write + KeepsError,
     T: Write + Drop,
@@ -240,7 +269,6 @@ fn ended<
     E: Write,
 >(
     run: &RunLine,
-    script: &TrackedReader<'_, S>,
     ran: RemoteRan<'_, I, O, RecordFile<T, A>>,
     console: &mut Console<'_, A, F, C, E>,
 ) -> (u8, RemoteStreams<I, O>)
@@ -253,62 +281,37 @@ fn ended<
         report,
         records,
     } = ran;
-    let streams = remote_streams(run, report, &records, script);
-    let made = is_made(&answer);
-    let status = reached_status(
-        console.errors,
-        run,
-        answer,
-        &line,
-        streams.as_slice(),
-        &script.seen,
-    );
-    let verdict = run_verdict(run.check, made, records.trace);
+    let streams = remote_streams(run, report, &records);
+    let status = reached_status(console.errors, run, answer, &line, streams.as_slice());
+    let verdict = run_verdict(run.check, records.trace);
     (verdict_status(console.errors, &verdict, status), line)
 }
 
-// Returns whether a run was made: its script was read.
-fn is_made(answer: &Result<Finished, RemoteFault>) -> bool
-    ensures { result ≡ is_remote_run_made answer.now }
-{
-    match answer {
-        Ok(_) | Err(RemoteFault::Engine(_)) => true,
-        Err(RemoteFault::Script(_) | RemoteFault::Read) => false,
-    }
-}
-
-// Returns the verdict on the trace of a run, if it was made and checked.
+// Returns the verdict on the trace of a run, if it was checked.
 fn run_verdict<T: Drop, A: Allocator + Copy>(
     check: bool,
-    made: bool,
     trace: Option<RecordFile<T, A>>,
 ) -> Option<Result<Checked, TextFault>>
-    ensures { IsRunVerdict (check && made) result }
+    ensures { IsRunVerdict check result }
 {
-    if check && made {
-        verdict_of(trace)
-    } else {
-        None
-    }
+    if check { verdict_of(trace) } else { None }
 }
 
 // Returns the streams of a remote run beside its connection, in the order of their lines.
-fn remote_streams<'a, T: KeepsError, S: KeepsError>(
+fn remote_streams<'a, T: KeepsError>(
     run: &'a RunLine,
     report: Stream<'a>,
     records: &Records<T, AccessesPrinter>,
-    script: &TrackedReader<'a, S>,
-) -> [Stream<'a>; 4] {
+) -> [Stream<'a>; 3] {
     [
         report,
         Stream::record(&run.trace, &records.trace),
         Stream::record(&run.accesses, &records.accesses),
-        script.stream(),
     ]
 }
 
 // Prints how a run ended that ended early.
-fn tell_early<E: Write>(errors: &mut E, answer: &Result<Finished, RemoteFault>) {
+fn tell_early<E: Write>(errors: &mut E, answer: &Result<Finished, EngineFault>) {
     if let Ok(finished) = answer
         && finished.ended != End::All
     {
@@ -321,18 +324,14 @@ fn tell_early<E: Write>(errors: &mut E, answer: &Result<Finished, RemoteFault>) 
 fn reached_status<R: KeepsError, W: KeepsError, E: Write>(
     errors: &mut E,
     run: &RunLine,
-    answer: Result<Finished, RemoteFault>,
+    answer: Result<Finished, EngineFault>,
     line: &RemoteStreams<R, W>,
     streams: &[Stream<'_>],
-    script: &Seen,
 ) -> u8
     ensures { result ≡ remote_command_status run.now.strict line.now.fault answer }
 {
     if answer.is_err() && tell_failure(errors, streams) {
         return FAULT;
-    }
-    if let Err(RemoteFault::Script(fault)) = answer {
-        return script_status(errors, fault, script);
     }
     let reached = answer.is_ok();
     if line.fault.is_none() {

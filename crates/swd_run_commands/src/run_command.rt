@@ -1,21 +1,28 @@
 //! Performs `swd run`.
-ghost use Rattle.std.specs.Prelude.{◌≡◌, codes, is_some};
+ghost use Rattle.std.specs.Prelude.{◌≡◌, ◌≢◌, codes, false, is_some, true};
 ghost use Rattle.std.specs.String.{string_bytes};
+ghost use Rattle.swd_capture_text.specs.Captures.{accesses_printed};
+ghost use Rattle.swd_script.specs.Laws.{IsScriptRunnable};
+ghost use Rattle.swd_script.specs.Readers.{read_script_meaning};
+ghost use Rattle.swd_target.specs.Marks.{IsLegalPlan};
+ghost use Rattle.swd_run.specs.Records.{run_files_of};
 ghost use Rattle.swd_console.specs.Statuses.{command_status_of_run};
-ghost use Rattle.swd_console.specs.Streams.{CommandEndsOver};
-ghost use Rattle.swd_run_commands.specs.Runs.{PerformsRunCommand, PerformsRunCommandUnder, PerformsRunCommandWhere};
+ghost use Rattle.swd_console.specs.Streams.{CommandEndsOver, CommandReadsFile};
+ghost use Rattle.swd_run_commands.specs.Runs.{AreRunCommandFiles, PerformsRunCommand, PerformsRunCommandUnder};
+ghost use Rattle.swd_run_commands.specs.Runs.{PerformsRunCommandWhere, RunsCommandScript};
 
-use crate::records::{open_records, paced};
+use crate::records::{cut_off_records, give_up_records, open_records, paced};
 use crate::remote_command::perform_remote;
+use crate::unread::unread_status;
 use std::alloc::Allocator;
 use std::io::{Read, Write};
+use swd_capture_text::AccessesPrinter;
 use swd_command_line::RunLine;
 use swd_console::{
-    Clock, Console, FAULT, Files, INPUT, InUse, KeepsError, ReadRole, Seen, Stream, StreamsInUse,
+    Clock, Console, FAULT, Files, INPUT, InUse, KeepsError, ReadRole, Stream, StreamsInUse,
     TrackedReader, Untold, Watched, named_file_of, run_status, status_after, tell, tell_failure,
-    texts_status,
 };
-use swd_run::{Finished, Limits, Records, RunFault, run_text};
+use swd_run::{EngineFault, Finished, Limits, Records, Texts, read_texts, run_script};
 
 /// Runs a script, from its file or from standard input, at a simulated target or at one behind the streams. Returns the
 /// status.
@@ -27,9 +34,13 @@ pub fn perform_run<
     C: Clock,
     E: Write,
 >(run: &RunLine, input: &mut I, output: &mut O, console: &mut Console<'_, A, F, C, E>) -> u8
-    ensures { string_bytes run.now.script ≡ codes "-" → CommandEndsOver (O.kept output.new)
+    ensures standard { string_bytes run.now.script ≡ codes "-" → CommandEndsOver (O.kept output.new)
         (λ status. PerformsRunCommandWhere (is_some run.now.remote) run.now status (I.remaining input.old)
         (O.contents output.old) (O.contents output.new)) result }
+    ensures file { string_bytes run.now.script ≢ codes "-" → is_some run.now.remote ≡ false
+        → CommandReadsFile (F.opens console.old.files.now (string_bytes run.now.script)) F.File.Read.remaining
+        (O.kept output.new) (λ status text left. PerformsRunCommand run.now.plan run.now status text) result
+        (O.contents output.old) (O.contents output.new) }
 {
     let Some(name) = named_file_of(run.script.as_str()) else {
         let own = run_standard_input(run, input, output, console);
@@ -111,7 +122,8 @@ fn run_planned<
     }
 }
 
-// Opens the files of the trace and the accesses, if they are named, and runs the script under the plan.
+// Opens the files of the trace and the accesses, if they are named, and runs the script under the plan. At an error of
+// the script or the plan these files have what they had.
 fn run_under<
     S: Read + KeepsError,
     P: Read + KeepsError,
@@ -136,13 +148,47 @@ fn run_under<
         Ok(records) => records,
         Err(status) => return status,
     };
-    let alloc = console.alloc;
+    let texts = match read_texts(console.alloc, script, plan) {
+        Ok(texts) => texts,
+        Err(fault) => {
+            give_up_records(run, records, console);
+            return unread_status(console.errors, fault, script, plan);
+        }
+    };
+    match cut_off_records(run, &records, console) {
+        Ok(()) => run_to(run, texts, output, records, console),
+        Err(status) => status,
+    }
+}
+
+// Runs a script that was read, and writes its report to `output`.
+fn run_to<
+    O: Write + KeepsError,
+    T: Write + KeepsError + Drop,
+    A: Allocator + Copy,
+    F,
+    C: Clock,
+    E: Write,
+>(
+    run: &RunLine,
+    texts: Texts<A>,
+    output: &mut O,
+    records: Records<T, AccessesPrinter>,
+    console: &mut Console<'_, A, F, C, E>,
+) -> u8
+    requires script { IsScriptRunnable (read_script_meaning texts.script) }
+    requires plan { IsLegalPlan texts.plan.items }
+    requires files { AreRunCommandFiles run.now true (run_files_of T.contents accesses_printed records) }
+    ensures { RunsCommandScript run.now result (read_script_meaning texts.script) texts.plan.items
+        (O.contents output.old) (O.contents output.new) }
+{
+    let Texts { script, plan } = texts;
     let limits = Limits {
         tries: run.tries,
         resumes: run.resumes,
     };
     let mut records = paced(run, records, &mut *console.errors, console.clock);
-    let answer = run_text(alloc, script, plan, limits, output, &mut records);
+    let answer = run_script(console.alloc, &script, plan, limits, output, &mut records);
     let Records {
         trace,
         accesses,
@@ -152,27 +198,15 @@ fn run_under<
         Stream::output(output),
         Stream::record(&run.trace, &trace),
         Stream::record(&run.accesses, &accesses),
-        script.stream(),
-        plan.stream(),
     ];
-    let (script, plan) = (&script.seen, &plan.seen);
-    answer_status(
-        console.errors,
-        answer,
-        run.strict,
-        script,
-        plan,
-        streams.as_slice(),
-    )
+    answer_status(console.errors, answer, run.strict, streams.as_slice())
 }
 
-// Prints what went wrong in a run of these texts, and returns the status.
+// Prints what went wrong in a run, and returns the status.
 fn answer_status<E: Write>(
     errors: &mut E,
-    answer: Result<Finished, RunFault>,
+    answer: Result<Finished, EngineFault>,
     strict: bool,
-    script: &Seen,
-    plan: &Seen,
     streams: &[Stream<'_>],
 ) -> u8
     ensures { result ≡ command_status_of_run strict answer }
@@ -180,8 +214,5 @@ fn answer_status<E: Write>(
     if answer.is_err() && tell_failure(errors, streams) {
         return FAULT;
     }
-    match answer {
-        Err(RunFault::Texts(fault)) => texts_status(errors, fault, script, plan),
-        answer => run_status(errors, answer, strict),
-    }
+    run_status(errors, answer, strict)
 }

@@ -30,8 +30,7 @@ impl<M> SessionFiles<M> {
     }
 }
 
-/// Opens the files of a session, as far as they are named, and truncates them once both are open. At an error it prints
-/// a line and returns the status 2.
+/// Opens the files of a session, as far as they are named. At an error it prints a line and returns the status 2.
 pub(crate) fn open_session<A, F: Files, C, E: Write>(
     target: &TargetLine,
     in_use: &mut InUse,
@@ -45,20 +44,40 @@ pub(crate) fn open_session<A, F: Files, C, E: Write>(
         Ok(log) => log,
         Err(status) => return Err(status),
     };
-    let trace = match in_use.open_named(&target.trace, WriteRole::Trace, console) {
-        Ok(trace) => trace,
+    match in_use.open_named(&target.trace, WriteRole::Trace, console) {
+        Ok(trace) => Ok(SessionFiles { log, trace }),
         Err(status) => {
             give_up_named(&target.log, log, console);
-            return Err(status);
+            Err(status)
         }
-    };
-    if let Err(status) = cut_off_named(&target.log, &log, console) {
+    }
+}
+
+/// Truncates the files of a session once its target is made: until then they have what they had. At an error it prints
+/// a line and returns the status 2.
+pub(crate) fn cut_off_session<A, F: Files, C, E: Write>(
+    target: &TargetLine,
+    files: &SessionFiles<Watched<F::Made>>,
+    console: &mut Console<'_, A, F, C, E>,
+) -> Result<(), u8>
+    ensures { IfErr result (λ status. status ≡ 2) }
+{
+    if let Err(status) = cut_off_named(&target.log, &files.log, console) {
         return Err(status);
     }
-    match cut_off_named(&target.trace, &trace, console) {
-        Ok(()) => Ok(SessionFiles { log, trace }),
-        Err(status) => Err(status),
-    }
+    cut_off_named(&target.trace, &files.trace, console)
+}
+
+/// Gives up the files of a session that isn't served: one that was created for it is removed, and any other has what it
+/// had.
+pub(crate) fn give_up_session<A, F: Files, C, E>(
+    target: &TargetLine,
+    files: SessionFiles<Watched<F::Made>>,
+    console: &Console<'_, A, F, C, E>,
+) {
+    let SessionFiles { log, trace } = files;
+    give_up_named(&target.log, log, console);
+    give_up_named(&target.trace, trace, console);
 }
 
 /// Returns the streams of a session, in the order of their lines.

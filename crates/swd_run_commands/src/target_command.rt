@@ -4,13 +4,17 @@ ghost use Rattle.swd_run_commands.specs.MemoryTargets.{CommandServesTarget};
 ghost use Rattle.swd_run_commands.specs.Targets.{TargetCommandServesHost};
 
 use crate::memory_target::perform_memory_target;
-use crate::session::{SessionFiles, are_complete, open_session, served_status, served_streams};
+use crate::session::{
+    SessionFiles, are_complete, cut_off_session, give_up_session, open_session, served_status,
+    served_streams,
+};
+use crate::unread::unread_status;
 use std::alloc::Allocator;
 use std::io::{Read, Write};
 use swd_command_line::{ScriptLine, ServedMemory, TargetLine};
 use swd_console::{
-    Console, FAULT, Files, InUse, KeepsError, ReadRole, StreamsInUse, TrackedReader, Watched,
-    cannot_use, tell, tell_failure, texts_status,
+    Console, Files, InUse, KeepsError, ReadRole, StreamsInUse, TrackedReader, Watched, cannot_use,
+    tell,
 };
 use swd_ends::{TargetFault, read_target, serve_logged};
 
@@ -82,7 +86,8 @@ fn perform_script_target<
     }
 }
 
-// Opens the files of the log and the trace, and serves a host. Writes both files while it does.
+// Opens the files of the log and the trace, and serves a host. Writes both files while it does: if there is no target,
+// they have what they had.
 fn serve_under<
     S: Read + KeepsError + Drop,
     P: Read + KeepsError + Drop,
@@ -116,6 +121,9 @@ fn serve_under<
     let kept = files.empty_trace(console.alloc);
     match read_target(console.alloc, &mut script, &mut plan, target.idr, kept) {
         Ok(pins) => {
+            if let Err(status) = cut_off_session(target, &files, console) {
+                return status;
+            }
             let SessionFiles { log, trace } = files;
             let (served, pins, files) = serve_logged(input, output, pins, log, trace);
             let done = are_complete(&files, pins.trace());
@@ -124,7 +132,10 @@ fn serve_under<
             let streams = served_streams(target, input, output, &files);
             served_status(console.errors, served, done, streams.as_slice())
         }
-        Err(fault) => target_status(console.errors, fault, &script, &plan),
+        Err(fault) => {
+            give_up_session(target, files, console);
+            target_status(console.errors, fault, &script, &plan)
+        }
     }
 }
 
@@ -137,12 +148,8 @@ fn target_status<S: KeepsError, P: KeepsError, E: Write>(
 ) -> u8
     ensures { result ≡ 2 }
 {
-    let streams = [script.stream(), plan.stream()];
-    if tell_failure(errors, streams.as_slice()) {
-        return FAULT;
-    }
     match fault {
-        TargetFault::Texts(fault) => texts_status(errors, fault, &script.seen, &plan.seen),
+        TargetFault::Texts(fault) => unread_status(errors, fault, script, plan),
         TargetFault::Memory => tell(errors, "no memory"),
         TargetFault::Accesses => cannot_use(errors, script.name(), &ACCESSES),
     }

@@ -8,27 +8,26 @@ use Rattle.arrayvec.specs.ArrayVec.{ArrayVec}
 use Rattle.swd_script.specs.declared.fault.LineFault.{LineFault}
 use Rattle.swd_script.specs.declared.fault.LineFault.TheVariants.{Word, Number, Range, NoMemoryLine, Memory}
 use Rattle.swd_script.specs.declared.fault.ScriptFault.{ScriptFault}
-use Rattle.swd_script.specs.declared.lines.ScriptLines.{ScriptLines}
+use Rattle.swd_script.specs.declared.line_scan.LineScan.{LineScan}
 use Rattle.swd_script.specs.Faults.{script_line_number, script_after_lines, script_then_lines, script_fault_at}
 use Rattle.swd_script.specs.Lines.{script_lines, script_line_words}
 use Rattle.swd_script.specs.Readers.{EndsScriptLine, IsScriptLineFault, IsFedScriptLine, IsLastScriptLine}
 use Rattle.swd_script.specs.Readers.{IsScriptTextFault, ScriptRunsOut, SplitsScriptLines}
-use Rattle.swd_script.specs.Scans.{script_without_return, ScriptScanHolds, IsScannedScriptLine, script_scan_words}
+use Rattle.swd_script.specs.Scans.{script_without_return, ScriptScanHolds, IsScannedScriptLine}
 use Rattle.swd_script.proofs.LineLemmas.{script_lines_fed, script_lines_last, script_line_unbroken_more}
 
 -- a byte of a line more
-pub script_splits_byte : (seen : List ℕ) (ended : List (List ℕ)) (old new : ScriptLines) (byte : ℕ) → byte ≢ 10
-    → new.number ≡ old.number →
-    ((line : List ℕ) → ScriptScanHolds line old.scan → ScriptScanHolds (line ++ byte ∷ []) new.scan)
-    → SplitsScriptLines seen ended old
-    → SplitsScriptLines (seen ++ byte ∷ []) ended new
-script_splits_byte seen ended old new byte h e f s = record {
+pub script_splits_byte : (seen : List ℕ) (ended : List (List ℕ)) (old new : LineScan) (number byte : ℕ) → byte ≢ 10
+    → ((line : List ℕ) → ScriptScanHolds line old → ScriptScanHolds (line ++ byte ∷ []) new)
+    → SplitsScriptLines seen ended old number
+    → SplitsScriptLines (seen ++ byte ∷ []) ended new number
+script_splits_byte seen ended old new number byte h f s = record {
   line = s.line ++ byte ∷ [];
   law = λ more. ap script_lines (append_assoc seen (byte ∷ []) more) ∙ s.law (byte ∷ more)
       ∙ ap (λ x. ended ++ script_lines x) (sym (append_assoc s.line (byte ∷ []) more));
   unbroken = script_line_unbroken_more s.line byte s.unbroken h;
   holds = f s.line s.holds;
-  number = e ∙ s.number;
+  number_is = s.number_is;
 }
 
 next_number : (number before : ℕ) → number ≡ script_line_number before
@@ -36,38 +35,40 @@ next_number : (number before : ℕ) → number ≡ script_line_number before
 next_number number before e = omega arith
 
 -- a line feed more
-pub script_splits_feed : (seen : List ℕ) (ended : List (List ℕ)) (old new : ScriptLines) → new.number ≡ old.number →
-    ((line : List ℕ) → ScriptScanHolds line old.scan
-    → IsScannedScriptLine (script_without_return line) (script_scan_words new.scan)) → SplitsScriptLines seen ended old
-    → IsFedScriptLine seen ended new
-script_splits_feed seen ended old new e f s = record {
+pub script_splits_feed : (seen : List ℕ) (ended : List (List ℕ)) (old : LineScan) (number : ℕ)
+    (scanned : Option (ArrayVec (ArrayVec ℕ)))
+    → ((line : List ℕ) → ScriptScanHolds line old → IsScannedScriptLine (script_without_return line) scanned)
+    → SplitsScriptLines seen ended old number
+    → IsFedScriptLine seen ended scanned
+script_splits_feed seen ended old number scanned f s = record {
   line = script_without_return s.line;
   scan = f s.line s.holds;
   law = λ more. s.law (10 ∷ more) ∙ ap (λ x. ended ++ x) (script_lines_fed s.line more s.unbroken);
-  number = e ∙ s.number;
 }
 
 -- the next line begins behind a line feed
-pub script_splits_next_line : (seen : List ℕ) (ended : List (List ℕ)) (old new : ScriptLines)
-    → new.number ≡ min (old.number + 1) (2 ^ 64 - 1) → ScriptScanHolds [] new.scan
-    → (fed : IsFedScriptLine seen ended old) → SplitsScriptLines (seen ++ 10 ∷ []) (ended ++ fed.line ∷ []) new
-script_splits_next_line seen ended old new e h fed = record {
+pub script_splits_next_line : (seen : List ℕ) (ended : List (List ℕ)) (new : LineScan) (number next : ℕ)
+    (scanned : Option (ArrayVec (ArrayVec ℕ)))
+    → number ≡ script_line_number (length ended) → next ≡ min (number + 1) (2 ^ 64 - 1) → ScriptScanHolds [] new
+    → (fed : IsFedScriptLine seen ended scanned)
+    → SplitsScriptLines (seen ++ 10 ∷ []) (ended ++ fed.line ∷ []) new next
+script_splits_next_line seen ended new number next scanned n e h fed = record {
   line = [];
   law = λ more. ap script_lines (append_assoc seen (10 ∷ []) more) ∙ fed.law more
       ∙ sym (append_assoc ended (fed.line ∷ []) (script_lines more));
   unbroken = tt;
   holds = h;
-  number = e ∙ next_number old.number (length ended) fed.number
+  number_is = e ∙ next_number number (length ended) n
       ∙ ap script_line_number (sym (length-append ended (fed.line ∷ [])));
 }
 
 -- the end of the text
-pub script_splits_last_line : (seen : List ℕ) (ended : List (List ℕ)) (old : ScriptLines)
+pub script_splits_last_line : (seen : List ℕ) (ended : List (List ℕ)) (old : LineScan) (number : ℕ)
     (scanned : Option (ArrayVec (ArrayVec ℕ)))
-    → ((line : List ℕ) → ScriptScanHolds line old.scan → IsScannedScriptLine line scanned)
-    → SplitsScriptLines seen ended old
+    → ((line : List ℕ) → ScriptScanHolds line old → IsScannedScriptLine line scanned)
+    → SplitsScriptLines seen ended old number
     → IsLastScriptLine seen ended scanned
-script_splits_last_line seen ended old scanned f s = record {
+script_splits_last_line seen ended old number scanned f s = record {
   line = s.line;
   scan = f s.line s.holds;
   law = ap script_lines (sym (append-nil seen)) ∙ s.law [] ∙ ap (λ x. ended ++ script_lines x) (append-nil s.line)

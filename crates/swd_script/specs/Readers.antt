@@ -11,12 +11,12 @@ use Rattle.swd_script.specs.declared.fault.ScriptFault.TheVariants.{Word as Word
 use Rattle.swd_script.specs.declared.fault.ScriptFault.TheVariants.{Range as RangeAt, NoMemoryLine as NoMemoryLineAt}
 use Rattle.swd_script.specs.declared.fault.ScriptFault.TheVariants.{Memory as MemoryAt}
 use Rattle.swd_script.specs.declared.line_reader.LineReader.{LineReader}
-use Rattle.swd_script.specs.declared.lines.ScriptLines.{ScriptLines}
+use Rattle.swd_script.specs.declared.line_scan.LineScan.{LineScan}
 use Rattle.swd_script.specs.declared.script.Script.{Script}
 use Rattle.swd_script.specs.Faults.{script_line_number, script_after_lines, script_fault_at}
 use Rattle.swd_script.specs.Lines.{script_lines}
 use Rattle.swd_script.specs.Plans.{plan_file_line, plan_of}
-use Rattle.swd_script.specs.Scans.{ScriptScanHolds, IsScannedScriptLine, script_scan_words}
+use Rattle.swd_script.specs.Scans.{ScriptScanHolds, IsScannedScriptLine}
 use Rattle.swd_script.specs.Scripts.{ScriptListed, ScriptMeaning, ScriptSayings, script_nothing_said, script_line}
 use Rattle.swd_script.specs.Scripts.{script_of}
 
@@ -25,13 +25,13 @@ abbrev pub IsUnbrokenScriptLine : List ℕ → Type 0
 IsUnbrokenScriptLine [] = Unit {0}
 IsUnbrokenScriptLine (byte ∷ line) = (byte ≢ 10) × IsUnbrokenScriptLine line
 
--- of the text so far: the complete lines, and the state in the current one
-pub record SplitsScriptLines (seen : List ℕ) (ended : List (List ℕ)) (state : ScriptLines) : Type 0 where
+-- of the text so far: the complete lines, and the scan of the current one, which has this number
+pub record SplitsScriptLines (seen : List ℕ) (ended : List (List ℕ)) (scan : LineScan) (number : ℕ) : Type 0 where
   pub line : List ℕ
   pub law : (more : List ℕ) → script_lines (seen ++ more) ≡ ended ++ script_lines (line ++ more)
   pub unbroken : IsUnbrokenScriptLine line
-  pub holds : ScriptScanHolds line state.scan
-  pub number : state.number ≡ script_line_number (length ended)
+  pub holds : ScriptScanHolds line scan
+  pub number_is : number ≡ script_line_number (length ended)
 
 -- of the text: the complete lines, and the next one
 pub record EndsScriptLine (text : List ℕ) (ended : List (List ℕ)) (line : List ℕ) : Type 0 where
@@ -39,11 +39,11 @@ pub record EndsScriptLine (text : List ℕ) (ended : List (List ℕ)) (line : Li
   pub law : script_lines text ≡ ended ++ line ∷ rest
 
 -- a line feed has ended a line, whose first words are kept if it is valid
-pub record IsFedScriptLine (seen : List ℕ) (ended : List (List ℕ)) (state : ScriptLines) : Type 0 where
+pub record IsFedScriptLine (seen : List ℕ) (ended : List (List ℕ))
+    (scanned : Option (ArrayVec (ArrayVec ℕ))) : Type 0 where
   pub line : List ℕ
-  pub scan : IsScannedScriptLine line (script_scan_words state.scan)
+  pub scan : IsScannedScriptLine line scanned
   pub law : (more : List ℕ) → script_lines (seen ++ 10 ∷ more) ≡ ended ++ line ∷ script_lines more
-  pub number : state.number ≡ script_line_number (length ended)
 
 -- the last line of a text has these first words, or is invalid
 pub record IsLastScriptLine (text : List ℕ) (ended : List (List ℕ))
@@ -81,7 +81,7 @@ pub record ReadsScriptLines {S : Type 0} (took : List (List ℕ) → S → Type 
     Type 0
   where
     pub ended : List (List ℕ)
-    pub splits : SplitsScriptLines seen ended reader.lines
+    pub splits : SplitsScriptLines seen ended reader.scan reader.number
     pub so_far : took ended reader.sink
 
 -- these are the bytes that were taken

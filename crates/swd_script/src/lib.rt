@@ -8,7 +8,6 @@ mod fault;
 pub mod laws;
 mod line_reader;
 mod line_scan;
-mod lines;
 mod numeral;
 mod plan;
 mod script;

@@ -6,7 +6,7 @@ ghost use Rattle.swd_script.specs.Lines.{script_lines};
 ghost use Rattle.swd_script.specs.Readers.{HasLastScriptLine, ScriptLineLeads, ScriptLineStops};
 
 use crate::fault::{LineFault, ScriptFault};
-use crate::lines::ScriptLines;
+use crate::line_scan::LineScan;
 use crate::words::FirstWords;
 use std::io::Read;
 use swd_io::{Consumer, Unread, read_pieces};
@@ -47,7 +47,9 @@ pub trait LineSink: Drop {
 /// It holds a bounded number of bytes of a line, however long the line is, and what the lines before it said.
 #[derive(Drop)]
 pub struct LineReader<S> {
-    lines: ScriptLines,
+    // The current line, and its number, from 1 and at most 2^64 - 1.
+    scan: LineScan,
+    number: u64,
     sink: S,
 }
 
@@ -59,7 +61,8 @@ impl<S: LineSink> LineReader<S> {
         ensures { S.took [] sink → ReadsScriptLines S.took result [] }
     {
         LineReader {
-            lines: ScriptLines::new(),
+            scan: LineScan::new(),
+            number: 1,
             sink,
         }
     }
@@ -72,13 +75,14 @@ impl<S: LineSink> LineReader<S> {
             → S.refuses fault (seen ++ byte ∷ more)) }
     {
         if byte != b'\n' {
-            self.lines.byte(byte);
+            self.scan.byte(byte);
             return Ok(());
         }
-        let line = self.lines.number;
-        self.lines.feed();
-        let added = self.sink.add_line(line, self.lines.words());
-        self.lines.begin();
+        let line = self.number;
+        self.scan.feed();
+        let added = self.sink.add_line(line, self.scan.words());
+        self.scan.begin();
+        self.number = line.saturating_add(1);
         match added {
             Ok(()) => Ok(()),
             Err(fault) => Err(fault.at(line)),
@@ -96,14 +100,14 @@ impl<S: LineSink> LineReader<S> {
             S.refuses fault seen) }
     {
         let LineReader {
-            mut lines,
+            mut scan,
+            number,
             mut sink,
         } = self;
-        let line = lines.number;
-        lines.finish();
-        match sink.add_line(line, lines.words()) {
-            Ok(()) => sink.whole(line),
-            Err(fault) => Err(fault.at(line)),
+        scan.finish();
+        match sink.add_line(number, scan.words()) {
+            Ok(()) => sink.whole(number),
+            Err(fault) => Err(fault.at(number)),
         }
     }
 }

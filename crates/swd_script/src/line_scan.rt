@@ -59,7 +59,7 @@ impl LineScan {
         match byte {
             b'#' => self.place = ScanState::Comment,
             b'\r' => self.place = ScanState::Return,
-            _ if is_blank(byte) => self.words.blank(byte),
+            _ if is_blank(byte) => self.words.end_word(),
             b'!'..=b'~' => self.words.push(byte),
             _ => self.place = ScanState::Spoiled,
         }
@@ -70,7 +70,7 @@ impl LineScan {
         ensures { (line : List ℕ) → ScriptScanHolds line self.old
             → IsScannedScriptLine (script_without_return line) (script_scan_words self.new) }
     {
-        self.words.end();
+        self.words.end_word();
     }
 
     /// Ends the line at the end of the input. Then call `words`.
@@ -79,7 +79,7 @@ impl LineScan {
             → IsScannedScriptLine line (script_scan_words self.new) }
     {
         match self.place {
-            ScanState::Code | ScanState::Comment => self.words.end(),
+            ScanState::Code | ScanState::Comment => self.words.end_word(),
             ScanState::Return | ScanState::Spoiled => self.place = ScanState::Spoiled,
         }
     }

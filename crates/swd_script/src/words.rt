@@ -1,5 +1,5 @@
 //! The first words of a line.
-ghost use Rattle.std.specs.Prelude.{◌≡◌, ◌∷◌, ◌++◌, [], ℕ, List, take, true, false};
+ghost use Rattle.std.specs.Prelude.{◌≡◌, ◌∷◌, ◌++◌, [], ℕ, List, take, false};
 ghost use Rattle.swd_script.specs.Lines.{is_script_blank};
 
 use arrayvec::ArrayVec;
@@ -25,7 +25,7 @@ pub(crate) struct LineWords {
 }
 
 impl LineWords {
-    ghost use Rattle.swd_script.specs.Words.{begun, texts, AreFirst, Gathers};
+    ghost use Rattle.swd_script.specs.Words.{begun, texts, Gathers};
 
     /// Returns the state before the first word.
     pub(crate) fn new() -> LineWords
@@ -47,16 +47,9 @@ impl LineWords {
         }
     }
 
-    /// Takes a space or a tab.
-    pub(crate) fn blank(&mut self, byte: u8)
-        requires { is_script_blank byte ≡ true }
-        ensures { (line : List ℕ) → Gathers line self.old → Gathers (line ++ byte ∷ []) self.new }
-    {
-        self.end_word();
-    }
-
-    // Ends the current word, if there is one.
-    fn end_word(&mut self)
+    /// Ends the current word, if there is one: at a space, a tab or the end of the line. Then the line's first words
+    /// are those in `ended`.
+    pub(crate) fn end_word(&mut self)
         ensures ended { texts self.new.ended.items
             ≡ take 6 (texts self.old.ended.items ++ begun self.old.last.items) }
         ensures last { self.new.last.items ≡ [] }
@@ -65,13 +58,6 @@ impl LineWords {
         if !self.ended.is_full() && !word.is_empty() {
             self.ended.push(word);
         }
-    }
-
-    /// Ends the line. Its first words are then those in `ended`.
-    pub(crate) fn end(&mut self)
-        ensures { (line : List ℕ) → Gathers line self.old → AreFirst self.new.ended.items line }
-    {
-        self.end_word();
     }
 
     /// Removes all words.

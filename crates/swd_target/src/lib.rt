@@ -13,7 +13,6 @@ mod phase;
 mod plan;
 pub mod port;
 mod quirks;
-mod register;
 mod request;
 mod target;
 mod transfer_log;

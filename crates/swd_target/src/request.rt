@@ -9,7 +9,6 @@ ghost use Rattle.swd_target.specs.Simulations.{simulation_accepted_after, simula
 
 use crate::device::Device;
 use crate::phase::{flip_bit, flip_line, flip_under, phase_of};
-use crate::register::register_named;
 use crate::target::Target;
 use swd_bits::{Request, word_of};
 use swd_port::{AfterAck, Mark, Register, Reply};
@@ -29,7 +28,7 @@ impl<D: Device> Target<D> {
             → (target_state D.bus self.old).pending ≡ None → self.new.device ≡ self.old.device }
         ensures driven { port_bits_driven result.1 < 2 ^ 33 }
     {
-        let register = register_named(self.select, request);
+        let register = Register::named(self.select, request);
         let reply = self.reply(waits, register, request.ap);
         let phase = self.phase(waits, reply, register, request);
         self.apply(waits, reply, register, request);

@@ -23,7 +23,6 @@ use crate::content::Content;
 use crate::device::Device;
 use crate::memory::Memory;
 use crate::quirks::Quirks;
-use crate::register::{is_access_port, is_access_port_write, is_exempt, is_posted};
 use bitflags::Flags;
 use std::alloc::Allocator;
 use swd_bits::{Reg4, Request};
@@ -168,10 +167,15 @@ impl<D: Device> Target<D> {
         ensures known { target_known_word result
             ≡ option_and_then port_tar_next_address (target_known_word self.now.tar) }
     {
-        let inside = self.tar.word % 1024 < 1020;
+        let addr = self.tar.word;
+        let next = if self.quirks.wrap {
+            addr / 1024 * 1024 + (addr % 1024 + 4) % 1024
+        } else {
+            addr.wrapping_add(4)
+        };
         Content {
-            word: next(self.quirks.wrap, self.tar.word),
-            known: self.tar.known && inside,
+            word: next,
+            known: self.tar.known && addr % 1024 < 1020,
         }
     }
 
@@ -181,7 +185,7 @@ impl<D: Device> Target<D> {
     {
         if !self.is_answering(register) {
             Reply::Silent
-        } else if is_exempt(register) {
+        } else if register.is_exempt() {
             Reply::Okay
         } else if self.sticky_error || self.write_error || (ap && !self.has_power()) {
             Reply::Faults
@@ -214,7 +218,7 @@ impl<D: Device> Target<D> {
     {
         let answer = self.answer(register, ap);
         match answer {
-            Reply::Okay if waits && !is_exempt(register) => Reply::Waits,
+            Reply::Okay if waits && !register.is_exempt() => Reply::Waits,
             _ => answer,
         }
     }
@@ -258,6 +262,7 @@ impl<D: Device> Target<D> {
     }
 
     // Applies the effects of a reply to the target; `waits`: WAIT was asked for.
+    #[inline(always)]
     pub(crate) fn apply(&mut self, waits: bool, reply: Reply, register: Register, request: Request)
         ensures { TargetReplies D.bus waits reply register request self.old self.new }
     {
@@ -278,18 +283,17 @@ impl<D: Device> Target<D> {
     fn refuse_read(&mut self, register: Register)
         ensures { TargetSteps D.bus (λ c. port_after_wait register) self.old self.new }
     {
-        if is_posted(register) {
+        if register.is_posted() {
             self.read_ok = false;
         }
     }
 
+    #[inline(always)]
     fn apply_okay(&mut self, waits: bool, register: Register, request: Request)
         ensures { TargetReplies D.bus waits Okay register request self.old self.new }
     {
-        let system_up = self.system_up_after(waits, register);
-        self.debug_up = self.debug_up_after(waits, register);
-        self.system_up = system_up;
-        if is_posted(register) {
+        self.find_power(waits, register);
+        if register.is_posted() {
             self.read_ok = true;
             self.last_returned = self.buffer;
         }
@@ -302,6 +306,23 @@ impl<D: Device> Target<D> {
             Register::DrwRead => self.pending = Some(Drw::Reads),
             _ => {}
         }
+    }
+
+    // Finds at an OK whether power is acknowledged. Usually both were seen before.
+    #[inline(always)]
+    fn find_power(&mut self, waits: bool, register: Register)
+        ensures debug { self.new.debug_up ≡ debug_up_after waits register self.old.debug_up }
+        ensures system { self.new.system_up ≡ power_up_after (simulated_system_late waits self.old.debug_up) register
+            self.old.system_up }
+        ensures rest { self.new
+            ≡ record self.old { debug_up = self.new.debug_up; system_up = self.new.system_up } }
+    {
+        if let (PowerUp::Seen, PowerUp::Seen) = (self.debug_up, self.system_up) {
+            return;
+        }
+        let system_up = self.system_up_after(waits, register);
+        self.debug_up = self.debug_up_after(waits, register);
+        self.system_up = system_up;
     }
 
     // Returns the word that a register of an access port reads elsewhere than at the registers of bank 0: IDR and BASE
@@ -331,7 +352,7 @@ impl<D: Device> Target<D> {
             (PowerUp::Seen, _) => PowerUp::Seen,
             (_, Register::CtrlStatRead) if waits => PowerUp::Late,
             (_, Register::CtrlStatRead) => PowerUp::Seen,
-            (_, register) if is_access_port(register) => PowerUp::Seen,
+            (_, register) if register.is_access_port() => PowerUp::Seen,
             (debug_up, _) => debug_up,
         }
     }
@@ -403,7 +424,7 @@ impl<D: Device> Target<D> {
     pub(crate) fn write(&mut self, register: Register, word: u32)
         ensures { TargetWrites D.bus (Arrives register word) self.old self.new }
     {
-        if is_access_port_write(register) {
+        if register.is_access_port_write() {
             self.forget_values();
         }
         match register {
@@ -524,7 +545,7 @@ impl<D: Device> Target<D> {
     fn settles_before(&self, waits: bool, register: Register, ap: bool) -> bool
         ensures { result ≡ target_settles_first D.bus waits register ap self.now }
     {
-        if is_exempt(register) {
+        if register.is_exempt() {
             return false;
         }
         match self.answer(register, ap) {
@@ -563,16 +584,5 @@ fn word_of_idr_bank(addr: Reg4, idr: u32) -> u32
         Reg4::R8 => NO_ROM_TABLE,
         Reg4::RC => idr,
         _ => 0,
-    }
-}
-
-// Returns the incremented address.
-fn next(wraps: bool, addr: u32) -> u32
-    ensures { result ≡ simulated_next_address wraps addr }
-{
-    if wraps {
-        addr / 1024 * 1024 + (addr % 1024 + 4) % 1024
-    } else {
-        addr.wrapping_add(4)
     }
 }

@@ -18,7 +18,8 @@ Prints the verdict, one line:
   fits N                 a target that keeps the rules may show these N items
   breaks @P ITEM: WHY    none may show the items up to the one at bit P. WHY has
                          the rule, what was expected, and since which item
-  crowded @P             not decided from bit P on: too many states are possible
+  crowded @P             not decided from bit P on: too many states are
+                         possible, or, at @0, there was not enough to begin
   outside @P             not decided from bit P on: overrun detection is on, and
                          there is WAIT, FAULT or a word with wrong parity
 Behind fits N there may be:

@@ -24,8 +24,10 @@ decimal. It also writes CTRL/STAT, SELECT, CSW and TAR, and the same addresses
 in other banks and in access ports 1 and ff, where it reads address c, too. It
 ends without power.
 
-With --hole there are bus errors, at ADDR, 1 to 8 hexadecimal digits; without,
-this part is left out. All other transfers are in the memory.
+With --hole there are bus errors, at ADDR, 1 to 8 hexadecimal digits, a multiple
+of 4 and no word of the memory; without, this part is left out. All other
+transfers are in the memory: one is left out where an event on the line leaves
+open at which address it would be.
 
 --remote is as for swd run. Without =IN,OUT standard output is the line's, and
 the verdict is on standard error. For a server on a socket:
@@ -34,7 +36,7 @@ Lines on standard error say how many requests and clocks were sent, and what was
 not reached: WAIT, if the port never answered it, and damage on the line.
 
 Status: 0 fits; 1 breaks, or a transfer at ADDR was no bus error; 2 crowded, an
-error, or the other end went away.";
+error, the other end went away, or the port answered no request.";
 
 const NO_TARGET: &str = "the target is missing: give --remote";
 

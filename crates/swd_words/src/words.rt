@@ -51,10 +51,10 @@ WORD is 8 hexadecimal digits, N a decimal number.
 
 FILE may be - for standard input; a file of that name is ./-
 
-Status: 0 success; 1 a run that stopped early, that --strict fails, or that read
-another word than the one to verify; 2 a usage, input, I/O or out-of-memory
-error, with a line on standard error; 141 the reader of standard output closed
-it, as if by SIGPIPE, without a line.
+Status: 0 success; 1 a run that stopped early or that its script fails, a byte
+that differs, or a rule that is broken; 2 a usage, input, I/O or out-of-memory
+error, with a line on standard error, or a verdict that isn't decided; 141 the
+reader of standard output closed it, as if by SIGPIPE, without a line.
 
 Example, a read of DPIDR, the debug port's identification register:
   echo '10100101 1 100 11101110001010000000010111010100 0 1' | swd decode
@@ -150,13 +150,13 @@ what swd decode --accesses --made prints of the trace, with --remote without
 call. Once the other end of --remote went away, the trace also has the bits that
 were to be sent to it.
 
-Status: 0 if each call ended all, 1 if one ended otherwise, 2 at an error. A bus
-error is an answer, and fails the run only with --strict: status 1. The status
-is also 1 if the word of until never came, and if a word to verify differed or
-met a bus error. A line on standard error then names the first word to verify,
-with its line in the script, and both words, or says that an until's never came.
-An error in a script or plan is printed with its line, counted from 1, and with
-what was expected there:
+Status: 0 if each call ended all, 1 if one ended otherwise, or if the other end
+of --remote went away, 2 at an error. A bus error is an answer, and fails the
+run only with --strict: status 1. The status is also 1 if the word of until
+never came, and if a word to verify differed or met a bus error. A line on
+standard error then names the first word to verify, with its line in the script,
+and both words, or says that an until's never came. An error in a script or plan
+is printed with its line, counted from 1, and with what was expected there:
   word            an unknown command or mark, or one in the wrong place
   number          not a number of 32 bits
   range           a number out of its range

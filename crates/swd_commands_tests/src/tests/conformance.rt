@@ -2,6 +2,7 @@
 use super::expect::{expect_at, expect_eq, expect_eq_at};
 use super::remote::IDENTIFIED;
 use super::run_on;
+use std::test::Fail;
 
 const OVERWRITES: &str = "swd: overwrites 80 words from 20000000 on\n";
 
@@ -48,10 +49,56 @@ fn a_conformance_run_ends(rt: HostRuntime) {
         expect_eq_at(&rt, &levels, &more, &said.len());
         expect_eq_at(&rt, &levels, &ran.status, &status);
     }
-    let words = ["swd", "conform", "--remote", "--plain", "20000000", "79"];
-    let ran = run_on(rt.alloc(), words.as_slice(), b"".as_slice());
-    let line: &[u8] = b"swd: --plain has to name at least 80 words of memory\n";
-    expect_eq(&rt, &ran.errors.as_slice(), &line);
+}
+
+// Memory that no plan is made for.
+const REFUSED: [(&str, &str, &str); 4] = [
+    (
+        "79",
+        "30000000",
+        "swd: --plain has to name at least 80 words of memory\n",
+    ),
+    (
+        "80",
+        "2000013c",
+        "swd: --hole has to be a multiple of 4, and no word of --plain\n",
+    ),
+    (
+        "80",
+        "20000000",
+        "swd: --hole has to be a multiple of 4, and no word of --plain\n",
+    ),
+    (
+        "80",
+        "30000002",
+        "swd: --hole has to be a multiple of 4, and no word of --plain\n",
+    ),
+];
+
+#[test]
+fn a_plan_is_made_for_its_memory(rt: HostRuntime) {
+    for (count, hole, line) in REFUSED {
+        let words = [
+            "swd", "conform", "--remote", "--plain", "20000000", count, "--hole", hole,
+        ];
+        let ran = run_on(rt.alloc(), words.as_slice(), b"".as_slice());
+        expect_eq_at(&rt, &hole, &ran.errors.as_slice(), &line.as_bytes());
+        expect_eq_at(&rt, &hole, &ran.status, &2);
+        expect_eq_at(&rt, &hole, &ran.output.len(), &0);
+    }
+}
+
+// The line has its pull-up, and nothing else: enough levels for a whole run.
+#[test]
+fn a_port_that_answers_nothing_does_not_fit(rt: HostRuntime) -> Result<(), Fail> {
+    let mut levels = Vec::new(rt.alloc());
+    for _ in 0..20_000 {
+        levels.push(b'1')?;
+    }
+    let words = ["swd", "conform", "--remote", "--plain", "20000000", "80"];
+    let ran = run_on(rt.alloc(), words.as_slice(), levels.as_slice());
     expect_eq(&rt, &ran.status, &2);
-    expect_eq(&rt, &ran.output.len(), &0);
+    let said = b"swd: not reached: anything, since the port answered no request\n".as_slice();
+    assert!(rt; ran.errors.ends_with(said));
+    Ok(())
 }

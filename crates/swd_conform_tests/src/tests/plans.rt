@@ -17,7 +17,7 @@ const WHOLE: Option<Without> = Some(Without {
     kilobyte: false,
 });
 
-const ROWS: [Row; 12] = [
+const ROWS: [Row; 15] = [
     Row {
         base: 0x2000_0ff0,
         words: 80,
@@ -115,6 +115,25 @@ const ROWS: [Row; 12] = [
         hole: None,
         without: None,
     },
+    // An address that isn't one without memory, or no multiple of 4.
+    Row {
+        base: 0x2000_0000,
+        words: 80,
+        hole: Some(0x2000_0000),
+        without: None,
+    },
+    Row {
+        base: 0x2000_0004,
+        words: 80,
+        hole: Some(0x2000_0140),
+        without: None,
+    },
+    Row {
+        base: 0x2000_0008,
+        words: 80,
+        hole: Some(0x3000_0002),
+        without: None,
+    },
 ];
 
 // The row of the memory for which a plan leaves out another thing than its row says.
@@ -173,4 +192,50 @@ fn plans_end(rt: HostRuntime) {
         assert!(rt; least < steps && steps < MOST_STEPS, "{steps} steps");
         assert!(rt; writes > 40, "{writes} writes");
     }
+}
+
+// Whether a step leaves alone what silicon has beside the model: the banked data registers, the transfer counter, and
+// the high half of a 64-bit address.
+fn is_harmless(step: Step) -> bool {
+    let Step::Ask { request, word, .. } = step else {
+        return true;
+    };
+    if request.read {
+        return true;
+    }
+    match (request.ap, request.addr as u8) {
+        // SELECT
+        (false, 2) => word >> 4 & 15 != 1,
+        // CTRL/STAT
+        (false, 1) => word & 0x5000_0000 == 0 || word & 0x003f_f000 == 0,
+        (true, 2) => word == 0,
+        _ => true,
+    }
+}
+
+// The number of steps of a plan, and of those among them that aren't harmless.
+fn harmful(plan: Plan) -> (u32, u32) {
+    let mut plan = plan;
+    let (mut steps, mut harmful) = (0u32, 0u32);
+    for _ in 0..=MOST_STEPS {
+        let Some(step) = plan.next() else {
+            return (steps, harmful);
+        };
+        steps = steps.saturating_add(1);
+        if !is_harmless(step) {
+            harmful = harmful.saturating_add(1);
+        }
+    }
+    (steps, harmful)
+}
+
+#[test]
+fn plans_leave_the_other_registers_alone(rt: HostRuntime) {
+    let Some(plan) = Plan::new(0x2000_0ff0, 80, Some(0x3000_0000)) else {
+        assert!(rt; false, "no plan");
+        return;
+    };
+    let (steps, harmful) = harmful(plan);
+    assert!(rt; steps > 1500, "{steps} steps");
+    assert_eq!(rt; harmful, 0);
 }

@@ -2,7 +2,7 @@
 use super::expect::{expect_eq, expect_eq_at};
 use std::alloc::Global;
 use std::test::Fail;
-use swd_command_line::{CommandLine, DecodeLine, ImageAction};
+use swd_command_line::{CommandLine, ImageAction, ImageLine, RunLine};
 use swd_words::{LineFault, line};
 
 // What `clap` says of the words: its help, or what is wrong with them.
@@ -10,6 +10,37 @@ fn said_of(alloc: Global, words: &[&str]) -> Result<String, Fail> {
     match line(alloc, words) {
         Err(LineFault::Clap(error)) => Ok(format!(in alloc; "{error}")?),
         _ => Err(Fail::from("clap said nothing")),
+    }
+}
+
+// Whether the words ask for nothing.
+fn is_refused(alloc: Global, words: &[&str]) -> bool {
+    matches!(line(alloc, words), Err(LineFault::Clap(_)))
+}
+
+// The arguments of a run, if the words ask for one.
+fn run_of(alloc: Global, words: &[&str]) -> Option<RunLine> {
+    match line(alloc, words) {
+        Ok(CommandLine::Run(run)) => Some(run),
+        _ => None,
+    }
+}
+
+// The arguments of a load, a verification or a dump, if the words ask for one.
+fn image_of(alloc: Global, words: &[&str]) -> Option<ImageLine> {
+    match line(alloc, words) {
+        Ok(CommandLine::Image(image)) => Some(image),
+        _ => None,
+    }
+}
+
+// The file of `one`, `decode` or `encode`, if the words ask for this command.
+fn file_of(alloc: Global, command: &str, words: &[&str]) -> Option<Option<String>> {
+    match (command, line(alloc, words)) {
+        ("one", Ok(CommandLine::One(file))) => Some(file),
+        ("decode", Ok(CommandLine::Decode(decode))) => Some(decode.file),
+        ("encode", Ok(CommandLine::Encode(file))) => Some(file),
+        _ => None,
     }
 }
 
@@ -61,6 +92,8 @@ fn help_tells_each_word(rt: HostRuntime) -> Result<(), Fail> {
         ["swd", "target", "--help"].as_slice(),
         ["swd", "draw", "--help"].as_slice(),
         ["swd", "check", "--help"].as_slice(),
+        ["swd", "conform", "--help"].as_slice(),
+        ["swd", "info", "--help"].as_slice(),
         ["swd", "load", "--help"].as_slice(),
         ["swd", "verify", "--help"].as_slice(),
         ["swd", "dump", "--help"].as_slice(),
@@ -123,31 +156,12 @@ fn help_tells_each_word(rt: HostRuntime) -> Result<(), Fail> {
 }
 
 #[test]
-fn words_without_a_file(rt: HostRuntime) {
-    let one = line(rt.alloc(), ["swd", "one"].as_slice());
-    assert!(rt; matches!(one, Ok(CommandLine::One(None))));
-    let decode = line(rt.alloc(), ["swd", "decode"].as_slice());
-    assert!(rt;
-        matches!(
-            decode,
-            Ok(CommandLine::Decode(DecodeLine { file: None, .. }))
-        )
-    );
-    let encode = line(rt.alloc(), ["swd", "encode"].as_slice());
-    assert!(rt; matches!(encode, Ok(CommandLine::Encode(None))));
-}
-
-#[test]
-fn words_with_a_file(rt: HostRuntime) -> Result<(), Fail> {
+fn words_with_and_without_a_file(rt: HostRuntime) -> Result<(), Fail> {
     for command in ["one", "decode", "encode"] {
-        let words = ["swd", command, "a"];
-        let file = match (command, line(rt.alloc(), words.as_slice())) {
-            ("one", Ok(CommandLine::One(file))) => file,
-            ("decode", Ok(CommandLine::Decode(decode))) => decode.file,
-            ("encode", Ok(CommandLine::Encode(file))) => file,
-            _ => None,
-        };
-        let name = file.ok_or("no name")?;
+        let file = file_of(rt.alloc(), command, ["swd", command].as_slice());
+        assert!(rt; file.ok_or("another command")?.is_none());
+        let file = file_of(rt.alloc(), command, ["swd", command, "a"].as_slice());
+        let name = file.ok_or("another command")?.ok_or("no name")?;
         expect_eq(&rt, &name.as_str(), &"a");
     }
     Ok(())
@@ -156,11 +170,8 @@ fn words_with_a_file(rt: HostRuntime) -> Result<(), Fail> {
 // The number of bytes of a dump.
 fn count_in(alloc: Global, word: &str) -> Option<u32> {
     let words = ["swd", "dump", "0", word, "file", "--remote"];
-    match line(alloc, words.as_slice()) {
-        Ok(CommandLine::Image(image)) => match image.action {
-            ImageAction::Dump(count) => Some(count),
-            _ => None,
-        },
+    match image_of(alloc, words.as_slice())?.action {
+        ImageAction::Dump(count) => Some(count),
         _ => None,
     }
 }
@@ -200,29 +211,13 @@ fn numbers_of_bytes(rt: HostRuntime) {
     }
 }
 
-fn resumes_in(alloc: Global, words: &[&str]) -> Option<u32> {
-    match line(alloc, words) {
-        Ok(CommandLine::Run(run)) => Some(run.resumes),
-        _ => None,
-    }
-}
-
-fn tries_in(alloc: Global, words: &[&str]) -> Option<u32> {
-    match line(alloc, words) {
-        Ok(CommandLine::Run(run)) => Some(run.tries),
-        _ => None,
-    }
-}
-
 #[test]
 fn words_of_a_run(rt: HostRuntime) -> Result<(), Fail> {
     let words = ["swd", "run", "s", "--plan", "p"];
-    let Ok(CommandLine::Run(run)) = line(rt.alloc(), words.as_slice()) else {
-        return Err(Fail::from("no run"));
-    };
+    let run = run_of(rt.alloc(), words.as_slice()).ok_or("no run")?;
     expect_eq(&rt, &run.script.as_str(), &"s");
     expect_eq(&rt, &run.plan.ok_or("no plan")?.as_str(), &"p");
-    expect_eq(&rt, &run.tries, &8);
+    expect_eq(&rt, &(run.tries, run.resumes), &(8, 0));
     assert!(rt; run.trace.is_none() && run.accesses.is_none());
     let words = [
         "swd",
@@ -235,9 +230,7 @@ fn words_of_a_run(rt: HostRuntime) -> Result<(), Fail> {
         "--accesses",
         "a",
     ];
-    let Ok(CommandLine::Run(run)) = line(rt.alloc(), words.as_slice()) else {
-        return Err(Fail::from("no run"));
-    };
+    let run = run_of(rt.alloc(), words.as_slice()).ok_or("no run")?;
     expect_eq(&rt, &run.script.as_str(), &"s");
     expect_eq(&rt, &run.plan.ok_or("no plan")?.as_str(), &"p");
     expect_eq(&rt, &run.tries, &8);
@@ -245,14 +238,10 @@ fn words_of_a_run(rt: HostRuntime) -> Result<(), Fail> {
     expect_eq(&rt, &run.accesses.ok_or("no accesses")?.as_str(), &"a");
     assert!(rt; !run.strict && !run.progress);
     let words = ["swd", "run", "--strict", "s"];
-    let Ok(CommandLine::Run(run)) = line(rt.alloc(), words.as_slice()) else {
-        return Err(Fail::from("no run"));
-    };
+    let run = run_of(rt.alloc(), words.as_slice()).ok_or("no run")?;
     assert!(rt; run.strict && !run.progress);
     let words = ["swd", "run", "s", "--progress"];
-    let Ok(CommandLine::Run(run)) = line(rt.alloc(), words.as_slice()) else {
-        return Err(Fail::from("no run"));
-    };
+    let run = run_of(rt.alloc(), words.as_slice()).ok_or("no run")?;
     assert!(rt; run.progress && !run.strict);
     for (text, tries) in [
         ("0", Some(0)),
@@ -264,18 +253,15 @@ fn words_of_a_run(rt: HostRuntime) -> Result<(), Fail> {
         ("", None),
     ] {
         let words = ["swd", "run", "s", "--tries", text];
-        expect_eq(&rt, &tries_in(rt.alloc(), words.as_slice()), &tries);
+        let found = run_of(rt.alloc(), words.as_slice()).map(|run| run.tries);
+        expect_eq_at(&rt, &text, &found, &tries);
         let words = ["swd", "run", "s", "--resume", text];
-        expect_eq(&rt, &resumes_in(rt.alloc(), words.as_slice()), &tries);
+        let found = run_of(rt.alloc(), words.as_slice()).map(|run| run.resumes);
+        expect_eq_at(&rt, &text, &found, &tries);
     }
-    expect_eq(
-        &rt,
-        &resumes_in(rt.alloc(), ["swd", "run", "s"].as_slice()),
-        &Some(0),
-    );
     let words = ["swd", "run", "s", "--tries", "5", "--resume", "7"];
-    expect_eq(&rt, &tries_in(rt.alloc(), words.as_slice()), &Some(5));
-    expect_eq(&rt, &resumes_in(rt.alloc(), words.as_slice()), &Some(7));
+    let run = run_of(rt.alloc(), words.as_slice()).ok_or("no run")?;
+    expect_eq(&rt, &(run.tries, run.resumes), &(5, 7));
     Ok(())
 }
 
@@ -295,9 +281,7 @@ fn remote_has_a_value_after_an_equals_sign_alone(rt: HostRuntime) -> Result<(), 
         let mut words = Vec::new(rt.alloc());
         words.extend_from_slice(&["swd", "run", "--report", "r"])?;
         words.extend_from_slice(more)?;
-        let Ok(CommandLine::Run(run)) = line(rt.alloc(), words.as_slice()) else {
-            return Err(Fail::from("no run"));
-        };
+        let run = run_of(rt.alloc(), words.as_slice()).ok_or("no run")?;
         expect_eq_at(&rt, &more, &run.script.as_str(), &script);
         expect_eq_at(
             &rt,
@@ -312,8 +296,7 @@ fn remote_has_a_value_after_an_equals_sign_alone(rt: HostRuntime) -> Result<(), 
         ["swd", "info", "--remote", "in,out"].as_slice(),
         ["swd", "info", "--remote", "--remote=a"].as_slice(),
     ] {
-        let refused = matches!(line(rt.alloc(), words), Err(LineFault::Clap(_)));
-        expect_eq_at(&rt, &words, &refused, &true);
+        expect_eq_at(&rt, &words, &is_refused(rt.alloc(), words), &true);
     }
     Ok(())
 }
@@ -334,16 +317,7 @@ fn words_that_are_no_command(rt: HostRuntime) {
         ["swd", "run", "a", "--progress=yes"].as_slice(),
         ["swd", "load", "0", "a", "--remote", "--check=yes"].as_slice(),
     ] {
-        let refused = matches!(line(rt.alloc(), words), Err(LineFault::Clap(_)));
-        assert!(rt; refused);
-    }
-}
-
-// Whether these arguments ask for a check of the session with an image.
-fn is_checked(alloc: Global, words: &[&str]) -> Option<bool> {
-    match line(alloc, words) {
-        Ok(CommandLine::Image(image)) => Some(image.check),
-        _ => None,
+        expect_eq_at(&rt, &words, &is_refused(rt.alloc(), words), &true);
     }
 }
 
@@ -371,7 +345,7 @@ fn a_session_with_an_image_is_checked_where_it_is_asked_for(rt: HostRuntime) -> 
             let mut words = Vec::new(rt.alloc());
             words.extend_from_slice(command)?;
             words.extend_from_slice(more)?;
-            let found = is_checked(rt.alloc(), words.as_slice());
+            let found = image_of(rt.alloc(), words.as_slice()).map(|image| image.check);
             expect_eq_at(&rt, &words.as_slice(), &found, &check);
         }
     }
@@ -380,11 +354,7 @@ fn a_session_with_an_image_is_checked_where_it_is_asked_for(rt: HostRuntime) -> 
 
 // The address of the memory that these arguments name.
 fn base_in(alloc: Global, words: &[&str]) -> Option<u32> {
-    let Ok(CommandLine::Image(image)) = line(alloc, words) else {
-        return None;
-    };
-    let memory = image.memory?;
-    Some(memory.base)
+    Some(image_of(alloc, words)?.memory?.base)
 }
 
 // The address of a memory, and the file of its plan.
@@ -409,9 +379,7 @@ fn a_base_is_the_address_of_a_word(rt: HostRuntime) -> Result<(), Fail> {
     let words = [
         "swd", "dump", "1", "2", "to", "--plan", "p", "--memory", "ram",
     ];
-    let Ok(CommandLine::Image(image)) = line(rt.alloc(), words.as_slice()) else {
-        return Err(Fail::from("no command"));
-    };
+    let image = image_of(rt.alloc(), words.as_slice()).ok_or("no image")?;
     expect_eq(&rt, &image.action, &ImageAction::Dump(2));
     let memory = image.memory.ok_or("no memory")?;
     expect_eq(&rt, &memory.file.as_str(), &"ram");

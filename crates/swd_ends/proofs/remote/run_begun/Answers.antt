@@ -27,7 +27,7 @@ returns g c =
     g.B.InitialStreams.left c.hang_up.result calls ∥₁ in
     remote_end_ran_by_calls (λ w. w.noted.calls) story c.args.limits Over
     (map script_batch_listed c.args.script.now.batches.items) (map script_batch_listed c.as_slice-batches.result.now)
-    (ap (map script_batch_listed) c.as_slice-batches.ensures.value) c.begun-wire.result wire c.begun-wire.ensures
+    (ap (map script_batch_listed) c.as_slice-batches.ensures.value) c.begun-wire.result wire c.begun-wire.ensures.calls
     (remote_connection_went_over g.R.Read.remaining g.W.Write.contents g.B.InitialStreams.sent g.B.InitialStreams.left
     wire.noted.calls wire.gone
     c.into_transport.result c.hang_up.result (c.into_transport.ensures refl) c.hang_up.ensures)

@@ -11,13 +11,14 @@ returns g c =
       calls = c.run-ran.new.wire.noted.calls;
       closes = c.run-ran.ensures.closes;
       fits = host_run_fresh_wire c.run-ran.result c.args.accesses.now c.args.tries g.S.Story.at
-          c.begun-wire.result.noted.calls c.run-ran.new.wire.noted.calls c.begun-wire.ensures c.run-ran.ensures.fits;
+          c.begun-wire.result.noted.calls c.run-ran.new.wire.noted.calls c.begun-wire.ensures.calls
+          c.run-ran.ensures.fits;
       told = host_run_noted_calls c.run-ran.result c.args.accesses.now c.begun-wire.result.noted.calls
-          c.run-ran.new.wire.noted.calls c.begun-wire.ensures c.run-ran.ensures.told;
+          c.run-ran.new.wire.noted.calls c.begun-wire.ensures.calls c.run-ran.ensures.told;
       accepted = c.run-ran.ensures.accepted;
       refused = c.run-ran.ensures.refused;
       untouched = remote_still_no_calls c.run-ran.result (λ wire. wire.noted.calls) c.run-ran.new.wire
-          c.begun-wire.result c.begun-wire.ensures c.run-ran.ensures.untouched;
+          c.begun-wire.result c.begun-wire.ensures.calls c.run-ran.ensures.untouched;
       over = record {
         made = went.made;
         gone = c.run-ran.new.wire.gone;

@@ -2,8 +2,9 @@ use Rattle.std.proofs.Common.{subst, sym}
 use Rattle.swd_check.specs.Checkings.{checking_contents}
 use Rattle.swd_console.specs.Streams.{stream_watched}
 use Rattle.swd_capture_text.specs.Captures.{accesses_printed}
+use Rattle.swd_script.specs.Readers.{read_script_meaning}
 use Rattle.swd_run.specs.Records.{run_files_of}
-use Rattle.swd_run_commands.specs.Remotes.{AreRemoteCommandFiles, PerformsRemoteRun}
+use Rattle.swd_run_commands.specs.Remotes.{AreRemoteCommandFiles, RunsRemoteScript}
 use Rattle.swd_run_commands.proofs.RecordLemmas.{run_files_told}
 use Rattle.swd_run_commands.proofs.remote_command.report_to_file.Goals as goal
 
@@ -11,17 +12,17 @@ pub returns : goal.returns
 returns g c =
     let contents = stream_watched (checking_contents g.T.Write.contents) in
     let told = c.paced-records.ensures in
-    subst (λ line. PerformsRemoteRun g.P.Story.at c.args.run.now c.ended.result.0 g.I.Read.remaining g.O.Write.contents
+    subst (λ line. RunsRemoteScript g.P.Story.at c.args.run.now c.ended.result.0 g.I.Read.remaining g.O.Write.contents
     (g.O.Write.contents c.args.line.writer) (g.I.Read.remaining c.args.line.reader) line
-    (g.S.Read.remaining c.args.script.reader)) (sym c.ended.ensures.line) (
-      c.run_remote-answer.result.0,
+    (read_script_meaning c.args.script.now).batches) (sym c.ended.ensures.line) (
+      c.run_remote_script-answer.result.0,
       _,
       _,
       run_files_of contents accesses_printed c.paced-records.result,
-      run_files_of contents accesses_printed c.run_remote-answer.new.records,
+      run_files_of contents accesses_printed c.run_remote_script-answer.new.records,
       subst (AreRemoteCommandFiles c.args.run.now)
           (sym (run_files_told contents c.args.records c.paced-records.result told.trace told.accesses told.printer))
-          c.requires,
-      c.run_remote-answer.ensures,
+          c.requires.files,
+      c.run_remote_script-answer.ensures,
       c.ended.ensures.status,
     )

@@ -20,3 +20,6 @@ returns-in-Ok-read_target g c =
 
 pub returns : goal.returns
 returns g c = inl (c.target_status.ensures, Appends-nil _)
+
+pub returns-in-Err-cut_off_session : goal.returns-in-Err-cut_off_session
+returns-in-Err-cut_off_session g c = inl (c.in-Err-cut_off_session.ensures, Appends-nil _)

@@ -4,7 +4,7 @@ use Rattle.swd_conform.proofs.RunLemmas.{conform_came, conform_goes_none, confor
 use Rattle.swd_conform.proofs.over_wire.ConformRunLineJob.perform.Goals as goal
 
 pub steps-init : goal.steps-init
-steps-init g c = conform_goes_none (λ calls w. wire_calls w ≡ calls) _ _ _ refl refl
+steps-init g c = conform_goes_none (λ calls w. wire_calls w ≡ calls) _ _ _ refl refl refl
 
 pub steps-preserved : goal.steps-preserved
 steps-preserved g c =

@@ -3,7 +3,7 @@ use Rattle.swd_conform.proofs.RunLemmas.{conform_makes_more, conform_makes_none,
 use Rattle.swd_conform.proofs.run.ConformRun.ask.Goals as goal
 
 pub loop-tried-init : goal.loop-tried-init
-loop-tried-init g c = conform_makes_none g.W.Wire.notes _ _ _ refl refl refl refl
+loop-tried-init g c = conform_makes_none g.W.Wire.notes _ _ _ refl refl refl refl refl
 
 pub loop-tried-preserved : goal.loop-tried-preserved
 loop-tried-preserved g c =

@@ -12,4 +12,4 @@ pub returns-then-has_refusal : goal.returns-then-has_refusal
 returns-then-has_refusal g c = c.call-then-has_refusal.ensures.makes
 
 pub returns-else-has_refusal : goal.returns-else-has_refusal
-returns-else-has_refusal g c = conform_makes_none g.W.Wire.notes _ _ _ refl refl refl refl
+returns-else-has_refusal g c = conform_makes_none g.W.Wire.notes _ _ _ refl refl refl refl refl

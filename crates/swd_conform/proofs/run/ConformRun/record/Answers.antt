@@ -1,8 +1,11 @@
-use Rattle.std.proofs.Common.{Option, ◌∙◌, sym, ap, subst, arith}
+use Rattle.std.proofs.Common.{Option, List, ◌∙◌, sym, ap, subst, arith}
+use Rattle.std.proofs.Math.Logic.{∥∥₁_map, ∥∥₁_map₂}
+use Rattle.swd_port.specs.declared.call.Call.{Call}
 use Rattle.swd_check.specs.Watched.{CheckTakes}
 use Rattle.swd_recorder.specs.declared.in_hand.InHand.{InHand}
 use Rattle.swd_recorder.specs.Items.{recorded_in_hand_by}
 use Rattle.swd_check.specs.Calls.{checked_call_items}
+use Rattle.swd_conform.specs.Aims.{ConformStays, IsConformAim}
 use Rattle.swd_conform.proofs.RunLemmas.{conform_counts}
 use Rattle.swd_conform.proofs.run.ConformRun.record.Goals as goal
 
@@ -14,6 +17,11 @@ invariant_of-self g c =
       bounded = omega (arith, c.requests_of.ensures, c.requires.room);
       counted = conform_counts c.args.cue c.args.seen self.requests _ self.noted.calls _ c.and-self.ensures
           c.requests_of.ensures self.counted;
+      aimed = ∥∥₁_map self.aimed (λ h.
+          subst (λ (calls : List Call). IsConformAim self.bounds c.after-self.result calls) (sym c.and-self.ensures)
+          (c.after-self.ensures self.noted.calls self.held h));
+      stays = subst (λ (calls : List Call). ∥ ConformStays self.bounds calls ∥₁) (sym c.and-self.ensures)
+          (∥∥₁_map₂ c.requires.stays self.stays (λ may stays. (may, stays)));
     }
 
 pub returns-clause-takes : goal.returns-clause-takes

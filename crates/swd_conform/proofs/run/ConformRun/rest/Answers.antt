@@ -6,4 +6,4 @@ pub returns-then-is_free : goal.returns-then-is_free
 returns-then-is_free g c = c.call.ensures.makes
 
 pub returns-else-is_free : goal.returns-else-is_free
-returns-else-is_free g c = conform_makes_none g.W.Wire.notes _ _ _ refl refl refl refl
+returns-else-is_free g c = conform_makes_none g.W.Wire.notes _ _ _ refl refl refl refl refl

@@ -2,6 +2,7 @@ use Rattle.std.proofs.Common.{◌≡◌, ◌≢◌, ◌<◌, ◌≤◌, ◌++◌
 use Rattle.swd_script.specs.Lines.{is_script_blank}
 use Rattle.swd_script.specs.Scans.{ScriptScanHoldsAt, IsScriptCodeSoFar}
 use Rattle.swd_script.proofs.ScanLemmas.{script_blank_byte_tests, script_code_so_far, script_code_spoiled_by_byte}
+use Rattle.swd_script.proofs.WordLemmas.{script_gathers_blank}
 use Rattle.swd_script.proofs.ScanLemmas.{script_high_byte_tests, script_low_byte_tests, script_word_byte_tests}
 use Rattle.swd_script.proofs.line_scan.LineScan.code.Goals as goal
 use Rattle.swd_script.proofs.line_scan.LineScan.code.Goals.{in_default-2-via-then-byte-lt33}
@@ -13,9 +14,10 @@ returns-in_default c = λ line h.
     let k : IsScriptCodeSoFar line old.words = subst (λ p. ScriptScanHoldsAt p line old.words) c.requires.code h in
     let blank : is_script_blank c.args.byte ≡ true = sym c.is_blank.ensures ∙ c.if-is_blank.true in
     let hash : c.args.byte ≢ 35 = omega arith in
-    subst (λ p. ScriptScanHoldsAt p (line ++ c.args.byte ∷ []) c.blank.new.self) (sym c.requires.code)
-    (script_code_so_far line c.args.byte old.words c.blank.new.self (script_blank_byte_tests c.args.byte blank hash)
-    (c.blank.ensures line) k)
+    subst (λ p. ScriptScanHoldsAt p (line ++ c.args.byte ∷ []) c.end_word.new.self) (sym c.requires.code)
+    (script_code_so_far line c.args.byte old.words c.end_word.new.self (script_blank_byte_tests c.args.byte blank hash)
+    (script_gathers_blank line old.words c.end_word.new.self c.args.byte blank c.end_word.ensures.ended
+    c.end_word.ensures.last) k)
 
 pub returns-in-33-to-126 : goal.returns-in-33-to-126
 returns-in-33-to-126 c = λ line h.

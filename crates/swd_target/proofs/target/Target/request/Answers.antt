@@ -13,16 +13,16 @@ use Rattle.swd_target.proofs.target.Target.request.Goals as goal
 pub returns-clause-answers : goal.returns-clause-answers
 returns-clause-answers g c =
     let q = c.args.request in
-    let r = c.register_named-register.result in
+    let r = c.named-register.result in
     let before = c.reply-reply.ensures in
     let after = c.apply.ensures in
     let same : port_register c.reply-reply.new.self.select q ≡ r = ap (λ (s : Select). port_register s q) before.select
-    ∙ sym c.register_named-register.ensures in
+    ∙ sym c.named-register.ensures in
     record {
       under = λ mark legal deaf wait. simulated_answers_under g.D.Device.bus mark c.args.waits q c.args.self.now
           c.reply-reply.new.self
           c.apply.new.self c.accept_after.new.self r c.reply-reply.result c.phase-phase.result
-          legal deaf wait (sym c.register_named-register.ensures) same before.settles before.exact before.reply
+          legal deaf wait (sym c.named-register.ensures) same before.settles before.exact before.reply
           before.settled c.phase-phase.ensures.word c.phase-phase.ensures.phase c.phase-phase.ensures.exact
           after.state after.exact c.accept_after.ensures.effect c.accept_after.ensures.exact;
       elsewhere = λ m untouched ready mark legal deaf wait.
@@ -38,14 +38,14 @@ returns-clause-answers g c =
           (target_line_under mark c.phase-phase.result) (target_over_device m t)) (sym last)
           (target_answers_elsewhere g.D.Device.bus m mark c.args.waits q s c.reply-reply.new.self c.apply.new.self r
           c.reply-reply.result c.phase-phase.result
-          legal deaf wait (sym c.register_named-register.ensures) same (before.untouched untouched.ready log) ready
+          legal deaf wait (sym c.named-register.ensures) same (before.untouched untouched.ready log) ready
           untouched.late before.reply before.settled
           c.phase-phase.ensures.word c.phase-phase.ensures.phase c.phase-phase.ensures.exact after.state after.exact);
     }
 
 pub returns-clause-quirks : goal.returns-clause-quirks
 returns-clause-quirks g c =
-    quirks_kept_by_request g.D.Device.bus c.args.waits c.reply-reply.result c.register_named-register.result
+    quirks_kept_by_request g.D.Device.bus c.args.waits c.reply-reply.result c.named-register.result
     c.args.request
     c.args.self.now c.reply-reply.new.self c.apply.new.self c.accept_after.new.self
     c.reply-reply.ensures.exact c.apply.ensures.exact c.accept_after.ensures.exact
@@ -55,7 +55,7 @@ returns-clause-quiet g c = λ late none.
     let s = c.args.self.now in
     let a = c.reply-reply.new.self in
     let after = c.apply.new.self in
-    let r = c.register_named-register.result in
+    let r = c.named-register.result in
     let q = c.args.request in
     let exact = c.reply-reply.ensures.exact in
     let last = c.accept_after.ensures.late
