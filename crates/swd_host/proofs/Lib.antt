@@ -41,6 +41,7 @@ mod FieldsLemmas
 mod Making
 mod SendingStages
 mod Sending
+mod SendingWords
 mod SendingTurns
 mod SendingRuns
 mod Listed

@@ -62,6 +62,8 @@ module _ (kind : Bursts) (tries : ℕ) (list : List Access) (o f : Engine) (befo
   none_counted : EngineCountsCalls list [] o []
   none_counted = record {
     requests = opened.requests;
+    makes = tt;
+    goes_on = refl;
     rests = subst (λ x. EngineCallsAtRestIn (engine_is_ahead_in x o.task) list [] o.ahead o.task [])
         (sym opened.has.at)
         (subst (λ a. EngineAccessEnded list [] a o.task []) (sym opened.ahead)

@@ -1,7 +1,7 @@
 -- What is reported of a list matches what was sent: along the list, and for the whole run.
 use Rattle.swd_host.proofs.Words.{◌≡◌, ◌≢◌, ◌+◌, ◌*◌, ◌^◌, ◌<◌, ◌≤◌, ◌++◌, ◌∷◌, [], ℕ, Bool, true, false, refl, sym, ap}
-use Rattle.swd_host.proofs.Words.{subst, arith, ◌∙◌, List, length, get_or, Option, Some, None, if◌then◌else◌, Access}
-use Rattle.swd_host.proofs.Words.{Answer, Answered, Stopped, Task, Resting, End, All, Engine, Bursts, Port}
+use Rattle.swd_host.proofs.Words.{subst, inr, arith, ◌∙◌, List, length, get_or, Option, Some, None, if◌then◌else◌}
+use Rattle.swd_host.proofs.Words.{Access, Answer, Answered, Stopped, Task, Resting, End, All, Engine, Bursts, Port}
 use Rattle.swd_host.proofs.Words.{access_of_task, engine_is_ahead, engine_is_ahead_in, task_is_block, is_burst}
 use Rattle.swd_host.proofs.Words.{engine_outcome, engine_next_failed, task_for, engine_count_more, EngineStarts}
 use Rattle.swd_host.proofs.Words.{HostNextAccess, Closes, HostReport, engine_report, engine_begun}
@@ -18,7 +18,8 @@ use Rattle.swd_port.specs.Stories.{is_port_ask}
 use Rattle.swd_host.specs.Calls.{EngineTurns, EngineTurnsFrom, host_idle_call}
 use Rattle.swd_host.specs.Again.{ResumeCloses, resume_own_report}
 use Rattle.swd_host.specs.Resuming.{host_end_is_all, resume_report}
-use Rattle.swd_host.specs.Sent.{HostSent, HostListHasAccess, HostReportsCalls, other}
+use Rattle.swd_port.specs.PlainMemory.{plain_address}
+use Rattle.swd_host.specs.Sent.{HostSent, HostListHasAccess, HostListHasAddress, HostReportsCalls, other}
 use Rattle.swd_host.specs.Stages.{EngineStood, EngineKnowsAt, EngineKnowsCalls, EngineCallsAtRestIn, engine_counted}
 use Rattle.swd_host.specs.Stages.{EngineCountsCalls, EngineEndsWithCalls, EngineListCalls, engine_most_begun_at}
 use Rattle.swd_host.specs.Standing.{EngineStays}
@@ -27,6 +28,7 @@ use Rattle.swd_host.specs.declared.engine.Ahead.TheVariants.{Unsent}
 use Rattle.swd_host.proofs.Starts.{block_task_is_burst, single_task_not_ahead, same_access, start_access}
 use Rattle.swd_host.proofs.Alone.{burst_next_access, last_task_not_burst}
 use Rattle.swd_host.proofs.SendingStages.{IsTaskInList}
+use Rattle.swd_host.proofs.SendingWords.{EngineMakes, engine_knows_awaits, engine_turns_make}
 use Rattle.swd_host.proofs.SendingTurns.{answered_rests, start_knows, engine_turns_counted, turns_know}
 
 none_follows : (kind : Bursts) (a : Access) → task_is_block (task_for kind a None) ≡ true → ⊥
@@ -68,14 +70,26 @@ module _ (i : ℕ) (list : List Access) (o e g f : Engine) (answers : List Answe
         ));
   }
 
+  -- TAR's word is the address of the access in hand
+  listed : HostListHasAddress list (plain_address (access_of_task g.task))
+  listed = record { place = length answers; access = access_of_task g.task; has = here.has; is = refl }
+
   known : (past calls : List Call) → EngineCountsCalls list answers e past → EngineTurns g calls f
       → (f.requests ≡ engine_counted (calls ++ past)) × EngineKnowsCalls list answers f (calls ++ past)
-  known past calls h turns = (
-    engine_turns_counted g f past calls (starts.requests ∙ h.requests) turns,
-    (turns_know list answers g f past calls (start_access (get_or list i d) following e g starts) here
-        (start_knows list answers (get_or list i d) following e g past starts
-        (burst_next_access i list o e answers t d stays) here h.rests) turns).2,
-  )
+      × EngineMakes list f (calls ++ past)
+  known past calls h turns =
+      let knows : EngineKnowsCalls list answers g past =
+      start_knows list answers (get_or list i d) following e g past starts
+      (burst_next_access i list o e answers t d stays) here h.rests in (
+        engine_turns_counted g f past calls (starts.requests ∙ h.requests) turns,
+        (turns_know list answers g f past calls (start_access (get_or list i d) following e g starts) here knows
+            turns).2,
+        (engine_turns_make list g f past calls (λ none. listed) (record {
+          awaits = engine_knows_awaits list answers g.state g.task g.begun g.ahead past knows;
+          makes = h.makes;
+          goes_on = h.goes_on;
+        }) turns).1,
+      )
 
   answered_counts : (answer : Answer) → engine_outcome f ≡ Some (Answered answer) → (past calls : List Call)
       → EngineCountsCalls list answers e past → EngineTurns g calls f
@@ -85,6 +99,8 @@ module _ (i : ℕ) (list : List Access) (o e g f : Engine) (answers : List Answe
       record {
         requests = knows.0;
         rests = answered_rests list answers f.state f.task f.begun f.ahead (calls ++ past) answer finished knows.1;
+        makes = knows.2.makes;
+        goes_on = knows.2.goes_on;
       }
 
   stopped_most : (end : End) → end ≢ All → (b : ℕ) → engine_most_begun_at end b ≡ b
@@ -102,6 +118,8 @@ module _ (i : ℕ) (list : List Access) (o e g f : Engine) (answers : List Answe
         stood = subst (λ n. EngineStood list answers n (λ s c z. Unit {0}) (calls ++ past))
             (sym (stopped_most end never (engine_begun f) ∙ begun))
             (subst (λ x. EngineKnowsAt list answers x f.task f.begun f.ahead (calls ++ past)) at knows.1);
+        makes = knows.2.makes;
+        idles = λ whole. absurd (never whole);
       }
 
 -- ONE ACCESS AFTER THE OTHER
@@ -172,6 +190,8 @@ engine_sent_all i list o e answers t stays all before after added early late h i
             requests = counts.requests;
             stood = last_rests list answers (engine_is_ahead e) e.ahead e.task (early ++ past) plain
                 (single_task_not_ahead e.state e.task plain) counts.rests;
+            makes = (inr (counts.goes_on, refl), counts.makes);
+            idles = λ whole. refl;
           });
     }
 
@@ -213,6 +233,8 @@ tells_sent list answers f end calls small h = let s = h.stood in record {
   since = s.since;
   few = omega (arith, s.few, most_few end (engine_begun f));
   is = s.is;
+  makes = h.makes;
+  idles = h.idles;
 }
 
 -- the report of a run
@@ -265,6 +287,8 @@ resumed_report_sent rest earlier raw told answers f end calls is by small h =
       );
       is = subst (λ l. HostSent rest l h.stood.sent h.stood.sure h.stood.since calls)
           (sym (drop-append_seam earlier.answers answers)) h.stood.is;
+      makes = h.makes;
+      idles = h.idles;
     })
 
 -- the same of a call that goes on

@@ -7,7 +7,7 @@ use Rattle.swd_host.proofs.Words.{engine_job_is_of, engine_state_is_of, engine_s
 use Rattle.swd_host.proofs.Words.{is_burst_write, access_of_task, Access, Answer, engine_outcome_at, engine_first_state}
 use Rattle.swd_host.proofs.Words.{engine_ahead_failed, engine_count_more, engine_cue, continues_burst, task_for}
 use Rattle.swd_host.proofs.Words.{task_drw_register, engine_request_for, EngineStarts, EngineSeesAck, ◌&&◌, Bursts, End}
-use Rattle.swd_host.proofs.Words.{EngineIsNew}
+use Rattle.swd_host.proofs.Words.{EngineIsNew, engine_stops_at_all, Stopped}
 use Rattle.swd_port.specs.declared.access.Answer.TheVariants.{Written}
 use Rattle.swd_port.specs.declared.call.Call.{Call}
 use Rattle.swd_port.specs.declared.cue.Cue.{Cue}
@@ -35,6 +35,7 @@ use Rattle.swd_host.proofs.Starts.{engine_ahead_burst, engine_ahead_write, block
 use Rattle.swd_host.proofs.SendingStages.{IsTaskInList, engine_none_settled}
 use Rattle.swd_host.proofs.Sending.{ask_knows, waited_knows, faulted_knows, given_knows, taken_knows, knows_as}
 use Rattle.swd_host.proofs.Sending.{state_job, passing, sent_as}
+use Rattle.swd_host.proofs.SendingWords.{opening_turns_make, engine_turns_never}
 
 module _ (list : List Access) (answers : List Answer) where
   turned_by : (e f : Engine) (cue : Cue) (seen : ℕ) (calls : List Call) → engine_state_is_of false e.state ≡ true
@@ -208,6 +209,8 @@ opening_counts list kind again tries e f calls new turns at =
     let nil : calls ++ [] ≡ calls = append-nil calls in
     record {
       requests = engine_turns_counted e f [] calls new.requests turns ∙ ap engine_counted nil;
+      makes = (opening_turns_make list kind again tries e f calls new turns).makes;
+      goes_on = (opening_turns_make list kind again tries e f calls new turns).goes_on;
       rests = subst (λ x. EngineCallsAtRestIn (engine_is_ahead_in x f.task) list [] f.ahead f.task calls) (sym at)
           (subst (λ a. EngineAccessEnded list [] a f.task calls) (sym (opens.ahead (ap engine_is_rested at)))
           (record {
@@ -226,14 +229,19 @@ opening_counts list kind again tries e f calls new turns at =
 
 -- an opening that stopped
 pub opening_stop_sent : (list : List Access) (kind : Bursts) (again : Bool) (tries : ℕ) (e f : Engine) (end : End)
-    (calls : List Call) → EngineIsNew kind again tries e → EngineTurns e calls f
+    (calls : List Call) → EngineIsNew kind again tries e → EngineTurns e calls f → f.state ≡ Resting (Stopped end)
     → EngineEndsWithCalls list [] f end calls
-opening_stop_sent list kind again tries e f end calls new turns =
+opening_stop_sent list kind again tries e f end calls new turns at =
     let opens : OpeningCalls list f calls =
     opening_turns_calls list e f calls (ap (engine_state_is_of true) new.leads) (ap engine_is_rested new.leads) turns in
     record {
       requests = engine_turns_counted e f [] calls new.requests turns ∙ ap engine_counted (append-nil calls);
       stood = record { sent = 0; sure = 0; since = opens.since; at = tt; few = omega arith; is = opens.sent };
+      makes = (opening_turns_make list kind again tries e f calls new turns).makes;
+      idles = λ whole. absurd (let never : engine_stops_at_all f.state ≡ false =
+          engine_turns_never e f calls (ap engine_stops_at_all new.leads) turns in
+          let both : true ≡ false = sym (ap (λ x. engine_stops_at_all (Resting (Stopped x))) whole)
+          ∙ (ap engine_stops_at_all (sym at) ∙ never) in cc);
     }
 
 -- AN ACCESS FROM ITS START

@@ -1,7 +1,8 @@
 -- How a report relates to the calls that were made of the wire, whatever the target answers.
-use Rattle.std.specs.Prelude.{ℕ, ◌≡◌, ◌+◌, ◌<◌, ◌≤◌, ◌==◌, ◌&&◌, ◌||◌, Bool, true, false, Some, List, [], ◌∷◌, ◌++◌}
-use Rattle.std.specs.Prelude.{length, if◌then◌else◌, count_by, slice_index_or as get_or}
+use Rattle.std.specs.Prelude.{ℕ, ◌≡◌, ◌+◌, ◌%◌, ◌<◌, ◌≤◌, ◌==◌, ◌&&◌, ◌||◌, ◌⊎◌, Bool, true, false, Some}
+use Rattle.std.specs.Prelude.{List, [], ◌∷◌, ◌++◌, length, if◌then◌else◌, count_by, slice_index_or as get_or}
 use Rattle.swd_bits.specs.declared.request.Reg4.{Reg4}
+use Rattle.swd_bits.specs.declared.request.Request.{Request}
 use Rattle.swd_bits.specs.declared.request.Reg4.TheVariants.{RC}
 use Rattle.swd_bits.specs.Phases.{data_phase_number, data_phase_word}
 use Rattle.swd_port.specs.declared.access.Access.{Access}
@@ -10,13 +11,17 @@ use Rattle.swd_port.specs.declared.access.Answer.{Answer}
 use Rattle.swd_port.specs.declared.access.Answer.TheVariants.{Written, Value, BusFault}
 use Rattle.swd_port.specs.declared.call.Call.{Call}
 use Rattle.swd_port.specs.declared.cue.Cue.{Cue}
-use Rattle.swd_port.specs.declared.cue.Cue.TheVariants.{Ask, Take, Give}
+use Rattle.swd_port.specs.declared.cue.Cue.TheVariants.{Lead, Ask, Take, Give}
 use Rattle.swd_port.specs.declared.register.Register.{Register}
 use Rattle.swd_port.specs.declared.register.Register.TheVariants.{CtrlStatRead, DrwRead, DrwWrite, RdbuffRead}
-use Rattle.swd_port.specs.declared.register.Register.TheVariants.{ResendRead}
+use Rattle.swd_port.specs.declared.register.Register.TheVariants.{ResendRead, AbortWrite, CtrlStatWrite, SelectWrite}
+use Rattle.swd_port.specs.declared.register.Register.TheVariants.{CswWrite, TarRead, TarWrite, DpOtherRead}
+use Rattle.swd_port.specs.declared.register.Register.TheVariants.{DpIgnoredWrite, ApOtherRead, ApOtherWrite}
+use Rattle.swd_port.specs.PlainMemory.{plain_address}
 use Rattle.swd_port.specs.Registers.{ctrl_stat_holds}
 use Rattle.swd_port.specs.Port.{port_request_for}
 use Rattle.swd_port.specs.Stories.{is_port_ask}
+use Rattle.swd_host.specs.declared.outcome.End.TheVariants.{All}
 use Rattle.swd_host.specs.Reports.{HostReport}
 
 -- OK was seen at a request for this register, for SELECT 0
@@ -120,8 +125,84 @@ pub data HostSent (list : List Access) : List Answer → ℕ → ℕ → HostSin
       → HostListHasAccess list (length answers) a
       → HostSent list answers 1 sure Failed calls → HostSent list (answers ++ BusFault ∷ []) 0 0 Quiet calls
 
+-- The registers of the opening, of an access and of what follows an error, for SELECT 0: DPIDR, ABORT, CTRL/STAT,
+-- SELECT, RESEND, RDBUFF; and of AP 0 CSW, TAR, which is written alone, and DRW.
+abbrev pub is_host_register : Register → Bool
+is_host_register DpOtherRead = false
+is_host_register DpIgnoredWrite = false
+is_host_register TarRead = false
+is_host_register ApOtherRead = false
+is_host_register ApOtherWrite = false
+is_host_register r = true
+
+-- this is the address of an access of the list
+pub record HostListHasAddress (list : List Access) (word : ℕ) : Type 0 where
+  pub place : ℕ
+  pub access : Access
+  pub has : HostListHasAccess list place access
+  pub is : word ≡ plain_address access
+
+-- The words that a host writes to a register (IHI 0031, B2 and MEM-AP). ABORT: only bits [4:1], which clear sticky
+-- flags, so no DAPABORT. SELECT: AP 0 and the banks 0. CTRL/STAT: CSYSPWRUPREQ and CDBGPWRUPREQ alone, so TRNMODE is
+-- normal. CSW: Size word, AddrInc single, 23 in the upper byte. TAR: an address of the list. DRW: `HostSent` says it.
+abbrev pub IsHostWord : List Access → Register → ℕ → Type 0
+IsHostWord list AbortWrite word = (word < 32) × (word % 2 ≡ 0)
+IsHostWord list SelectWrite word = word ≡ 0
+IsHostWord list CtrlStatWrite word = word ≡ 0x5000_0000
+IsHostWord list CswWrite word = word ≡ 0x2300_0012
+IsHostWord list TarWrite word = HostListHasAddress list word
+IsHostWord list DrwWrite word = Unit {0}
+IsHostWord list r word = ⊥
+
+-- a data phase after these calls: OK was seen at a request for a register, and this is a word for it, with right parity
+pub record HostWritesWord (list : List Access) (calls : List Call) (bits : ℕ) : Type 0 where
+  pub register : Register
+  pub word : ℕ
+  pub earlier : List Call
+  pub asked : calls ≡ host_okay register ∷ earlier
+  pub is : IsHostWord list register word
+  pub sends : bits ≡ data_phase_number word
+
+-- a request for a register of the host
+pub record HostAsksRegister (q : Request) : Type 0 where
+  pub register : Register
+  pub known : is_host_register register ≡ true
+  pub is : q ≡ port_request_for register
+
+-- the line reset: 56 ones, the switch from JTAG and 56 ones; or within a transaction 100, of which it drives the last
+-- 66. Two idle cycles follow.
+abbrev pub IsHostReset : Cue → Type 0
+IsHostReset cue = (cue ≡ Lead 56 0 true 2) ⊎ (cue ≡ Lead 100 34 false 2)
+
+-- idle cycles, without a line reset
+abbrev pub is_host_idle : Cue → Bool
+is_host_idle (Lead ones undriven switch zeros) = ones == 0
+is_host_idle cue = false
+
+-- the last call clocks idle cycles
+abbrev pub host_idles : List Call → Bool
+host_idles [] = false
+host_idles (call ∷ calls) = is_host_idle call.cue
+
+-- a line reset comes before all other calls, eight idle cycles after them
+abbrev pub IsHostLead : List Call → Cue → Type 0
+IsHostLead calls cue = ((calls ≡ []) × IsHostReset cue) ⊎ ((host_idles calls ≡ false) × (cue ≡ Lead 0 0 false 8))
+
+-- The cues of a host after these calls. A wire lets it read a data phase or pass a turnaround only where one is due.
+abbrev pub HostMayCue : List Access → List Call → Cue → Type 0
+HostMayCue list calls (Lead ones undriven switch zeros) = IsHostLead calls (Lead ones undriven switch zeros)
+HostMayCue list calls (Ask q) = (host_idles calls ≡ false) × HostAsksRegister q
+HostMayCue list calls (Give bits) = HostWritesWord list calls bits
+HostMayCue list calls cue = Unit {0}
+
+-- each of these calls, the last one first, is one of a host with this list, after those before it
+abbrev pub HostMakes : List Access → List Call → Type 0
+HostMakes list [] = Unit {0}
+HostMakes list (call ∷ calls) = HostMayCue list calls call.cue × HostMakes list calls
+
 -- The theorem. The reported number of requests is exact. Each answer has its DRW request and what confirmed it among
--- the calls. Each data phase of DRW is that of an answered access or of one counted as begun.
+-- the calls. Each data phase of DRW is that of an answered access or of one counted as begun. All requests, words and
+-- leads are those of a host, and at `All` the last call clocks idle cycles.
 pub record HostReportsCalls (list : List Access) (told : HostReport) (calls : List Call) : Type 0 where
   pub requests : told.requests ≡ count_by (λ call. is_port_ask call.cue) calls
   pub sent : ℕ
@@ -129,6 +210,8 @@ pub record HostReportsCalls (list : List Access) (told : HostReport) (calls : Li
   pub since : HostSince
   pub few : sent ≤ told.begun
   pub is : HostSent list told.answers sent sure since calls
+  pub makes : HostMakes list calls
+  pub idles : told.ended ≡ All → host_idles calls ≡ true
 
 -- Between two states of a wire that records its calls it recorded further ones, the last one first, of which P holds.
 abbrev pub HostCalls : {W : Type 0} → (List Call → W → Type 0) → (List Call → Type 0) → W → W → Type 0

@@ -24,6 +24,7 @@ use Rattle.swd_host.specs.declared.task.Task.{Task}
 use Rattle.swd_host.specs.Engines.{engine_begun, engine_is_ahead, engine_is_ahead_at, engine_count_more}
 use Rattle.swd_host.specs.Requests.{engine_job_starts, engine_register_for}
 use Rattle.swd_host.specs.Sent.{HostSent, HostSawNoRefusal, HostSince, host_awaits_drw, host_okay}
+use Rattle.swd_host.specs.Sent.{HostMakes, host_idles}
 use Rattle.swd_host.specs.Sent.{Quiet, Failed as Fails}
 use Rattle.swd_host.specs.Tasks.{task_is_block, task_is_read}
 
@@ -150,11 +151,20 @@ EngineCallsAtRestIn false list answers ahead task calls = EngineAccessEnded list
 abbrev pub EngineCallsAtRest : List Access → List Answer → Engine → List Call → Type 0
 EngineCallsAtRest list answers e calls = EngineCallsAtRestIn (engine_is_ahead e) list answers e.ahead e.task calls
 
+-- the request whose data phase is due was answered OK; before the lead there was no call
+abbrev pub EngineAwaits : State → Task → List Call → Type 0
+EngineAwaits Leading task calls = calls ≡ []
+EngineAwaits (Doing job Data) task calls =
+    (earlier : List Call) × (calls ≡ host_okay (engine_register_for job task) ∷ earlier)
+EngineAwaits state task calls = Unit {0}
+
 -- between two accesses, with the requests counted
 pub record EngineCountsCalls (list : List Access) (answers : List Answer) (e : Engine) (calls : List Call) : Type 0
   where
     pub requests : e.requests ≡ engine_counted calls
     pub rests : EngineCallsAtRest list answers e calls
+    pub makes : HostMakes list calls
+    pub goes_on : host_idles calls ≡ false
 
 -- at `All` no data of another access passed
 abbrev pub engine_most_begun_at : End → ℕ → ℕ
@@ -166,6 +176,8 @@ pub record EngineEndsWithCalls (list : List Access) (answers : List Answer) (e :
     (calls : List Call) : Type 0 where
   pub requests : e.requests ≡ engine_counted calls
   pub stood : EngineStood list answers (engine_most_begun_at end (engine_begun e)) (λ s c f. Unit {0}) calls
+  pub makes : HostMakes list calls
+  pub idles : end ≡ All → host_idles calls ≡ true
 
 -- What an engine that opened its target as o reaches in these calls with a list. The calls follow those of the opening.
 pub record EngineListCalls (list : List Access) (o f : Engine) (before after : List Answer) (end : End)

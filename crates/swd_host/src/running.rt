@@ -260,8 +260,9 @@ pub(crate) fn perform<W: Wire, K: AnswerSink>(
 /// Over a target that conforms to the model, each access answered with a word or as `Written` reached the target's bus
 /// exactly once, and one answered `BusFault` changes no plain memory. The answers are those of the bus to the first
 /// accesses of the list. The run stops early only at a lost acknowledgement or after more than `tries` disturbed
-/// requests; [`resume`](crate::resume) continues from both. A whole run sends eight idle cycles at its end (only
-/// tested), and leaves the target at rest with power on.
+/// requests; [`resume`](crate::resume) continues from both. A whole run sends eight idle cycles at its end, and leaves
+/// the target at rest with power on. What it writes besides is the same whatever the other end sends: to CSW 23000012,
+/// to CTRL/STAT 50000000, to SELECT 0, to ABORT bits of 0000001e, to TAR the address of an access (`HostMakes`).
 ///
 /// A simulated target that was just made is at rest, and so is a target after a run that ended `All`. Flags, power, CSW
 /// and TAR may have any values. `tries` is the number of events that the opening, and each access, may meet.

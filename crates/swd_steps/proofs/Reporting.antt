@@ -121,7 +121,7 @@ closed_by false how list calls e answers end is small short (never_opened h at n
           (ap (λ l. engine_report l e end) none)
           (engine_requests_small (engine_stray_left how.again) (bursts_limit how.kind) list how.tries
           (engine_report answers e end) (port_due_by calls) (closes_spare how.again) short small closes)
-          (opening_stop_sent list how.kind how.again how.tries h.first e end calls new h.went.turns),
+          (opening_stop_sent list how.kind how.again how.tries h.first e end calls new h.went.turns at),
     )
 closed_by false how list calls e answers end is small short (performed o early late parts h at performs does tells) =
     let new : EngineIsNew how.kind how.again how.tries h.first = subst (λ b. SteppedBeginsBy b how h.first) is h.new in

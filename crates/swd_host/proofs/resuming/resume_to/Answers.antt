@@ -100,7 +100,7 @@ returns-in-Err-clause-told g c =
     (resumed_requests_small c.args.accesses.now c.args.tries earlier _ _ c.requires.accepted.0 c.ranges.tries.fits
     (returns-in-Err-clause-continues g c))
     (opening_stop_sent (drop (length before) c.args.accesses.now) Writes true c.args.tries c.again-engine.result
-    c.open.new.engine c.in-Err.end calls c.again-engine.ensures.again turns))
+    c.open.new.engine c.in-Err.end calls c.again-engine.ensures.again turns c.in-Err.ensures.finished))
     c.open.ensures.made
 
 pub returns-clause-told : goal.returns-clause-told

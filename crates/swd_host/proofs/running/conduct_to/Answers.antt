@@ -60,7 +60,7 @@ returns-in-Err-clause-told g c = host_calls_weaken g.W.Wire.notes _ _ _ _
     (engine_requests_small 0 _ c.args.accesses.now c.args.engine.tries _ _ (omega arith) c.requires.accepted.0
     (search rules) (returns-in-Err-clause-closes g c))
     (opening_stop_sent c.args.accesses.now c.args.engine.bursts false c.args.engine.tries c.args.engine
-    c.open.new.engine c.in-Err.end calls c.requires.new turns)) c.open.ensures.made
+    c.open.new.engine c.in-Err.end calls c.requires.new turns c.in-Err.ensures.finished)) c.open.ensures.made
 
 pub returns-clause-told : goal.returns-clause-told
 returns-clause-told g c = host_calls_append g.W.Wire.notes (λ calls. EngineTurns c.args.engine calls c.open.new.engine)
