@@ -8,6 +8,7 @@ pub mod SightLemmas
 pub mod JudgeLemmas
 pub mod StageLemmas
 pub mod MoveLemmas
+pub mod FrontLemmas
 pub mod PairLemmas
 pub mod HoldLemmas
 pub mod ItemLemmas

@@ -6,6 +6,7 @@ pub mod Sights
 pub mod Seen
 pub mod Judged
 pub mod Stages
+pub mod Fronts
 pub mod Fed
 pub mod Decoding
 pub mod PartTexts

@@ -1,11 +1,13 @@
 //! Decodes a capture bit by bit.
 ghost use Rattle.swd_resync.specs.Fed.{IsResyncFed};
+ghost use Rattle.swd_resync.specs.Fronts.{IsResyncFront};
+ghost use Rattle.swd_resync.specs.Holding.{resync_held};
 
 use crate::held::HeldBits;
 use crate::moves::next_move;
 use crate::overrun::Overrun;
 use crate::part::Part;
-use crate::stage::{Move, RemovalStage};
+use crate::stage::{RemovalStage, Step, WholeTx};
 
 /// A decoder of captures. It takes one bit at a time, and returns parts that no later bits can change. How
 /// the bits are divided into calls makes no difference.
@@ -13,8 +15,8 @@ use crate::stage::{Move, RemovalStage};
 /// Call `take` with a bit, and then `due` until it returns `None`. At the end, call `last` until it returns
 /// `None`.
 ///
-/// It allocates nothing: it holds at most 142 bits, a count of zeros among them, and a count of bits before
-/// them.
+/// It allocates nothing: it holds at most 142 bits, a count of zeros among them, a count of bits before them, and what
+/// it saw at their front.
 ///
 /// ```
 /// let mut decoder = CaptureDecoder::new(false);
@@ -29,18 +31,21 @@ use crate::stage::{Move, RemovalStage};
 pub struct CaptureDecoder {
     over: Overrun,
     stage: RemovalStage,
+    // The transaction at the front of the held bits, if the last step saw it.
+    front: Option<WholeTx>,
     held: HeldBits,
     fed: u64,
     ghost fed_so: { IsResyncFed stage held fed },
+    ghost front_so: { IsResyncFront over.phases front (resync_held held) },
 }
 
 impl CaptureDecoder {
-    ghost use Rattle.std.specs.Prelude.{◌≡◌, ◌+◌, ◌-◌, ◌*◌, ◌^◌, ◌<◌, ◌≤◌, List, Bool, [], ◌∷◌, ◌++◌, length, IfSome};
+    ghost use Rattle.std.specs.Prelude.{◌≡◌, ◌+◌, ◌-◌, ◌*◌, ◌^◌, ◌<◌, ◌≤◌, List, Bool, [], ◌∷◌, ◌++◌, length, drop, IfSome};
     ghost use Rattle.std.specs.Prelude.{IfNone};
     ghost use Rattle.swd_resync.specs.Parts.{resync_parts_of};
     ghost use Rattle.swd_resync.specs.Sights.{SightMore};
     ghost use Rattle.swd_resync.specs.Stages.{ResyncMove, resync_with_part};
-    ghost use Rattle.swd_resync.specs.Holding.{resync_held, ResyncTakesMany};
+    ghost use Rattle.swd_resync.specs.Holding.{ResyncTakesMany};
     ghost use Rattle.swd_resync.specs.Decoding.{resync_rest, ResyncHasRead, resync_fed, resync_steps_left};
     ghost use Rattle.swd_resync.specs.Decoding.{ResyncSettled, resync_held_len, IsResyncDecoderStep, ResyncEnds};
     ghost use Rattle.swd_bits.specs.Bits.{low_bits};
@@ -59,6 +64,7 @@ impl CaptureDecoder {
         CaptureDecoder {
             over: Overrun::at_start(over),
             stage: RemovalStage::Start(0),
+            front: None,
             held: HeldBits::new(),
             fed: 0,
         }
@@ -153,9 +159,9 @@ impl CaptureDecoder {
         ensures none { IfNone result (ResyncEnds ended self.new) }
         ensures fed { resync_fed self.new ≡ resync_fed self.old }
     {
-        while let Some(step) = next_move(self.over, ended, self.stage, &self.held) {
+        while let Some(step) = next_move(self.over, ended, self.stage, self.front, &self.held) {
             self.go(&step);
-            if let Some(part) = step.part {
+            if let Some(part) = step.next.part {
                 return Some(part);
             }
         }
@@ -163,12 +169,16 @@ impl CaptureDecoder {
     }
 
     // Removes the bits of a step.
-    fn go(&mut self, step: &Move)
-        requires { (ended : Bool) × ResyncMove self.old.over ended self.old.stage (resync_held self.old.held) step.now }
-        ensures { IsResyncDecoderStep self.old step.now self.new }
+    fn go(&mut self, step: &Step)
+        requires moves { (ended : Bool)
+            × ResyncMove self.old.over ended self.old.stage (resync_held self.old.held) step.now.next }
+        requires behind { IsResyncFront step.now.next.over.phases step.now.behind
+            (drop step.now.next.count (resync_held self.old.held)) }
+        ensures { IsResyncDecoderStep self.old step.now.next self.new }
     {
-        self.held = self.held.without(step.count);
-        self.over = step.over;
-        self.stage = step.stage;
+        self.held = self.held.without(step.next.count);
+        self.over = step.next.over;
+        self.stage = step.next.stage;
+        self.front = step.behind;
     }
 }

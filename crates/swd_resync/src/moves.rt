@@ -1,6 +1,6 @@
 //! The steps of a decoder of captures. `over` is what is known of overrun detection; `ended` means that no bits follow
 //! the held ones. The functions return `None` if more bits are needed, or if no bits are left.
-ghost use Rattle.std.specs.Prelude.{◌≡◌, ◌+◌, ◌^◌, ◌<◌, ◌≤◌, List, Bool, true, false, ◌∷◌, length};
+ghost use Rattle.std.specs.Prelude.{◌≡◌, ◌+◌, ◌^◌, ◌<◌, ◌≤◌, List, Bool, true, false, ◌∷◌, length, IfSome};
 ghost use Rattle.swd_trace.specs.declared.item.Item.TheVariants.{Tx as TxItem};
 ghost use Rattle.swd_resync.specs.Parts.{resync_told};
 ghost use Rattle.swd_resync.specs.Holding.{resync_held};
@@ -8,6 +8,8 @@ ghost use Rattle.swd_resync.specs.Sights.{IsTxSight};
 ghost use Rattle.swd_resync.specs.Stages.{ResyncMoves, resync_stage_counted};
 ghost use Rattle.swd_resync.specs.Stages.{ResyncSeesSwitch, stretch_other_length_move, stretch_stage_behind};
 ghost use Rattle.swd_resync.specs.Stages.{stretch_fate_move, stretch_phase_move};
+ghost use Rattle.swd_resync.specs.Fronts.{IsResyncFront, ResyncSeesBehind, resync_step_move};
+ghost use Rattle.swd_resync.specs.Fronts.{resync_is_acknowledged};
 
 use crate::held::{HeldBits, WINDOW_BITS};
 use crate::judge::{TxFate, bits_before_start, fate_of_tx, other_len, starts_with, stretch_begins};
@@ -15,7 +17,7 @@ use crate::look::{has_phase, is_ones, look};
 use crate::overrun::Overrun;
 use crate::part::{PHASE_BITS, Part};
 use crate::sight::Sight;
-use crate::stage::{Move, RemovalStage};
+use crate::stage::{Move, RemovalStage, Step, WholeTx};
 use swd_bits::{SWITCH, SWITCH_BITS, Tx, TxBits, TxEnd};
 use swd_trace::Item;
 
@@ -25,30 +27,44 @@ const RESET_ONES: u64 = 50;
 // The number of bits of a data phase.
 const SKIPPED_PHASE: u64 = PHASE_BITS as u64;
 
-/// Returns the next step.
+/// Returns the next step. `front` is the transaction at the front of the held bits, if the step before saw it.
 pub(crate) fn next_move(
     over: Overrun,
     ended: bool,
     stage: RemovalStage,
+    front: Option<WholeTx>,
     held: &HeldBits,
-) -> Option<Move>
-    requires { resync_stage_counted stage + length (resync_held held.now) < 2 ^ 64 }
-    ensures { ResyncMoves over ended stage (resync_held held.now) result }
+) -> Option<Step>
+    requires counted { resync_stage_counted stage + length (resync_held held.now) < 2 ^ 64 }
+    requires front { IsResyncFront over.phases front (resync_held held.now) }
+    ensures moves { ResyncMoves over ended stage (resync_held held.now) (resync_step_move result) }
+    ensures behind { ResyncSeesBehind (resync_held held.now) result }
 {
     match stage {
-        RemovalStage::Start(zeros) => at_start(over, ended, zeros, held),
+        RemovalStage::Start(zeros) => alone(at_start(over, ended, zeros, held)),
         RemovalStage::Stretch(zeros) => {
             if zeros == 0 {
-                in_stretch(over, ended, held)
+                in_stretch(over, ended, front, held)
             } else {
-                behind_idle(over, ended, zeros, held)
+                alone(behind_idle(over, ended, zeros, held))
             }
         }
-        RemovalStage::Reset(ones) => in_reset(over, ended, ones, held),
-        RemovalStage::AfterReset => behind_reset(over, ended, held),
-        RemovalStage::AfterSwitch => behind_switch(over, ended, held),
-        RemovalStage::AfterPhase => behind_phase(over, ended, held),
-        RemovalStage::Between(count) => between(over, ended, count, held),
+        RemovalStage::Reset(ones) => alone(in_reset(over, ended, ones, held)),
+        RemovalStage::AfterReset => alone(behind_reset(over, ended, held)),
+        RemovalStage::AfterSwitch => alone(behind_switch(over, ended, held)),
+        RemovalStage::AfterPhase => alone(behind_phase(over, ended, held)),
+        RemovalStage::Between(count) => alone(between(over, ended, count, held)),
+    }
+}
+
+// Returns a step that saw nothing behind its bits.
+fn alone(found: Option<Move>) -> Option<Step>
+    ensures moves { resync_step_move result ≡ found }
+    ensures behind { (bits : List Bool) → ResyncSeesBehind bits result }
+{
+    match found {
+        None => None,
+        Some(next) => Some(Step { next, behind: None }),
     }
 }
 
@@ -93,41 +109,58 @@ fn stay(over: Overrun, stage: RemovalStage) -> Move
 }
 
 // Steps in a stretch.
-fn in_stretch(over: Overrun, ended: bool, held: &HeldBits) -> Option<Move>
-    requires { length (resync_held held.now) < 2 ^ 64 }
-    ensures { ResyncMoves over ended (RemovalStage.Stretch 0) (resync_held held.now) result }
+fn in_stretch(over: Overrun, ended: bool, front: Option<WholeTx>, held: &HeldBits) -> Option<Step>
+    requires counted { length (resync_held held.now) < 2 ^ 64 }
+    requires front { IsResyncFront over.phases front (resync_held held.now) }
+    ensures moves { ResyncMoves over ended (RemovalStage.Stretch 0) (resync_held held.now) (resync_step_move result) }
+    ensures behind { ResyncSeesBehind (resync_held held.now) result }
 {
+    if let Some(front) = front {
+        return tx_step(over, ended, &front, held);
+    }
     match look(over.phases, ended, held) {
         Sight::Wait => None,
         Sight::End => None,
         Sight::Zero => {
             let count = held.run_of(false);
-            Some(Move {
-                count,
-                over,
-                stage: RemovalStage::Stretch(u64::from(count)),
-                part: None,
+            Some(Step {
+                next: Move {
+                    count,
+                    over,
+                    stage: RemovalStage::Stretch(u64::from(count)),
+                    part: None,
+                },
+                behind: None,
             })
         }
-        Sight::Ones => Some(Move {
-            count: WINDOW_BITS,
-            over,
-            stage: RemovalStage::Reset(RESET_ONES),
-            part: None,
+        Sight::Ones => Some(Step {
+            next: Move {
+                count: WINDOW_BITS,
+                over,
+                stage: RemovalStage::Reset(RESET_ONES),
+                part: None,
+            },
+            behind: None,
         }),
-        Sight::Junk => Some(Move {
-            count: 1,
-            over,
-            stage: RemovalStage::Between(1),
-            part: None,
+        Sight::Junk => Some(Step {
+            next: Move {
+                count: 1,
+                over,
+                stage: RemovalStage::Between(1),
+                part: None,
+            },
+            behind: None,
         }),
-        Sight::Cut(bits) => Some(Move {
-            count: bits.len,
-            over,
-            stage: RemovalStage::Stretch(0),
-            part: Some(Part::Item(Item::Cut(bits))),
+        Sight::Cut(bits) => Some(Step {
+            next: Move {
+                count: bits.len,
+                over,
+                stage: RemovalStage::Stretch(0),
+                part: Some(Part::Item(Item::Cut(bits))),
+            },
+            behind: None,
         }),
-        Sight::Tx(tx, len) => tx_move(over, ended, &tx, len, held),
+        Sight::Tx(tx, len) => tx_step(over, ended, &WholeTx { tx, len }, held),
     }
 }
 
@@ -189,14 +222,52 @@ fn fate_move(over: Overrun, tx: &Tx, len: u8, fate: TxFate) -> Move
     }
 }
 
+// Steps in a stretch where a transaction is at the front. Usually another one follows directly.
+fn tx_step(over: Overrun, ended: bool, front: &WholeTx, held: &HeldBits) -> Option<Step>
+    requires { IsTxSight over.phases front.now.tx front.now.len (resync_held held.now) }
+    ensures moves { ResyncMoves over ended (RemovalStage.Stretch 0) (resync_held held.now) (resync_step_move result) }
+    ensures behind { ResyncSeesBehind (resync_held held.now) result }
+{
+    if !is_acknowledged(&front.tx) {
+        return alone(tx_move(over, ended, front, held));
+    }
+    match look(false, ended, &held.without(front.len)) {
+        Sight::Wait => None,
+        Sight::Tx(tx, len) => Some(followed_step(over, front, WholeTx { tx, len })),
+        _ => alone(tx_move(over, ended, front, held)),
+    }
+}
+
+// Returns whether OK, WAIT or FAULT ended a transaction.
+fn is_acknowledged(tx: &Tx) -> bool
+    ensures { result ≡ resync_is_acknowledged tx.now.result }
+{
+    !matches!(&tx.result, TxEnd::NoAck(_))
+}
+
+// Reports a transaction that another follows directly. That one was seen as without overrun detection.
+fn followed_step(over: Overrun, front: &WholeTx, follower: WholeTx) -> Step
+    ensures next { result.next ≡ stretch_fate_move over front.now.tx front.now.len TxFate.Reported }
+    ensures behind { (bits : List Bool) → IsTxSight false follower.tx follower.len bits
+        → IsResyncFront result.next.over.phases result.behind bits }
+{
+    let next = fate_move(over, &front.tx, front.len, TxFate::Reported);
+    let behind = if next.over.phases {
+        None
+    } else {
+        Some(follower)
+    };
+    Step { next, behind }
+}
+
 // Steps in a stretch where a transaction is at the front.
-fn tx_move(over: Overrun, ended: bool, tx: &Tx, len: u8, held: &HeldBits) -> Option<Move>
-    requires { IsTxSight over.phases tx.now len (resync_held held.now) }
+fn tx_move(over: Overrun, ended: bool, front: &WholeTx, held: &HeldBits) -> Option<Move>
+    requires { IsTxSight over.phases front.now.tx front.now.len (resync_held held.now) }
     ensures { ResyncMoves over ended (RemovalStage.Stretch 0) (resync_held held.now) result }
 {
-    match fate_of_tx(over, ended, held, tx, len) {
+    match fate_of_tx(over, ended, held, &front.tx, front.len) {
         None => None,
-        Some(fate) => Some(fate_move(over, tx, len, fate)),
+        Some(fate) => Some(fate_move(over, &front.tx, front.len, fate)),
     }
 }
 

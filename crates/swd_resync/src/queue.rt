@@ -131,6 +131,9 @@ impl Queue {
             front_len: self.front_len - count,
             ..self
         };
+        if others.zeros == 0 && others.back_len == 0 {
+            return others;
+        }
         others.with_zeros().with_bits().with_run()
     }
 

@@ -2,6 +2,7 @@
 
 use crate::overrun::Overrun;
 use crate::part::Part;
+use swd_bits::Tx;
 
 /// What the removed bits imply.
 #[derive(Clone, Copy, Debug)]
@@ -30,4 +31,18 @@ pub(crate) struct Move {
     pub(crate) over: Overrun,
     pub(crate) stage: RemovalStage,
     pub(crate) part: Option<Part>,
+}
+
+/// A transaction at the front of held bits, and its number of bits.
+#[derive(Clone, Copy, Debug)]
+pub(crate) struct WholeTx {
+    pub(crate) tx: Tx,
+    pub(crate) len: u8,
+}
+
+/// A step, and the transaction directly behind the bits that it removes, if it saw one.
+#[derive(Clone, Copy)]
+pub(crate) struct Step {
+    pub(crate) next: Move,
+    pub(crate) behind: Option<WholeTx>,
 }

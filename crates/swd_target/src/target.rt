@@ -155,7 +155,14 @@ impl<D: Device> Target<D> {
     fn step_address(&mut self)
         ensures { TargetAdvances D.bus self.old self.new }
     {
-        if self.increments {
+        if !self.increments {
+            return;
+        }
+        // Inside a kilobyte, as nearly always, the quirk makes no difference, and what is known stays known.
+        let addr = self.tar.word;
+        if addr % 1024 < 1020 {
+            self.tar.word = addr + 4;
+        } else {
             self.tar = self.next_tar();
         }
     }
