@@ -15,7 +15,6 @@ use swd_text::{DecodeFault, EncodeFault, TextFault};
 use swd_trace::ListFault;
 
 mod arguments;
-mod conformance;
 mod desk;
 mod expect;
 mod pen;

@@ -1,6 +1,6 @@
 //! The steps of a decoder of captures. `over` is what is known of overrun detection; `ended` means that no bits follow
 //! the held ones. The functions return `None` if more bits are needed, or if no bits are left.
-ghost use Rattle.std.specs.Prelude.{◌≡◌, ◌+◌, ◌^◌, ◌<◌, ◌≤◌, List, Bool, true, false, ◌∷◌, length, IfSome};
+ghost use Rattle.std.specs.Prelude.{◌≡◌, ◌+◌, ◌^◌, ◌<◌, ◌≤◌, List, Bool, true, false, ◌∷◌, length};
 ghost use Rattle.swd_trace.specs.declared.item.Item.TheVariants.{Tx as TxItem};
 ghost use Rattle.swd_resync.specs.Parts.{resync_told};
 ghost use Rattle.swd_resync.specs.Holding.{resync_held};

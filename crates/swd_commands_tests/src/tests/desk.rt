@@ -315,8 +315,8 @@ fn a_memory_that_cannot_be_written_takes_one_line(rt: HostRuntime) {
     }
 }
 
-// A report that can't be written ends the load with status 2 after its call, and the memory's file has what it left. One
-// that can't be opened changes no file.
+// A report that can't be written ends the load with status 2 after its call, and the memory's file has what it left.
+// One that can't be opened changes no file.
 #[test]
 fn a_report_that_is_not_written(rt: HostRuntime) {
     let words = [
