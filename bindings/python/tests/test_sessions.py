@@ -932,7 +932,7 @@ class WithoutIo(unittest.TestCase):
         for line in (Asynchronous(), (Asynchronous().drive, Asynchronous().sample)):
             with self.assertRaises(swd.NotALine) as caught:
                 swd.Host(line)
-            self.assertIn("use swd.Run", str(caught.exception))
+            self.assertIn("use swd.AsyncSequences, or swd.Run", str(caught.exception))
 
     def test_the_asynchronous_program_of_the_page(self):
         """Two runs at once, each over its line."""
