@@ -92,13 +92,15 @@ class RemoteBitbang(unittest.TestCase):
         return next((write for write in bench.writes() if write not in mine), None)
 
     def is_closed(self, bench, failed):
-        """The line raises its own error, in each later call, too."""
+        """The line raises its own error, in each later call, too, and sends nothing more."""
         self.assertTrue(bench.cable.is_gone)
+        sent = bytes(bench.cable.sent)
         for call in (bench.session.identify, lambda: bench.session.read(BASE)):
             self.assertIsInstance(failed.__cause__, bench.closed)
             with self.assertRaises(swd.LineFailed) as caught:
                 call()
             failed = caught.exception
+        self.assertEqual(bench.cable.sent, sent)
         return False
 
     def test_images(self):
