@@ -145,6 +145,8 @@ class Run:
 
     def _cue_struct(self) -> Any:
         """Returns the struct of the cue, which is at rest once the run has ended."""
+        if self.answered > len(self.accesses):
+            raise LibraryRefused(f"the run has {self.answered} answers, its list {len(self.accesses)} accesses")
         return accepted(self._functions.swd_run_cue(ctypes.byref(self._run)))
 
     def answers(self, first: int) -> Tuple[Answer, ...]:

@@ -5,9 +5,9 @@ import unittest
 
 import swd
 from plain import Damaged, PlainMemory, PlainTarget
-from swd import End, Value
-from test_sessions import damaged, fail_at
-from test_swd import BASE, TARGETS, plan_of
+from swd import End, Read, Value, Write
+from test_sessions import LIST, Sequenced, damaged, fail_at
+from test_swd import BASE, TARGETS, WORD, plan_of, sure_of
 
 # The requests of an opening, and of a read over a target that is open.
 OPENING, POLL = 9, 3
@@ -86,13 +86,13 @@ class Polls(unittest.TestCase):
                         self.assertIs(stop.report.ended, End.LOST)
                         self.assertFalse(session.is_open)
                 self.assertEqual(lost, 2)
-                self.assertEqual(session.run([swd.Read(BASE)]).requests, POLL)
+                self.assertEqual(session.run([Read(BASE)]).requests, POLL)
                 self.assertEqual(target.contended, 0)
 
     def test_too_few_tries(self):
         """The session isn't open afterwards: the next read brings the target to rest, and opens it."""
         marks = {OPENING + POLL + 2: "wait", OPENING + POLL + 2 + 1 + OPENING + POLL + 2: "wait"}
-        for calls in (lambda session: session.read(BASE), lambda session: session.run([swd.Read(BASE)]).words()[0]):
+        for calls in (lambda session: session.read(BASE), lambda session: session.run([Read(BASE)]).words()[0]):
             line, memory = damaged(marks)
             session, ended = swd.Session(line, 0), []
             for word in range(8):
@@ -129,7 +129,7 @@ class Polls(unittest.TestCase):
             for word in (1, 2):
                 memory.words[BASE] = word
                 session.read(BASE)
-                reports.append(session.run([swd.Read(BASE)]))
+                reports.append(session.run([Read(BASE)]))
         self.assertEqual([report.answers for report in reports], [(Value(1),), (Value(2),)])
 
 
@@ -149,10 +149,104 @@ class Identities(unittest.TestCase):
                 for word in (1, 2):
                     memory.words[BASE] = word
                     fail_at(line, opening + at, OSError("unplugged"))
-                    self.assertRaises(swd.LineFailed, host.run, [swd.Read(BASE)])
+                    self.assertRaises(swd.LineFailed, host.run, [Read(BASE)])
                     self.assertEqual(host.identify().word, 0x2BA01477)
-                    self.assertEqual(host.run([swd.Read(BASE)]).words(), [word])
+                    self.assertEqual(host.run([Read(BASE)]).words(), [word])
                 self.assertEqual(target.contended, 0)
+
+
+class Settling(unittest.TestCase):
+    """Calls after one that was lost: they begin by bringing the target to rest. What fails then has a report of the
+    call, of which nothing was done, and it is resumed."""
+
+    CALLS = [
+        ("a host's list", swd.Host, lambda host: host.run(LIST), LIST),
+        ("a list", swd.Session, lambda session: session.run(LIST, check=False), LIST),
+        ("a block", swd.Session, lambda session: session.run_block(BASE, 4), swd.block(BASE, 4)),
+        ("a read", swd.Session, lambda session: session.read(BASE), [Read(BASE)]),
+        ("a write", swd.Session, lambda session: session.write(BASE, WORD), [Write(BASE, WORD)]),
+    ]
+    FAILURES = [
+        (OSError("unplugged"), swd.LineFailed), (KeyboardInterrupt(), swd.Interrupted), (SystemExit(3), SystemExit),
+    ]
+
+    class Queue(Sequenced):
+        """A probe that raises this once, as it makes its queue, after so many times more. The queue is dropped then."""
+
+        left, failure = None, None
+
+        def flush(self):
+            left, self.left = self.left, None if self.left is None else self.left - 1
+            if left == 0:
+                self.queue.clear()
+                raise self.failure
+            Sequenced.flush(self)
+
+    def lost(self, kind, over=lambda line: line, marks=()):
+        """A host whose last run was lost, over a line, and its memory, as if nothing had been done yet."""
+        line, memory = damaged({12: "deaf", **dict(marks)})
+        host = kind(over(line))
+        self.assertIs(host.run([Write(BASE, 1)], check=False).ended, End.LOST)
+        memory.log.clear()
+        memory.words[BASE] = 0
+        return host, line, memory
+
+    def resumed(self, host, raised, accesses, memory):
+        """Whether the report says that nothing was done; and the call is resumed."""
+        report = swd.report_of(raised)
+        self.assertEqual(report, swd.Report((), 0, 0, End.LOST))
+        self.assertEqual(report.accesses, tuple(accesses))
+        self.assertRaises(swd.RunStopped, report.check)
+        self.assertEqual(memory.log, [])
+        whole = host.resume(accesses, report)
+        self.assertIs(whole.ended, End.ALL)
+        sure_of(self, accesses, whole, memory, 65_536, 16)
+
+    def test_a_failure_at_each_clock(self):
+        """The last eight are idle cycles, behind the answers of the opening."""
+        host, line, _ = self.lost(swd.Session)
+        before = len(line.calls)
+        host.identify()
+        clocks = len(line.calls) - before
+        places = [*range(0, clocks - 12, 53), *range(clocks - 12, clocks)]
+        for at, (failure, kind) in itertools.product(places, self.FAILURES):
+            for name, host_kind, call, accesses in self.CALLS:
+                with self.subTest(name, clock=at, of=clocks, kind=kind):
+                    host, line, memory = self.lost(host_kind)
+                    fail_at(line, at, failure)
+                    with self.assertRaises(kind) as caught:
+                        call(host)
+                    self.resumed(host, caught.exception, accesses, memory)
+
+    def test_a_target_that_is_lost_again(self):
+        """At each request that brings it to rest."""
+        for number, (name, kind, call, accesses) in itertools.product(range(13, 22), self.CALLS):
+            with self.subTest(name, request=number):
+                host, _, memory = self.lost(kind, marks={number: "deaf"})
+                with self.assertRaises(swd.RunStopped) as caught:
+                    call(host)
+                self.resumed(host, caught.exception, accesses, memory)
+
+    def test_a_failure_of_each_queue(self):
+        """The last one is flushed at the end of the run that brings the target to rest."""
+        probe = self.Queue(None)
+
+        def over(line):
+            probe.line, probe.left = line, None
+            return swd.Sequences(probe)
+
+        host, _, _ = self.lost(swd.Session, over)
+        probe.left = 1000
+        host.identify()
+        queues = 1000 - probe.left
+        for at, (failure, kind) in itertools.product(range(queues), self.FAILURES):
+            for name, host_kind, call, accesses in self.CALLS:
+                with self.subTest(name, queue=at, of=queues, kind=kind):
+                    host, _, memory = self.lost(host_kind, over)
+                    probe.left, probe.failure = at, failure
+                    with self.assertRaises(kind) as caught:
+                        call(host)
+                    self.resumed(host, caught.exception, accesses, memory)
 
 
 if __name__ == "__main__":

@@ -45,7 +45,7 @@ class RemoteBitbang(unittest.TestCase):
                     accesses = lists[name](here)
                     if self.cut(here, accesses, lambda here=here: acts[name](here, accesses), (at, kind), then):
                         bench = here
-        self.assertGreater(tried, 30 if STEP > 1 else 3000)
+        self.assertGreater(tried * STEP, 10_000)
 
     def cut(self, bench, accesses, act, failure, then):
         """Makes an act whose line fails. Whether the line is usable again."""
@@ -116,7 +116,7 @@ class RemoteBitbang(unittest.TestCase):
                     here, bench = bench, None
                     if self.cut_load(here, BASE + begin, here.words(5)[:size], (at, kind)):
                         bench = here
-        self.assertGreater(tried, 30 if STEP > 1 else 2000)
+        self.assertGreater(tried * STEP, 8_000)
 
     def cut_load(self, bench, addr, image, failure):
         """Loads an image over a line that fails, and continues. Whether the line is usable again."""
@@ -146,6 +146,42 @@ class RemoteBitbang(unittest.TestCase):
         session.verify(addr, image)
         self.assertEqual(session.dump(addr, len(image)), image)
         return True
+
+    def test_readings(self):
+        """Dumps and verifications, which say what was read, and are made again."""
+        tried, addr, size = 0, BASE + 3, 18
+        calls = {"dump": lambda session, _: session.dump(addr, size),
+                 "verify": lambda session, image: session.verify(addr, image)}
+        for (name, call), kind in itertools.product(calls.items(), Cable.KINDS):
+            bench = Bench(self.program)
+            count = self.calls_of(bench, lambda bench: bench.session.dump(addr, size))
+            for at in range(0, count, STEP):
+                with self.subTest(name, kind=kind, call=at):
+                    tried += 1
+                    bench = bench or Bench(self.program)
+                    here, bench = bench, None
+                    here.session.load(BASE, here.words(6))
+                    image = self.content(here.memory)[3:3 + size]
+                    here.cable.fail(at, kind)
+                    if self.reads(here, lambda: call(here.session, image), addr, image):
+                        bench = here
+        self.assertGreater(tried * STEP, 5000)
+
+    def reads(self, bench, call, addr, image):
+        """Reads over a line that fails, and once more. Whether the line is usable again."""
+        try:
+            call()
+            bench.cable.at = None
+        except (swd.ImageStopped, swd.ImageInterrupted) as stop:
+            bench.cable.at = None
+            self.assertEqual((stop.addr, stop.data), (addr + stop.done, image[:stop.done]))
+            self.assertEqual(stop.report.words(), [bench.memory.words[access.addr] for access in
+                                                   stop.report.accesses[:len(stop.report.answers)]])
+            try:
+                self.assertEqual(bench.session.dump(addr, len(image)), image)
+            except swd.ImageStopped as failed:
+                return self.is_closed(bench, failed.__cause__)
+        return not bench.cable.is_gone
 
     @staticmethod
     def content(memory):
