@@ -277,7 +277,8 @@ function formOf(first) {
   return first[0] === 36 ? "a VCD file" : line.includes(44) ? "a CSV export" : "";
 }
 
-// Why a text can't be read on, or has no bits, as `swd decode` says it; or "". The character is named in the first bytes.
+// Why a text can't be read on, or has no bits, as `swd decode` says it; or "". The character is named in the first
+// bytes.
 function reasonOf(text, { bad, count }) {
   if (bad < 0)
     return count ? "" : "no bits found: a trace has a character 0 or 1 for each bit";

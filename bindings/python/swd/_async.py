@@ -12,7 +12,8 @@ from ._uses import Claim, use_of
 
 
 class AsyncSequenceLine(Protocol):
-    """`SequenceLine` with coroutines: what is said there of its calls holds of these. None of them is ever cancelled."""
+    """`SequenceLine` with coroutines: what is said there of its calls holds of these. None of them is ever
+    cancelled."""
 
     def drive(self, bits: int, count: int) -> Awaitable[object]:
         """Makes `count` clocks, at most 64, in which the host drives the low bits of `bits`."""
@@ -35,8 +36,8 @@ class AsyncSequences:
         except asyncio.TimeoutError:
             report = await line.perform(swd.Run.resumed(accesses, run.report()))
 
-    Where `perform` is cancelled, the call of the line that it awaits isn't: it goes on by itself, and the next `perform`
-    begins once it has ended. So no reply stays unread, and no sequence is made in part."""
+    Where `perform` is cancelled, the call of the line that it awaits isn't: it goes on by itself, and the next
+    `perform` begins once it has ended. So no reply stays unread, and no sequence is made in part."""
 
     def __init__(self, line: AsyncSequenceLine) -> None:
         check_names(line)
@@ -48,11 +49,12 @@ class AsyncSequences:
         self._inside = True
 
     async def perform(self, run: Run) -> Report:
-        """Performs a run from its beginning, and returns its report, however it ended. If the run before ended early or was
-        cancelled, and this one doesn't continue it, the target is brought to rest first.
+        """Performs a run from its beginning, and returns its report, however it ended. If the run before ended early
+        or was cancelled, and this one doesn't continue it, the target is brought to rest first.
 
-        Raises `LineFailed` if the line raises an `Exception`, `RunStopped` if the target isn't brought to rest, `Reentered`
-        if the line is in use, and `NotResumable` for a run that was begun: `Run.resumed` continues that one with its report."""
+        Raises `LineFailed` if the line raises an `Exception`, `RunStopped` if the target isn't brought to rest,
+        `Reentered` if the line is in use, and `NotResumable` for a run that was begun: `Run.resumed` continues that
+        one with its report."""
         claim = Claim()
         with claim:
             self._use.begin(claim)
@@ -111,7 +113,7 @@ class AsyncSequences:
         return await asyncio.shield(self._call)
 
     async def _finish(self) -> None:
-        """Awaits the end of a call that goes on since the run was cancelled that made it. How it ends doesn't matter: a run
-        that continues takes its clocks for made or not."""
+        """Awaits the end of a call that goes on since the run was cancelled that made it. How it ends doesn't matter:
+        a run that continues takes its clocks for made or not."""
         if self._call is not None and not self._call.done():
             await asyncio.wait([self._call])

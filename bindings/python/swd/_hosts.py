@@ -126,7 +126,8 @@ class _Driver:
 
         Raises what `run` raises. The message of a `RunStopped` says how far the opening came."""
         is_astray = self._last is not None and self._last is not End.ALL
-        run = settling(self._tries, self._library) if is_astray else Run.of_checked((), self._tries, False, False, self._library)
+        tries, library = self._tries, self._library
+        run = settling(tries, library) if is_astray else Run.of_checked((), tries, False, False, library)
         watch = Watch(self._wire.perform)
         try:
             self._performed(run, None, _whole, watch.perform)

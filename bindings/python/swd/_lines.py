@@ -21,9 +21,10 @@ class Line(Protocol):
     In each clock the target samples SWDIO at the rising edge. If it drives SWDIO, it changes the level after that edge.
     So a call sets up SWDIO, drives SWCLK low, samples SWDIO, and drives SWCLK high.
 
-    A clock that fails was made or wasn't, and all clocks before it were made. A call that fails leaves no reply unread: if
-    it raises, also at Ctrl-C, a reply to it that still comes is dropped before the next clock. Otherwise each later level
-    would be that of an earlier clock. A line that can't be brought into step again raises in each later call."""
+    A clock that fails was made or wasn't, and all clocks before it were made. A call that fails leaves no reply
+    unread: if it raises, also at Ctrl-C, a reply to it that still comes is dropped before the next clock. Otherwise
+    each later level would be that of an earlier clock. A line that can't be brought into step again raises in each
+    later call."""
 
     def drive(self, bit: int) -> object:
         """Makes one clock in which the host drives SWDIO at `bit`, 0 or 1."""

@@ -18,7 +18,8 @@ class Use:
         self._claim: Optional[threading.Lock] = None
 
     def begin(self, claim: threading.Lock) -> None:
-        """Has the call use the line that holds this claim, until it leaves it. Raises `Reentered` if another call does."""
+        """Has the call use the line that holds this claim, until it leaves it. Raises `Reentered` if another call
+        does."""
         with _guard:
             if self._claim is not None and self._claim.locked():
                 raise Reentered("the line is in use by another call, which would lose its place on it")

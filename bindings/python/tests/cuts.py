@@ -10,8 +10,8 @@ class Cable:
     """What the line of README.md is written over, in place of streams and of the modules `os` and `select`: a server of
     remote_bitbang at a plain target. Each call is counted, and one of them meets a failure.
 
-    `fail` has it raise before the call with this number is made, or behind it. `late` keeps the replies of the call back
-    until another one asks for more. After `gone` nothing replies any more."""
+    `fail` has it raise before the call with this number is made, or behind it. `late` keeps the replies of the call
+    back until another one asks for more. After `gone` nothing replies any more."""
 
     KINDS = ("fails before", "fails after", "Ctrl-C before", "Ctrl-C after", "late", "gone")
 
@@ -77,7 +77,8 @@ class Cable:
             self.kept.clear()
 
     def _obey(self, command):
-        """A command of remote_bitbang: O and o drive SWDIO or don't, d to g set SWCLK and SWDIO, c asks for its level."""
+        """A command of remote_bitbang: O and o drive SWDIO or don't, d to g set SWCLK and SWDIO, c asks for its
+        level."""
         if command in "Oo":
             self.drives = command == "O"
         elif command == "c":
@@ -90,8 +91,8 @@ class Cable:
 
 
 class Bench:
-    """A session over the line of README.md, and what is known of the memory behind it. Each written word is another one, so
-    that the memory's log tells how often it was written."""
+    """A session over the line of README.md, and what is known of the memory behind it. Each written word is another
+    one, so that the memory's log tells how often it was written."""
 
     def __init__(self, program):
         names = {}
@@ -114,8 +115,14 @@ class Bench:
         return [entry[1:] for entry in self.memory.log if entry[0] == "w"]
 
 
+def writes_of(accesses):
+    """The addresses and words of the writes among accesses."""
+    return [(access.addr, access.word) for access in accesses if isinstance(access, Write)]
+
+
 def unsound(accesses, report, before, writes):
-    """Says what is false in a report of these accesses, over a memory with these words before, and these writes to it."""
+    """Says what is false in a report of these accesses, over a memory with these words before, and these writes to
+    it."""
     words, done = dict(before), len(report.answers)
     for access, answer in zip(accesses, report.answers):
         if isinstance(access, Write):
@@ -129,7 +136,7 @@ def unsound(accesses, report, before, writes):
             least, most = (1, 1) if index < done else (0, 1) if index < done + report.begun else (0, 0)
             if not least <= times <= most:
                 return f"{access}, {index} of {done} answered and {report.begun} in flight, was written {times} times"
-    foreign = [write for write in writes if write not in [(it.addr, it.word) for it in accesses if isinstance(it, Write)]]
+    foreign = [write for write in writes if write not in writes_of(accesses)]
     if foreign:
         return f"{foreign[0][1]:08x} was written to {foreign[0][0]:08x}"
     if report.ended is End.ALL and (done != len(accesses) or BusFault() in report.answers):

@@ -1,5 +1,5 @@
-"""Tests of calls that are made again: what a call leaves behind, above all where it failed, may not reach the next one. Each
-failure comes twice. They are run as those of test_swd.py."""
+"""Tests of calls that are made again: what a call leaves behind, above all where it failed, may not reach the next
+one. Each failure comes twice. They are run as those of test_swd.py."""
 import itertools
 import unittest
 
@@ -17,8 +17,8 @@ READ_CLOCKS = 46 * POLL + IDLE
 
 
 class Flaky:
-    """A line to a target, whose levels or calls fail while `failure` is set: one that no target answers, or an exception
-    that each call raises."""
+    """A line to a target, whose levels or calls fail while `failure` is set: one that no target answers, or an
+    exception that each call raises."""
 
     def __init__(self, target):
         self.line, self.failure = Damaged(target, []), None
@@ -47,7 +47,8 @@ class Polls(unittest.TestCase):
     ]
 
     def test_a_target_that_is_gone(self):
-        """No read returns the word of the one before. Once the target is there again, each returns the word that it has."""
+        """No read returns the word of the one before. Once the target is there again, each returns the word that it
+        has."""
         for (name, make), (how, failure, kind) in itertools.product(TARGETS.items(), self.FAILURES):
             with self.subTest(name, failure=how):
                 memory = PlainMemory(BASE, 4, 100)
@@ -65,8 +66,8 @@ class Polls(unittest.TestCase):
                     line.failure = None
 
     def test_a_lost_request(self):
-        """At each request of a poll, and of the one behind it: the next read opens the target again, and the one after it
-        is a poll of three requests."""
+        """At each request of a poll, and of the one behind it: the next read opens the target again, and the one
+        after it is a poll of three requests."""
         for mark, number in itertools.product(("deaf", "mute 0", "mute 1"), range(1, 2 * POLL + 1)):
             with self.subTest(mark, number=number):
                 memory = PlainMemory(BASE, 4, 100)

@@ -1,5 +1,5 @@
-"""Tests of the line of asyncio: runs that are cancelled at each call of the line, and continued. They are run as those of
-test_swd.py."""
+"""Tests of the line of asyncio: runs that are cancelled at each call of the line, and continued. They are run as
+those of test_swd.py."""
 import asyncio
 import itertools
 import os
@@ -15,8 +15,8 @@ from test_swd import BASE, PROGRAM, program_of_the_page
 
 
 class Probe:
-    """A probe whose calls are awaited. A call that is cancelled leaves its reply unread, as those of streams do, which the
-    next one takes for its own. One of them stops until `go` is set, or fails."""
+    """A probe whose calls are awaited. A call that is cancelled leaves its reply unread, as those of streams do,
+    which the next one takes for its own. One of them stops until `go` is set, or fails."""
 
     def __init__(self, target):
         self.line, self.owed, self.left, self.go, self.failure = Sequenced(target), [], -1, asyncio.Event(), None
@@ -89,7 +89,8 @@ class Lines(unittest.TestCase):
         self.assertEqual((first.check().words(), second.words(), second.requests, contended), ([7, 9], [7], 3, 0))
 
     def test_a_run_that_is_cancelled(self):
-        """At every third call. Then it is continued, or another list is begun, for which the target is brought to rest."""
+        """At every third call. Then it is continued, or another list is begun, for which the target is brought to
+        rest."""
         async def tried(at, then):
             memory, target, probe, line = self.made()
             probe.left = at
@@ -170,8 +171,8 @@ class Lines(unittest.TestCase):
 
     @unittest.skipUnless(PROGRAM, "SWD names no program")
     def test_the_program_of_the_page(self):
-        """Over `swd target` behind streams, of which a cancelled `readexactly` leaves the reply: a list that takes longer
-        than it may is continued."""
+        """Over `swd target` behind streams, of which a cancelled `readexactly` leaves the reply: a list that takes
+        longer than it may is continued."""
         names = {"swd": swd, "asyncio": asyncio}
         exec(program_of_the_page("async def load"), names)  # pylint: disable=exec-used
         accesses = [Write(BASE + 4 * place, place + 1) for place in range(64)]

@@ -153,8 +153,9 @@ class Checking(unittest.TestCase):
             self.assertEqual(checker.verdict.gaps, gaps)
 
     def test_the_reference(self):
-        """Sessions of right targets, and of targets with a bug, item by item: the last verdict is the reference's, and no right
-        target is found wrong. They are as many as the reference needs to find a wrong one from each start, and more."""
+        """Sessions of right targets, and of targets with a bug, item by item: the last verdict is the reference's,
+        and no right target is found wrong. They are as many as the reference needs to find a wrong one from each
+        start, and more."""
         rng = random.Random(SEED)
         broken = dict.fromkeys(("made", "rest", "any"), 0)
         for number in itertools.count():

@@ -1,11 +1,11 @@
-"""Tests of lines that fail at any one of their calls: after that a session reads, resumes and identifies, and what it says has
-to be true of the target's memory. One of CUTS calls is tried: of 60 without it, and with 1 each."""
+"""Tests of lines that fail at any one of their calls: after that a session reads, resumes and identifies, and what it
+says has to be true of the target's memory. One of CUTS calls is tried: of 60 without it, and with 1 each."""
 import itertools
 import os
 import unittest
 
 import swd
-from cuts import BASE, Bench, Cable, unsound
+from cuts import BASE, Bench, Cable, unsound, writes_of
 from test_swd import program_of_the_page
 
 STEP = int(os.environ.get("CUTS", "60"))
@@ -88,8 +88,7 @@ class RemoteBitbang(unittest.TestCase):
 
     def foreign(self, bench, accesses):
         """A write of the log that no access is."""
-        mine = [(access.addr, access.word) for access in accesses if isinstance(access, swd.Write)]
-        return next((write for write in bench.writes() if write not in mine), None)
+        return next((write for write in bench.writes() if write not in writes_of(accesses)), None)
 
     def is_closed(self, bench, failed):
         """The line raises its own error, in each later call, too, and sends nothing more."""
@@ -108,7 +107,8 @@ class RemoteBitbang(unittest.TestCase):
         tried = 0
         for kind, (begin, size) in itertools.product(Cable.KINDS, ((0, 16), (3, 18))):
             bench = Bench(self.program)
-            count = self.calls_of(bench, lambda bench, size=size, begin=begin: bench.session.load(BASE + begin, bytes(size)))
+            addr, zeros = BASE + begin, bytes(size)
+            count = self.calls_of(bench, lambda bench, addr=addr, zeros=zeros: bench.session.load(addr, zeros))
             for at in range(0, count, STEP):
                 with self.subTest("a load", kind=kind, call=at, begin=begin):
                     tried += 1

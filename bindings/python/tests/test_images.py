@@ -390,7 +390,8 @@ class Failures(unittest.TestCase):
                 for place, raised in CtrlC.at_each(call, ("call", "c_return", "return"), (("return", name),)):
                     with self.subTest(name, place=place):
                         if isinstance(raised, swd.ImageInterrupted):
-                            self.assertEqual((raised.data, raised.addr), (content[:raised.done], BASE + 1 + raised.done))
+                            self.assertEqual(raised.data, content[:raised.done])
+                            self.assertEqual(raised.addr, BASE + 1 + raised.done)
                         else:
                             self.assertEqual(memory.log, [])
                         session.open()

@@ -1,4 +1,5 @@
-"""Tests of the source archive, of the wheel that is built from it, and of the search for the library. They are run as those of test_swd.py."""
+"""Tests of the source archive, of the wheel that is built from it, and of the search for the library. They are run as
+those of test_swd.py."""
 import os
 import re
 import subprocess
@@ -59,8 +60,8 @@ class Packaging(unittest.TestCase):
 
 
 class FirstUse(unittest.TestCase):
-    """The library beside the package is found by the package alone, one that SWD_LIBRARY names before it, and one of the
-    system after it."""
+    """The library beside the package is found by the package alone, one that SWD_LIBRARY names before it, and one of
+    the system after it."""
 
     CODE = """import swd
 try:
@@ -103,8 +104,8 @@ except swd.LibraryNotFound:
                 self.assertEqual([name for name in os.listdir(folder) if name.endswith(".ran")], [])
 
     def test_the_names_that_the_loader_searches(self):
-        """A package of a distribution for programs has the library's soname alone, one for building also the name without
-        its number, which may lead to another version."""
+        """A package of a distribution for programs has the library's soname alone, one for building also the name
+        without its number, which may lead to another version."""
         with open(os.path.join(ROOT, "release", "shared"), encoding="ascii") as script:
             soname = f"libswd_c.so.{re.findall('^abi=([0-9]+)$', script.read(), re.MULTILINE)[0]}"
         with tempfile.TemporaryDirectory() as folder:

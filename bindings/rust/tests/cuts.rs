@@ -1,5 +1,6 @@
-//! Lines that fail at any one of their clocks: after that a session reads, resumes and identifies, and what it says has to be
-//! true of the target's memory. What a call leaves behind doesn't reach the next one; each failure comes twice.
+//! Lines that fail at any one of their clocks: after that a session reads, resumes and identifies, and what it says
+//! has to be true of the target's memory. What a call leaves behind doesn't reach the next one; each failure comes
+//! twice.
 //!
 //! The environment variable CUTS says that one of so many clocks is tried: of 7 without it, and with 1 each.
 
@@ -221,7 +222,8 @@ fn a_poll_whose_target_is_gone() {
     }
 }
 
-// At each request of a poll and of the one behind it. The next read opens the target again, and the one after it is a poll.
+// At each request of a poll and of the one behind it. The next read opens the target again, and the one after it is a
+// poll.
 #[test]
 fn a_poll_that_is_lost_twice() {
     for (mark, number) in
