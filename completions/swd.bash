@@ -3,6 +3,14 @@
 _swd() {
     local word=${COMP_WORDS[COMP_CWORD]} before=${COMP_WORDS[COMP_CWORD - 1]} words= formats=
     local earlier=${COMP_WORDS[COMP_CWORD > 1 ? COMP_CWORD - 2 : 0]}
+    # Of --OPTION=VALUE the sign is a word of its own. Behind the sign alone the value is empty.
+    if [[ $word == = ]]; then
+        word=
+    elif [[ $before == = && $word ]]; then
+        before=$earlier earlier=
+    elif [[ $earlier == = ]]; then
+        earlier=${COMP_WORDS[COMP_CWORD - 3]}
+    fi
     COMPREPLY=()
     if ((COMP_CWORD == 1)); then
         case $word in

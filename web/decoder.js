@@ -269,6 +269,26 @@ async function parse(text, stopped) {
   return { packed, count, bad, bit, slice };
 }
 
+// What a file is that is no trace, by its first bytes, or "".
+function formOf(first) {
+  const end = first.indexOf(10), line = end < 0 ? first : first.subarray(0, end);
+  if (first.subarray(0, 4).join() === "80,75,3,4")
+    return "a sigrok session (.sr)";
+  return first[0] === 36 ? "a VCD file" : line.includes(44) ? "a CSV export" : "";
+}
+
+// Why a text can't be read on, or has no bits, as `swd decode` says it; or "". The character is named in the first
+// bytes.
+function reasonOf(text, { bad, count }) {
+  if (bad < 0)
+    return count ? "" : "no bits found: a trace has a character 0 or 1 for each bit";
+  const first = text.subarray(0, 256), byte = first[bad], form = formOf(first);
+  const named = byte === undefined ? "" : byte > 32 && byte < 127 ? ` '${String.fromCharCode(byte)}'`
+    : ` ${byte.toString(16).padStart(2, "0")}`;
+  const wanted = form ? `this is ${form}, and docs/CAPTURES.md converts it` : "a trace has 0, 1, blanks and comments";
+  return `trace byte ${bad}: bad character${named}: ${wanted}`;
+}
+
 const headOf = request => isAp(request) | isRead(request) << 1 | address(request);
 const ANSWERS = { 1: "ok", 9: "bad", 2: "wait", 4: "fault" };
 

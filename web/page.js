@@ -195,8 +195,7 @@ async function show(name, text, place = 0) {
     if (!found || stopped())
       return;
     shown = found;
-    if (capture.bad >= 0)
-      error = `trace byte ${capture.bad}: bad character`;
+    error = reasonOf(text, capture);
   } catch (reason) {
     if (stopped())
       return;

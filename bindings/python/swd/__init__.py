@@ -34,6 +34,7 @@ The library, libswd_c.so, is searched in this order; `Library` checks it once, f
 from ._accesses import (
     MOST_ACCESSES, Access, Answer, BusFault, End, Read, Report, Value, Write, Written, block,
 )
+from ._async import AsyncSequenceLine, AsyncSequences
 from ._checking import Checker, Verdict
 from ._cues import Ask, Cue, Drive, Give, Lead, Pass, Release, Sample, Sequence, Take
 from ._decoding import Bits, Cut, Decoder, Idle, Item, Junk, Reset, Switch, Transaction, decode, trace_bits
@@ -52,12 +53,13 @@ from ._target import Bus, Target
 
 __version__ = "0.1.0"
 __all__ = [
-    "Access", "AccessFaulted", "Answer", "Ask", "Bits", "Bus", "BusError", "BusFault", "CallbackFailed",
-    "Checker", "ConditionNotMet", "Cue", "Cut", "Decoder", "DecoderFinished", "Drive", "End", "Give", "Host", "Idle",
-    "Identification", "ImageDiffers", "ImageInterrupted", "ImageStopped", "Interrupted", "Item", "Junk", "Lead",
-    "Library", "LibraryMismatch", "LibraryNotFound", "LibraryRefused", "Line", "LineFailed", "MOST_ACCESSES",
-    "NotABit", "NotALine", "NotAnAccess", "NotAnItem", "NotBytes", "NotResumable", "Opening", "OutOfRange", "Pass",
-    "Read", "Reentered", "Release", "Report", "Reset", "Run", "RunEnded", "RunFailed", "RunStopped", "Sample", "Sequence",
-    "SequenceLine", "Sequences", "Session", "SwdError", "Switch", "Take", "Target", "TooManyAccesses",
-    "Transaction", "Unaligned", "Value", "Verdict", "Write", "Written", "block", "decode", "report_of", "trace_bits",
+    "Access", "AccessFaulted", "Answer", "Ask", "AsyncSequenceLine", "AsyncSequences", "Bits", "Bus", "BusError",
+    "BusFault", "CallbackFailed", "Checker", "ConditionNotMet", "Cue", "Cut", "Decoder", "DecoderFinished", "Drive",
+    "End", "Give", "Host", "Idle", "Identification", "ImageDiffers", "ImageInterrupted", "ImageStopped",
+    "Interrupted", "Item", "Junk", "Lead", "Library", "LibraryMismatch", "LibraryNotFound", "LibraryRefused", "Line",
+    "LineFailed", "MOST_ACCESSES", "NotABit", "NotALine", "NotAnAccess", "NotAnItem", "NotBytes", "NotResumable",
+    "Opening", "OutOfRange", "Pass", "Read", "Reentered", "Release", "Report", "Reset", "Run", "RunEnded",
+    "RunFailed", "RunStopped", "Sample", "Sequence", "SequenceLine", "Sequences", "Session", "SwdError", "Switch",
+    "Take", "Target", "TooManyAccesses", "Transaction", "Unaligned", "Value", "Verdict", "Write", "Written", "block",
+    "decode", "report_of", "trace_bits",
 ]

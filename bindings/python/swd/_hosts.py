@@ -3,7 +3,7 @@ import contextlib
 import time
 from dataclasses import replace
 from types import TracebackType
-from typing import Any, Callable, Dict, Hashable, Iterable, Optional, Tuple, Type, TypeVar
+from typing import Any, Callable, Iterable, Optional, Tuple, Type, TypeVar
 
 from . import _images
 from ._accesses import Access, Answer, End, Read, Report, Write, block, counts, listed_accesses
@@ -15,20 +15,11 @@ from ._identities import Identification, Opening, Watch
 from ._images import Buffer, OnProgress
 from ._library import REFUSED, REST, LibraryOrPath, library_functions
 from ._lines import AnyLine, Wire
-from ._runs import OnAnswer, Run, accepted
+from ._runs import OnAnswer, Run, accepted, failed, settling
+from ._uses import Claim
 
 _Result = TypeVar("_Result")
 _Perform = Callable[[int, Any], int]
-
-# The lines that calls use now, and what each call takes its line with: `setdefault` is one step for threads and signals.
-_in_use: Dict[Hashable, object] = {}
-
-
-def _failed(run: Run, kind: Type[RunFailed], failure: Exception) -> RunFailed:
-    """Returns what is raised if a call of the line, or the callback, raised this."""
-    report = run.report()
-    what = "the callback" if kind is CallbackFailed else "the line"
-    return kind(f"{what} failed: {failure!r}: {counts(report)}", report)
 
 
 def _interrupted(run: Run) -> Interrupted:
@@ -57,7 +48,7 @@ def _attempt(run: Run, call: Callable[[], object]) -> None:
     try:
         call()
     except Exception as failure:  # pylint: disable=broad-except
-        raise _failed(run, LineFailed, failure) from failure
+        raise failed(run, LineFailed, failure) from failure
 
 
 class _Driver:
@@ -135,7 +126,8 @@ class _Driver:
 
         Raises what `run` raises. The message of a `RunStopped` says how far the opening came."""
         is_astray = self._last is not None and self._last is not End.ALL
-        run = self._settling() if is_astray else Run.of_checked((), self._tries, False, False, self._library)
+        tries, library = self._tries, self._library
+        run = settling(tries, library) if is_astray else Run.of_checked((), tries, False, False, library)
         watch = Watch(self._wire.perform)
         try:
             self._performed(run, None, _whole, watch.perform)
@@ -195,7 +187,7 @@ class _Driver:
         """Brings a target to rest, and opens it, before a run of these accesses. What is raised has the report of that
         run, of which nothing was done, also where each request was answered."""
         try:
-            self._performed(self._settling(), None, _whole)
+            self._performed(settling(self._tries, self._library), None, _whole)
         except BaseException as stop:
             report = report_of(stop)
             if isinstance(report, Report):
@@ -203,11 +195,6 @@ class _Driver:
                 unbegun = replace(report, requests=0, ended=ended, accesses=accesses)
                 stop.report = unbegun  # type: ignore[attr-defined]
             raise
-
-    def _settling(self) -> Run:
-        """Returns the run that brings a target to rest, and opens it, after one that ended early: it may be inside a
-        transaction. This run continues that one, over a list of no access."""
-        return Run.resumed([], Report((), 0, 0, End.LOST), self._tries, library=self._library)
 
     def _newest_run(self) -> Optional[Run]:
         """Returns the last run that was started, for an image: Ctrl-C may come before a call has returned its report."""
@@ -218,17 +205,17 @@ class _Driver:
     ) -> _Result:
         """Performs a run over the line, and returns what `result` makes of it. Nothing else does. `perform` takes the place
         of the line's. `result` is called in here, so that a Ctrl-C in it has the report, too."""
-        line, claim = self._wire.key, object()
+        claim = Claim()
         try:
-            if _in_use.setdefault(line, claim) is not claim:
-                raise Reentered("the line is in use by another call, which would lose its place on it")
-            self._last, self._is_closed, self._newest = End.LOST, False, run
-            if run.continues and self._inside:
-                _attempt(run, self._wire.leave)
-            self._inside = True
-            self._follow(run, on_answer, perform or self._wire.perform)
-            self._last, self._inside = None if self._is_closed and run.ended is End.ALL else run.ended, False
-            return result(run)
+            with claim:
+                self._wire.use.begin(claim)
+                self._last, self._is_closed, self._newest = End.LOST, False, run
+                if run.continues and self._inside:
+                    _attempt(run, self._wire.leave)
+                self._inside = True
+                self._follow(run, on_answer, perform or self._wire.perform)
+                self._last, self._inside = None if self._is_closed and run.ended is End.ALL else run.ended, False
+                return result(run)
         except (RunFailed, Reentered):
             raise
         except KeyboardInterrupt as stop:
@@ -237,10 +224,6 @@ class _Driver:
             with contextlib.suppress(AttributeError):
                 failure.report = run.report()  # type: ignore[attr-defined]
             raise
-        finally:
-            # Without a call, at which Ctrl-C could come before the line is given back.
-            if line in _in_use and _in_use[line] is claim:
-                del _in_use[line]
 
     def _follow(self, run: Run, on_answer: OnAnswer, perform: _Perform) -> None:
         step, cue, told = run.step, run.first(), run.answered
@@ -249,7 +232,7 @@ class _Driver:
             try:
                 reply = perform(kind, cue)
             except Exception as failure:  # pylint: disable=broad-except
-                raise _failed(run, LineFailed, failure) from failure
+                raise failed(run, LineFailed, failure) from failure
             cue = step(reply)
             kind = cue.kind
             if kind == REFUSED:
@@ -265,7 +248,7 @@ class _Driver:
             try:
                 on_answer(index, answer)
             except Exception as failure:  # pylint: disable=broad-except
-                raise _failed(run, CallbackFailed, failure) from failure
+                raise failed(run, CallbackFailed, failure) from failure
         return run.answered
 
 

@@ -7,18 +7,24 @@ from typing import Any, Callable, Hashable, List, Optional, Protocol, Sequence, 
 
 from ._cues import DATA_BITS, Performer
 from ._errors import NotABit, NotALine, OutOfRange
+from ._uses import use_of
 
 _CALLS = ("drive", "release", "sample")
 # The clocks from a turnaround to the end of an acknowledgement. A run that continues releases the line for the clocks
 # of a data phase; one that was broken off may be that far before it.
-_REQUEST_REST = 4
+REQUEST_REST = 4
 
 
 class Line(Protocol):
     """The wire, one clock of SWCLK per call. It has a pull-up: where nobody drives it, it reads 1.
 
     In each clock the target samples SWDIO at the rising edge. If it drives SWDIO, it changes the level after that edge.
-    So a call sets up SWDIO, drives SWCLK low, samples SWDIO, and drives SWCLK high."""
+    So a call sets up SWDIO, drives SWCLK low, samples SWDIO, and drives SWCLK high.
+
+    A clock that fails was made or wasn't, and all clocks before it were made. A call that fails leaves no reply
+    unread: if it raises, also at Ctrl-C, a reply to it that still comes is dropped before the next clock. Otherwise
+    each later level would be that of an earlier clock. A line that can't be brought into step again raises in each
+    later call."""
 
     def drive(self, bit: int) -> object:
         """Makes one clock in which the host drives SWDIO at `bit`, 0 or 1."""
@@ -38,7 +44,7 @@ class SequenceLine(Protocol):
     run, and has to make what is queued.
 
     A sequence has to be made as a whole or not at all, also where a call fails. If a write's data phase is broken off
-    inside, the target may write another word."""
+    inside, the target may write another word. A call that fails leaves no reply unread, as that of a `Line`."""
 
     def drive(self, bits: int, count: int) -> object:
         """Makes `count` clocks, at most 64, in which the host drives the low bits of `bits`."""
@@ -98,17 +104,22 @@ class Cut:
         return Cut(self.made + made, parity, self.level, self.failed + 1)
 
 
-def _check_calls(line: Any) -> None:
+def check_names(line: Any) -> None:
+    """Raises `NotALine` if the line lacks a call."""
     for name in _CALLS:
-        call = getattr(line, name, None)
-        if not callable(call):
+        if not callable(getattr(line, name, None)):
             raise NotALine(f"line has no {name}(): it needs drive, release and sample")
-        _check_call(name, call)
+
+
+def _check_calls(line: Any) -> None:
+    check_names(line)
+    for name in _CALLS:
+        _check_call(name, getattr(line, name))
 
 
 def _check_call(name: str, call: Any) -> None:
     if inspect.iscoroutinefunction(call):
-        raise NotALine(f"{name} is a coroutine, which nobody would await: use swd.Run in async code")
+        raise NotALine(f"{name} is a coroutine, which nobody would await: use swd.AsyncSequences, or swd.Run")
 
 
 def _key(call: Any) -> Hashable:
@@ -117,27 +128,28 @@ def _key(call: Any) -> Hashable:
 
 
 class Wire(Performer):
-    """Performs cues over any line. `key` is the same for each wire over one line, or over the same functions."""
+    """Performs cues over any line. `use` is the same for each wire over one line, or over the same functions."""
 
     def __init__(self, line: AnyLine) -> None:
         if isinstance(line, Sequences):
             self.over: Any = line.line
             self._clocks: Optional[_Clocks] = None
-            super().__init__(line.line.drive, line.line.release, _checked(line.line.sample))
+            sample = line.line.sample
+            super().__init__(line.line.drive, line.line.release, lambda count: checked_levels(sample(count), count))
             self._flush: Any = getattr(line.line, "flush", None)
         else:
             self.over, self._flush = line, None
             self._clocks = _Clocks(line)
             super().__init__(self._clocks.drive, self._clocks.release, self._clocks.sample)
         # `over` is kept, lest another object gets its identity.
-        self.key: Hashable = tuple(map(_key, self.over)) if isinstance(self.over, tuple) else id(self.over)
+        self.use = use_of(tuple(map(_key, self.over)) if isinstance(self.over, tuple) else id(self.over))
 
     def leave(self) -> None:
         """Leaves the cue inside which the line failed, before a run that continues: has the target drop the data phase
         of a write, and releases SWDIO up to the end of an acknowledgement."""
         if self._clocks is not None:
             self._clocks.leave()
-        self.release(_REQUEST_REST)
+        self.release(REQUEST_REST)
 
     def flush(self) -> None:
         """Has a line of sequences make what it queued."""
@@ -145,15 +157,11 @@ class Wire(Performer):
             self._flush()
 
 
-def _checked(sample: Callable[[int], int]) -> Callable[[int], int]:
-    """Returns the call, with a check of what it returns."""
-    def checked(count: int) -> int:
-        bits = sample(count)
-        if isinstance(bits, bool) or not isinstance(bits, int) or bits >> count:
-            raise OutOfRange(f"sample({count}) returned {bits!r}: it has to be a number of {count} bits")
-        return bits
-
-    return checked
+def checked_levels(bits: Any, count: int) -> int:
+    """Returns the levels that a line of sequences sampled, checked."""
+    if isinstance(bits, bool) or not isinstance(bits, int) or bits >> count:
+        raise OutOfRange(f"sample({count}) returned {bits!r}: it has to be a number of {count} bits")
+    return bits
 
 
 # The levels of each byte, and each three levels with their number; the least significant bit is first.

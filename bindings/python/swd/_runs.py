@@ -1,11 +1,13 @@
 """A run without I/O: it says what to send next, and takes what was seen."""
 import ctypes
 import struct
-from typing import Any, Callable, Iterable, Optional, Tuple
+from typing import Any, Callable, Iterable, Optional, Tuple, Type
 
-from ._accesses import Access, Answer, BusFault, End, Report, Value, Write, Written, listed_accesses, made_report, since
+from ._accesses import (
+    Access, Answer, BusFault, End, Report, Value, Write, Written, counts, listed_accesses, made_report, since,
+)
 from ._cues import Cue, cue_of
-from ._errors import LibraryRefused, NotResumable, OutOfRange, RunEnded, number
+from ._errors import CallbackFailed, LibraryRefused, NotResumable, OutOfRange, RunEnded, RunFailed, number
 from ._library import (
     BUS_FAULT, REFUSED, REST, SILENCE, VALUE, WRITTEN, WRONG_ID, AccessStruct, LibraryOrPath, OutcomeStruct, RunStruct,
     library_functions,
@@ -57,8 +59,10 @@ class Run:
     def _begin(
         self, accesses: Tuple[Access, ...], tries: int, block: bool, opened: bool, library: LibraryOrPath,
     ) -> None:
-        self.accesses, self.tries, self.opened = accesses, tries, opened
+        self.accesses, self.tries, self.opened, self.library = accesses, tries, opened, library
         self._functions = library_functions(library)
+        # Whether a cue was performed.
+        self.is_begun = False
         self._earlier: Optional[Report] = None
         count = len(accesses)
         # An array may not be empty, to be passed.
@@ -92,7 +96,7 @@ class Run:
         `End.TRIES`, from the first access on that wasn't answered. An access in flight may be done again. If that run
         was broken off inside a cue, release the line for four clocks before. Inside the bits of a `Give`, end them
         before that so that the parity is wrong, whether the clock that failed was made or not, or the target may write
-        another word: `Host` and `Session` do.
+        another word: `Host` and `Session` do. `AsyncSequences` does what its line of sequences needs.
 
         Raises `NotResumable` if the report ended otherwise, is of another list, or has more answers than there are
         accesses."""
@@ -132,6 +136,7 @@ class Run:
             raise RunEnded(f"the run has ended with '{self.ended}'")
         first, reply = self.answered, number("reply", reply, 0xFFFF_FFFF_FFFF_FFFF)
         accepted(self.step(reply), reply)
+        self.is_begun = True
         return self.answers(first)
 
     def first(self) -> Any:
@@ -140,6 +145,8 @@ class Run:
 
     def _cue_struct(self) -> Any:
         """Returns the struct of the cue, which is at rest once the run has ended."""
+        if self.answered > len(self.accesses):
+            raise LibraryRefused(f"the run has {self.answered} answers, its list {len(self.accesses)} accesses")
         return accepted(self._functions.swd_run_cue(ctypes.byref(self._run)))
 
     def answers(self, first: int) -> Tuple[Answer, ...]:
@@ -199,6 +206,19 @@ class Run:
             kept = self._earlier.answers[first:end]
             return kept + self._answered(first + len(kept), end, structs)
         return tuple([_answer(*_outcome(structs, index * _OUTCOME_SIZE)) for index in range(first, end)])
+
+
+def settling(tries: int, library: LibraryOrPath) -> Run:
+    """Returns the run that brings a target to rest, and opens it, after one that ended early: it may be inside a
+    transaction. This run continues that one, over a list of no access."""
+    return Run.resumed([], Report((), 0, 0, End.LOST), tries, library=library)
+
+
+def failed(run: Run, kind: Type[RunFailed], failure: Exception) -> RunFailed:
+    """Returns what is raised if a call of the line, or the callback, raised this."""
+    report = run.report()
+    what = "the callback" if kind is CallbackFailed else "the line"
+    return kind(f"{what} failed: {failure!r}: {counts(report)}", report)
 
 
 OnAnswer = Optional[Callable[[int, Answer], object]]

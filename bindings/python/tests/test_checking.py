@@ -2,6 +2,7 @@
 bits against items, structs of any bytes, and what is refused. COUNT and SEED are as in `test_swd.py`."""
 import ctypes
 import fractions
+import itertools
 import os
 import random
 import sys
@@ -152,11 +153,15 @@ class Checking(unittest.TestCase):
             self.assertEqual(checker.verdict.gaps, gaps)
 
     def test_the_reference(self):
-        """Sessions of right targets, and of targets with a bug, item by item: the last verdict is the reference's."""
+        """Sessions of right targets, and of targets with a bug, item by item: the last verdict is the reference's,
+        and no right target is found wrong. They are as many as the reference needs to find a wrong one from each
+        start, and more."""
         rng = random.Random(SEED)
-        broken = 0
-        for number in range(SESSIONS):
-            start, clean = ("made", "rest", "any")[number // 2 % 3], rng.random() < 0.5
+        broken = dict.fromkeys(("made", "rest", "any"), 0)
+        for number in itertools.count():
+            if number >= SESSIONS and all(broken.values()):
+                break
+            start, clean = list(broken)[number // 2 % 3], rng.random() < 0.5
             bug = rng.choice(BUGS) if number % 2 else None
             items = session(rng, bug, clean, 60)
             reference, checker = Reference(start, clean), swd.Checker(start, clean)
@@ -166,8 +171,9 @@ class Checking(unittest.TestCase):
             with self.subTest(number=number, bug=bug):
                 self.assertEqual(shown(checker.verdict), reference.verdict())
                 self.assertEqual(checker.place, reference.place)
-            broken += checker.verdict.kind == "breaks"
-        self.assertGreater(broken, SESSIONS // 20)
+                is_broken = reference.verdict().startswith("breaks")
+                self.assertFalse(is_broken and bug is None)
+            broken[start] += is_broken
 
     def test_bits(self):
         """The bits of a session in pieces of any size come to what its items come to."""

@@ -360,6 +360,7 @@ class Failures(unittest.TestCase):
         how = ("call", "c_return", "return"), (("return", "load"),)
         with unittest.mock.patch("swd._images.MOST_ACCESSES", 3), \
                 swd.Session(swd.Sequences(Sequenced(Damaged(library_target(memory), [])))) as session:
+            memory.log.clear()
             for place, raised in CtrlC.at_each(lambda: session.load(BASE + 1, self.DATA), *how):
                 with self.subTest(place):
                     now, at, rest = content_of(memory), BASE + 1, self.DATA
@@ -369,25 +370,32 @@ class Failures(unittest.TestCase):
                         begun = (at - BASE & ~3) + 4
                         self.assertEqual((now[:at - BASE], now[begun:]), (after[:at - BASE], self.CONTENT[begun:]))
                     else:
-                        self.assertEqual(now, self.CONTENT)
+                        self.assertEqual(memory.log, [])
                     session.load(at, rest)
                     self.assertEqual(content_of(memory), after)
                     session.load(BASE, self.CONTENT)
+                    memory.log.clear()
         self.assertEqual(content_of(memory), after)
 
     def test_an_interrupt_at_each_place_of_a_reading(self):
         """The bytes that are told were read, also where Ctrl-C came behind the last call."""
         content = self.CONTENT[1:23]
-        session = swd.Session(swd.Sequences(Sequenced(Damaged(library_target(memory_of(self.CONTENT)), []))))
+        memory = memory_of(self.CONTENT)
+        session = swd.Session(swd.Sequences(Sequenced(Damaged(library_target(memory), []))))
         calls = {"dump": lambda: session.dump(BASE + 1, 22), "verify": lambda: session.verify(BASE + 1, content)}
         for name, call in calls.items():
             session.open()
+            memory.log.clear()
             with unittest.mock.patch("swd._images.MOST_ACCESSES", 3):
                 for place, raised in CtrlC.at_each(call, ("call", "c_return", "return"), (("return", name),)):
                     with self.subTest(name, place=place):
-                        told = raised.data if isinstance(raised, swd.ImageInterrupted) else b""
-                        self.assertEqual((told, getattr(raised, "done", 0)), (content[:len(told)], len(told)))
+                        if isinstance(raised, swd.ImageInterrupted):
+                            self.assertEqual(raised.data, content[:raised.done])
+                            self.assertEqual(raised.addr, BASE + 1 + raised.done)
+                        else:
+                            self.assertEqual(memory.log, [])
                         session.open()
+                        memory.log.clear()
             self.assertGreater(place, 100)
 
     def test_other_exceptions(self):

@@ -768,7 +768,7 @@ class Pages(unittest.TestCase):
             printed.append(output.getvalue())
         with open(os.path.join(ROOT, "examples", "session.list"), encoding="ascii") as listing:
             verdict = "breaks @176: FAULT takes precedence over WAIT\n"
-            wanted = [listing.read(), verdict, "", "0xdeadbeef\n", "200 of 200\n00010203\n", "", "", "", "", "7\n"]
+            wanted = [listing.read(), verdict, "", "0xdeadbeef\n", "200 of 200\n00010203\n", "", "", "", "", "", "7\n"]
         self.assertEqual(printed, wanted)
 
 

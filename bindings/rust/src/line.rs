@@ -41,6 +41,10 @@ impl<E: core::error::Error + 'static> core::error::Error for Broken<E> {
 /// certain unless the line fails in that phase again, at its 32nd bit. A line that queues makes each of its calls as a whole
 /// or not at all, also where the queue fails.
 ///
+/// A call that fails leaves no reply unread: a reply to it that still comes is dropped before the next clock.
+/// Otherwise each later level would be that of an earlier clock. A line that can't be brought into step again fails
+/// in each later call.
+///
 /// Where a call panics, no error says how far it came, and what is driven next might end a word that the target then
 /// writes. Each later call of the same host or session is [`Refused::Panicked`](crate::Refused::Panicked), and drives
 /// nothing. Make another one once the target has lost its power: that ends the data phase.
