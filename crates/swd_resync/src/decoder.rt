@@ -40,8 +40,8 @@ pub struct CaptureDecoder {
 }
 
 impl CaptureDecoder {
-    ghost use Rattle.std.specs.Prelude.{◌≡◌, ◌+◌, ◌-◌, ◌*◌, ◌^◌, ◌<◌, ◌≤◌, List, Bool, [], ◌∷◌, ◌++◌, length, drop, IfSome};
-    ghost use Rattle.std.specs.Prelude.{IfNone};
+    ghost use Rattle.std.specs.Prelude.{◌≡◌, ◌+◌, ◌-◌, ◌*◌, ◌^◌, ◌<◌, ◌≤◌, List, Bool, [], ◌∷◌, ◌++◌, length, drop};
+    ghost use Rattle.std.specs.Prelude.{IfSome, IfNone};
     ghost use Rattle.swd_resync.specs.Parts.{resync_parts_of};
     ghost use Rattle.swd_resync.specs.Sights.{SightMore};
     ghost use Rattle.swd_resync.specs.Stages.{ResyncMove, resync_with_part};

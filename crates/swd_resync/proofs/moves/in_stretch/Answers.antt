@@ -24,12 +24,13 @@ returns-in-Zero-clause-moves c =
     (c.run_of-count.ensures.some c.in-Zero.ensures.0 c.in-Zero.ensures.1) c.run_of-count.ensures.most)
 
 pub returns-in-Ones-clause-moves : goal.returns-in-Ones-clause-moves
-returns-in-Ones-clause-moves c = stretch_enters_reset c.args.over c.args.ended (Stretch 0) Synced (resync_held c.args.held.now)
+returns-in-Ones-clause-moves c =
+    stretch_enters_reset c.args.over c.args.ended (Stretch 0) Synced (resync_held c.args.held.now)
     c.in-Ones.ensures.0 c.in-Ones.ensures.1 (λ x. refl)
 
 pub returns-in-Junk-clause-moves : goal.returns-in-Junk-clause-moves
-returns-in-Junk-clause-moves c = stretch_ends_at_junk c.args.over c.args.ended (resync_held c.args.held.now) c.in-Junk.ensures.0
-    c.in-Junk.ensures.1
+returns-in-Junk-clause-moves c =
+    stretch_ends_at_junk c.args.over c.args.ended (resync_held c.args.held.now) c.in-Junk.ensures.0 c.in-Junk.ensures.1
 
 pub returns-in-Cut-clause-moves : goal.returns-in-Cut-clause-moves
 returns-in-Cut-clause-moves c =
