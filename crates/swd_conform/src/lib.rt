@@ -5,13 +5,12 @@
 #![tactic(auto)]
 
 mod aim;
-mod groups;
-mod line;
 mod over_wire;
 mod plan;
-mod rounds;
 mod run;
+mod send;
 mod session;
+mod steps;
 
 pub use over_wire::conform;
 pub use plan::{LEAST_WORDS, MOST_STEPS, Plan, Step, Without};

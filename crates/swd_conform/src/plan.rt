@@ -1,9 +1,9 @@
-//! The plan: a list of steps, made from the tables of groups.
+//! The plan: a list of steps, made from the text of its groups.
 ghost use Rattle.std.specs.Prelude.{◌≡◌, ◌+◌, ◌≤◌, IfNone, IfSome};
 
 use crate::aim::Bounds;
-use crate::groups::GROUPS;
-use crate::line::{Group, Line, Needs, Send, Word};
+use crate::send::{Send, Word};
+use crate::steps::STEPS;
 use swd_bits::Request;
 
 /// The least number of words of memory that a plan is made for.
@@ -50,6 +50,23 @@ pub struct Without {
     pub kilobyte: bool,
 }
 
+// A group: the words of a round, what is left of the words of `first` and of `second`, and all of the latter.
+#[derive(Clone, Copy)]
+struct Group {
+    words: &'static str,
+    first: &'static str,
+    second: &'static str,
+    seconds: &'static str,
+}
+
+// A group without words.
+const EMPTY: Group = Group {
+    words: "",
+    first: "",
+    second: "",
+    seconds: "",
+};
+
 /// The steps of a conformance run, in order, for a target in its reset state. It sends and reads nothing.
 ///
 /// Where nothing is damaged or lost, and no request gets WAIT eight times, a target that conforms to the port model
@@ -57,10 +74,10 @@ pub struct Without {
 /// memory. [`ConformRun`](crate::ConformRun) leaves out those that could be elsewhere.
 #[derive(Clone, Copy)]
 pub struct Plan {
-    groups: &'static [Group],
-    outer: &'static [Send],
-    inner: &'static [Send],
-    lines: &'static [Line],
+    // What is left of the text, of the round, and the group.
+    text: &'static str,
+    round: &'static str,
+    group: Group,
     memory: u32,
     page: Option<u32>,
     kilobyte: Option<u32>,
@@ -93,10 +110,9 @@ impl Plan {
             return None;
         }
         let mut plan = Plan {
-            groups: &GROUPS,
-            outer: &[],
-            inner: &[],
-            lines: &[],
+            text: STEPS,
+            round: "",
+            group: EMPTY,
             memory: first_of(base),
             page: page_in(base, end),
             kilobyte: within(last_of_kilobyte(base), end),
@@ -126,21 +142,24 @@ impl Plan {
         ensures some { IfSome result (λ _. conform_steps_left self.new + 1 ≡ conform_steps_left self.old) }
         ensures none { IfNone result (conform_steps_left self.new ≡ conform_steps_left self.old) }
     {
-        let line = *self.lines.first()?;
-        let send = self.send_of(line)?;
+        let (word, round) = word_in(self.round);
+        let send = Send::of(self.meant(word))?;
         let left = self.left.checked_sub(1)?;
         let step = self.step_of(send);
         self.left = left;
-        self.advance();
+        self.round = round;
+        if round.is_empty() {
+            self.turn();
+        }
         Some(step)
     }
 
-    // Returns what a line sends in this round.
-    fn send_of(&self, line: Line) -> Option<Send> {
-        match line {
-            Line::The(send) => Some(send),
-            Line::Outer => self.outer.first().copied(),
-            Line::Inner => self.inner.first().copied(),
+    // Returns the word of `first` or `second` for which this one stands, or this one.
+    fn meant(&self, word: &'static str) -> &'static str {
+        match word {
+            "1" => word_in(self.group.first).0,
+            "2" => word_in(self.group.second).0,
+            _ => word,
         }
     }
 
@@ -191,72 +210,77 @@ impl Plan {
         }
     }
 
-    // Moves on to the next line.
-    fn advance(&mut self)
-        ensures { conform_steps_left self.new ≡ conform_steps_left self.old }
-    {
-        self.lines = behind_first(self.lines);
-        if self.lines.is_empty() {
-            self.turn();
-        }
-    }
-
     // Begins the next round of the group, or the next group.
     fn turn(&mut self)
         ensures { conform_steps_left self.new ≡ conform_steps_left self.old }
     {
-        let Some(group) = self.groups.first() else {
-            return;
-        };
-        self.lines = group.lines;
-        self.inner = behind_first(self.inner);
-        if !self.inner.is_empty() {
+        self.round = self.group.words;
+        self.group.second = word_in(self.group.second).1;
+        if !self.group.second.is_empty() {
             return;
         }
-        self.inner = group.inner;
-        self.outer = behind_first(self.outer);
-        if self.outer.is_empty() {
-            self.groups = behind_first(self.groups);
+        self.group.second = self.group.seconds;
+        self.group.first = word_in(self.group.first).1;
+        if self.group.first.is_empty() {
             self.enter();
         }
     }
 
-    // Begins the first of the groups that can be sent.
+    // Begins the next of the groups that can be sent.
     fn enter(&mut self)
         ensures left { conform_steps_left self.new ≡ conform_steps_left self.old }
         ensures bounds { self.new.bounds ≡ self.old.bounds }
     {
-        let groups = self.groups;
-        for (index, group) in groups.iter().enumerate() {
-            if self.has(group.needs) {
-                self.groups = &groups[index..];
-                self.outer = group.outer;
-                self.inner = group.inner;
-                self.lines = group.lines;
-                return;
+        let (mut group, mut is_sent) = (EMPTY, true);
+        for _ in 0..self.text.len() {
+            let (line, text) = line_in(self.text);
+            self.text = text;
+            let (name, words) = word_in(line);
+            match name {
+                "needs" => is_sent = self.has(words),
+                "first" => group.first = words,
+                "second" => group.seconds = words,
+                "send" if is_sent => {
+                    group.words = words;
+                    group.second = group.seconds;
+                    self.begin(group);
+                    return;
+                }
+                "send" => (group, is_sent) = (EMPTY, true),
+                _ => {}
             }
         }
-        self.groups = &[];
-        self.lines = &[];
+        self.begin(EMPTY);
+    }
+
+    // Begins the first round of a group.
+    fn begin(&mut self, group: Group)
+        ensures left { conform_steps_left self.new ≡ conform_steps_left self.old }
+        ensures bounds { self.new.bounds ≡ self.old.bounds }
+    {
+        self.group = group;
+        self.round = group.words;
     }
 
     // Returns whether what a group needs is there.
-    fn has(&self, needs: Needs) -> bool {
+    fn has(&self, needs: &str) -> bool {
         match needs {
-            Needs::Nothing => true,
-            Needs::Page => self.page.is_some(),
-            Needs::Kilobyte => self.kilobyte.is_some(),
-            Needs::Hole => self.bounds.hole.is_some(),
+            "page" => self.page.is_some(),
+            "kilobyte" => self.kilobyte.is_some(),
+            _ => self.bounds.hole.is_some(),
         }
     }
 }
 
-// Returns the items behind the first one.
-fn behind_first<T>(items: &'static [T]) -> &'static [T] {
-    match items {
-        [_, rest @ ..] => rest,
-        [] => items,
-    }
+// Returns the first line of a text, and what follows.
+fn line_in(text: &'static str) -> (&'static str, &'static str) {
+    text.split_once('\n').unwrap_or((text, ""))
+}
+
+// Returns the first word of a line, and the words behind it.
+fn word_in(line: &'static str) -> (&'static str, &'static str) {
+    let (word, words) = line.split_once(' ').unwrap_or((line, ""));
+    (word, words.trim_start())
 }
 
 // Returns the address of the first word, from `base` on, that begins `SPAN` bytes of one kilobyte: `base`, or the next

@@ -10,13 +10,25 @@ ghost use Rattle.swd_conform.specs.Aims.{ConformMayMake, ConformStays, IsConform
 ghost use Rattle.swd_conform.specs.Calls.{conform_asked, conform_requests_by};
 
 use crate::aim::{Aim, Bounds, is_transfer};
-use crate::line::{DPIDR, STATUS};
 use crate::plan::{Plan, Step};
 use std::alloc::Allocator;
-use swd_bits::{Request, SWITCH_BITS, data_bits};
+use swd_bits::{Reg4, Request, SWITCH_BITS, data_bits};
 use swd_check::{Check, Checked, CheckedItems};
 use swd_port::{Call, Cue, Due, NotedCalls, Wire};
 use swd_recorder::{InHand, in_hand_once};
+
+// The reads of DPIDR and of CTRL/STAT.
+const DPIDR: Request = Request {
+    ap: false,
+    read: true,
+    addr: Reg4::R0,
+};
+
+const STATUS: Request = Request {
+    ap: false,
+    read: true,
+    addr: Reg4::R4,
+};
 
 // How often a request is sent while it gets WAIT.
 const TRIES: u32 = 8;
