@@ -1,6 +1,6 @@
 //! Plans: the memory that they are made for, and how many steps they have.
 
-use swd_bits::Request;
+use swd_bits::{Reg4, Request};
 use swd_conform::{MOST_STEPS, Plan, Step, Without};
 
 // A memory, and what a plan for it leaves out, if there is one.
@@ -152,20 +152,33 @@ fn plans_fit_their_memory(rt: HostRuntime) {
     assert_eq!(rt; first_wrong(), None);
 }
 
-// The number of steps of a plan, of too many the first ones, and of the writes to DRW among them.
-fn counted(plan: Plan) -> (u32, u32) {
+// The last step of each plan.
+const LAST: Step = Step::Ask {
+    request: Request {
+        ap: false,
+        read: true,
+        addr: Reg4::R4,
+    },
+    word: 0,
+    damaged: false,
+};
+
+// The number of steps of a plan, of too many the first ones, of the writes to DRW among them, and the last step.
+fn counted(plan: Plan) -> (u32, u32, Option<Step>) {
     let mut plan = plan;
     let (mut steps, mut writes) = (0u32, 0u32);
+    let mut last = None;
     for _ in 0..=MOST_STEPS {
         let Some(step) = plan.next() else {
-            return (steps, writes);
+            return (steps, writes, last);
         };
+        last = Some(step);
         steps = steps.saturating_add(1);
         if is_transfer(step) {
             writes = writes.saturating_add(1);
         }
     }
-    (steps, writes)
+    (steps, writes, last)
 }
 
 // Whether a step is a write to c of the access port.
@@ -180,7 +193,8 @@ fn is_drw_write(request: Request) -> bool {
     request.ap && !request.read && request.addr as u8 == 3
 }
 
-// The steps of a plan end before its greatest number of them, and a plan without bus errors has fewer.
+// The steps of a plan end before its greatest number of them, and a plan without bus errors has fewer. Each ends with
+// the same step: a word of the text that is none would end it before.
 #[test]
 fn plans_end(rt: HostRuntime) {
     for (hole, least) in [(Some(0x3000_0000), 1500), (None, 900)] {
@@ -188,9 +202,10 @@ fn plans_end(rt: HostRuntime) {
             assert!(rt; false, "no plan");
             return;
         };
-        let (steps, writes) = counted(plan);
+        let (steps, writes, last) = counted(plan);
         assert!(rt; least < steps && steps < MOST_STEPS, "{steps} steps");
         assert!(rt; writes > 40, "{writes} writes");
+        assert_eq!(rt; last, Some(LAST));
     }
 }
 
