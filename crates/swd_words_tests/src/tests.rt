@@ -1,2 +1,1 @@
-mod expect;
 mod words;

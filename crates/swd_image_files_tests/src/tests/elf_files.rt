@@ -1,10 +1,9 @@
 //! ELF files. The bytes are those of the tables of the System V Application Binary Interface, written by hand: e_ident,
 //! then the other members of the ELF header, two program headers, and the bytes of two segments.
-use super::expect::{expect_at, expect_eq_at};
+use super::expect::{Pieces, expect_at, expect_eq_at, expect_pieces, said};
 use std::alloc::{AllocError, Global};
-use std::process::Abort;
 use std::test::Fail;
-use swd_image_files::{ElfChoice, Format, Image, ImageFileFault, read_elf, read_image_or_elf};
+use swd_image_files::{ElfChoice, Format, read_elf, read_image_or_elf};
 
 /// The file that the tests change: 122 bytes.
 pub(super) const FILE: &[u8] = b"\x7fELF\x01\x01\x01\x00\x00\x00\x00\x00\x00\x00\x00\x00\
@@ -19,9 +18,6 @@ codeda";
 /// A change of a file: the places and the new values of some bytes.
 type Change = &'static [(usize, u8)];
 
-/// Pieces: the address and the bytes of each.
-type Pieces = &'static [(u32, &'static [u8])];
-
 /// A change of the file, with the base, and the pieces.
 type Valid = (&'static str, Change, u32, Pieces);
 
@@ -32,7 +28,7 @@ const CODE: (u32, &[u8]) = (0x0800_0000, b"code");
 
 const DATA: (u32, &[u8]) = (0x0800_0010, b"da");
 
-const VALID: [Valid; 17] = [
+const VALID: &[Valid] = &[
     ("unchanged", &[], 0, &[CODE, DATA]),
     (
         "a base",
@@ -121,7 +117,7 @@ const RANGE_FIRST: &str = "ELF: program header 0: data past address ffffffff";
 
 const RANGE_SECOND: &str = "ELF: program header 1: data past address ffffffff";
 
-const INVALID: [Invalid; 34] = [
+const INVALID: &[Invalid] = &[
     ("no bytes", 0, &[], 0, MAGIC),
     ("three bytes", 3, &[], 0, MAGIC),
     ("another first byte", 122, &[(0, 0x7e)], 0, MAGIC),
@@ -284,30 +280,12 @@ fn changed(alloc: Global, len: usize, change: Change) -> Result<Vec<u8>, AllocEr
     Ok(file)
 }
 
-// Expects an image of these pieces.
-fn expect_pieces<R: Abort>(
-    rt: &R,
-    name: &str,
-    read: Result<Image<Global>, ImageFileFault>,
-    wanted: Pieces,
-) {
-    match read {
-        Ok(image) => {
-            expect_eq_at(rt, &name, &image.ranges.len(), &wanted.len());
-            for (piece, wanted) in image.pieces().zip(wanted) {
-                expect_eq_at(rt, &name, &piece.addr, &wanted.0);
-                expect_eq_at(rt, &name, &piece.bytes, &wanted.1);
-            }
-        }
-        Err(_) => expect_at(rt, &name, false),
-    }
-}
-
 #[test]
 fn valid_elf_files_are_read(rt: HostRuntime) -> Result<(), Fail> {
     for (name, change, base, wanted) in VALID {
         let file = changed(rt.alloc(), FILE.len(), change)?;
-        expect_pieces(&rt, name, read_elf(rt.alloc(), &file, base), wanted);
+        let read = read_elf(rt.alloc(), &file, *base);
+        expect_pieces(&rt, name, &read, wanted);
     }
     Ok(())
 }
@@ -315,74 +293,76 @@ fn valid_elf_files_are_read(rt: HostRuntime) -> Result<(), Fail> {
 #[test]
 fn the_first_error_of_an_elf_file_is_named(rt: HostRuntime) -> Result<(), Fail> {
     for (name, len, change, base, wanted) in INVALID {
-        let file = changed(rt.alloc(), len, change)?;
-        let found = match read_elf(rt.alloc(), &file, base) {
-            Ok(_) => format!(in rt.alloc(); "read")?,
-            Err(fault) => format!(in rt.alloc(); "{fault}")?,
-        };
-        expect_eq_at(&rt, &name, &found.as_str(), &wanted);
+        let file = changed(rt.alloc(), *len, change)?;
+        let found = said(rt.alloc(), &read_elf(rt.alloc(), &file, *base))?;
+        expect_eq_at(&rt, name, &found.as_str(), wanted);
     }
     Ok(())
 }
 
+const HEX: &[u8] = b":01000000AA55\n:00000001FF\n";
+
+// What is chosen, and the pieces of a file.
+const CHOSEN: &[(&str, ElfChoice, Format, &[u8], Pieces)] = &[
+    ("bin", ElfChoice::Auto, Format::Binary, FILE, &[CODE, DATA]),
+    (
+        "hex",
+        ElfChoice::Auto,
+        Format::IntelHex,
+        FILE,
+        &[CODE, DATA],
+    ),
+    (
+        "srec",
+        ElfChoice::Auto,
+        Format::SRecord,
+        FILE,
+        &[CODE, DATA],
+    ),
+    (
+        "elf",
+        ElfChoice::Always,
+        Format::IntelHex,
+        FILE,
+        &[CODE, DATA],
+    ),
+    (
+        "never",
+        ElfChoice::Never,
+        Format::Binary,
+        FILE,
+        &[(0, FILE)],
+    ),
+    (
+        "short",
+        ElfChoice::Auto,
+        Format::Binary,
+        b"\x7fEL",
+        &[(0, b"\x7fEL")],
+    ),
+    (
+        "hex file",
+        ElfChoice::Auto,
+        Format::IntelHex,
+        HEX,
+        &[(0, b"\xaa")],
+    ),
+];
+
+const REFUSED: &[(ElfChoice, Format)] = &[
+    (ElfChoice::Always, Format::IntelHex),
+    (ElfChoice::Never, Format::SRecord),
+];
+
 // With `Auto` the content decides, with `Always` and `Never` it doesn't.
 #[test]
 fn a_file_is_elf_by_its_content_or_by_choice(rt: HostRuntime) {
-    let hex = b":01000000AA55\n:00000001FF\n".as_slice();
-    let rows: [(&str, ElfChoice, Format, &[u8], Pieces); 7] = [
-        ("bin", ElfChoice::Auto, Format::Binary, FILE, &[CODE, DATA]),
-        (
-            "hex",
-            ElfChoice::Auto,
-            Format::IntelHex,
-            FILE,
-            &[CODE, DATA],
-        ),
-        (
-            "srec",
-            ElfChoice::Auto,
-            Format::SRecord,
-            FILE,
-            &[CODE, DATA],
-        ),
-        (
-            "elf",
-            ElfChoice::Always,
-            Format::IntelHex,
-            FILE,
-            &[CODE, DATA],
-        ),
-        (
-            "never",
-            ElfChoice::Never,
-            Format::Binary,
-            FILE,
-            &[(0, FILE)],
-        ),
-        (
-            "short",
-            ElfChoice::Auto,
-            Format::Binary,
-            b"\x7fEL",
-            &[(0, b"\x7fEL")],
-        ),
-        (
-            "hex file",
-            ElfChoice::Auto,
-            Format::IntelHex,
-            hex,
-            &[(0, b"\xaa")],
-        ),
-    ];
-    for (name, elf, format, file, wanted) in rows {
-        let read = read_image_or_elf(rt.alloc(), elf, format, file, 0);
-        expect_pieces(&rt, name, read, wanted);
+    for (name, elf, format, file, wanted) in CHOSEN {
+        let read = read_image_or_elf(rt.alloc(), *elf, *format, file, 0);
+        expect_pieces(&rt, name, &read, wanted);
     }
-    for (elf, format) in [
-        (ElfChoice::Always, Format::IntelHex),
-        (ElfChoice::Never, Format::SRecord),
-    ] {
-        let refused = read_image_or_elf(rt.alloc(), elf, format, hex, 0).is_err();
-        expect_at(&rt, &format, refused);
+    for (elf, format) in REFUSED {
+        let refused = read_image_or_elf(rt.alloc(), *elf, *format, HEX, 0).is_err();
+        expect_at(&rt, format, refused);
     }
 }

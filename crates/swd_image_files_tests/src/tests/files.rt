@@ -1,19 +1,10 @@
 //! Valid files. Their records are those of the formats' documents and of Wikipedia's articles, or their checksums were
 //! added up apart from the program.
-use super::expect::{expect_at, expect_eq_at};
-use std::alloc::Global;
-use std::process::Abort;
-use std::test::Fail;
+use super::expect::{Pieces, expect_eq_at, expect_pieces};
 use swd_image_files::{Format, read_image};
 
 /// A file with its offset, and its pieces.
-type Row = (
-    &'static str,
-    Format,
-    u32,
-    &'static [u8],
-    &'static [(u32, &'static [u8])],
-);
+type Row = (&'static str, Format, u32, &'static [u8], Pieces);
 
 const HEX: Format = Format::IntelHex;
 
@@ -21,7 +12,7 @@ const SREC: Format = Format::SRecord;
 
 const BIN: Format = Format::Binary;
 
-const ROWS: [Row; 36] = [
+const ROWS: &[Row] = &[
     (
         "binary",
         BIN,
@@ -281,57 +272,46 @@ S111003848656C6C6F20776F726C642E0A0042\nS5030003F9\nS9030000FC\n",
     ),
 ];
 
-fn expect_row<R: Abort>(rt: &R, alloc: Global, row: &Row) {
-    let (name, format, base, file, wanted) = *row;
-    match read_image(alloc, format, file, base) {
-        Ok(image) => {
-            expect_eq_at(rt, &name, &image.ranges.len(), &wanted.len());
-            for (piece, wanted) in image.pieces().zip(wanted) {
-                expect_eq_at(rt, &name, &piece.addr, &wanted.0);
-                expect_eq_at(rt, &name, &piece.bytes, &wanted.1);
-            }
-        }
-        Err(_) => expect_at(rt, &name, false),
+#[test]
+fn valid_files_are_read(rt: HostRuntime) {
+    for (name, format, base, file, wanted) in ROWS {
+        let read = read_image(rt.alloc(), *format, file, *base);
+        expect_pieces(&rt, name, &read, wanted);
     }
 }
 
-#[test]
-fn valid_files_are_read(rt: HostRuntime) {
-    for row in &ROWS {
-        expect_row(&rt, rt.alloc(), row);
-    }
-}
+const NAMES: &[(&str, Format)] = &[
+    ("a.hex", HEX),
+    ("A.HEX", HEX),
+    ("dir.bin/b.iHex", HEX),
+    ("c.ihx", HEX),
+    ("d.srec", SREC),
+    ("e.S19", SREC),
+    ("f.s28", SREC),
+    ("g.s37", SREC),
+    ("h.Mot", SREC),
+    ("i.bin", BIN),
+    ("j.hex.gz", BIN),
+    ("hex", BIN),
+    ("x.s20", BIN),
+    ("", BIN),
+];
+
+const WORDS: &[(&str, Option<Format>)] = &[
+    ("bin", Some(BIN)),
+    ("hex", Some(HEX)),
+    ("srec", Some(SREC)),
+    ("HEX", None),
+    ("", None),
+    ("ihex", None),
+];
 
 #[test]
 fn names_and_words_stand_for_formats(rt: HostRuntime) {
-    let names = [
-        ("a.hex", HEX),
-        ("A.HEX", HEX),
-        ("dir.bin/b.iHex", HEX),
-        ("c.ihx", HEX),
-        ("d.srec", SREC),
-        ("e.S19", SREC),
-        ("f.s28", SREC),
-        ("g.s37", SREC),
-        ("h.Mot", SREC),
-        ("i.bin", BIN),
-        ("j.hex.gz", BIN),
-        ("hex", BIN),
-        ("x.s20", BIN),
-        ("", BIN),
-    ];
-    for (name, format) in names {
-        expect_eq_at(&rt, &name, &Format::of_name(name), &format);
+    for (name, format) in NAMES {
+        expect_eq_at(&rt, name, &Format::of_name(name), format);
     }
-    let words = [
-        ("bin", Some(BIN)),
-        ("hex", Some(HEX)),
-        ("srec", Some(SREC)),
-        ("HEX", None),
-        ("", None),
-        ("ihex", None),
-    ];
-    for (word, format) in words {
-        expect_eq_at(&rt, &word, &Format::of_word(word), &format);
+    for (word, format) in WORDS {
+        expect_eq_at(&rt, word, &Format::of_word(word), format);
     }
 }

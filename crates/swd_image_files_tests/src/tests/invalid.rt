@@ -1,7 +1,5 @@
 //! Files with an error.
-use super::expect::expect_eq_at;
-use std::alloc::Global;
-use std::process::Abort;
+use super::expect::{expect_eq_at, said};
 use std::test::Fail;
 use swd_image_files::{Format, read_image};
 
@@ -16,7 +14,7 @@ const BIN: Format = Format::Binary;
 
 const START: &str = "line 1: no record mark at the beginning (nor is a byte order mark allowed)";
 
-const ROWS: [Row; 43] = [
+const ROWS: &[Row] = &[
     (
         "a binary past ffffffff",
         BIN,
@@ -254,20 +252,11 @@ const ROWS: [Row; 43] = [
     ),
 ];
 
-fn expect_row<R: Abort>(rt: &R, alloc: Global, row: &Row) -> Result<(), Fail> {
-    let (name, format, base, file, wanted) = *row;
-    let found = match read_image(alloc, format, file, base) {
-        Ok(_) => format!(in alloc; "read")?,
-        Err(fault) => format!(in alloc; "{fault}")?,
-    };
-    expect_eq_at(rt, &name, &found.as_str(), &wanted);
-    Ok(())
-}
-
 #[test]
 fn the_first_error_is_named(rt: HostRuntime) -> Result<(), Fail> {
-    for row in &ROWS {
-        expect_row(&rt, rt.alloc(), row)?;
+    for (name, format, base, file, wanted) in ROWS {
+        let found = said(rt.alloc(), &read_image(rt.alloc(), *format, file, *base))?;
+        expect_eq_at(&rt, name, &found.as_str(), wanted);
     }
     Ok(())
 }

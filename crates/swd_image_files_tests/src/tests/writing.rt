@@ -1,6 +1,6 @@
 //! Files that are written.
-use super::expect::{expect_at, expect_eq_at};
-use std::test::Fail;
+use super::expect::{Read, expect_at, expect_eq_at};
+use std::process::Abort;
 use swd_fakes::ShortWriter;
 use swd_image_files::{Format, read_image, write_image};
 
@@ -9,7 +9,7 @@ const BYTES: &[u8] = b"\x00\x01\x02\x03\x04\x05\x06\x07\x08\x09\x0a\x0b\x0c\x0d\
 /// An image, and its file.
 type Row = (&'static str, Format, u32, &'static [u8], &'static [u8]);
 
-const ROWS: [Row; 9] = [
+const ROWS: &[Row] = &[
     ("bin", Format::Binary, 0x1234, b"a\nb", b"a\nb"),
     ("bin, empty", Format::Binary, 0, b"", b""),
     (
@@ -63,50 +63,54 @@ const ROWS: [Row; 9] = [
     ),
 ];
 
-#[test]
-fn images_are_written_and_read_back(rt: HostRuntime) -> Result<(), Fail> {
-    for (name, format, addr, bytes, wanted) in ROWS {
-        if bytes.len() as u64 > 0x1_0000_0000 - addr as u64 {
-            expect_at(&rt, &name, false);
-            continue;
-        }
-        let mut writer = ShortWriter::new(rt.alloc(), 4096, true);
-        expect_eq_at(
-            &rt,
-            &name,
-            &write_image(format, addr, bytes, &mut writer),
-            &Ok(()),
-        );
-        expect_eq_at(&rt, &name, &writer.taken(), &wanted);
-        let base = if format == Format::Binary { addr } else { 0 };
-        match read_image(rt.alloc(), format, wanted, base) {
-            Ok(image) => {
-                expect_eq_at(&rt, &name, &image.bytes.as_slice(), &bytes);
-                for piece in image.pieces() {
-                    expect_eq_at(&rt, &name, &(piece.addr, piece.bytes), &(addr, bytes));
-                }
+// Writes a row's image.
+fn write_row<R: Abort>(rt: &R, row: &Row, writer: &mut ShortWriter) -> Result<(), u64> {
+    let (name, format, addr, bytes, _) = row;
+    assert!(rt;
+        bytes.len() as u64 <= 0x1_0000_0000 - *addr as u64,
+        "{name}"
+    );
+    write_image(*format, *addr, bytes, writer)
+}
+
+// Expects a row's image.
+fn expect_image<R: Abort>(rt: &R, row: &Row, read: &Read) {
+    let (name, _, addr, bytes, _) = row;
+    match read {
+        Ok(image) => {
+            expect_eq_at(rt, name, &image.bytes.as_slice(), bytes);
+            for piece in image.pieces() {
+                expect_eq_at(rt, name, &piece.addr, addr);
+                expect_eq_at(rt, name, &piece.bytes, bytes);
             }
-            Err(_) => expect_at(&rt, &name, false),
         }
+        Err(_) => expect_at(rt, name, false),
     }
-    Ok(())
 }
 
 #[test]
-fn a_writer_fails_at_each_byte(rt: HostRuntime) -> Result<(), Fail> {
-    for (name, format, addr, bytes, file) in ROWS {
-        if bytes.len() as u64 > 0x1_0000_0000 - addr as u64 {
-            expect_at(&rt, &name, false);
-            continue;
-        }
+fn images_are_written_and_read_back(rt: HostRuntime) {
+    for row in ROWS {
+        let (name, format, addr, _, file) = row;
+        let base = if *format == Format::Binary { *addr } else { 0 };
+        let mut writer = ShortWriter::new(rt.alloc(), 4096, true);
+        expect_eq_at(&rt, name, &write_row(&rt, row, &mut writer), &Ok(()));
+        expect_eq_at(&rt, name, &writer.taken(), &&file[..]);
+        expect_image(&rt, row, &read_image(rt.alloc(), *format, file, base));
+    }
+}
+
+#[test]
+fn a_writer_fails_at_each_byte(rt: HostRuntime) {
+    for row in ROWS {
+        let (name, .., file) = row;
         for room in 0..file.len() {
             for fails in [false, true] {
                 let mut writer = ShortWriter::new(rt.alloc(), room, fails);
-                let sent = write_image(format, addr, bytes, &mut writer);
-                expect_eq_at(&rt, &name, &sent, &Err(room as u64));
-                expect_eq_at(&rt, &name, &writer.taken(), &&file[..room]);
+                let sent = write_row(&rt, row, &mut writer);
+                expect_eq_at(&rt, name, &sent, &Err(room as u64));
+                expect_eq_at(&rt, name, &writer.taken(), &&file[..room]);
             }
         }
     }
-    Ok(())
 }
