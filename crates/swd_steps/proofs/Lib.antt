@@ -6,3 +6,4 @@ mod Reporting
 mod Reaching
 mod Ending
 mod Stepping
+mod Failing

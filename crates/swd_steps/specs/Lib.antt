@@ -2,3 +2,4 @@ pub mod Runs
 pub mod Laws
 pub mod Fields
 pub mod Reached
+pub mod Failing

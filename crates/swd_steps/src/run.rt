@@ -10,6 +10,7 @@ ghost use Rattle.swd_host.specs.Engines.{EngineHasCue, IsEnginePhaseCue, engine_
 ghost use Rattle.swd_host.specs.Engines.{engine_is_ahead, engine_is_resting, engine_may_start, engine_requests};
 ghost use Rattle.swd_host.specs.Plain.{AreHostAccesses, HostAccessHasRanges, host_access_is_aligned};
 ghost use Rattle.swd_host.specs.Turns.{EngineStarts};
+ghost use Rattle.swd_steps.specs.Failing.{SteppedFails};
 ghost use Rattle.swd_steps.specs.Runs.{SteppedExtends, SteppedRefusalReason, SteppedListFits, SteppedLeaves};
 ghost use Rattle.swd_steps.specs.Runs.{SteppedMakesCall, SteppedRan, stepped_again, stepped_anew, stepped_answers};
 ghost use Rattle.swd_steps.specs.Runs.{stepped_opened};
@@ -19,6 +20,9 @@ ghost use Rattle.swd_steps.specs.Runs.{stepped_run_cue, stepped_seen};
 use crate::accesses::Accesses;
 use swd_host::{Bursts, End, Engine, Outcome};
 use swd_port::{Access, Answer, Cue, MOST_ACCESSES};
+
+// The three bits of an acknowledgement on a line that nobody drives.
+const SILENCE: u64 = 7;
 
 /// The stage of a run.
 #[derive(Clone, Copy, Debug, PartialEq, Eq)]
@@ -130,6 +134,23 @@ impl Run {
             }
             _ => None,
         }
+    }
+
+    /// Returns the run that ended `Lost` since the line failed inside this cue, with the answers so far. A request counts
+    /// as sent, since the target may have seen it. Returns `None` if there is no cue.
+    pub fn failed(&self) -> Option<Run>
+        ensures fails { IfSome result (λ run.
+            EngineHasCue (λ cue. SteppedFails cue self.now run) (stepped_run_cue self.now)) }
+        ensures none { IfNone result (stepped_run_cue self.now ≡ None) }
+    {
+        let cue = self.cue()?;
+        let mut failed = *self;
+        failed.stage = Stage::Ended(End::Lost);
+        if let Cue::Ask(_) = cue {
+            failed.engine.next(SILENCE);
+            return Some(failed);
+        }
+        Some(failed)
     }
 
     fn beginning(engine: Engine, answered: u32) -> Run
