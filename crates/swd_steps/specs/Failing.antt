@@ -8,8 +8,8 @@ use Rattle.swd_steps.specs.declared.run.Run.{Run}
 use Rattle.swd_steps.specs.declared.run.Stage.TheVariants.{Ended}
 use Rattle.swd_steps.specs.Runs.{SteppedExtends}
 
--- A request is one that nothing acknowledged, since the target may have seen it. No other cue sends a request: the engine
--- is as it was before the cue.
+-- A request is one that nothing acknowledged, since the target may have seen it. No other cue sends a request: the
+-- engine is as it was before the cue.
 abbrev pub SteppedFailsAt : Cue → Run → Run → Type 0
 SteppedFailsAt (Ask q) before after = (accesses : List Access) → SteppedExtends (Ask q) 7 accesses before [] after
 SteppedFailsAt cue before after = after.engine ≡ before.engine

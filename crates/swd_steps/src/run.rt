@@ -136,8 +136,8 @@ impl Run {
         }
     }
 
-    /// Returns the run that ended `Lost` since the line failed inside this cue, with the answers so far. A request counts
-    /// as sent, since the target may have seen it. Returns `None` if there is no cue.
+    /// Returns the run that ended `Lost` since the line failed inside this cue, with the answers so far. A request
+    /// counts as sent, since the target may have seen it. Returns `None` if there is no cue.
     pub fn failed(&self) -> Option<Run>
         ensures fails { IfSome result (λ run.
             EngineHasCue (λ cue. SteppedFails cue self.now run) (stepped_run_cue self.now)) }
