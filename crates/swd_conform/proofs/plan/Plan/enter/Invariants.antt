@@ -1,4 +1,4 @@
-use Rattle.std.proofs.Common.{◌≡◌, ◌×◌}
+use Rattle.std.proofs.Common.{◌≡◌}
 use Rattle.swd_conform.specs.Plans.{conform_steps_left}
 use Rattle.swd_conform.proofs.plan.Plan.enter.Given as goal
 
