@@ -95,7 +95,7 @@ fn print_help<O: Write + KeepsError, E: Write>(error: &Error, output: &mut O, er
 
 pub(crate) const SHOWN: &str = "\
 --remote: standard output is a terminal, not a target's line: connect it, as by \
-socat TCP:localhost:4711,nodelay EXEC:'swd ..', or name files, --remote=IN,OUT";
+swd-line localhost:4711 -- swd .., or name files, --remote=IN,OUT";
 
 // Returns an argument that may not be given.
 fn given(argument: &Option<String>) -> Option<&str>

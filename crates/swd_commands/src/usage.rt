@@ -43,7 +43,7 @@ fn tip_for(words: &[&str]) -> Option<&'static str> {
             Some("the result goes to standard output: >FILE writes it to a file")
         }
         "run" | "info" | "load" | "verify" | "dump" if names_server(words) => {
-            Some("--remote takes no address: socat connects it to a socket, see --help")
+            Some("--remote takes no address: swd-line connects it to a socket, see --help")
         }
         "run" | "info" | "load" | "verify" | "dump" if names_files(words) => {
             Some("the files of --remote follow =, as in --remote=IN,OUT")

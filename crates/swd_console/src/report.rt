@@ -62,8 +62,7 @@ pub fn cannot_open<E: Write>(errors: &mut E, name: &str, why: &io::Error) -> u8
 // What to do where the file of a memory isn't there, and a file that leads to a target.
 const NEW_MEMORY: &str = "for a memory of 64 KiB of zeros: head -c 64K /dev/zero >FILE";
 
-const SOCKET: &str =
-    "for a server on a socket: socat TCP:localhost:4711,nodelay EXEC:'swd .. --remote'";
+const SOCKET: &str = "for a server on a socket: swd-line localhost:4711 -- swd .. --remote";
 
 /// Prints that the file of a memory can't be opened, why, and how to make one that isn't there. Returns the status 2.
 pub(crate) fn cannot_open_memory<E: Write>(errors: &mut E, name: &str, why: &io::Error) -> u8

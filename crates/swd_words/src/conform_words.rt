@@ -31,7 +31,7 @@ open at which address it would be.
 
 --remote is as for swd run. Without =IN,OUT standard output is the line's, and
 the verdict is on standard error. For a server on a socket:
-  socat TCP:localhost:4711,nodelay EXEC:'swd conform --remote ..'
+  swd-line localhost:4711 -- swd conform --remote ..
 Lines on standard error say how many requests and clocks were sent, and what was
 not reached: WAIT, if the port never answered it, and damage on the line.
 

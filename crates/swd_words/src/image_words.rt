@@ -44,7 +44,7 @@ are read first, so that their other bytes keep their values.
 
 With --remote the standard streams connect to a server of OpenOCD's
 remote_bitbang protocol for SWD, such as swd target. For a server on a socket:
-  socat TCP:localhost:4711,nodelay EXEC:'swd load ADDR FILE --remote'
+  swd-line localhost:4711 -- swd load ADDR FILE --remote
 --remote=IN,OUT is as for swd run.
 
 With --memory the target is simulated. The memory's FILE has its bytes from

@@ -19,7 +19,7 @@ have DPIDR by its fields, in hexadecimal, and what power was acknowledged:
 If the opening failed, the last line says how far it came. Designer 23b is Arm.
 
 --remote is as for swd run. For a server on a socket:
-  socat TCP:localhost:4711,nodelay EXEC:'swd info --remote'
+  swd-line localhost:4711 -- swd info --remote
 
 Status: 0 if the target was opened, 1 if it wasn't or the other end went away,
 2 at an error.";

@@ -18,7 +18,7 @@ const TARGET_AFTER: &str = "\
 The debugger speaks OpenOCD's remote_bitbang protocol for SWD: d to g set the
 pins, c samples SWDIO, O and o drive or release it, Q ends. To listen on a
 socket:
-  socat TCP-LISTEN:4711,nodelay EXEC:'swd target memory.script'
+  socat TCP-LISTEN:4711,nodelay EXEC:'swd target memory.script',nofork
 
 SCRIPT or --memory names the target's memory. SCRIPT has only the lines memory
 and room of swd run, and can't be standard input. Its words are all zero.

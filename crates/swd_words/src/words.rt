@@ -70,8 +70,8 @@ With --remote the standard streams connect to a server of OpenOCD's
 remote_bitbang protocol for SWD, such as swd target. The report goes to the file
 that --report names, which is overwritten; with - it is appended to standard
 error. SCRIPT must be a file. There is no plan, and the script's memory and room
-are ignored. For a server on a socket:
-  socat TCP:localhost:4711,nodelay EXEC:'swd run SCRIPT --remote --report FILE'
+are ignored. For a server on a socket, by the relay that comes with swd:
+  swd-line localhost:4711 -- swd run SCRIPT --remote --report FILE
 With --remote=IN,OUT these files take the place of the standard streams, such as
 two fifos; with --remote=DEVICE one file is both, such as a serial device that
 stty set raw. Each is opened for reading and writing, so opening one waits for
