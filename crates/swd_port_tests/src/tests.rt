@@ -12,6 +12,8 @@ mod expect;
 
 use bitflags::Flags;
 use expect::{expect_at, expect_eq, expect_eq_at};
+use std::alloc::{AllocError, Global};
+use std::fmt::Display;
 use std::test::Fail;
 use swd_bits::word_of;
 use swd_port::{
@@ -81,83 +83,128 @@ fn identification<W: Wire>(wire: &mut W) -> Option<u32>
     }
 }
 
+// A word's bits: those that a register keeps of it, those of a named bit, or those of its fields.
+#[derive(Clone, Copy)]
+enum Word {
+    KeptByAbort(u32),
+    KeptByCtrlStat(u32),
+    KeptBySelect(u32),
+    KeptByCsw(u32),
+    Abort(Abort),
+    CtrlStat(CtrlStat),
+    Select(Select),
+    Csw(Csw),
+}
+
+fn bits_of(word: Word) -> u32 {
+    match word {
+        Word::KeptByAbort(bits) => Abort::of(bits).bits(),
+        Word::KeptByCtrlStat(bits) => CtrlStat::of(bits).bits(),
+        Word::KeptBySelect(bits) => Select::of(bits).bits(),
+        Word::KeptByCsw(bits) => Csw::of(bits).bits(),
+        Word::Abort(abort) => abort.bits(),
+        Word::CtrlStat(status) => status.bits(),
+        Word::Select(select) => select.bits(),
+        Word::Csw(csw) => csw.bits(),
+    }
+}
+
+const SELECT: Select = Select {
+    apsel: 0x12,
+    apbanksel: 0x7,
+    dpbanksel: 0x8,
+};
+
+const CSW: Csw = Csw {
+    size: 2,
+    addr_inc: 1,
+    device_en: true,
+    tr_in_prog: false,
+    upper: 0x23,
+};
+
+const WORDS: &[(&str, Word, u32)] = &[
+    // What is kept of a word.
+    ("ABORT of ones", Word::KeptByAbort(0xffff_ffff), 0x0000_001f),
+    (
+        "CTRL/STAT of ones",
+        Word::KeptByCtrlStat(0xffff_ffff),
+        0xfcff_ffff,
+    ),
+    ("SELECT", Word::KeptBySelect(0x1234_5678), 0x1200_0078),
+    ("CSW", Word::KeptByCsw(0x2300_0052), 0x2300_0052),
+    ("CSW of ones", Word::KeptByCsw(0xffff_ffff), 0x7f00_00f7),
+    // Where a named bit is.
+    ("DAPABORT", Word::Abort(Abort::DAPABORT), 1),
+    ("STKCMPCLR", Word::Abort(Abort::STKCMPCLR), 2),
+    ("STKERRCLR", Word::Abort(Abort::STKERRCLR), 4),
+    ("WDERRCLR", Word::Abort(Abort::WDERRCLR), 8),
+    ("ORUNERRCLR", Word::Abort(Abort::ORUNERRCLR), 16),
+    ("STICKYERR", Word::CtrlStat(CtrlStat::STICKYERR), 0x20),
+    ("READOK", Word::CtrlStat(CtrlStat::READOK), 0x40),
+    ("WDATAERR", Word::CtrlStat(CtrlStat::WDATAERR), 0x80),
+    (
+        "CDBGPWRUPREQ",
+        Word::CtrlStat(CtrlStat::CDBGPWRUPREQ),
+        0x1000_0000,
+    ),
+    (
+        "CDBGPWRUPACK",
+        Word::CtrlStat(CtrlStat::CDBGPWRUPACK),
+        0x2000_0000,
+    ),
+    (
+        "CSYSPWRUPREQ",
+        Word::CtrlStat(CtrlStat::CSYSPWRUPREQ),
+        0x4000_0000,
+    ),
+    (
+        "CSYSPWRUPACK",
+        Word::CtrlStat(CtrlStat::CSYSPWRUPACK),
+        0x8000_0000,
+    ),
+    // Where a field is.
+    ("SELECT of its fields", Word::Select(SELECT), 0x1200_0078),
+    ("CSW of its fields", Word::Csw(CSW), 0x2300_0052),
+];
+
 #[test]
 fn registers_have_the_bits_of_the_standard(rt: HostRuntime) {
-    let select = Select {
-        apsel: 0x12,
-        apbanksel: 0x7,
-        dpbanksel: 0x8,
-    };
-    let csw = Csw {
-        size: 2,
-        addr_inc: 1,
-        device_en: true,
-        tr_in_prog: false,
-        upper: 0x23,
-    };
-    for (name, bits, wanted) in [
-        // What is kept of a word.
-        ("ABORT of ones", Abort::of(0xffff_ffff).bits(), 0x0000_001f),
-        (
-            "CTRL/STAT of ones",
-            CtrlStat::of(0xffff_ffff).bits(),
-            0xfcff_ffff,
-        ),
-        ("SELECT", Select::of(0x1234_5678).bits(), 0x1200_0078),
-        ("CSW", Csw::of(0x2300_0052).bits(), 0x2300_0052),
-        ("CSW of ones", Csw::of(0xffff_ffff).bits(), 0x7f00_00f7),
-        // Where a named bit is.
-        ("DAPABORT", Abort::DAPABORT.bits(), 1),
-        ("STKCMPCLR", Abort::STKCMPCLR.bits(), 2),
-        ("STKERRCLR", Abort::STKERRCLR.bits(), 4),
-        ("WDERRCLR", Abort::WDERRCLR.bits(), 8),
-        ("ORUNERRCLR", Abort::ORUNERRCLR.bits(), 16),
-        (
-            "both clearings",
-            (Abort::STKERRCLR | Abort::WDERRCLR).bits(),
-            12,
-        ),
-        ("STICKYERR", CtrlStat::STICKYERR.bits(), 0x20),
-        ("READOK", CtrlStat::READOK.bits(), 0x40),
-        ("WDATAERR", CtrlStat::WDATAERR.bits(), 0x80),
-        ("CDBGPWRUPREQ", CtrlStat::CDBGPWRUPREQ.bits(), 0x1000_0000),
-        ("CDBGPWRUPACK", CtrlStat::CDBGPWRUPACK.bits(), 0x2000_0000),
-        ("CSYSPWRUPREQ", CtrlStat::CSYSPWRUPREQ.bits(), 0x4000_0000),
-        ("CSYSPWRUPACK", CtrlStat::CSYSPWRUPACK.bits(), 0x8000_0000),
-        // Where a field is.
-        ("SELECT of its fields", select.bits(), 0x1200_0078),
-        ("CSW of its fields", csw.bits(), 0x2300_0052),
-    ] {
-        expect_eq_at(&rt, &name, &bits, &wanted);
+    for (name, word, wanted) in WORDS {
+        expect_eq_at(&rt, name, &bits_of(*word), wanted);
     }
+    let clearings = Abort::STKERRCLR | Abort::WDERRCLR;
+    expect_eq_at(&rt, &"both clearings", &clearings.bits(), &12);
     assert!(rt; CtrlStat::of(0xf000_0080).contains(CtrlStat::WDATAERR));
     assert!(rt; !CtrlStat::of(0xf000_0040).contains(CtrlStat::WDATAERR));
-    expect_eq(&rt, &Select::of(0x1234_5678), &select);
-    expect_eq(&rt, &Csw::of(0x2300_0052), &csw);
+    expect_eq(&rt, &Select::of(0x1234_5678), &SELECT);
+    expect_eq(&rt, &Csw::of(0x2300_0052), &CSW);
 }
+
+const BYTES: &[(Register, u8)] = &[
+    (Register::DpidrRead, 0xa5),
+    (Register::AbortWrite, 0x81),
+    (Register::CtrlStatRead, 0x8d),
+    (Register::CtrlStatWrite, 0xa9),
+    (Register::ResendRead, 0x95),
+    (Register::SelectWrite, 0xb1),
+    (Register::RdbuffRead, 0xbd),
+    (Register::CswRead, 0x87),
+    (Register::CswWrite, 0xa3),
+    (Register::TarRead, 0xaf),
+    (Register::TarWrite, 0x8b),
+    (Register::DrwRead, 0x9f),
+    (Register::DrwWrite, 0xbb),
+    (Register::DpOtherRead, 0x8d),
+    (Register::DpIgnoredWrite, 0x99),
+    (Register::ApOtherRead, 0xb7),
+    (Register::ApOtherWrite, 0x93),
+];
 
 #[test]
 fn a_register_is_named_by_its_byte(rt: HostRuntime) {
-    for (register, byte) in [
-        (Register::DpidrRead, 0xa5),
-        (Register::AbortWrite, 0x81),
-        (Register::CtrlStatRead, 0x8d),
-        (Register::CtrlStatWrite, 0xa9),
-        (Register::ResendRead, 0x95),
-        (Register::SelectWrite, 0xb1),
-        (Register::RdbuffRead, 0xbd),
-        (Register::CswRead, 0x87),
-        (Register::CswWrite, 0xa3),
-        (Register::TarRead, 0xaf),
-        (Register::TarWrite, 0x8b),
-        (Register::DrwRead, 0x9f),
-        (Register::DrwWrite, 0xbb),
-        (Register::DpOtherRead, 0x8d),
-        (Register::DpIgnoredWrite, 0x99),
-        (Register::ApOtherRead, 0xb7),
-        (Register::ApOtherWrite, 0x93),
-    ] {
-        expect_eq(&rt, &register.request().bits(), &byte);
+    for (register, byte) in BYTES {
+        expect_eq(&rt, &register.request().bits(), byte);
     }
 }
 
@@ -273,29 +320,41 @@ fn nothing_is_sent_once_the_other_end_went_away(rt: HostRuntime) {
     expect_eq(&rt, &wire.into_transport().calls, &6);
 }
 
+// Each value is printed so.
+fn are_printed<R: std::process::Abort, T: Display>(
+    rt: &R,
+    alloc: Global,
+    rows: &[(T, &str)],
+) -> Result<(), AllocError> {
+    for (value, text) in rows {
+        expect_eq(rt, &format!(in alloc; "{value}")?.as_str(), text);
+    }
+    Ok(())
+}
+
+const ACCESSES: &[(Access, &str)] = &[
+    (Access::Read(0x2000_0000), "r 20000000"),
+    (Access::Write(0x10, 0xdead_beef), "w 00000010 deadbeef"),
+];
+
+const MARKS: &[(Mark, &str)] = &[
+    (Mark::Clean, "."),
+    (Mark::Wait, "wait"),
+    (Mark::Flip(32), "flip 32"),
+    (Mark::Deaf, "deaf"),
+    (Mark::Mute(2), "mute 2"),
+];
+
+const ANSWERS: &[(Answer, &str)] = &[
+    (Answer::Value(0x0000_00ff), "000000ff"),
+    (Answer::Written, "written"),
+    (Answer::BusFault, "busfault"),
+];
+
 #[test]
 fn accesses_marks_and_answers_are_written_as_in_texts(rt: HostRuntime) -> Result<(), Fail> {
-    for (access, line) in [
-        (Access::Read(0x2000_0000), "r 20000000"),
-        (Access::Write(0x10, 0xdead_beef), "w 00000010 deadbeef"),
-    ] {
-        expect_eq(&rt, &format!(in rt.alloc(); "{access}")?.as_str(), &line);
-    }
-    for (mark, line) in [
-        (Mark::Clean, "."),
-        (Mark::Wait, "wait"),
-        (Mark::Flip(32), "flip 32"),
-        (Mark::Deaf, "deaf"),
-        (Mark::Mute(2), "mute 2"),
-    ] {
-        expect_eq(&rt, &format!(in rt.alloc(); "{mark}")?.as_str(), &line);
-    }
-    for (answer, words) in [
-        (Answer::Value(0x0000_00ff), "000000ff"),
-        (Answer::Written, "written"),
-        (Answer::BusFault, "busfault"),
-    ] {
-        expect_eq(&rt, &format!(in rt.alloc(); "{answer}")?.as_str(), &words);
-    }
+    are_printed(&rt, rt.alloc(), ACCESSES)?;
+    are_printed(&rt, rt.alloc(), MARKS)?;
+    are_printed(&rt, rt.alloc(), ANSWERS)?;
     Ok(())
 }
