@@ -1,5 +1,5 @@
 //! Calls one after the other over one target: an image that is longer than a call takes, and its verification.
-use super::expect::{expect_at, expect_eq};
+use super::expect::expect_at;
 use std::alloc::Global;
 use std::process::Abort;
 use std::test::Fail;
@@ -148,7 +148,7 @@ fn comes_out<W: Simulated + Drop, R: Abort>(rt: &R, alloc: Global) -> Result<(),
         expect_at(rt, first, is_read);
     }
     let log = wire.memory().log();
-    expect_eq(rt, &log.len(), &200_000);
+    assert_eq!(rt; log.len(), 200_000);
     let (written, read) = log.split_at(100_000);
     assert!(rt; is_logged(written, false) && is_logged(read, true));
     Ok(())
@@ -158,6 +158,10 @@ fn comes_out<W: Simulated + Drop, R: Abort>(rt: &R, alloc: Global) -> Result<(),
 fn an_image_is_written_and_verified_by_calls_one_after_the_other(
     rt: HostRuntime,
 ) -> Result<(), Fail> {
-    comes_out::<Bench<Memory>, _>(&rt, rt.alloc())?;
+    comes_out::<Bench<Memory>, _>(&rt, rt.alloc())
+}
+
+#[test]
+fn an_image_is_written_and_verified_over_a_clocked_target(rt: HostRuntime) -> Result<(), Fail> {
     comes_out::<ClockedBench<Memory>, _>(&rt, rt.alloc())
 }

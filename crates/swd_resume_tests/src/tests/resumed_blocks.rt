@@ -197,6 +197,13 @@ const PAIRS: &[(Mark, Mark)] = &[(Mark::Mute(0), Mark::Deaf), (Mark::Deaf, Mark:
 fn a_block_is_resumed_at_any_two_requests(rt: HostRuntime) -> Result<(), Fail> {
     for pair in PAIRS {
         any_two_are_lost::<Bench<Memory>, HostRuntime>(&rt, rt.alloc(), *pair)?;
+    }
+    Ok(())
+}
+
+#[test]
+fn a_block_is_resumed_at_any_two_requests_of_a_clocked_target(rt: HostRuntime) -> Result<(), Fail> {
+    for pair in PAIRS {
         any_two_are_lost::<ClockedBench<Memory>, HostRuntime>(&rt, rt.alloc(), *pair)?;
     }
     Ok(())

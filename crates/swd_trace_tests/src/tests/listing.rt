@@ -94,7 +94,7 @@ fn listings_are_read_as_they_are_printed_or_their_first_fault_is_told(
             again.push_str(item.line().as_str())?;
             again.push_str("\n")?;
         }
-        expect_eq_at(&rt, text, &again.as_str(), text);
+        expect_eq_at(&rt, text, &again.as_str(), &&text[..]);
     }
     // A last line may lack its end.
     let mut reader = "idle 2\ncut 1".as_bytes();

@@ -14,7 +14,7 @@ fn are_printed<R: Abort, T: Display>(
 ) -> Result<(), AllocError> {
     for (value, words) in rows {
         let printed = format!(in alloc; "{value}")?;
-        expect_eq_at(rt, words, &printed.as_str(), words);
+        expect_eq_at(rt, words, &printed.as_str(), &&words[..]);
     }
     Ok(())
 }

@@ -3,7 +3,7 @@ use super::expect::{expect_at, expect_eq, expect_eq_at};
 use std::alloc::Global;
 use std::process::Abort;
 use std::test::Fail;
-use swd_host::{End, Refused, run_over_transport};
+use swd_host::{End, Refused, Report, run_over_transport};
 use swd_port::{Access, Answer, Cue, Disconnected, Register, Transport, TransportWire, Wire};
 use swd_simulated::{
     QUIRKS, READ, READ_WORD, RUN, Untold, WORD, WRITE, WRITTEN, Wanted, pass_on, target_of,
@@ -143,6 +143,11 @@ const REACHING: &[Reaching] = &[
     ),
 ];
 
+// The report is as wanted.
+fn tells<R: Abort>(rt: &R, name: &str, report: &Report, wanted: &Wanted) {
+    expect_eq_at(rt, &name, &Wanted::found(report, wanted.log), wanted);
+}
+
 // One run at a target that so many calls reach.
 fn comes_out<R: Abort>(
     rt: &R,
@@ -152,7 +157,7 @@ fn comes_out<R: Abort>(
     let bridge = behind(alloc, *reaching)?;
     let mut wire: TransportWire<Bridge, Untold> = TransportWire::new(bridge);
     let report = run_over_transport(alloc, &mut wire, &[WRITE, READ], 8)?;
-    expect_eq_at(rt, name, &Wanted::found(&report, wanted.log), wanted);
+    tells(rt, name, &report, wanted);
     let Bridge {
         mut bench,
         calls,
@@ -236,8 +241,7 @@ fn a_target_that_drops_its_writes_is_not_seen(rt: HostRuntime) -> Result<(), Fai
         ended: End::All,
         ..LOST
     };
-    let name = "a target that drops its writes";
-    expect_eq_at(&rt, &name, &Wanted::found(&report, wanted.log), &wanted);
+    tells(&rt, "a target that drops its writes", &report, &wanted);
     let Forgetful { mut bench, .. } = wire.into_transport();
     bench.settle();
     expect_eq(&rt, &bench.memory().log(), &LOST.log);
