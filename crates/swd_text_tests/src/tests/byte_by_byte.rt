@@ -68,16 +68,22 @@ fn a_long_item_is_encoded_byte_by_byte(rt: HostRuntime) -> Result<(), Fail> {
     Ok(())
 }
 
+// Whether a writer fails, or takes no bytes, and the error.
+const WRITERS: &[(bool, ErrorKind)] = &[
+    (true, ErrorKind::BrokenPipe),
+    (false, ErrorKind::WriteZero),
+];
+
 // The error is the writer's own, and `WriteZero` where it took no bytes.
 #[test]
 fn an_item_whose_writer_fails(rt: HostRuntime) -> Result<(), Fail> {
-    for (fails, kind) in [(true, ErrorKind::BrokenPipe), (false, ErrorKind::WriteZero)] {
+    for (fails, kind) in WRITERS {
         for room in 0..=1030usize {
-            let mut writer = ShortWriter::new(rt.alloc(), room, fails);
+            let mut writer = ShortWriter::new(rt.alloc(), room, *fails);
             let error = encode(&Item::Idle(1030), &mut writer)
                 .err()
                 .ok_or("all went out")?;
-            expect_at(&rt, &room, error.kind() == kind);
+            expect_at(&rt, &room, error.kind() == *kind);
             expect_eq(&rt, &writer.taken().len(), &room);
         }
     }

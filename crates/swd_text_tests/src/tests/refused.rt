@@ -10,7 +10,7 @@ struct Refused {
     texts: &'static [&'static [u8]],
 }
 
-const SCRIPTS: [Refused; 18] = [
+const SCRIPTS: &[Refused] = &[
     Refused {
         name: "the second line is wrong in its words",
         fault: ScriptFault::Word { line: 2 },
@@ -250,7 +250,7 @@ const SCRIPTS: [Refused; 18] = [
     },
 ];
 
-const PLANS: [Refused; 3] = [
+const PLANS: &[Refused] = &[
     Refused {
         name: "a mark is wrong in its words",
         fault: ScriptFault::Word { line: 2 },
@@ -294,13 +294,13 @@ const PLANS: [Refused; 3] = [
 
 #[test]
 fn texts_at_fault_are_told_with_their_lines(rt: HostRuntime) {
-    for row in &SCRIPTS {
+    for row in SCRIPTS {
         for (index, text) in row.texts.iter().enumerate() {
             let found = script_in(rt.alloc(), text, 0).err();
             expect_eq_at(&rt, &(row.name, index), &found, &Some(row.fault));
         }
     }
-    for row in &PLANS {
+    for row in PLANS {
         for (index, text) in row.texts.iter().enumerate() {
             let found = plan_in(rt.alloc(), text, 0).err();
             expect_eq_at(&rt, &(row.name, index), &found, &Some(row.fault));

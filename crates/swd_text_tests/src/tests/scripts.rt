@@ -105,7 +105,7 @@ const NOTHING: Call = Call {
     ..READS
 };
 
-const SCRIPTS: [Said; 15] = [
+const SCRIPTS: &[Said] = &[
     Said {
         name: "a write and reads",
         text: b"memory 20000000 16\nw 20000000 deadbeef\nrn 20000000 2\nr 30000000\n",
@@ -402,7 +402,7 @@ fn a_script_is_read_however_it_is_cut(rt: HostRuntime) {
     for row in SCRIPTS {
         for cut in 0..row.text.len().saturating_add(1) {
             match script_in(rt.alloc(), row.text, cut) {
-                Ok(script) => is_said(&rt, &row, cut, &script),
+                Ok(script) => is_said(&rt, row, cut, &script),
                 Err(fault) => panic!(rt; "{}, cut at {cut}: {fault:?}", row.name),
             }
         }
@@ -410,7 +410,7 @@ fn a_script_is_read_however_it_is_cut(rt: HostRuntime) {
 }
 
 // Scripts of long calls: of each call how many accesses it has, and the last of them.
-const LONG: [(&str, &[u8], &[(usize, Access)]); 2] = [
+const LONG: &[(&str, &[u8], &[(usize, Access)])] = &[
     (
         "a call has at most 65536 accesses",
         b"memory 0 1\nrn 0 65536\n",
@@ -431,11 +431,11 @@ const LONG: [(&str, &[u8], &[(usize, Access)]); 2] = [
 fn a_script_has_long_calls(rt: HostRuntime) -> Result<(), Fail> {
     for (name, text, calls) in LONG {
         let script = script_in(rt.alloc(), text, 0)?;
-        expect_eq_at(&rt, &name, &script.batches.len(), &calls.len());
+        expect_eq_at(&rt, name, &script.batches.len(), &calls.len());
         for (batch, (length, last)) in script.batches.as_slice().iter().zip(calls.iter()) {
             let accesses = batch.accesses.as_slice();
-            expect_eq_at(&rt, &name, &accesses.len(), length);
-            expect_eq_at(&rt, &name, &accesses.last(), &Some(last));
+            expect_eq_at(&rt, name, &accesses.len(), length);
+            expect_eq_at(&rt, name, &accesses.last(), &Some(last));
         }
     }
     Ok(())
@@ -459,7 +459,7 @@ fn take_all(reader: &mut ScriptReader<Global>, pieces: &[(&[u8], u32)]) -> Resul
     Ok(())
 }
 
-const LONG_LINE: [(&[u8], u32); 5] = [
+const LONG_LINE: &[(&[u8], u32)] = &[
     (b"memory 0 1 #", 1),
     (&[b'x'; 1000], 1000),
     (b"\nr", 1),
@@ -467,17 +467,17 @@ const LONG_LINE: [(&[u8], u32); 5] = [
     (b"8", 1),
 ];
 
-const MANY_LINES: [(&[u8], u32); 2] = [(b"memory 0 1\n", 1), (b"r 4\n", 65536)];
+const MANY_LINES: &[(&[u8], u32)] = &[(b"memory 0 1\n", 1), (b"r 4\n", 65536)];
 
 #[test]
 fn a_script_comes_in_many_pieces(rt: HostRuntime) -> Result<(), Fail> {
     let mut reader = ScriptReader::new(rt.alloc());
-    take_all(&mut reader, &LONG_LINE)?;
+    take_all(&mut reader, LONG_LINE)?;
     let script = reader.finish()?;
     expect_eq(&rt, &accesses(&script), &[Access::Read(8)].as_slice());
     // A further access is one too many.
     let mut reader = ScriptReader::new(rt.alloc());
-    take_all(&mut reader, &MANY_LINES)?;
+    take_all(&mut reader, MANY_LINES)?;
     expect_eq(
         &rt,
         &reader.take(&mut (), b"w 0 0\n".as_slice()),
@@ -486,7 +486,7 @@ fn a_script_comes_in_many_pieces(rt: HostRuntime) -> Result<(), Fail> {
     Ok(())
 }
 
-const PLANS: [(&str, &[u8], &[Mark]); 3] = [
+const PLANS: &[(&str, &[u8], &[Mark])] = &[
     (
         "each mark",
         b".\n\nwait # not now\r\n\tflip 0\nflip  0000000032\n#\ndeaf#\nmute 0\nmute 2",
@@ -525,7 +525,7 @@ fn a_plan_is_read_however_it_is_cut(rt: HostRuntime) -> Result<(), Fail> {
     for (name, text, marks) in PLANS {
         for cut in 0..=text.len() {
             let plan = plan_in(rt.alloc(), text, cut)?;
-            expect_eq_at(&rt, &(name, cut), &plan.as_slice(), &marks);
+            expect_eq_at(&rt, &(name, cut), &plan.as_slice(), &&marks[..]);
         }
     }
     Ok(())
@@ -582,20 +582,22 @@ fn each_growth_of_a_plan_is_refused(rt: HostRuntime) -> Result<(), Fail> {
     Ok(())
 }
 
+const FAULTS: &[(ScriptFault, &str)] = &[
+    (ScriptFault::Word { line: 2 }, "line 2: word"),
+    (ScriptFault::Number { line: 1 }, "line 1: number"),
+    (ScriptFault::Range { line: 30 }, "line 30: range"),
+    (
+        ScriptFault::NoMemoryLine { line: 1 },
+        "line 1: no memory line",
+    ),
+    (ScriptFault::Memory { line: 4 }, "line 4: memory"),
+];
+
 #[test]
 fn faults_are_told_with_their_lines(rt: HostRuntime) -> Result<(), Fail> {
-    for (fault, text) in [
-        (ScriptFault::Word { line: 2 }, "line 2: word"),
-        (ScriptFault::Number { line: 1 }, "line 1: number"),
-        (ScriptFault::Range { line: 30 }, "line 30: range"),
-        (
-            ScriptFault::NoMemoryLine { line: 1 },
-            "line 1: no memory line",
-        ),
-        (ScriptFault::Memory { line: 4 }, "line 4: memory"),
-    ] {
+    for (fault, text) in FAULTS {
         let told = format!(in rt.alloc(); "{fault}")?;
-        expect_eq(&rt, &told.as_str(), &text);
+        expect_eq(&rt, &told.as_str(), text);
     }
     Ok(())
 }

@@ -26,7 +26,7 @@ pub(super) const DPIDR_READ: &[u8] = b"10100101 1 100 11101110001010000000010111
 pub(super) const DPIDR_LINE: &[u8] = b"dp 0 read ok 2ba01477\n";
 
 // Traces with their listings. One at fault is listed up to its bad character.
-const DECODED: [(&str, &[u8], &[u8], Option<TextFault>); 16] = [
+const DECODED: &[(&str, &[u8], &[u8], Option<TextFault>)] = &[
     ("nothing", b"", b"", None),
     ("a read of DPIDR", DPIDR_READ, DPIDR_LINE, None),
     (
@@ -146,7 +146,7 @@ const DECODED: [(&str, &[u8], &[u8], Option<TextFault>); 16] = [
 ];
 
 // Listings with their traces. Of one at fault nothing is written.
-const ENCODED: [(&str, &[u8], &[u8], Option<ListFault>); 8] = [
+const ENCODED: &[(&str, &[u8], &[u8], Option<ListFault>)] = &[
     (
         "idle bits, and one that is cut off",
         b"idle 2\ncut 1",
@@ -231,18 +231,18 @@ fn is_listed<R: Abort>(
 fn a_trace_is_listed_however_it_is_cut(rt: HostRuntime) -> Result<(), Fail> {
     for (name, trace, listing, fault) in DECODED {
         let wanted = match fault {
-            Some(fault) => Err(DecodeFault::Text(fault)),
+            Some(fault) => Err(DecodeFault::Text(*fault)),
             None => Ok(()),
         };
         is_listed(&rt, rt.alloc(), name, trace, &wanted, listing)?;
         // The listing's own trace is listed so again.
-        let mut reader = listing;
+        let mut reader = *listing;
         let mut again = Vec::new(rt.alloc());
         let answer = encode_text(rt.alloc(), &mut reader, &mut again);
-        expect_eq_at(&rt, &name, &answer, &Ok(()));
+        expect_eq_at(&rt, name, &answer, &Ok(()));
         let (answer, out) = listed_in_two(rt.alloc(), again.as_slice(), 0)?;
-        expect_eq_at(&rt, &name, &answer, &Ok(()));
-        expect_eq_at(&rt, &name, &out.as_slice(), &listing);
+        expect_eq_at(&rt, name, &answer, &Ok(()));
+        expect_eq_at(&rt, name, &out.as_slice(), listing);
     }
     Ok(())
 }
@@ -251,14 +251,14 @@ fn a_trace_is_listed_however_it_is_cut(rt: HostRuntime) -> Result<(), Fail> {
 fn a_listing_has_its_trace_or_its_fault(rt: HostRuntime) {
     for (name, listing, trace, fault) in ENCODED {
         let wanted = match fault {
-            Some(fault) => Err(EncodeFault::List(fault)),
+            Some(fault) => Err(EncodeFault::List(*fault)),
             None => Ok(()),
         };
-        let mut reader = listing;
+        let mut reader = *listing;
         let mut out = Vec::new(rt.alloc());
         let answer = encode_text(rt.alloc(), &mut reader, &mut out);
-        expect_eq_at(&rt, &name, &answer, &wanted);
-        expect_eq_at(&rt, &name, &out.as_slice(), &trace);
+        expect_eq_at(&rt, name, &answer, &wanted);
+        expect_eq_at(&rt, name, &out.as_slice(), trace);
     }
 }
 
@@ -348,6 +348,9 @@ fn decoding_at_each_write_that_fails(rt: HostRuntime) {
     }
 }
 
+// How many bytes a writer takes before it fails.
+const ROOMS: &[usize] = &[0, 1, 16, 17, 18, 7000, 32767, 32768, 32769, 35016];
+
 #[test]
 fn decoding_more_than_a_block_where_a_write_fails(rt: HostRuntime) -> Result<(), Fail> {
     // More lines than a block holds.
@@ -360,7 +363,8 @@ fn decoding_more_than_a_block_where_a_write_fails(rt: HostRuntime) -> Result<(),
         lines.extend_from_slice(b"junk 0\n")?;
     }
     for fails in [false, true] {
-        for room in [0, 1, 16, 17, 18, 7000, 32767, 32768, 32769, 35016] {
+        for room in ROOMS {
+            let room = *room;
             let mut writer = ShortWriter::new(rt.alloc(), room, fails);
             let mut reader = trace.as_slice();
             let answer = decode_text(&mut reader, &mut writer);
