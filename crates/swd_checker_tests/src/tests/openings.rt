@@ -5,7 +5,7 @@ use swd_checker::{CheckStart, Checker, Rule, Verdict};
 use swd_trace::Item;
 
 // A start, a listing, and the place from which the items are checked.
-const BEGINS: [(CheckStart, &str, Option<u64>); 7] = [
+const BEGINS: &[(CheckStart, &str, Option<u64>)] = &[
     (CheckStart::Made, "idle 1\n", Some(0)),
     (
         CheckStart::Rest,
@@ -45,10 +45,10 @@ const BEGINS: [(CheckStart, &str, Option<u64>); 7] = [
 #[test]
 fn a_check_begins_where_its_worlds_are_few(rt: HostRuntime) -> Result<(), Fail> {
     for (start, text, began) in BEGINS {
-        let mut checker = Checker::new(start);
+        let mut checker = Checker::new(*start);
         watch(rt.alloc(), &mut checker, text, "")?;
         assert_eq!(rt; checker.verdict(), Verdict::Fits, "{text}");
-        assert_eq!(rt; checker.began(), began, "{text}");
+        assert_eq!(rt; checker.began(), *began, "{text}");
     }
     Ok(())
 }
@@ -68,15 +68,18 @@ fn a_rule_is_broken_after_any_start(rt: HostRuntime) -> Result<(), Fail> {
     Ok(())
 }
 
+// How many bits follow, and how many gaps there are then.
+const STRAY: &[(u64, u64)] = &[(34, 0), (35, 1)];
+
 #[test]
 fn thirty_four_bits_may_follow_a_lost_acknowledgement(rt: HostRuntime) -> Result<(), Fail> {
-    for (count, gaps) in [(34, 0), (35, 1)] {
+    for (count, gaps) in STRAY {
         let mut checker = Checker::new(CheckStart::Made);
         watch(rt.alloc(), &mut checker, "dp 0 read none 7\n", "")?;
-        for place in 0..count {
+        for place in 0..*count {
             checker.watch(&Item::Junk(false), 12 + place);
         }
-        assert_eq!(rt; checker.gaps(), gaps);
+        assert_eq!(rt; checker.gaps(), *gaps);
         assert_eq!(rt; checker.verdict(), Verdict::Fits);
     }
     Ok(())

@@ -1,11 +1,13 @@
 //! One row a rule: what fits, and what breaks it. The rules are those of IHI 0031, B1 to B4 and MEM-AP, and of this
 //! project where docs/PROTOCOL.md says so.
 use super::{UP, watch};
+use std::alloc::Global;
+use std::process::Abort;
 use std::test::Fail;
 use swd_checker::{CheckStart, Checker, Rule, Verdict};
 
 // What follows `UP`, and the least number of requests that were damaged or lost.
-const FITS: [(&str, &str, u64); 12] = [
+const FITS: &[(&str, &str, u64)] = &[
     (
         "words are free: two reads of an address may differ",
         "ap 4 write ok 20000000\nap c read ok 00000000\ndp c read ok 0000dead\nap 4 write ok 20000000\n\
@@ -76,7 +78,7 @@ const FITS: [(&str, &str, u64); 12] = [
 ];
 
 // What follows `UP`, the place of the item that breaks a rule, and the rule.
-const BREAKS: [(&str, u64, Rule); 18] = [
+const BREAKS: &[(&str, u64, Rule)] = &[
     (
         "reset 50\nidle 2\ndp 4 read ok f0000000\n",
         294,
@@ -140,7 +142,7 @@ const BREAKS: [(&str, u64, Rule); 18] = [
 ];
 
 // The same, where nothing is damaged or lost.
-const BREAKS_CLEAN: [(&str, u64, Rule); 3] = [
+const BREAKS_CLEAN: &[(&str, u64, Rule)] = &[
     ("dp c read bad 00000000\n", 242, Rule::Parity),
     ("dp c read none 7\n", 242, Rule::Acknowledgement),
     ("dp c read fault\n", 242, Rule::Flags),
@@ -152,13 +154,13 @@ fn what_the_model_allows_fits(rt: HostRuntime) -> Result<(), Fail> {
         let mut checker = Checker::new(CheckStart::Made);
         watch(rt.alloc(), &mut checker, UP, then)?;
         assert_eq!(rt; checker.verdict(), Verdict::Fits, "{name}");
-        assert!(rt; checker.faults() <= faults, "{name}");
+        assert!(rt; checker.faults() <= *faults, "{name}");
     }
     Ok(())
 }
 
 // What follows `UP`, and the number of requests that were damaged or lost, where no two worlds were joined.
-const FAULTS: [(&str, u64); 4] = [
+const FAULTS: &[(&str, u64)] = &[
     ("dp c read ok 00000000\n", 0),
     ("dp c read fault\n", 1),
     ("dp c read bad 00000000\n", 1),
@@ -174,24 +176,36 @@ fn damaged_and_lost_requests_are_counted(rt: HostRuntime) -> Result<(), Fail> {
         let mut checker = Checker::new(CheckStart::Made);
         watch(rt.alloc(), &mut checker, UP, then)?;
         assert_eq!(rt; checker.verdict(), Verdict::Fits, "{then}");
-        assert_eq!(rt; checker.faults(), faults, "{then}");
+        assert_eq!(rt; checker.faults(), *faults, "{then}");
     }
+    Ok(())
+}
+
+// What a checker says of `UP` and what follows it: at this place a rule is broken.
+fn expect_broken<R: Abort>(
+    rt: &R,
+    alloc: Global,
+    checker: Checker,
+    row: &(&str, u64, Rule),
+) -> Result<(), Fail> {
+    let (then, place, rule) = row;
+    let mut checker = checker;
+    watch(alloc, &mut checker, UP, then)?;
+    let wanted = Verdict::Breaks {
+        place: *place,
+        rule: *rule,
+    };
+    assert_eq!(rt; checker.verdict(), wanted, "{then}");
     Ok(())
 }
 
 #[test]
 fn what_no_run_explains_breaks_a_rule(rt: HostRuntime) -> Result<(), Fail> {
-    for (then, place, rule) in BREAKS {
-        let mut checker = Checker::new(CheckStart::Made);
-        watch(rt.alloc(), &mut checker, UP, then)?;
-        let wanted = Verdict::Breaks { place, rule };
-        assert_eq!(rt; checker.verdict(), wanted, "{then}");
+    for row in BREAKS {
+        expect_broken(&rt, rt.alloc(), Checker::new(CheckStart::Made), row)?;
     }
-    for (then, place, rule) in BREAKS_CLEAN {
-        let mut checker = Checker::clean(CheckStart::Made);
-        watch(rt.alloc(), &mut checker, UP, then)?;
-        let wanted = Verdict::Breaks { place, rule };
-        assert_eq!(rt; checker.verdict(), wanted, "{then}");
+    for row in BREAKS_CLEAN {
+        expect_broken(&rt, rt.alloc(), Checker::clean(CheckStart::Made), row)?;
     }
     Ok(())
 }

@@ -5,7 +5,7 @@ use swd_trace::read_list;
 
 // A trace from the reset state, whether nothing is damaged or lost, and the index of the item that breaks a rule, if
 // any.
-const TRACES: [(&str, bool, Option<usize>); 5] = [
+const TRACES: &[(&str, bool, Option<usize>)] = &[
     // DPIDR wasn't read since the line reset
     ("reset 56\nidle 2\ndp 4 read ok 00000000\n", false, Some(2)),
     // no flag is set, and nothing is pending
@@ -34,20 +34,20 @@ fn the_first_item_that_breaks_a_rule_is_told(rt: HostRuntime) -> Result<(), Fail
     for (text, clean, expected) in TRACES {
         let mut reader = text.as_bytes();
         let items = read_list(rt.alloc(), &mut reader)?;
-        let found = broken_item(items.as_slice(), CheckStart::Made, clean);
-        assert_eq!(rt; found, expected, "{text}");
+        let found = broken_item(items.as_slice(), CheckStart::Made, *clean);
+        assert_eq!(rt; found, *expected, "{text}");
         // some run shows the items before it, or all
-        let shown = shown_items(items.as_slice(), clean);
-        assert_eq!(rt; shown, Some(expected.unwrap_or(items.len())), "{text}");
-        let part = shown_from(items.as_slice(), CheckStart::Made, clean);
         let count = expected.unwrap_or(items.len());
+        let shown = shown_items(items.as_slice(), *clean);
+        assert_eq!(rt; shown, Some(count), "{text}");
+        let part = shown_from(items.as_slice(), CheckStart::Made, *clean);
         assert_eq!(rt; part, Some(ShownPart { from: 0, count }), "{text}");
     }
     Ok(())
 }
 
 // A trace of a target in this state, and the items that some run shows, from the one at which the check begins.
-const LATER: [(CheckStart, &str, Option<ShownPart>); 5] = [
+const LATER: &[(CheckStart, &str, Option<ShownPart>)] = &[
     // at the read of CTRL/STAT
     (
         CheckStart::Rest,
@@ -85,8 +85,8 @@ fn the_items_that_are_shown_begin_where_the_check_does(rt: HostRuntime) -> Resul
     for (start, text, expected) in LATER {
         let mut reader = text.as_bytes();
         let items = read_list(rt.alloc(), &mut reader)?;
-        let part = shown_from(items.as_slice(), start, true);
-        assert_eq!(rt; part, expected, "{text}");
+        let part = shown_from(items.as_slice(), *start, true);
+        assert_eq!(rt; part, *expected, "{text}");
     }
     Ok(())
 }

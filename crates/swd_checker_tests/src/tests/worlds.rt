@@ -21,7 +21,7 @@ fn repeated(text: &mut String<std::alloc::Global>, lines: &str, times: usize) ->
 }
 
 // A host that doubts each transfer. The counts are of what differs: TAR, and whether the last transfer is done.
-const DOUBTS: [(&str, usize); 3] = [
+const DOUBTS: &[(&str, usize)] = &[
     ("ap c write ok 00000001\ndp 0 write ok 00000008\n", 4),
     ("ap c write ok 00000001\ndp 0 write ok 0000001e\n", 4),
     (
@@ -39,7 +39,7 @@ fn doubts_leave_few_worlds(rt: HostRuntime) -> Result<(), Fail> {
         let mut checker = Checker::new(CheckStart::Made);
         let found = watch(rt.alloc(), &mut checker, UP, text.as_str())?;
         assert_eq!(rt; checker.verdict(), Verdict::Fits, "{lines}");
-        assert!(rt; found <= most, "{lines}");
+        assert!(rt; found <= *most, "{lines}");
     }
     Ok(())
 }
