@@ -23,7 +23,7 @@ fn target(alloc: Global) -> Result<Clocked<Memory>, Fail> {
 }
 
 // The opening of a line, and a DPIDR read.
-const IDENTIFICATION: [Part; 10] = [
+const IDENTIFICATION: &[Part] = &[
     Part::Sent(b"11111111111111111111111111111111111111111111111111111111"),
     Part::Sent(b"0111100111100111"),
     Part::Sent(b"11111111111111111111111111111111111111111111111111111111"),
@@ -37,7 +37,7 @@ const IDENTIFICATION: [Part; 10] = [
 ];
 
 // Forty-nine ones are no line reset: DPIDR is not answered.
-const FEW: [Part; 4] = [
+const FEW: &[Part] = &[
     Part::Sent(b"1111111111111111111111111111111111111111111111111"),
     Part::Sent(b"0"),
     Part::Sent(b"10100101"),
@@ -45,7 +45,7 @@ const FEW: [Part; 4] = [
 ];
 
 // Power, a CSW with auto-increment, and TAR = 20000000.
-const UP: [Part; 15] = [
+const UP: &[Part] = &[
     Part::Sent(b"11111111111111111111111111111111111111111111111111111111"),
     Part::Sent(b"0111100111100111"),
     Part::Sent(b"11111111111111111111111111111111111111111111111111111111"),
@@ -64,14 +64,14 @@ const UP: [Part; 15] = [
 ];
 
 // The request of a DRW write, and its data phase that is all zeros: nothing but what an idle line has.
-const IDLE_WRITE: [Part; 3] = [
+const IDLE_WRITE: &[Part] = &[
     Part::Sent(b"11011101"),
     Part::Seen(b"1100"),
     Part::Sent(b"0000000000000000000000000000000000"),
 ];
 
 // The request of a CTRL/STAT write is answered WAIT, and DPIDR's isn't.
-const HELD: [Part; 4] = [
+const HELD: &[Part] = &[
     Part::Sent(b"10010101"),
     Part::Seen(b"10101"),
     Part::Sent(b"10100101"),
@@ -79,17 +79,17 @@ const HELD: [Part; 4] = [
 ];
 
 // What stands on the line of a new target.
-const RUNS: [(&str, &[Part]); 3] = [
-    ("DPIDR is read after a line reset", &IDENTIFICATION),
-    ("forty-nine ones are no line reset", &FEW),
-    ("a recorded run is answered as it was recorded", &RUN),
+const RUNS: &[(&str, &[Part])] = &[
+    ("DPIDR is read after a line reset", IDENTIFICATION),
+    ("forty-nine ones are no line reset", FEW),
+    ("a recorded run is answered as it was recorded", RUN),
 ];
 
 #[test]
 fn a_new_target_answers_each_run(rt: HostRuntime) -> Result<(), Fail> {
     for (name, parts) in RUNS {
         let mut target = target(rt.alloc())?;
-        expect_eq_at(&rt, &name, &failing(&mut target, parts), &None);
+        expect_eq_at(&rt, name, &failing(&mut target, parts), &None);
     }
     Ok(())
 }
@@ -98,9 +98,9 @@ fn a_new_target_answers_each_run(rt: HostRuntime) -> Result<(), Fail> {
 #[test]
 fn an_idle_line_writes_a_word(rt: HostRuntime) -> Result<(), Fail> {
     let mut target = target(rt.alloc())?;
-    expect_eq(&rt, &failing(&mut target, &UP), &None);
+    expect_eq(&rt, &failing(&mut target, UP), &None);
     assert!(rt; target.memory().log().is_empty());
-    expect_eq(&rt, &failing(&mut target, &IDLE_WRITE), &None);
+    expect_eq(&rt, &failing(&mut target, IDLE_WRITE), &None);
     let written = Transfer {
         read: false,
         addr: 0x2000_0000,
@@ -113,9 +113,9 @@ fn an_idle_line_writes_a_word(rt: HostRuntime) -> Result<(), Fail> {
 #[test]
 fn a_held_target_answers_wait(rt: HostRuntime) -> Result<(), Fail> {
     let mut target = target(rt.alloc())?;
-    expect_eq(&rt, &failing(&mut target, &IDENTIFICATION), &None);
+    expect_eq(&rt, &failing(&mut target, IDENTIFICATION), &None);
     target.hold(true);
-    expect_eq(&rt, &failing(&mut target, &HELD), &None);
+    expect_eq(&rt, &failing(&mut target, HELD), &None);
     Ok(())
 }
 

@@ -47,6 +47,13 @@ impl Peripheral for Counter {
     }
 }
 
+// The writes that make the debug port and the access port ready for transfers.
+const OPENING: &[(u8, u32)] = &[
+    (CONTROL, 0x5000_0000),
+    (CSW, 0x2300_0002),
+    (TAR, 0x4000_0000),
+];
+
 // A target over the register, with its debug port and its access port ready for transfers.
 fn ready<R: Abort>(rt: &R, late: bool) -> Target<Attached<Counter>> {
     let quirks = Quirks {
@@ -58,12 +65,8 @@ fn ready<R: Abort>(rt: &R, late: bool) -> Target<Attached<Counter>> {
     let mut target = Target::new(Attached::new(Counter { count: 0 }), quirks);
     target.line_reset(false);
     expect_eq_at(rt, &late, &read(&mut target, DPIDR), &Some(IDENTIFICATION));
-    for (byte, word) in [
-        (CONTROL, 0x5000_0000),
-        (CSW, 0x2300_0002),
-        (TAR, 0x4000_0000),
-    ] {
-        expect_at(rt, &(late, byte), write(&mut target, byte, word, None));
+    for (byte, word) in OPENING {
+        expect_at(rt, &(late, *byte), write(&mut target, *byte, *word, None));
     }
     target
 }

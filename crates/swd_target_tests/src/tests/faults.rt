@@ -40,7 +40,7 @@ const LOW: Part = Part::Sent(b"0");
 
 // Without power an access port faults, which sets STICKYERR; every request that isn't exempt faults then,
 // until ABORT clears it.
-const FAULTS: [Part; 17] = [
+const FAULTS: &[Part] = &[
     Part::Ones(50),
     LOW,
     DPIDR,
@@ -63,7 +63,7 @@ const FAULTS: [Part; 17] = [
 ];
 
 // A write whose parity is wrong isn't done, and sets WDATAERR, ABORT's too.
-const DAMAGED: [Part; 20] = [
+const DAMAGED: &[Part] = &[
     Part::Ones(50),
     LOW,
     DPIDR,
@@ -88,27 +88,27 @@ const DAMAGED: [Part; 20] = [
 ];
 
 // A write of SELECT whose data is awaited.
-const BEGUN: [Part; 6] = [Part::Ones(50), LOW, DPIDR, IDENTIFIED, SELECT, OKAY];
+const BEGUN: &[Part] = &[Part::Ones(50), LOW, DPIDR, IDENTIFIED, SELECT, OKAY];
 
 // What stands on the line of a new target, in stretches.
-const RUNS: [(&str, &[&[Part]]); 4] = [
-    ("a fault is driven until it is cleared", &[&FAULTS]),
+const RUNS: &[(&str, &[&[Part]])] = &[
+    ("a fault is driven until it is cleared", &[FAULTS]),
     (
         "damaged data is not written",
         &[
-            &DAMAGED,
+            DAMAGED,
             &[Part::Seen(b"11000000000000000000000000000000000001")],
         ],
     ),
     // Write data that is awaited is taken from the ones of a line reset: 33 of them, whose parity is wrong.
     (
         "too few ones are left behind the data",
-        &[&BEGUN, &[Part::Ones(82), LOW, DPIDR, SILENCE]],
+        &[BEGUN, &[Part::Ones(82), LOW, DPIDR, SILENCE]],
     ),
     (
         "ones fill a write that is awaited",
         &[
-            &BEGUN,
+            BEGUN,
             &[Part::Ones(83)],
             &[
                 LOW,
@@ -126,14 +126,14 @@ fn a_new_target_answers_each_run_with_a_fault(rt: HostRuntime) -> Result<(), Fai
     for (name, stretches) in RUNS {
         let mut target = target(rt.alloc())?;
         for (index, parts) in stretches.iter().enumerate() {
-            expect_eq_at(&rt, &(name, index), &failing(&mut target, parts), &None);
+            expect_eq_at(&rt, &(*name, index), &failing(&mut target, parts), &None);
         }
     }
     Ok(())
 }
 
 // What a host sends after a line reset, and the least number of ones behind it that are a line reset again.
-const BEFORE: [(&[Part], u32); 7] = [
+const BEFORE: &[(&[Part], u32)] = &[
     (&[LOW], 50),
     // The switch is passed over, with its last three ones.
     (&[Part::Sent(b"0111100111100111")], 50),
@@ -153,13 +153,13 @@ const BEFORE: [(&[Part], u32); 7] = [
 #[test]
 fn ones_of_broken_requests_count(rt: HostRuntime) -> Result<(), Fail> {
     for (before, least) in BEFORE {
-        for ones in [least - 1, least] {
+        for ones in *least - 1..=*least {
             let mut target = target(rt.alloc())?;
             expect_eq(&rt, &failing(&mut target, &[Part::Ones(50)]), &None);
-            expect_eq_at(&rt, &least, &failing(&mut target, before), &None);
-            let answer = if ones == least { IDENTIFIED } else { SILENCE };
+            expect_eq_at(&rt, least, &failing(&mut target, before), &None);
+            let answer = if ones == *least { IDENTIFIED } else { SILENCE };
             let after = [Part::Ones(ones), LOW, DPIDR, answer];
-            expect_eq_at(&rt, &(least, ones), &failing(&mut target, &after), &None);
+            expect_eq_at(&rt, &(*least, ones), &failing(&mut target, &after), &None);
         }
     }
     Ok(())

@@ -1,6 +1,6 @@
 //! A clocked target goes by its numbers alone.
 use super::cycle_texts::{Part, failing};
-use super::expect::expect_eq;
+use super::expect::{expect_at, expect_eq};
 use super::recorded::RUN;
 use std::alloc::Global;
 use std::process::Abort;
@@ -31,7 +31,7 @@ fn again<R: Abort>(rt: &R, fields: ClockedFields) -> Clocked<Memory> {
 fn a_run_goes_on_by_numbers(rt: HostRuntime) {
     let mut target = new_target();
     for part in RUN {
-        expect_eq(&rt, &failing(&mut target, [part].as_slice()), &None);
+        expect_eq(&rt, &failing(&mut target, &[*part]), &None);
         target = again(&rt, target.fields());
     }
 }
@@ -41,38 +41,59 @@ fn a_run_goes_on_by_numbers(rt: HostRuntime) {
 fn every_frame_has_numbers_of_its_own(rt: HostRuntime) {
     let mut target = new_target();
     for part in RUN {
-        if let Part::Sent(bits) = part {
-            for bit in bits {
-                expect_eq(&rt, &target.cycle(Some(*bit == b'1')), &(*bit == b'1'));
-                target = again(&rt, target.fields());
-            }
-        }
-        if let Part::Seen(bits) = part {
-            for bit in bits {
-                expect_eq(&rt, &target.cycle(None), &(*bit == b'1'));
-                target = again(&rt, target.fields());
-            }
+        let (bits, driven) = match part {
+            Part::Sent(bits) => (*bits, true),
+            Part::Seen(bits) => (*bits, false),
+            Part::Ones(_) => (b"".as_slice(), true),
+        };
+        for bit in bits {
+            let bit = *bit == b'1';
+            let drive = if driven { Some(bit) } else { None };
+            expect_eq(&rt, &target.cycle(drive), &bit);
+            target = again(&rt, target.fields());
         }
     }
+}
+
+// A number of a target that is changed.
+#[derive(Clone, Copy, Debug)]
+enum Wrong {
+    Kind,
+    Place,
+    Bits,
+    Waits,
+    Reset,
+    Pending,
+}
+
+const WRONG: &[Wrong] = &[
+    Wrong::Kind,
+    Wrong::Place,
+    Wrong::Bits,
+    Wrong::Waits,
+    Wrong::Reset,
+    Wrong::Pending,
+];
+
+fn changed(fields: ClockedFields, wrong: Wrong) -> ClockedFields {
+    let mut fields = fields;
+    match wrong {
+        Wrong::Kind => fields.frame.kind = 9,
+        Wrong::Place => fields.frame.place = 8,
+        Wrong::Bits => fields.frame.line.bits = 1,
+        Wrong::Waits => fields.waits = 2,
+        Wrong::Reset => fields.target.reset = 0,
+        Wrong::Pending => fields.target.pending.word = 1,
+    }
+    fields
 }
 
 // One number after the other is none that a target has.
 #[test]
 fn numbers_of_no_target_are_refused(rt: HostRuntime) {
-    let whole = new_target().fields();
-    let mut kind = whole;
-    kind.frame.kind = 9;
-    let mut place = whole;
-    place.frame.place = 8;
-    let mut bits = whole;
-    bits.frame.line.bits = 1;
-    let mut waits = whole;
-    waits.waits = 2;
-    let mut reset = whole;
-    reset.target.reset = 0;
-    let mut pending = whole;
-    pending.target.pending.word = 1;
-    for fields in [kind, place, bits, waits, reset, pending] {
-        assert!(rt; fields.clocked(Memory::<Global>::window(0, None)).is_none());
+    for wrong in WRONG {
+        let fields = changed(new_target().fields(), *wrong);
+        let target = fields.clocked(Memory::<Global>::window(0, None));
+        expect_at(&rt, wrong, target.is_none());
     }
 }

@@ -2,6 +2,7 @@
 use super::expect::{expect_eq, expect_eq_at};
 use linked_list_allocator::LocalHeap;
 use std::alloc::Global;
+use std::process::Abort;
 use std::test::Fail;
 use swd_bits::data_bits;
 use swd_port::{Access, Answer, Register, Transfer};
@@ -18,7 +19,7 @@ struct Making {
     found: &'static [(u32, Option<u32>)],
 }
 
-const MADE: [Making; 10] = [
+const MADE: &[Making] = &[
     Making {
         name: "no multiple of four, and no words",
         base: 0x2000_0002,
@@ -109,7 +110,7 @@ const MADE: [Making; 10] = [
 
 #[test]
 fn a_memory_is_made_or_refused_in_order(rt: HostRuntime) {
-    for row in &MADE {
+    for row in MADE {
         match Memory::new(rt.alloc(), row.base, row.words, row.room) {
             Ok(memory) => {
                 expect_eq_at(&rt, &row.name, &None, &row.fault);
@@ -122,6 +123,21 @@ fn a_memory_is_made_or_refused_in_order(rt: HostRuntime) {
         }
     }
 }
+
+// The memory has these words at these addresses.
+fn has_words<R: Abort>(rt: &R, memory: &Memory, words: &[(u32, Option<u32>)]) {
+    for (addr, word) in words {
+        expect_eq_at(rt, addr, &memory.word(*addr), word);
+    }
+}
+
+const LARGE: &[(u32, Option<u32>)] = &[
+    (0x2000_0000, Some(1)),
+    (0x2003_fffc, Some(65_536)),
+    (0x2004_0000, Some(65_537)),
+    (0x2004_45bc, Some(70_000)),
+    (0x2004_45c0, None),
+];
 
 // A memory may be larger than a script's: each of these words is written, and there is no room for more.
 #[test]
@@ -143,15 +159,7 @@ fn a_memory_of_more_than_65536_words_and_transfers(rt: HostRuntime) -> Result<()
     target.arrive(Register::DrwWrite, data_bits(7));
     let memory = target.memory();
     expect_eq(&rt, &memory.log().len(), &70_000);
-    for (addr, word) in [
-        (0x2000_0000, Some(1)),
-        (0x2003_fffc, Some(65_536)),
-        (0x2004_0000, Some(65_537)),
-        (0x2004_45bc, Some(70_000)),
-        (0x2004_45c0, None),
-    ] {
-        expect_eq(&rt, &memory.word(addr), &word);
-    }
+    has_words(&rt, memory, LARGE);
     Ok(())
 }
 
@@ -179,36 +187,35 @@ fn each_part_of_a_memory_is_refused(rt: HostRuntime) -> Result<(), Fail> {
     Ok(())
 }
 
+const REFUSED: &[(u32, u32, MakeFault)] = &[
+    (0x2000_0002, 16, MakeFault::Base),
+    (0x2000_0000, 0, MakeFault::Empty),
+    (0xffff_fffc, 2, MakeFault::Range),
+    (0x2000_0000, 16, MakeFault::Memory),
+];
+
 // What is wrong with the numbers is told before any memory is taken.
 #[test]
 fn numbers_are_refused_before_memory(rt: HostRuntime) -> Result<(), Fail> {
     let heap = LocalHeap::new(rt.alloc(), 16)?;
-    for (base, words, fault) in [
-        (0x2000_0002, 16, MakeFault::Base),
-        (0x2000_0000, 0, MakeFault::Empty),
-        (0xffff_fffc, 2, MakeFault::Range),
-        (0x2000_0000, 16, MakeFault::Memory),
-    ] {
-        expect_eq(
-            &rt,
-            &Memory::new(&heap, base, words, 16).err(),
-            &Some(fault),
-        );
+    for (base, words, fault) in REFUSED {
+        let made = Memory::new(&heap, *base, *words, 16);
+        expect_eq_at(&rt, fault, &made.err(), &Some(*fault));
     }
     Ok(())
 }
+
+const WINDOW: &[(u32, Option<u32>)] = &[
+    (0x2000_0004, Some(7)),
+    (0x2000_0000, None),
+    (0x2000_0008, None),
+];
 
 // Elsewhere there is one word, and room for one transfer.
 #[test]
 fn a_window_makes_one_transfer(rt: HostRuntime) {
     let mut window = Memory::<Global>::window(0x2000_0004, Some(7));
-    for (addr, word) in [
-        (0x2000_0004, Some(7)),
-        (0x2000_0000, None),
-        (0x2000_0008, None),
-    ] {
-        expect_eq(&rt, &window.word(addr), &word);
-    }
+    has_words(&rt, &window, WINDOW);
     expect_eq(
         &rt,
         &window.transfer(Access::Read(0x2000_0000)),
@@ -283,15 +290,17 @@ fn a_target_is_given_back_by_its_numbers(rt: HostRuntime) {
     assert!(rt; none.target(Memory::<Global>::window(0, None)).fields() != none);
 }
 
+const WHY: &[(MakeFault, &str)] = &[
+    (MakeFault::Memory, "out of memory for the words or the log"),
+    (MakeFault::Base, "the first address is no multiple of 4"),
+    (MakeFault::Range, "the words go past 2^32"),
+    (MakeFault::Empty, "no words"),
+];
+
 #[test]
 fn faults_say_why_there_is_no_memory(rt: HostRuntime) -> Result<(), Fail> {
-    for (fault, words) in [
-        (MakeFault::Memory, "out of memory for the words or the log"),
-        (MakeFault::Base, "the first address is no multiple of 4"),
-        (MakeFault::Range, "the words go past 2^32"),
-        (MakeFault::Empty, "no words"),
-    ] {
-        expect_eq(&rt, &format!(in rt.alloc(); "{fault}")?.as_str(), &words);
+    for (fault, words) in WHY {
+        expect_eq(&rt, &format!(in rt.alloc(); "{fault}")?.as_str(), words);
     }
     Ok(())
 }

@@ -3,7 +3,7 @@ use super::cycle_texts::Part;
 
 /// The cycles of the run, 552 of them: those that the host drives, and those that it doesn't. In a
 /// turnaround nobody drives the line, which reads 1.
-pub(super) const RUN: [Part; 27] = [
+pub(super) const RUN: &[Part] = &[
     // A line reset, the switch from JTAG, a line reset, and idle.
     Part::Sent(b"11111111111111111111111111111111111111111111111111111111"),
     Part::Sent(b"0111100111100111"),

@@ -22,7 +22,7 @@ const QUIRKS: Quirks = Quirks {
     idr: None,
 };
 
-const MARKS: [Mark; 3] = [Mark::Wait, Mark::Flip(32), Mark::Mute(2)];
+const MARKS: &[Mark] = &[Mark::Wait, Mark::Flip(32), Mark::Mute(2)];
 
 // Sixteen words from 20000000, the first of them written. None when out of memory.
 fn written<A: Allocator + Copy>(alloc: A) -> Option<Memory<A>> {
@@ -33,6 +33,12 @@ fn written<A: Allocator + Copy>(alloc: A) -> Option<Memory<A>> {
     Some(target.into_memory())
 }
 
+const WORDS: &[(u32, Option<u32>)] = &[
+    (BASE, Some(WORD)),
+    (0x2000_003c, Some(0)),
+    (0x2000_0040, None),
+];
+
 fn is_written<R: Abort, A: Allocator>(rt: &R, memory: &Memory<A>) {
     let log = [Transfer {
         read: false,
@@ -40,12 +46,8 @@ fn is_written<R: Abort, A: Allocator>(rt: &R, memory: &Memory<A>) {
         word: WORD,
     }];
     expect_eq(rt, &memory.log(), &log.as_slice());
-    for (addr, word) in [
-        (BASE, Some(WORD)),
-        (0x2000_003c, Some(0)),
-        (0x2000_0040, None),
-    ] {
-        expect_eq(rt, &memory.word(addr), &word);
+    for (addr, word) in WORDS {
+        expect_eq(rt, &memory.word(*addr), word);
     }
 }
 
@@ -58,7 +60,7 @@ fn memory_and_plan_come_back(rt: HostRuntime) -> Result<(), Fail> {
         let Some(memory) = written(&heap) else {
             continue;
         };
-        let Ok(plan) = Vec::from_slice(&heap, &MARKS) else {
+        let Ok(plan) = Vec::from_slice(&heap, MARKS) else {
             continue;
         };
         assert!(rt; are_legal(&plan));
@@ -70,7 +72,7 @@ fn memory_and_plan_come_back(rt: HostRuntime) -> Result<(), Fail> {
             }
             Err((memory, plan)) => {
                 is_written(&rt, &memory);
-                expect_eq(&rt, &plan.as_slice(), &MARKS.as_slice());
+                expect_eq(&rt, &plan.as_slice(), &MARKS);
                 refused = refused.saturating_add(1);
             }
         }

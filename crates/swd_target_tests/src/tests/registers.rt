@@ -72,7 +72,7 @@ enum Step {
 }
 
 // A line reset, a DPIDR read, power, and a CSW with auto-increment.
-const UP: [Step; 4] = [
+const UP: &[Step] = &[
     Step::LineReset,
     Step::Read(DPIDR, IDENTIFICATION),
     Step::Write(CONTROL, 0x5000_0000),
@@ -189,7 +189,7 @@ struct Row {
 // No step differs: one case.
 const ONE: &[&[Step]] = &[&[]];
 
-const OVER_THE_END: [Step; 9] = [
+const OVER_THE_END: &[Step] = &[
     Step::Write(TAR, 0xffff_fff8),
     Step::Write(DRW, 0x0000_0001),
     Step::Read(TAR_READ, FILLER),
@@ -201,7 +201,7 @@ const OVER_THE_END: [Step; 9] = [
     Step::Word(0xffff_fffc, 2),
 ];
 
-const ROWS: [Row; 18] = [
+const ROWS: &[Row] = &[
     Row {
         name: "only DPIDR is answered after a line reset",
         made: SIXTEEN_WORDS,
@@ -256,7 +256,7 @@ const ROWS: [Row; 18] = [
     Row {
         name: "a write of the debug port's address c is ignored",
         made: SIXTEEN_WORDS,
-        opening: &UP,
+        opening: UP,
         steps: &[
             Step::Read(CSW_READ, FILLER),
             Step::Read(RDBUFF, 0x2300_0052),
@@ -285,7 +285,7 @@ const ROWS: [Row; 18] = [
     Row {
         name: "other access ports and banks are nothing",
         made: SIXTEEN_WORDS,
-        opening: &UP,
+        opening: UP,
         steps: &[
             Step::Write(TAR, 0x2000_0004),
             Step::Case,
@@ -318,7 +318,7 @@ const ROWS: [Row; 18] = [
     Row {
         name: "an access port with an IDR shows it in bank f",
         made: IDENTIFIED,
-        opening: &UP,
+        opening: UP,
         steps: &[
             Step::Case,
             Step::Read(AP_READ[3], FILLER),
@@ -345,7 +345,7 @@ const ROWS: [Row; 18] = [
     Row {
         name: "an IDR stands nowhere else",
         made: IDENTIFIED,
-        opening: &UP,
+        opening: UP,
         steps: &[
             Step::Case,
             Step::Read(AP_READ[2], FILLER),
@@ -368,7 +368,7 @@ const ROWS: [Row; 18] = [
     Row {
         name: "an ignored write makes values unknown",
         made: SIXTEEN_WORDS,
-        opening: &UP,
+        opening: UP,
         steps: &[
             Step::Read(CSW_READ, FILLER),
             Step::Read(RDBUFF, 0x2300_0052),
@@ -402,7 +402,7 @@ const ROWS: [Row; 18] = [
     Row {
         name: "nothing stands at the access port's address 8",
         made: SIXTEEN_WORDS,
-        opening: &UP,
+        opening: UP,
         steps: &[
             Step::Write(TAR, 0x2000_0004),
             Step::Read(CSW_READ, FILLER),
@@ -421,7 +421,7 @@ const ROWS: [Row; 18] = [
     Row {
         name: "only the single increment counts",
         made: SIXTEEN_WORDS,
-        opening: &UP,
+        opening: UP,
         steps: &[Step::Case, Step::Word(0x2000_0000, 1)],
         cases: &[
             &[
@@ -462,7 +462,7 @@ const ROWS: [Row; 18] = [
     Row {
         name: "CSW keeps its upper bits",
         made: SIXTEEN_WORDS,
-        opening: &UP,
+        opening: UP,
         steps: &[Step::Case],
         cases: &[
             &[
@@ -519,8 +519,8 @@ const ROWS: [Row; 18] = [
             wrap: false,
             idr: None,
         },
-        opening: &UP,
-        steps: &OVER_THE_END,
+        opening: UP,
+        steps: OVER_THE_END,
         cases: &[&[Step::Read(RDBUFF, 0x0000_0000)]],
     },
     Row {
@@ -531,15 +531,15 @@ const ROWS: [Row; 18] = [
             wrap: true,
             idr: None,
         },
-        opening: &UP,
-        steps: &OVER_THE_END,
+        opening: UP,
+        steps: OVER_THE_END,
         cases: &[&[Step::Read(RDBUFF, 0xffff_fc00)]],
     },
     // TAR is stored as it is written. A transfer at an address that is no multiple of four is a bus error.
     Row {
         name: "TAR keeps its low bits",
         made: SIXTEEN_WORDS,
-        opening: &UP,
+        opening: UP,
         steps: &[
             Step::Case,
             Step::Write(DRW, 0x0000_0001),
@@ -570,7 +570,7 @@ const ROWS: [Row; 18] = [
     Row {
         name: "CTRL/STAT keeps the power requests alone",
         made: SIXTEEN_WORDS,
-        opening: &UP,
+        opening: UP,
         steps: &[Step::Case],
         cases: &[
             &[
@@ -625,7 +625,7 @@ const ROWS: [Row; 18] = [
     Row {
         name: "a damaged write is no write",
         made: SIXTEEN_WORDS,
-        opening: &UP,
+        opening: UP,
         steps: &[
             Step::Read(CSW_READ, FILLER),
             Step::Read(RDBUFF, 0x2300_0052),
@@ -648,7 +648,7 @@ const ROWS: [Row; 18] = [
     Row {
         name: "a line reset leaves the registers",
         made: SIXTEEN_WORDS,
-        opening: &UP,
+        opening: UP,
         steps: &[
             Step::Write(TAR, 0x2000_0008),
             Step::Read(CSW_READ, FILLER),
@@ -672,7 +672,7 @@ const ROWS: [Row; 18] = [
 
 #[test]
 fn registers_go_as_their_rows_say(rt: HostRuntime) -> Result<(), Fail> {
-    for row in &ROWS {
+    for row in ROWS {
         expect_at(&rt, &row.name, !row.cases.is_empty());
         for (number, case) in row.cases.iter().enumerate() {
             let place = (row.name, number);
@@ -689,48 +689,63 @@ fn registers_go_as_their_rows_say(rt: HostRuntime) -> Result<(), Fail> {
     Ok(())
 }
 
+const IN_A_BANK: &[Step] = &[
+    Step::Read(STATUS, 0x0000_0000),
+    Step::Write(CONTROL, 0x0000_0000),
+    Step::Read(DPIDR, IDENTIFICATION),
+    Step::Write(ABORT, 0x0000_001e),
+    Step::Read(CSW_READ, FILLER),
+    Step::Read(RDBUFF, 0x2300_0052),
+    Step::Read(RESEND, 0x2300_0052),
+    Step::Write(SELECT, 0x0000_0000),
+    Step::Read(STATUS, 0xf000_0040),
+];
+
 // DPIDR, ABORT, SELECT, RESEND and RDBUFF stand in each bank of the debug port, CTRL/STAT in bank 0.
 #[test]
 fn control_and_status_stand_in_bank_0(rt: HostRuntime) -> Result<(), Fail> {
     for bank in 1..16u32 {
         let mut target = made(rt.alloc(), SIXTEEN_WORDS)?;
-        all_go(&rt, &bank, &mut target, &UP);
-        let steps = [
-            Step::Read(STATUS, 0xf000_0000),
-            Step::Write(SELECT, bank),
-            Step::Read(STATUS, 0x0000_0000),
-            Step::Write(CONTROL, 0x0000_0000),
-            Step::Read(DPIDR, IDENTIFICATION),
-            Step::Write(ABORT, 0x0000_001e),
-            Step::Read(CSW_READ, FILLER),
-            Step::Read(RDBUFF, 0x2300_0052),
-            Step::Read(RESEND, 0x2300_0052),
-            Step::Write(SELECT, 0x0000_0000),
-            Step::Read(STATUS, 0xf000_0040),
-        ];
-        all_go(&rt, &bank, &mut target, &steps);
+        all_go(&rt, &bank, &mut target, UP);
+        all_go(&rt, &bank, &mut target, &[Step::Read(STATUS, 0xf000_0000)]);
+        all_go(&rt, &bank, &mut target, &[Step::Write(SELECT, bank)]);
+        all_go(&rt, &bank, &mut target, IN_A_BANK);
     }
     Ok(())
 }
 
+// Words of SELECT, and requests of an access port.
+const PORTS: &[u32] = &[0x0000_0000, 0x0000_0010, 0x0100_0000];
+
+const WITHOUT_POWER: &[u8] = &[AP_READ[1], AP_READ[2], AP_WRITE[0], AP_WRITE[3]];
+
+const POWER_LOST: &[Step] = &[Step::Write(CONTROL, 0x4000_0000)];
+
+const POWER_BACK: &[Step] = &[
+    Step::Read(STATUS, 0xc000_0020),
+    Step::Write(ABORT, 0x0000_0004),
+    Step::Write(CONTROL, 0x1000_0000),
+];
+
 // An access port wants debug power, whichever it is.
 #[test]
 fn access_ports_fault_without_debug_power(rt: HostRuntime) -> Result<(), Fail> {
-    for select in [0x0000_0000, 0x0000_0010, 0x0100_0000] {
-        for byte in [AP_READ[1], AP_READ[2], AP_WRITE[0], AP_WRITE[3]] {
+    for select in PORTS {
+        for byte in WITHOUT_POWER {
+            let (select, byte) = (*select, *byte);
             let place = (select, byte);
             let mut target = made(rt.alloc(), SIXTEEN_WORDS)?;
-            all_go(&rt, &place, &mut target, &UP);
-            let steps = [
-                Step::Write(SELECT, select),
-                Step::Write(CONTROL, 0x4000_0000),
-                Step::Held(byte, Reply::Faults),
-                Step::Read(STATUS, 0xc000_0020),
-                Step::Write(ABORT, 0x0000_0004),
-                Step::Write(CONTROL, 0x1000_0000),
-                Step::Replied(byte, Reply::Okay),
-            ];
-            all_go(&rt, &place, &mut target, &steps);
+            all_go(&rt, &place, &mut target, UP);
+            all_go(&rt, &place, &mut target, &[Step::Write(SELECT, select)]);
+            all_go(&rt, &place, &mut target, POWER_LOST);
+            all_go(&rt, &place, &mut target, &[Step::Held(byte, Reply::Faults)]);
+            all_go(&rt, &place, &mut target, POWER_BACK);
+            all_go(
+                &rt,
+                &place,
+                &mut target,
+                &[Step::Replied(byte, Reply::Okay)],
+            );
         }
     }
     Ok(())
