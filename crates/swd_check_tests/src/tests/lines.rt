@@ -45,7 +45,7 @@ struct Row {
     said: &'static str,
 }
 
-const ROWS: [Row; 28] = [
+const ROWS: &[Row] = &[
     Row {
         name: "the session fits",
         options: MADE,
@@ -279,20 +279,22 @@ fn said(alloc: Global, row: &Row) -> Result<Checked, Fail> {
 
 #[test]
 fn each_verdict_is_one_line(rt: HostRuntime) -> Result<(), Fail> {
-    for row in &ROWS {
+    for row in ROWS {
         let line = said(rt.alloc(), row)?.line();
         assert_eq!(rt; line.as_str(), row.said, "{}", row.name);
     }
     Ok(())
 }
 
+const AT_FIRST: &[(CheckOptions, &str)] = &[(OVERRUN, "outside @104"), (MADE, "fits 4")];
+
 // Overrun detection may be on before the first item.
 #[test]
 fn overrun_detection_is_on_at_first(rt: HostRuntime) -> Result<(), Fail> {
     let listing = b"reset 56\nidle 2\ndp 0 read ok 2ba01477\ndp c read wait\n".as_slice();
-    for (options, said) in [(OVERRUN, "outside @104"), (MADE, "fits 4")] {
-        let line = checked(rt.alloc(), options, false, listing)?.line();
-        assert_eq!(rt; line.as_str(), said);
+    for (options, said) in AT_FIRST {
+        let line = checked(rt.alloc(), *options, false, listing)?.line();
+        assert_eq!(rt; line.as_str(), *said);
     }
     Ok(())
 }

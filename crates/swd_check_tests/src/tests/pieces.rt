@@ -14,14 +14,13 @@ const BREAKS: &[u8] =
 const FITS: &[u8] =
     b"reset 56\nidle 2\ndp 0 read ok 2ba01477\ndp 4 write ok 50000000\ndp 4 read ok f0000000\nap 0 write ok 23000012\n";
 
-#[derive(Drop)]
 struct Row {
     name: &'static str,
     listing: &'static [u8],
     said: &'static str,
 }
 
-const ROWS: [Row; 2] = [
+const ROWS: &[Row] = &[
     Row {
         name: "the session fits",
         listing: FITS,
