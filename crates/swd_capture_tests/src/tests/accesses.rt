@@ -11,7 +11,7 @@ struct Row {
     told: &'static [u8],
 }
 
-const ROWS: [Row; 38] = [
+const ROWS: &[Row] = &[
     Row {
         name: "a write is told at the next request's OK",
         made: true,
@@ -265,7 +265,7 @@ const ROWS: [Row; 38] = [
 
 #[test]
 fn listings_and_what_they_tell(rt: HostRuntime) -> Result<(), Fail> {
-    for row in &ROWS {
+    for row in ROWS {
         let told = told_of(rt.alloc(), row.listing, row.made)?;
         expect_eq_at(&rt, &row.name, &told.as_slice(), &row.told);
     }

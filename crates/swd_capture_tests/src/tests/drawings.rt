@@ -248,16 +248,22 @@ fn the_first_items_are_drawn(rt: HostRuntime) -> Result<(), Fail> {
     Ok(())
 }
 
+// Whether registers are drawn by name, and a line.
+const NAMED: &[(bool, &[u8])] = &[
+    (false, b"@0 dp 0 read ok 2ba01477\n"),
+    (true, b"@0 dp dpidr read ok 2ba01477\n"),
+];
+
 // With names a line has them, as in a listing.
 #[test]
 fn names_are_drawn(rt: HostRuntime) -> Result<(), Fail> {
-    for (names, line) in [
-        (false, b"@0 dp 0 read ok 2ba01477\n".as_slice()),
-        (true, b"@0 dp dpidr read ok 2ba01477\n"),
-    ] {
-        let form = DrawnForm { items: 200, names };
+    for (names, line) in NAMED {
+        let form = DrawnForm {
+            items: 200,
+            names: *names,
+        };
         let drawing = drawing_of(rt.alloc(), Reading::Trace, form, DPIDR)?;
-        expect_eq_at(&rt, &names, &count(&drawing, line), &1);
+        expect_eq_at(&rt, names, &count(&drawing, line), &1);
     }
     Ok(())
 }

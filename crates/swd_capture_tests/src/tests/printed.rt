@@ -1,6 +1,9 @@
 //! What is printed of worked captures.
 use super::expect::expect_eq_at;
 use super::{BOTH, NAMES, PLACES, trace_of};
+use std::alloc::Global;
+use std::io::Read;
+use std::process::Abort;
 use std::test::Fail;
 use swd_capture::Printed;
 use swd_capture_text::{Reading, print_capture};
@@ -94,7 +97,7 @@ const CUT: &[u8] = b"idle 3\nap 0 write ok 00000001\ncut 100\n";
 // A name, what is printed, a listing, and what is printed of its trace.
 type Row<'a> = (&'a str, Printed, &'a [u8], &'a [u8]);
 
-const ROWS: [Row; 11] = [
+const ROWS: &[Row] = &[
     ("nothing, counted", Printed::Counts, b"", b""),
     ("nothing, placed", PLACES, b"", b""),
     ("a session, placed", PLACES, SESSION, PLACED),
@@ -118,29 +121,23 @@ const ROWS: [Row; 11] = [
     ),
 ];
 
+// What is printed of a row's trace, which a reader gives.
+fn expect_printed<R: Abort, I: Read>(rt: &R, alloc: Global, row: &Row, reader: &mut I) {
+    let (name, printed, _, wanted) = row;
+    let mut out = Vec::new(alloc);
+    let answer = print_capture(Reading::Trace, *printed, reader, &mut out);
+    expect_eq_at(rt, name, &answer, &Ok(()));
+    expect_eq_at(rt, name, &out.as_slice(), wanted);
+}
+
 #[test]
 fn each_row(rt: HostRuntime) -> Result<(), Fail> {
-    for (name, printed, listing, wanted) in ROWS {
-        let trace = trace_of(rt.alloc(), listing)?;
-        let mut whole = trace.as_slice();
-        let mut out = Vec::new(rt.alloc());
-        expect_eq_at(
-            &rt,
-            &name,
-            &print_capture(Reading::Trace, printed, &mut whole, &mut out),
-            &Ok(()),
-        );
-        expect_eq_at(&rt, &name, &out.as_slice(), &wanted);
+    for row in ROWS {
+        let trace = trace_of(rt.alloc(), row.2)?;
+        expect_printed(&rt, rt.alloc(), row, &mut trace.as_slice());
         // A byte at a read.
         let mut bytes = OneByteReader::new(trace.as_slice());
-        let mut out = Vec::new(rt.alloc());
-        expect_eq_at(
-            &rt,
-            &name,
-            &print_capture(Reading::Trace, printed, &mut bytes, &mut out),
-            &Ok(()),
-        );
-        expect_eq_at(&rt, &name, &out.as_slice(), &wanted);
+        expect_printed(&rt, rt.alloc(), row, &mut bytes);
     }
     Ok(())
 }
@@ -153,12 +150,12 @@ fn each_write_that_fails(rt: HostRuntime) -> Result<(), Fail> {
         for room in 0..wanted.len() {
             let mut whole = trace.as_slice();
             let mut writer = ShortWriter::new(rt.alloc(), room, true);
-            let answer = print_capture(Reading::Trace, printed, &mut whole, &mut writer);
+            let answer = print_capture(Reading::Trace, *printed, &mut whole, &mut writer);
             let fault = DecodeFault::Write {
                 written: room as u64,
             };
-            expect_eq_at(&rt, &name, &answer, &Err(fault));
-            expect_eq_at(&rt, &name, &writer.taken(), &&wanted[..room]);
+            expect_eq_at(&rt, name, &answer, &Err(fault));
+            expect_eq_at(&rt, name, &writer.taken(), &&wanted[..room]);
         }
     }
     Ok(())
@@ -176,7 +173,7 @@ type Stopped<'a> = (
 
 const BAD_SIXTH: Result<(), DecodeFault> = Err(DecodeFault::Text(TextFault::BadChar { place: 6 }));
 
-const STOPS: [Stopped; 5] = [
+const STOPS: &[Stopped] = &[
     (
         "a line is written once it is decided",
         PLACES,
@@ -222,14 +219,10 @@ const STOPS: [Stopped; 5] = [
 #[test]
 fn each_stop(rt: HostRuntime) {
     for (name, printed, trace, fails_at, wanted, written) in STOPS {
-        let mut reader = FailingReader::new(trace, fails_at);
+        let mut reader = FailingReader::new(trace, *fails_at);
         let mut out = Vec::new(rt.alloc());
-        expect_eq_at(
-            &rt,
-            &name,
-            &print_capture(Reading::Trace, printed, &mut reader, &mut out),
-            &wanted,
-        );
-        expect_eq_at(&rt, &name, &out.as_slice(), &written);
+        let answer = print_capture(Reading::Trace, *printed, &mut reader, &mut out);
+        expect_eq_at(&rt, name, &answer, wanted);
+        expect_eq_at(&rt, name, &out.as_slice(), written);
     }
 }
