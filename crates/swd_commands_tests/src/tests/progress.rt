@@ -1,9 +1,10 @@
 //! The lines that say how far a run is.
-use super::desk::{Texts, run_at};
 use super::expect::{expect_at, expect_eq, expect_eq_at};
-use super::{RESUMED, run_by, run_to};
+use super::simulated::run_at_by;
+use super::{RESUMED, Shelf, run_by};
 use std::cell::Cell;
-use swd_console::Clock;
+use swd_commands::run_words;
+use swd_console::{Clock, Console};
 use swd_fakes::{OneByteWriter, ShortWriter};
 
 // A clock with these readings, one after the other, and then always the last one.
@@ -40,8 +41,6 @@ const FIVE: &[u8] = b"memory 20000000 16\nw 20000000 1\nnext\nrn 20000000 2\nnex
 const FIVE_REPORTS: &[u8] = b"w 20000000 written\nend all 1\nr 20000000 00000001\n\
     r 20000004 00000000\nend all 2\nr 20000004 00000000\nend all 1\nr 30000000 busfault\n\
     end all 1\nr 20000000 00000001 reads 1\nend all 1\n";
-
-const PACED: [&str; 4] = ["swd", "run", "-", "--progress"];
 
 // A name, the readings at the start and after each write, and the lines.
 type Paced<'a> = (&'a str, &'a [Option<u64>], &'a [u8]);
@@ -117,7 +116,8 @@ const PACES: [Paced; 9] = [
 fn each_line_is_true_when_it_is_printed(rt: HostRuntime) {
     for (name, times, lines) in &PACES {
         let clock = Readings::new(times);
-        let ran = run_by(rt.alloc(), &PACED, FIVE, &clock);
+        let words = ["swd", "run", "-", "--progress"];
+        let ran = run_by(rt.alloc(), words.as_slice(), FIVE, &clock);
         expect_eq_at(&rt, name, &ran.errors.as_slice(), lines);
         expect_eq_at(&rt, name, &ran.output.as_slice(), &FIVE_REPORTS);
         expect_eq_at(&rt, name, &ran.status, &0);
@@ -134,52 +134,50 @@ fn a_run_is_silent_by_itself(rt: HostRuntime) {
     expect_eq(&rt, &clock.reads.get(), &0);
 }
 
-// A name, the arguments, standard input, and the lines.
-const CALLS: [(&str, &[&str], &[u8], &[u8]); 4] = [
-    (
-        "a long call",
-        &["swd", "run", "-", "--progress"],
-        b"memory 20000000 2048\nrn 20000000 1500\n",
-        b"swd: 1024 of 1500 accesses, 1024 a second\n\
-          swd: 1500 of 1500 accesses, 476 a second\n",
-    ),
-    (
-        "a call that is resumed",
-        &[
-            "swd",
-            "run",
-            "script",
-            "--plan",
-            "cut",
-            "--resume",
-            "1",
-            "--progress",
-        ],
-        b"",
-        b"swd: 4 of 4 accesses, 4 a second\n",
-    ),
-    (
-        "a call that is lost",
-        &["swd", "run", "script", "--plan", "deaf", "--progress"],
-        b"",
-        b"swd: 0 of 4 accesses, 0 a second\n",
-    ),
-    (
-        "no access",
-        &["swd", "run", "-", "--progress"],
-        b"memory 20000000 1\n",
-        b"swd: 0 of 0 accesses, 0 a second\n",
-    ),
-];
-
 // The lines of a call go out after 1,024 answers and at its end. The line of a resumption is that of no access.
 #[test]
 fn a_line_comes_within_a_call(rt: HostRuntime) {
-    for (name, words, input, lines) in &CALLS {
+    let rows: [(&str, &[&str], &[u8], &[u8]); 4] = [
+        (
+            "a long call",
+            &["swd", "run", "-", "--progress"],
+            b"memory 20000000 2048\nrn 20000000 1500\n",
+            b"swd: 1024 of 1500 accesses, 1024 a second\n\
+              swd: 1500 of 1500 accesses, 476 a second\n",
+        ),
+        (
+            "a call that is resumed",
+            &[
+                "swd",
+                "run",
+                "script",
+                "--plan",
+                "cut",
+                "--resume",
+                "1",
+                "--progress",
+            ],
+            b"",
+            b"swd: 4 of 4 accesses, 4 a second\n",
+        ),
+        (
+            "a call that is lost",
+            &["swd", "run", "script", "--plan", "deaf", "--progress"],
+            b"",
+            b"swd: 0 of 4 accesses, 0 a second\n",
+        ),
+        (
+            "no access",
+            &["swd", "run", "-", "--progress"],
+            b"memory 20000000 1\n",
+            b"swd: 0 of 0 accesses, 0 a second\n",
+        ),
+    ];
+    for (name, words, input, lines) in rows {
         let clock = Readings::new([Some(0), Some(1000), Some(2000)].as_slice());
-        let ran = run_by(rt.alloc(), words, *input, &clock);
-        expect_eq_at(&rt, name, &ran.errors.as_slice(), lines);
-        if *name == "a call that is resumed" {
+        let ran = run_by(rt.alloc(), words, input, &clock);
+        expect_eq_at(&rt, &name, &ran.errors.as_slice(), &lines);
+        if name == "a call that is resumed" {
             expect_eq(&rt, &ran.output.as_slice(), &RESUMED);
         }
     }
@@ -195,52 +193,56 @@ const TWO_REPORT: &[u8] = b"w 20000000 written\nr 20000000 00000001\nend all 2\n
 fn answers_count_once_their_lines_are_written(rt: HostRuntime) {
     let mut output = OneByteWriter::new(rt.alloc());
     let mut errors = Vec::new(rt.alloc());
-    let clock = Readings::new([Some(0), Some(1000)].as_slice());
+    let files = Shelf {
+        written: &Cell::new(0),
+        cuts: &Cell::new(0),
+    };
+    let words = ["swd", "run", "-", "--progress"];
     let mut input = TWO;
-    let status = run_to(
-        &PACED,
-        &mut input,
-        &mut output,
-        &mut errors,
-        &clock,
-        rt.alloc(),
-    );
+    let mut console = Console {
+        alloc: rt.alloc(),
+        files: &files,
+        clock: &Readings::new([Some(0), Some(1000)].as_slice()),
+        errors: &mut errors,
+    };
+    let status = run_words(words.as_slice(), &mut input, &mut output, &mut console);
     expect_eq(&rt, &status, &0);
     expect_eq(&rt, &output.taken.as_slice(), &TWO_REPORT);
     let line = b"swd: 2 of 2 accesses, 2 a second\n".as_slice();
     expect_eq(&rt, &errors.as_slice(), &line);
 }
 
-// How many bytes of the reports are taken, and the lines.
-const CUTS: [(usize, &[u8]); 3] = [
-    (18, b""),
-    (35, b"swd: 1 of 6 accesses, 1 a second\n"),
-    (
-        100,
-        b"swd: 1 of 6 accesses, 1 a second\nswd: 3 of 6 accesses, 2 a second\n",
-    ),
-];
-
 // Of a call whose report can't be written, nothing counts: the accesses before it had their lines. Where the reader of
 // standard output is gone, no line says so.
 #[test]
 fn a_call_without_its_report_counts_for_nothing(rt: HostRuntime) {
-    for (room, lines) in &CUTS {
-        let mut output = ShortWriter::new(rt.alloc(), *room, true);
+    let rows: [(usize, &[u8]); 3] = [
+        (18, b""),
+        (35, b"swd: 1 of 6 accesses, 1 a second\n"),
+        (
+            100,
+            b"swd: 1 of 6 accesses, 1 a second\nswd: 3 of 6 accesses, 2 a second\n",
+        ),
+    ];
+    for (room, lines) in rows {
+        let mut output = ShortWriter::new(rt.alloc(), room, true);
         let mut errors = Vec::new(rt.alloc());
-        let clock = Readings::new([Some(0), Some(1000), Some(2000)].as_slice());
+        let files = Shelf {
+            written: &Cell::new(0),
+            cuts: &Cell::new(0),
+        };
+        let words = ["swd", "run", "-", "--progress"];
         let mut input = FIVE;
-        let status = run_to(
-            &PACED,
-            &mut input,
-            &mut output,
-            &mut errors,
-            &clock,
-            rt.alloc(),
-        );
-        expect_eq_at(&rt, room, &status, &141);
-        expect_eq_at(&rt, room, &output.taken(), &&FIVE_REPORTS[..*room]);
-        expect_eq_at(&rt, room, &errors.as_slice(), lines);
+        let mut console = Console {
+            alloc: rt.alloc(),
+            files: &files,
+            clock: &Readings::new([Some(0), Some(1000), Some(2000)].as_slice()),
+            errors: &mut errors,
+        };
+        let status = run_words(words.as_slice(), &mut input, &mut output, &mut console);
+        expect_eq_at(&rt, &room, &status, &141);
+        expect_eq_at(&rt, &room, &output.taken(), &&FIVE_REPORTS[..room]);
+        expect_eq_at(&rt, &room, &errors.as_slice(), &lines);
     }
 }
 
@@ -249,101 +251,134 @@ fn a_call_without_its_report_counts_for_nothing(rt: HostRuntime) {
 fn standard_error_may_fail(rt: HostRuntime) {
     let mut output = Vec::new(rt.alloc());
     let mut errors = ShortWriter::new(rt.alloc(), 0, true);
-    let clock = Readings::new([Some(0), Some(1000)].as_slice());
+    let files = Shelf {
+        written: &Cell::new(0),
+        cuts: &Cell::new(0),
+    };
+    let words = ["swd", "run", "-", "--progress"];
     let mut input = FIVE;
-    let status = run_to(
-        &PACED,
-        &mut input,
-        &mut output,
-        &mut errors,
-        &clock,
-        rt.alloc(),
-    );
+    let mut console = Console {
+        alloc: rt.alloc(),
+        files: &files,
+        clock: &Readings::new([Some(0), Some(1000)].as_slice()),
+        errors: &mut errors,
+    };
+    let status = run_words(words.as_slice(), &mut input, &mut output, &mut console);
     expect_eq(&rt, &status, &0);
     expect_eq(&rt, &output.as_slice(), &FIVE_REPORTS);
 }
 
-// The levels, the lines, and the last characters that are sent.
-const REMOTE: [(&[u8], &[u8], &[u8]); 2] = [
-    (
-        b"111",
-        b"swd: 0 of 4 accesses, 0 a second\nswd: the run ended early: lost\n\
-          swd: no reply to the first request, SWDIO read 1: is it driven, and the target connected and powered?\n",
-        b"dcfQ",
-    ),
-    (
-        b"",
-        b"swd: 0 of 4 accesses, 0 a second\nswd: the other end went away\n",
-        b"dcf",
-    ),
-];
-
-// The report of a remote run goes to a file.
+// The report of a remote run goes to a file. With the report on standard error there is no room for other lines.
 #[test]
 fn a_remote_run_says_how_far_it_is(rt: HostRuntime) {
-    for (levels, lines, sent) in &REMOTE {
+    let rows: [(&str, &[u8], u8, &[u8], &[u8]); 3] = [
+        (
+            "traced",
+            b"111",
+            1,
+            b"swd: 0 of 4 accesses, 0 a second\nswd: the run ended early: lost\n\
+              swd: no reply to the first request, SWDIO read 1: is it driven, and the target connected and powered?\n",
+            b"dcfQ",
+        ),
+        (
+            "traced",
+            b"",
+            1,
+            b"swd: 0 of 4 accesses, 0 a second\nswd: the other end went away\n",
+            b"dcf",
+        ),
+        (
+            "-",
+            b"111",
+            2,
+            b"error: with --report - there is no --progress\n\nUsage: swd run [OPTIONS] <SCRIPT>\n\n\
+              For more information, try '--help'.\n",
+            b"",
+        ),
+    ];
+    for (report, levels, status, lines, sent) in rows {
         let words = [
             "swd",
             "run",
             "script",
             "--remote",
             "--report",
-            "traced",
+            report,
             "--progress",
         ];
         let clock = Readings::new([Some(0), Some(1500)].as_slice());
-        let ran = run_by(rt.alloc(), words.as_slice(), *levels, &clock);
-        expect_eq_at(&rt, lines, &ran.errors.as_slice(), lines);
-        expect_eq_at(&rt, lines, &ran.status, &1);
-        expect_at(&rt, lines, ran.output.ends_with(sent));
+        let ran = run_by(rt.alloc(), words.as_slice(), levels, &clock);
+        expect_eq_at(&rt, &lines, &ran.errors.as_slice(), &lines);
+        expect_eq_at(&rt, &lines, &ran.status, &status);
+        expect_at(&rt, &lines, ran.output.ends_with(sent));
+        expect_eq_at(&rt, &lines, &ran.output.is_empty(), &sent.is_empty());
     }
 }
-
-// The arguments, the lines, and the report.
-const IMAGES: [(&[&str], &[u8], &[u8]); 3] = [
-    (
-        &["swd", "load", "20000002", "image", "--memory", "ram"],
-        b"swd: 0 of 3 words, 0 a second\nswd: 0 of 3 words, 0 a second\nswd: 3 of 3 words, 3 a second\n\
-            swd: loaded 8 bytes at 20000002\n",
-        b"r 20000000 64636261\nend all 1\nr 20000008 6c6b6a69\nend all 1\nw 20000000 written\n\
-            w 20000004 written\nw 20000008 written\nend all 3\n",
-    ),
-    (
-        &["swd", "verify", "20000001", "image", "--memory", "ram"],
-        b"swd: 3 of 3 words, 3 a second\nswd: 20000001 has 62, not 31\n",
-        b"r 20000000 64636261\nr 20000004 68676665\nr 20000008 6c6b6a69\nend all 3\n",
-    ),
-    (
-        &["swd", "dump", "20000003", "1", "out", "--memory", "ram"],
-        b"swd: 1 of 1 words, 1 a second\nswd: dumped 1 bytes at 20000003\n",
-        b"r 20000000 64636261\nend all 1\n",
-    ),
-];
-
-const TWELVE: Texts = Texts {
-    ram: b"abcdefghijkl",
-    image: b"12345678",
-};
 
 // A load counts the words that were written, of which the first two calls here have none: they read the partial words.
 // A verification and a dump count those that were read.
 #[test]
 fn a_command_over_an_image_says_how_far_it_is(rt: HostRuntime) {
-    for (command, said, report) in &IMAGES {
-        for is_reported in &[false, true] {
+    let times = [Some(0), Some(1000), Some(2000), Some(3000)];
+    let rows: [(&[&str], &[u8], &[u8]); 3] = [
+        (
+            &["swd", "load", "20000002", "image", "--memory", "ram"],
+            b"swd: 0 of 3 words, 0 a second\nswd: 0 of 3 words, 0 a second\nswd: 3 of 3 words, 3 a second\n\
+                swd: loaded 8 bytes at 20000002\n",
+            b"r 20000000 64636261\nend all 1\nr 20000008 6c6b6a69\nend all 1\nw 20000000 written\n\
+                w 20000004 written\nw 20000008 written\nend all 3\n",
+        ),
+        (
+            &["swd", "verify", "20000001", "image", "--memory", "ram"],
+            b"swd: 3 of 3 words, 3 a second\nswd: 20000001 has 62, not 31\n",
+            b"r 20000000 64636261\nr 20000004 68676665\nr 20000008 6c6b6a69\nend all 3\n",
+        ),
+        (
+            &["swd", "dump", "20000003", "1", "out", "--memory", "ram"],
+            b"swd: 1 of 1 words, 1 a second\nswd: dumped 1 bytes at 20000003\n",
+            b"r 20000000 64636261\nend all 1\n",
+        ),
+    ];
+    for (command, said, report) in rows {
+        for more in [
+            ["--progress"].as_slice(),
+            ["--progress", "--report", "calls"].as_slice(),
+        ] {
             let mut words = Vec::new(rt.alloc());
-            let more: &[&str] = if *is_reported {
-                &["--progress", "--report", "calls"]
-            } else {
-                &["--progress"]
-            };
             assert!(rt; words.extend_from_slice(command).is_ok());
             assert!(rt; words.extend_from_slice(more).is_ok());
-            let clock = Readings::new([Some(0), Some(1000), Some(2000), Some(3000)].as_slice());
-            let ran = run_at(rt.alloc(), words.as_slice(), &TWELVE, &clock);
-            expect_eq_at(&rt, &words, &ran.errors.as_slice(), said);
-            let calls = if *is_reported { *report } else { b"" };
+            let clock = Readings::new(times.as_slice());
+            let (ram, image) = (b"abcdefghijkl".as_slice(), b"12345678".as_slice());
+            let ran = run_at_by(rt.alloc(), words.as_slice(), ram, image, b"", &clock);
+            expect_eq_at(&rt, &words, &ran.errors.as_slice(), &said);
+            let calls = if more.len() == 1 {
+                b"".as_slice()
+            } else {
+                report
+            };
             expect_eq_at(&rt, &words, &ran.calls.text(), &calls);
         }
     }
+    let words = [
+        "swd",
+        "verify",
+        "0",
+        "image",
+        "--memory",
+        "ram",
+        "--progress",
+        "--report",
+        "-",
+    ];
+    let ran = run_at_by(
+        rt.alloc(),
+        words.as_slice(),
+        b"abcd",
+        b"1",
+        b"",
+        &Readings::new(&[]),
+    );
+    expect_eq(&rt, &ran.status, &2);
+    let line = b"error: with --report - there is no --progress\n";
+    expect_at(&rt, &words, ran.errors.starts_with(line));
 }
