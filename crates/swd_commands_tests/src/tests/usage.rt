@@ -158,8 +158,8 @@ const ROWS: [(&[&str], &[u8]); 31] = [
             "--remote",
             "localhost:4711",
         ],
-        b"error: unexpected argument 'localhost:4711' found\n\n  tip: --remote takes no address: swd-line connects it to \
-          a socket, see --help\n\nUsage: swd run [OPTIONS] <SCRIPT>\n\nFor more information, try '--help'.\n",
+        b"error: unexpected argument 'localhost:4711' found\n\n  tip: --remote takes no address: swd-line connects it \
+          to a socket, see --help\n\nUsage: swd run [OPTIONS] <SCRIPT>\n\nFor more information, try '--help'.\n",
     ),
     (
         &["swd", "load", "0", "f", "--remote", "/dev/ttyACM0"],
