@@ -4,7 +4,7 @@ ghost use Rattle.swd_port.specs.declared.access.Access.{Access as AccessType};
 ghost use Rattle.swd_port.specs.declared.access.Answer.{Answer as AnswerType};
 ghost use Rattle.swd_host.specs.declared.outcome.Outcome.TheVariants.{Answered};
 ghost use Rattle.swd_host.specs.declared.task.Bursts.TheVariants.{Reads, Writes};
-ghost use Rattle.swd_host.specs.Engines.{EngineHasCue};
+ghost use Rattle.swd_host.specs.Engines.{EngineHasCue, engine_bursts};
 ghost use Rattle.swd_steps.specs.declared.run.Run.{Run as RunType};
 ghost use Rattle.swd_steps.specs.Fields.{stepped_fields};
 ghost use Rattle.swd_steps.specs.Runs.{SteppedRan, stepped_again, stepped_anew, stepped_answers, stepped_may_resume};
@@ -104,7 +104,7 @@ fn bursts_of(blocks: u8) -> Bursts
 pub extern "C" fn swd_run_again(run: &mut RunFields, tries: u32) -> bool
     ensures again { (before : RunType) → stepped_fields before ≡ run.old → result ≡ true
         → CApiHasRun run.new (λ now. (list : List AccessType)
-        → SteppedRan (stepped_again before.answered tries) list [] now []) }
+        → SteppedRan (stepped_again (engine_bursts before.engine) before.answered tries) list [] now []) }
     ensures told { (before : RunType) → stepped_fields before ≡ run.old → result ≡ stepped_may_resume before.stage }
     ensures refused { CApiHasNoRun run.old → result ≡ false }
     ensures same { result ≡ false → run.new ≡ run.old }

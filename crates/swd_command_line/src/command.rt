@@ -126,6 +126,8 @@ pub struct RunLine {
     pub report: Option<String>,
     /// Whether lines on standard error say how far the run is.
     pub progress: bool,
+    /// Whether writes next to each other are sent to a remote target in bursts.
+    pub bursts: bool,
 }
 
 /// The memory of a target that is served, and its plan.
@@ -232,4 +234,6 @@ pub struct ImageLine {
     pub remote: Option<String>,
     /// The memory of the simulated target, or `None` for a remote target.
     pub memory: Option<MemoryLine>,
+    /// Whether writes next to each other are sent to a remote target in bursts.
+    pub bursts: bool,
 }

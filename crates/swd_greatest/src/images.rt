@@ -10,6 +10,7 @@ const BYTES: u32 = (1 << 20) + 4;
 const LIMITS: Limits = Limits {
     tries: TRIES,
     resumes: 0,
+    bursts: true,
 };
 
 /// Loads an image, verifies it, and reads its bytes. Returns whether they are those of the image.

@@ -34,6 +34,7 @@ pub fn ends_at_its_last_read(alloc: Global) -> Result<bool, Fault> {
         Limits {
             tries: TRIES,
             resumes: 0,
+            bursts: true,
         },
         &mut report,
         &mut Records::<Vec<u8>>::none(),

@@ -7,7 +7,8 @@ use Rattle.swd_host.proofs.Words.{EngineIsNew, EngineGoesWithPort, HostReport, F
 use Rattle.swd_host.proofs.Words.{Closes, EngineDoes, EngineDoesOver, engine_report, resume_report, MayBecome}
 use Rattle.std.proofs.lemmas.List.{take_all}
 use Rattle.std.proofs.Math.Seq.{drop-append_seam, drop-length}
-use Rattle.swd_host.specs.declared.task.Bursts.TheVariants.{Writes}
+use Rattle.swd_host.specs.declared.task.Bursts.{Bursts}
+use Rattle.swd_host.specs.Tasks.{resumed_bursts}
 use Rattle.swd_host.specs.Again.{ResumeFits, ResumeCloses, resume_added, resume_own_report}
 use Rattle.swd_host.proofs.Ends.{engine_stop_begun, stops_only}
 use Rattle.swd_host.proofs.Opened.{OpeningEnds, OpeningSucceeds, opening_counts_at, new_engine_resumes}
@@ -25,16 +26,20 @@ are_drop _ _ h = h
 unbegun : (f : Engine) (end : End) → f.state ≡ Resting (Stopped end) → f.begun ≡ 0 → engine_begun f ≡ 0
 unbegun f end at none = engine_stop_begun f end at ∙ none
 
+-- a resumed run has at most one access in flight
+resumed_limit : (kind : Bursts) → bursts_limit (resumed_bursts kind) ≡ 1
+resumed_limit kind = grind arith
+
 -- THE REPORT
-module _ (list : List Access) (tries : ℕ) (earlier : HostReport) (e f : Engine) (before : List Answer) (s t : Port)
-    (small : tries < 2 ^ 32) (new : EngineIsNew Writes true tries e) (ok : AreHostAccesses list)
+module _ (kind : Bursts) (list : List Access) (tries : ℕ) (earlier : HostReport) (e f : Engine) (before : List Answer)
+    (s t : Port) (small : tries < 2 ^ 32) (new : EngineIsNew (resumed_bursts kind) true tries e) (ok : AreHostAccesses list)
     (reported : length earlier.answers ≤ length list) (known : HostKnowsTarget s.target)
     (goes : EngineGoesWithPort e s f t) (due : EngineDueFits f t) (kept : before ≡ earlier.answers) where
   odd : t.target.identification % 2 ≡ 1
   odd = ap (λ w. w % 2) goes.later.identification ∙ known.odd
 
   first : EngineResumes (opening_counts_at s) s e s
-  first = new_engine_resumes Writes true tries e s new known (inl refl)
+  first = new_engine_resumes (resumed_bursts kind) true tries e s new known (inl refl)
 
   resumes : EngineResumes (opening_counts_at s) s f t
   resumes = goes.resumes (opening_counts_at s) s first
@@ -48,7 +53,7 @@ module _ (list : List Access) (tries : ℕ) (earlier : HostReport) (e f : Engine
     raw = engine_report before f end
 
     none : raw.begun ≡ 0
-    none = unbegun f end at (opening_unbegun Writes true tries e f s t small new goes)
+    none = unbegun f end at (opening_unbegun (resumed_bursts kind) true tries e f s t small new goes)
 
     stop : OpeningEnds end (opening_counts_at s) f.tries (s.tally.disturbed + f.events) s t
     stop = search (arith, opening_counts_at, opening_stop_memory, opening_unbegun, resumes)
@@ -63,9 +68,9 @@ module _ (list : List Access) (tries : ℕ) (earlier : HostReport) (e f : Engine
     stop_most = elim stop.paid [
       | inl p ↦
           (let lost : f.state ≡ Resting (Stopped Lost) = at ∙ ap (λ x. Resting (Stopped x)) p.0 in
-          let few = opening_lost Writes true tries e f s t small new goes (opening_counts_at s) s first lost in
+          let few = opening_lost (resumed_bursts kind) true tries e f s t small new goes (opening_counts_at s) s first lost in
           omega (arith, few, p.1))
-      | inr p ↦ omega (arith, p, opening_spends Writes true tries e f s t small new goes, same_tries)
+      | inr p ↦ omega (arith, p, opening_spends (resumed_bursts kind) true tries e f s t small new goes, same_tries)
     ]
 
     -- nothing of the list was done
@@ -92,7 +97,7 @@ module _ (list : List Access) (tries : ℕ) (earlier : HostReport) (e f : Engine
       goes = λ now may. record { before = now; comes = stop.comes now may; fits = stop_fits now };
       ends = stop_ends;
       stops_only = stops_only end tries s t stop_ends;
-      counted = opening_asked Writes true tries e f s t small new goes;
+      counted = opening_asked (resumed_bursts kind) true tries e f s t small new goes;
       most = stop_most;
     }
 
@@ -118,12 +123,12 @@ module _ (list : List Access) (tries : ℕ) (earlier : HostReport) (e f : Engine
     long = resumed_rest_length (length earlier.answers) list reported
 
     one : bursts_limit f.bursts ≡ 1
-    one = ap bursts_limit (goes.works.bursts ∙ new.bursts)
+    one = ap bursts_limit (goes.works.bursts ∙ new.bursts) ∙ resumed_limit kind
 
     later : Fits 1 rest opened.memory (engine_report does.answers last end) done.settled
     later = subst (λ n. Fits n rest opened.memory (engine_report does.answers last end) done.settled) one
         (fits_from_fewer f.requests 9 (bursts_limit f.bursts) rest opened.memory (engine_report does.answers last end)
-        done.settled (opened_sent Writes true tries e f s t small new goes at) done.later)
+        done.settled (opened_sent (resumed_bursts kind) true tries e f s t small new goes at) done.later)
 
     done_ends : HostEndsAt end tries s u
     done_ends = grind (arith, done, engine_ends_since, same_tries)
@@ -149,7 +154,7 @@ module _ (list : List Access) (tries : ℕ) (earlier : HostReport) (e f : Engine
       goes = λ now may. record { before = opened.memory; comes = opened.comes; fits = done_fits now may };
       ends = done_ends;
       stops_only = stops_only end tries s u done_ends;
-      counted = (let h = opening_asked Writes true tries e f s t small new goes in omega (arith, h, does.asked));
+      counted = (let h = opening_asked (resumed_bursts kind) true tries e f s t small new goes in omega (arith, h, does.asked));
       most = done_most;
     }
 

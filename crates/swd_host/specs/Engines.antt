@@ -5,6 +5,7 @@ use Rattle.swd_port.specs.declared.access.Answer.TheVariants.{Written}
 use Rattle.swd_port.specs.declared.cue.Cue.{Cue}
 use Rattle.swd_port.specs.declared.cue.Cue.TheVariants.{Lead, Ask as CueAsk, Take, Give, Pass}
 use Rattle.swd_bits.specs.Phases.{data_phase_number}
+use Rattle.swd_host.specs.declared.task.Bursts.{Bursts}
 use Rattle.swd_host.specs.declared.task.Task.{Task}
 use Rattle.swd_host.specs.declared.outcome.Outcome.{Outcome}
 use Rattle.swd_host.specs.declared.outcome.Outcome.TheVariants.{Opened, Answered}
@@ -93,6 +94,10 @@ engine_is_resting e = is_some (engine_outcome e)
 -- how many requests were sent
 abbrev pub engine_requests : Engine → ℕ
 engine_requests e = e.requests
+
+-- which accesses it performs in bursts
+abbrev pub engine_bursts : Engine → Bursts
+engine_bursts e = e.bursts
 
 -- the number of events that the opening, and each access, may meet
 abbrev pub engine_tries : Engine → ℕ

@@ -7,7 +7,7 @@ use Rattle.swd_host.specs.declared.outcome.End.TheVariants.{All, Lost, TriesOut,
 use Rattle.swd_host.specs.declared.outcome.Outcome.{Outcome}
 use Rattle.swd_host.specs.declared.outcome.Outcome.TheVariants.{Opened, Answered, Stopped}
 use Rattle.swd_host.specs.declared.task.Bursts.{Bursts}
-use Rattle.swd_host.specs.declared.task.Bursts.TheVariants.{Writes, Reads}
+use Rattle.swd_host.specs.declared.task.Bursts.TheVariants.{Never, Writes, Reads}
 use Rattle.swd_host.specs.declared.task.Task.{Task}
 use Rattle.swd_host.specs.declared.task.Task.TheVariants.{Read, BurstRead, Write, BurstWrite}
 use Rattle.swd_host.specs.declared.request.HostStep.{HostStep}
@@ -60,6 +60,7 @@ engine_ahead_number Failed = 3
 abbrev pub bursts_number : Bursts → ℕ
 bursts_number Writes = 1
 bursts_number Reads = 2
+bursts_number Never = 3
 
 -- the fields of an outcome with this kind and word
 abbrev pub engine_outcome_of_kind : ℕ → ℕ → OutcomeFields

@@ -7,7 +7,7 @@ use Rattle.swd_host.specs.declared.outcome.End.TheVariants.{All, Lost, TriesOut,
 use Rattle.swd_host.specs.declared.outcome.Outcome.{Outcome}
 use Rattle.swd_host.specs.declared.outcome.Outcome.TheVariants.{Opened, Answered, Stopped}
 use Rattle.swd_host.specs.declared.task.Bursts.{Bursts}
-use Rattle.swd_host.specs.declared.task.Bursts.TheVariants.{Writes, Reads}
+use Rattle.swd_host.specs.declared.task.Bursts.TheVariants.{Never, Writes, Reads}
 use Rattle.swd_host.specs.declared.task.Task.{Task}
 use Rattle.swd_host.specs.declared.task.Task.TheVariants.{Read, BurstRead, Write, BurstWrite}
 use Rattle.swd_host.specs.declared.request.HostStep.{HostStep}
@@ -44,7 +44,7 @@ abbrev pub engine_ahead_from : ℕ → Ahead
 engine_ahead_from n = if n == 1 then Unsent else if n == 2 then Sent else Failed
 
 abbrev pub bursts_at : ℕ → Bursts
-bursts_at n = if n == 1 then Writes else Reads
+bursts_at n = if n == 1 then Writes else if n == 3 then Never else Reads
 
 abbrev pub engine_outcome_from : OutcomeFields → Outcome
 engine_outcome_from f =

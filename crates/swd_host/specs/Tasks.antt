@@ -5,7 +5,7 @@ use Rattle.swd_port.specs.declared.access.Access.TheVariants.{Read as AccessRead
 use Rattle.swd_host.specs.declared.task.Task.{Task}
 use Rattle.swd_host.specs.declared.task.Task.TheVariants.{Read, BurstRead, Write, BurstWrite}
 use Rattle.swd_host.specs.declared.task.Bursts.{Bursts}
-use Rattle.swd_host.specs.declared.task.Bursts.TheVariants.{Writes, Reads}
+use Rattle.swd_host.specs.declared.task.Bursts.TheVariants.{Never, Writes, Reads}
 use Rattle.swd_host.specs.Addresses.{continues_burst}
 
 -- the access itself
@@ -38,6 +38,8 @@ task_is_block task = false
 
 -- the task of an access, by the one that follows it
 abbrev pub task_for : Bursts → Access → Option Access → Task
+task_for Never (AccessRead at) following = Read at
+task_for Never (AccessWrite at word) following = Write at word
 task_for Writes (AccessRead at) following = Read at
 task_for Reads (AccessRead at) following = if continues_burst (AccessRead at) following then BurstRead at else Read at
 task_for Writes (AccessWrite at word) following =
@@ -50,5 +52,10 @@ task_most_begun (BurstRead at) = 2
 task_most_begun task = 1
 
 abbrev pub bursts_limit : Bursts → ℕ
-bursts_limit Writes = 1
 bursts_limit Reads = 2
+bursts_limit kind = 1
+
+-- the kind with which a run is resumed: the reads of a block are then confirmed one by one
+abbrev pub resumed_bursts : Bursts → Bursts
+resumed_bursts Writes = Writes
+resumed_bursts kind = Never

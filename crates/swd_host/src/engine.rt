@@ -8,12 +8,13 @@ ghost use Rattle.swd_host.specs.Events.{EngineMeets, EngineMeetsRead, EngineMeet
 ghost use Rattle.swd_host.specs.Early.{AckKeepsResumedOpening, DataKeepsResumedOpening, CueKeepsResumedOpening};
 ghost use Rattle.swd_host.specs.Engines.{engine_lead_cue, engine_cue, engine_outcome, engine_is_ahead, engine_begun};
 ghost use Rattle.swd_host.specs.Engines.{engine_job, EngineHasCue, IsEnginePhaseCue, engine_may_start};
-ghost use Rattle.swd_host.specs.Engines.{engine_count_more, engine_requests, engine_tries};
+ghost use Rattle.swd_host.specs.Engines.{engine_bursts, engine_count_more, engine_requests, engine_tries};
 ghost use Rattle.swd_host.specs.Progress.{engine_job_is_of, engine_open_requests};
 ghost use Rattle.swd_host.specs.Replies.{EngineTookReply};
 ghost use Rattle.swd_host.specs.Standing.{EngineIsOpened};
 ghost use Rattle.swd_host.specs.Steps.{EngineGoesTo, EngineRestsWith, engine_ahead_to, engine_after_read};
 ghost use Rattle.swd_host.specs.Steps.{engine_after_cue};
+ghost use Rattle.swd_host.specs.Tasks.{resumed_bursts};
 ghost use Rattle.swd_host.specs.Turns.{EngineIsNew, EngineStarts, EngineSeesAck, engine_first_state, engine_lands_from};
 ghost use Rattle.swd_host.specs.Tracks.{EngineDueFits, EngineHasReadData, EngineHasSentCue, EngineHearsAck};
 ghost use Rattle.swd_host.specs.Tracks.{EngineCallKeeps, engine_state_after_ack};
@@ -130,22 +131,32 @@ impl Engine {
         ensures open { engine_open_requests result ≤ 9 + 5 * (tries + 1) }
         ensures fits { (s : Port) → s.link.due ≡ Nothing → EngineDueFits result s }
     {
+        Engine::opening(Bursts::Reads, tries)
+    }
+
+    /// Creates an engine for bursts of this kind, at the start of the opening.
+    pub fn opening(bursts: Bursts, tries: u32) -> Engine
+        ensures new { EngineIsNew bursts false tries result }
+        ensures open { engine_open_requests result ≤ 9 + 5 * (tries + 1) }
+        ensures fits { (s : Port) → s.link.due ≡ Nothing → EngineDueFits result s }
+    {
         let mut engine = Engine::new(tries);
-        engine.bursts = Bursts::Reads;
+        engine.bursts = bursts;
         engine
     }
 
-    // Creates an engine for bursts of this kind.
-    pub(crate) fn opening(bursts: Bursts, tries: u32) -> Engine
-        ensures { EngineIsNew bursts false tries result }
+    /// Creates an engine that resumes a run of [`new`](Engine::new) or of [`blocks`](Engine::blocks), as
+    /// [`resuming`](Engine::resuming) does with `Bursts::Writes`.
+    pub fn again(tries: u32) -> Engine
+        ensures again { EngineIsNew Bursts.Writes true tries result }
+        ensures open { engine_open_requests result ≤ 9 + 5 * (tries + 2) }
+        ensures fits { (s : Port) → EngineDueFits result s }
     {
-        match bursts {
-            Bursts::Writes => Engine::new(tries),
-            Bursts::Reads => Engine::blocks(tries),
-        }
+        Engine::resuming(Bursts::Writes, tries)
     }
 
-    /// Creates an engine that resumes after a lost acknowledgement, at the start of a new opening.
+    /// Creates an engine that resumes after a lost acknowledgement, at the start of a new opening. It performs writes in
+    /// bursts with `Bursts::Writes`, and else no accesses.
     ///
     /// Its line reset has 100 ones, of which the first 34 are undriven. In them a data phase that the target may be in
     /// can pass (IHI 0031, B4, protocol error response). A transfer that was left pending may turn out to be a bus
@@ -153,14 +164,24 @@ impl Engine {
     ///
     /// Start with the first unanswered access. Each time that a run is resumed, an access in flight may take effect
     /// again.
-    pub fn again(tries: u32) -> Engine
-        ensures again { EngineIsNew Bursts.Writes true tries result }
+    pub fn resuming(bursts: Bursts, tries: u32) -> Engine
+        ensures again { EngineIsNew (resumed_bursts bursts) true tries result }
         ensures open { engine_open_requests result ≤ 9 + 5 * (tries + 2) }
         ensures fits { (s : Port) → EngineDueFits result s }
     {
         let mut engine = Engine::new(tries);
+        engine.bursts = bursts.resumed();
         engine.stray = true;
         engine
+    }
+
+    /// Creates an engine that resumes the run of this one, as [`resuming`](Engine::resuming) does with its kind of bursts.
+    pub fn resumed(&self, tries: u32) -> Engine
+        ensures again { EngineIsNew (resumed_bursts (engine_bursts self.now)) true tries result }
+        ensures open { engine_open_requests result ≤ 9 + 5 * (tries + 2) }
+        ensures fits { (s : Port) → EngineDueFits result s }
+    {
+        Engine::resuming(self.bursts, tries)
     }
 
     /// Creates an engine for a list over a target that is open: powered, at rest and without a flag, as a run leaves it

@@ -173,6 +173,7 @@ fn number_of_bursts(bursts: Bursts) -> u8
     match bursts {
         Bursts::Writes => 1,
         Bursts::Reads => 2,
+        Bursts::Never => 3,
     }
 }
 
@@ -181,6 +182,7 @@ fn bursts_with(number: u8) -> Bursts
 {
     match number {
         1 => Bursts::Writes,
+        3 => Bursts::Never,
         _ => Bursts::Reads,
     }
 }

@@ -13,6 +13,7 @@ use crate::engine::Engine;
 use crate::outcome::{End, Ending, Refused, Report};
 use crate::running::{open, perform};
 use crate::sink::AnswerSink;
+use crate::task::Bursts;
 use std::alloc::Allocator;
 use swd_port::{Access, Answer, Wire};
 
@@ -56,17 +57,18 @@ pub fn resume<W: Wire, A: Allocator>(
     let Some(mut answers) = copy_answers(alloc, &report.answers, accesses.len()) else {
         return Err(Refused::Memory);
     };
-    let ending = resume_to(wire, accesses, report.ending(), tries, &mut answers);
+    let ending = resume_to(wire, accesses, report.ending(), Bursts::Writes, tries, &mut answers);
     Ok(ending.with(answers))
 }
 
 /// Resumes a run as [`resume`] does, and hands each further answer on once it is certain. The sink has the answers so
-/// far. Returns the report without its answers: `begun` as that of `resume`, and the requests of this call alone. It
-/// allocates no memory.
+/// far. Returns the report without its answers: `begun` as that of `resume`, and the requests of this call alone. With
+/// `Bursts::Writes` writes are performed in bursts, as `resume` does, and else no accesses. It allocates no memory.
 pub fn resume_to<W: Wire, K: AnswerSink>(
     wire: &mut W,
     accesses: &[Access],
     earlier: Ending,
+    bursts: Bursts,
     tries: u32,
     sink: &mut K,
 ) -> Ending
@@ -86,7 +88,7 @@ pub fn resume_to<W: Wire, K: AnswerSink>(
         (host_report_to (K.taken sink.new) result)) wire.old wire.new }
 {
     let answered = sink.count();
-    let mut engine = Engine::again(tries);
+    let mut engine = Engine::resuming(bursts, tries);
     if let Err(end) = open(wire, &mut engine) {
         return since(engine.ending(end), earlier, 0);
     }

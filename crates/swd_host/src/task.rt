@@ -3,17 +3,33 @@ ghost use Rattle.std.specs.Prelude.{◌≡◌};
 ghost use Rattle.swd_port.specs.PlainMemory.{plain_address};
 ghost use Rattle.swd_host.specs.Addresses.{burst_next_address, continues_burst};
 ghost use Rattle.swd_host.specs.Requests.{task_drw_register};
+ghost use Rattle.swd_host.specs.Tasks.{resumed_bursts};
 
 use swd_port::{Access, Register};
 
 /// The kind of accesses that an engine performs in bursts. In a burst the DRW request of an access confirms the one
-/// before.
+/// before. Any other access is confirmed by a read of RDBUFF.
 #[derive(Clone, Copy, Debug, PartialEq, Eq)]
 pub enum Bursts {
+    /// None. A debug port with a write buffer may answer the next DRW write OK before it has made this one, and discard
+    /// it later (IHI 0031, B4); it answers RDBUFF once it has made it.
+    Never,
     /// Writes.
     Writes,
     /// Reads, as in a block.
     Reads,
+}
+
+impl Bursts {
+    // Returns the kind with which a run of this kind is resumed: a block's reads are then confirmed one by one.
+    pub(crate) fn resumed(self) -> Bursts
+        ensures { result ≡ resumed_bursts self }
+    {
+        match self {
+            Bursts::Writes => Bursts::Writes,
+            Bursts::Never | Bursts::Reads => Bursts::Never,
+        }
+    }
 }
 
 /// The current access, with the request that confirms it.
@@ -38,11 +54,12 @@ impl Task {
         ensures { result ≡ task_for bursts access following }
     {
         let on = continues(access, following);
-        let reads = matches!(&bursts, Bursts::Reads);
+        let reads = on && matches!(&bursts, Bursts::Reads);
+        let writes = on && matches!(&bursts, Bursts::Writes);
         match access {
-            Access::Read(addr) if on && reads => Task::BurstRead(addr),
+            Access::Read(addr) if reads => Task::BurstRead(addr),
             Access::Read(addr) => Task::Read(addr),
-            Access::Write(addr, word) if on && !reads => Task::BurstWrite(addr, word),
+            Access::Write(addr, word) if writes => Task::BurstWrite(addr, word),
             Access::Write(addr, word) => Task::Write(addr, word),
         }
     }

@@ -1,5 +1,5 @@
 -- The status of a load, a verification or a dump at a remote target.
-use Rattle.std.specs.Prelude.{◌≡◌, ◌<◌, ◌⊎◌, ℕ, List, [], length, take, Option, Some, None, Result, Ok}
+use Rattle.std.specs.Prelude.{◌≡◌, ◌<◌, ◌⊎◌, ◌||◌, not, ℕ, List, [], length, take, Option, Some, None, Result, Ok}
 use Rattle.std.specs.Prelude.{Err, is_some, if◌then◌else◌}
 use Rattle.std.specs.Io.KnownBytes.{Appends}
 use Rattle.swd_port.specs.declared.call.Call.{Call}
@@ -27,9 +27,10 @@ use Rattle.swd_image_commands.specs.declared.pieces.PiecesAction.TheVariants.{Lo
 use Rattle.swd_image_commands.specs.Pieces.{PiecesCame}
 use Rattle.swd_run.specs.Wires.{run_story_wire}
 
--- what each call may meet
+-- what each call may meet, and whether writes go in bursts: over a line only where that is asked for
 abbrev pub command_limits : ImageLine → Limits
-command_limits image = record { tries = image.tries; resumes = image.resumes }
+command_limits image =
+    record { tries = image.tries; resumes = image.resumes; bursts = not (is_some image.remote) || image.bursts }
 
 -- 1 if a call ended early or met a bus error, 2 if the image doesn't fit the addresses, memory ran out, or the report
 -- couldn't be written

@@ -54,13 +54,14 @@ impl<'a, M, E, C> ImageReports<'a, M, E, C> {
     }
 }
 
-/// Returns what each call of an image may meet, as the arguments say.
+/// Returns how each call of an image is made, and what it may meet, as the arguments say.
 pub(crate) fn limits_of(image: &ImageLine) -> Limits
     ensures { result ≡ command_limits image.now }
 {
     Limits {
         tries: image.tries,
         resumes: image.resumes,
+        bursts: image.remote.is_none() || image.bursts,
     }
 }
 

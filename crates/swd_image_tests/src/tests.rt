@@ -85,6 +85,7 @@ fn limits(resumes: u32) -> Limits {
     Limits {
         tries: TRIES,
         resumes,
+        bursts: true,
     }
 }
 

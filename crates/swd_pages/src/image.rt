@@ -27,6 +27,7 @@ pub fn flash<W: Wire>(
     let limits = Limits {
         tries: 8,
         resumes: 1,
+        bursts: true,
     };
     load(alloc, wire, addr, bytes, limits, &mut NoReports)
 }

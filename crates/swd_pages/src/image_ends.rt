@@ -33,6 +33,7 @@ pub fn flash<R: Read, W: Write>(
         limits: Limits {
             tries: 8,
             resumes: 0,
+            bursts: true,
         },
         report: NoReports,
     };

@@ -13,6 +13,7 @@ pub fn report(
     let limits = Limits {
         tries: 8,
         resumes: 0,
+        bursts: true,
     };
     run_text(alloc, &mut script, &mut plan, limits, report, &mut records)
 }

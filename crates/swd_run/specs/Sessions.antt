@@ -5,6 +5,8 @@ use Rattle.swd_port.specs.declared.call.Call.{Call}
 use Rattle.swd_port.specs.declared.wire.Wire.{Ghosts}
 use Rattle.swd_host.specs.declared.outcome.End.{End}
 use Rattle.swd_host.specs.declared.outcome.End.TheVariants.{All, Lost}
+use Rattle.swd_host.specs.declared.task.Bursts.{Bursts}
+use Rattle.swd_host.specs.declared.task.Bursts.TheVariants.{Never, Writes, Reads}
 use Rattle.swd_host.specs.Reports.{HostReport, host_report_of}
 use Rattle.swd_script.specs.Scripts.{ScriptListed}
 use Rattle.swd_run.specs.declared.going_on.Resumed.{Resumed}
@@ -23,6 +25,10 @@ script_run_of resumed = record { stops = resumed.stops.items; told = host_report
 -- the most accesses that are begun and not answered: two of a block, else one
 abbrev pub batch_limit : ScriptListed → ℕ
 batch_limit batch = if is_some batch.block then 2 else 1
+
+-- which accesses of a batch are performed in bursts: the reads of a block, else writes where these may be
+abbrev pub batch_bursts : Bool → ScriptListed → Bursts
+batch_bursts bursts batch = if is_some batch.block then Reads else if bursts then Writes else Never
 
 -- how the last run ended; `All` without a run
 abbrev pub script_ended : List ScriptRun → End

@@ -8,7 +8,8 @@ ghost use Rattle.swd_host.specs.Reports.{host_report_to};
 ghost use Rattle.swd_host.specs.Sent.{HostCalls, HostReportsCalls};
 ghost use Rattle.swd_host.specs.Tasks.{bursts_limit};
 ghost use Rattle.swd_run.specs.declared.going_on.Stop.{Stop as StopType};
-ghost use Rattle.swd_run.specs.Sessions.{RunsBatch, RunsBatchFrom, IsBatchRefused, script_run_of, batch_limit};
+ghost use Rattle.swd_run.specs.Sessions.{RunsBatch, RunsBatchFrom, IsBatchRefused, script_run_of, batch_bursts};
+ghost use Rattle.swd_run.specs.Sessions.{batch_limit};
 ghost use Rattle.swd_run.specs.Starts.{ScriptCallCloses, ScriptCallFits};
 
 use crate::limits::Limits;
@@ -40,12 +41,14 @@ pub struct Resumed<A: Allocator> {
 }
 
 // Returns which accesses of a batch are performed in bursts.
-fn bursts_of<A: Allocator>(batch: &Batch<A>) -> Bursts
-    ensures { bursts_limit result ≡ batch_limit (script_batch_listed batch.now) }
+fn bursts_of<A: Allocator>(batch: &Batch<A>, limits: Limits) -> Bursts
+    ensures kind { result ≡ batch_bursts limits.bursts (script_batch_listed batch.now) }
+    ensures limit { bursts_limit result ≡ batch_limit (script_batch_listed batch.now) }
 {
     match batch.block {
         Some(_) => Bursts::Reads,
-        None => Bursts::Writes,
+        None if limits.bursts => Bursts::Writes,
+        None => Bursts::Never,
     }
 }
 
@@ -76,13 +79,14 @@ fn begin<W: Wire, K: AnswerSink, A: Allocator>(
     ensures plan { W.plan wire.new ≡ W.plan wire.old }
 {
     let accesses = batch.accesses.as_slice();
+    let bursts = bursts_of(batch, options.limits);
     if options.opened {
-        return match run_open_to(wire, accesses, bursts_of(batch), options.limits.tries, sink) {
+        return match run_open_to(wire, accesses, bursts, options.limits.tries, sink) {
             Ok(ending) => ending,
             Err(_) => unreachable!(),
         };
     }
-    match run_to(wire, accesses, bursts_of(batch), options.limits.tries, sink) {
+    match run_to(wire, accesses, bursts, options.limits.tries, sink) {
         Ok(ending) => ending,
         Err(_) => unreachable!(),
     }
@@ -110,6 +114,7 @@ pub(crate) fn make_call_to<W: Wire, K: RunSink, A: Allocator>(
 {
     let mut ending = begin(wire, batch, options, sink);
     let accesses = batch.accesses.as_slice();
+    let bursts = bursts_of(batch, options.limits);
     for done in 0..options.limits.resumes {
         let End::Lost = ending.ended else {
             return Ok(ending);
@@ -119,7 +124,7 @@ pub(crate) fn make_call_to<W: Wire, K: RunSink, A: Allocator>(
             begun: ending.begun,
             requests: ending.requests,
         })?;
-        ending = resume_to(wire, accesses, ending, options.limits.tries, sink);
+        ending = resume_to(wire, accesses, ending, bursts, options.limits.tries, sink);
     }
     Ok(ending)
 }

@@ -1,5 +1,5 @@
 -- What `swd run` does at a simulated target, and the status that it ends with.
-use Rattle.std.specs.Prelude.{◌≡◌, ◌⊎◌, ◌||◌, ℕ, Bool, false, true, List, [], Option, None, Some, Result, is_some}
+use Rattle.std.specs.Prelude.{◌≡◌, ◌⊎◌, ◌||◌, ℕ, Bool, false, true, not, List, [], Option, None, Some, Result, is_some}
 use Rattle.swd_capture_text.specs.Captures.{accesses_text}
 use Rattle.swd_port.specs.declared.mark.Mark.{Mark}
 use Rattle.swd_script.specs.Scripts.{ScriptMeaning}
@@ -12,9 +12,10 @@ use Rattle.swd_run.specs.Running.{RunsText, ScriptRunAnswers}
 use Rattle.swd_command_line.specs.declared.command.RunLine.{RunLine}
 use Rattle.swd_console.specs.Statuses.{CommandNotOpened, command_status_of_run}
 
--- what each call of a run may meet
+-- what each call of a run may meet, and whether writes go in bursts: over a line only where that is asked for
 abbrev pub run_command_limits : RunLine → Limits
-run_command_limits run = record { tries = run.tries; resumes = run.resumes }
+run_command_limits run =
+    record { tries = run.tries; resumes = run.resumes; bursts = not (is_some run.remote) || run.bursts }
 
 -- whether a file is named that a run writes beside its report
 abbrev pub run_command_names_file : RunLine → Bool

@@ -12,6 +12,7 @@ ghost use Rattle.swd_run_commands.specs.Verdicts.{IsRunVerdict};
 
 use crate::checked_records::{RecordFile, checked_records, verdict_of};
 use crate::records::{cut_off_records, give_up_records, open_records, paced};
+use crate::run_command::limits_of;
 use crate::unread::unread_script_status;
 use std::alloc::Allocator;
 use std::io::{Read, Write};
@@ -27,7 +28,7 @@ use swd_ends::{Line, run_remote_script};
 use swd_host::End;
 use swd_port::Story;
 use swd_remote::RemoteStreams;
-use swd_run::{EngineFault, Finished, Limits, Records};
+use swd_run::{EngineFault, Finished, Records};
 use swd_script::{Script, read_script};
 use swd_text::TextFault;
 
@@ -188,10 +189,7 @@ fn report_to_file<
 {
     let mut report = Watched::new(file);
     let alloc = console.alloc;
-    let limits = Limits {
-        tries: run.tries,
-        resumes: run.resumes,
-    };
+    let limits = limits_of(run);
     let mut records = paced(run, records, &mut *console.errors, console.clock);
     let (answer, line) = run_remote_script::<P, _, _, _, _, _, _, _>(
         alloc,
@@ -234,10 +232,7 @@ fn report_to_errors<
         (I.remaining line.reader) result.1 (read_script_meaning script.now).batches }
 {
     let mut records = records;
-    let limits = Limits {
-        tries: run.tries,
-        resumes: run.resumes,
-    };
+    let limits = limits_of(run);
     let mut report = Watched::new(&mut *console.errors);
     let (answer, line) = run_remote_script::<P, _, _, _, _, _, _, _>(
         console.alloc,

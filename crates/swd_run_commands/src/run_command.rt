@@ -9,7 +9,7 @@ ghost use Rattle.swd_run.specs.Records.{run_files_of};
 ghost use Rattle.swd_console.specs.Statuses.{command_status_of_run};
 ghost use Rattle.swd_console.specs.Streams.{CommandEndsOver, CommandReadsFile};
 ghost use Rattle.swd_run_commands.specs.Runs.{AreRunCommandFiles, PerformsRunCommand, PerformsRunCommandUnder};
-ghost use Rattle.swd_run_commands.specs.Runs.{PerformsRunCommandWhere, RunsCommandScript};
+ghost use Rattle.swd_run_commands.specs.Runs.{PerformsRunCommandWhere, RunsCommandScript, run_command_limits};
 
 use crate::records::{cut_off_records, give_up_records, open_records, paced};
 use crate::remote_command::perform_remote;
@@ -23,6 +23,17 @@ use swd_console::{
     TrackedReader, Untold, Watched, named_file_of, run_status, status_after, tell, tell_failure,
 };
 use swd_run::{EngineFault, Finished, Limits, Records, Texts, read_texts, run_script};
+
+/// Returns how each call of a run is made, and what it may meet, as the arguments say.
+pub(crate) fn limits_of(run: &RunLine) -> Limits
+    ensures { result ≡ run_command_limits run.now }
+{
+    Limits {
+        tries: run.tries,
+        resumes: run.resumes,
+        bursts: run.remote.is_none() || run.bursts,
+    }
+}
 
 /// Runs a script, from its file or from standard input, at a simulated target or at one behind the streams. Returns the
 /// status.
@@ -183,10 +194,7 @@ fn run_to<
         (O.contents output.old) (O.contents output.new) }
 {
     let Texts { script, plan } = texts;
-    let limits = Limits {
-        tries: run.tries,
-        resumes: run.resumes,
-    };
+    let limits = limits_of(run);
     let mut records = paced(run, records, &mut *console.errors, console.clock);
     let answer = run_script(console.alloc, &script, plan, limits, output, &mut records);
     let Records {

@@ -95,7 +95,11 @@ fn resumed_on(rt: &HostRuntime, script: &[u8], plan: &[u8], tries: u32, resumes:
         rt.alloc(),
         &mut script,
         &mut plan,
-        Limits { tries, resumes },
+        Limits {
+            tries,
+            resumes,
+            bursts: true,
+        },
         &mut text,
         &mut Records::<Vec<u8>>::none(),
     );
@@ -109,6 +113,7 @@ fn limits(resumes: u32) -> Limits {
     Limits {
         tries: TRIES,
         resumes,
+        bursts: true,
     }
 }
 

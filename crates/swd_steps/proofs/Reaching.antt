@@ -149,7 +149,7 @@ stepped_open_reaches kind tries accesses calls run answers end small ran ended s
 
 -- the same for a run that resumes
 pub stepped_resume_reaches : SteppedResumeReaches
-stepped_resume_reaches tries accesses calls run answers end earlier small ran ended story past fits known c legal =
+stepped_resume_reaches kind tries accesses calls run answers end earlier small ran ended story past fits known c legal =
     let told = resume_report (stepped_report run (earlier.answers ++ answers) end) earlier in
     let s = port_at story past in
     let t = port_at story (calls ++ past) in
@@ -160,7 +160,7 @@ stepped_resume_reaches tries accesses calls run answers end earlier small ran en
     (stops_so story calls past fits)
     (subst (λ s. ResumeFits accesses tries earlier told s (port_at (recorded story calls past fits) (calls ++ past)))
     (begins_so story calls past fits)
-    (stepped_resume_fits tries accesses calls run answers end earlier small ran ended
+    (stepped_resume_fits kind tries accesses calls run answers end earlier small ran ended
     (recorded story calls past fits) past (recorded_fits story (calls ++ past) fits)
     (subst (λ s. HostKnowsTarget s.target) (sym (begins_so story calls past fits))
     (known_recording before s known)))) in

@@ -243,24 +243,24 @@ does_after list o f before answers end s t h = record {
   over = h.over;
 }
 
-resumes_by : (tries : ℕ) (accesses : List Access) (calls : List Call) (e : Engine) (answers : List Answer) (end : End)
-    (earlier : HostReport) (story : ℕ → Port) (past : List Call) → tries < 2 ^ 32 → AreHostAccesses accesses
+resumes_by : (kind : Bursts) (tries : ℕ) (accesses : List Access) (calls : List Call) (e : Engine)
+    (answers : List Answer) (end : End) (earlier : HostReport) (story : ℕ → Port) (past : List Call) → tries < 2 ^ 32 → AreHostAccesses accesses
     → length earlier.answers ≤ length accesses
-    → SteppedAtEnd story past (stepped_again (length earlier.answers) tries) (drop (length earlier.answers) accesses)
-    calls e answers end
+    → SteppedAtEnd story past (stepped_again kind (length earlier.answers) tries) (drop (length earlier.answers)
+    accesses) calls e answers end
     → FitsStory story (calls ++ past) → HostKnowsTarget (port_at story past).target
     → ResumeFits accesses tries earlier (resume_report (engine_report (earlier.answers ++ answers) e end) earlier)
     (port_at story past) (port_at story (calls ++ past))
-resumes_by tries accesses calls e answers end earlier story past small ok reported (never_opened h at none) fits known
+resumes_by kind tries accesses calls e answers end earlier story past small ok reported (never_opened h at none) fits known
     =
-    resume_stops accesses tries earlier h.first e (earlier.answers ++ answers) (port_at story past)
+    resume_stops kind accesses tries earlier h.first e (earlier.answers ++ answers) (port_at story past)
     (port_at story (calls ++ past)) small h.new ok reported known (h.went.goes fits).1 h.went.due
     (ap (λ l. earlier.answers ++ l) none ∙ append-nil earlier.answers) end at
-resumes_by tries accesses calls e answers end earlier story past small ok reported
+resumes_by kind tries accesses calls e answers end earlier story past small ok reported
     (performed o early late parts h at performs does tells) fits known =
     let done = does fits in
     let opened = h.went.goes done.0 in
-    resume_performs accesses tries earlier h.first o earlier.answers (port_at story past) (port_at story (early ++
+    resume_performs kind accesses tries earlier h.first o earlier.answers (port_at story past) (port_at story (early ++
     past))
     small h.new ok reported known opened.1 h.went.due refl end e (earlier.answers ++ answers) (port_at story (calls ++
     past)) at
@@ -270,9 +270,9 @@ resumes_by tries accesses calls e answers end earlier story past small ok report
 
 -- where the calls are consistent with the model, the theorem of `resume` holds of the report of a run that resumed
 pub stepped_resume_fits : SteppedResumeFits
-stepped_resume_fits tries accesses calls run answers end earlier small ran ended story past fits known =
-    let how : SteppedSetup = stepped_again (length earlier.answers) tries in
+stepped_resume_fits kind tries accesses calls run answers end earlier small ran ended story past fits known =
+    let how : SteppedSetup = stepped_again kind (length earlier.answers) tries in
     let ok = accepted how accesses calls run answers end small ran ended in
-    resumes_by tries accesses calls run.engine answers end earlier story past small ok.1 ok.2
+    resumes_by kind tries accesses calls run.engine answers end earlier story past small ok.1 ok.2
     (finished how accesses calls run answers end small ran ended story past (λ new. absurd (cc))
     (λ ready. absurd (cc))) fits known

@@ -78,9 +78,9 @@ SteppedOpenFits = (kind : Bursts) (tries : ℕ) (accesses : List Access) (calls 
 
 -- The same for a run that resumes after an earlier report.
 abbrev pub SteppedResumeFits : Type 0
-SteppedResumeFits = (tries : ℕ) (accesses : List Access) (calls : List Call) (run : Run) (answers : List Answer) (end :
-    End) (earlier : HostReport) → tries < 2 ^ 32
-    → SteppedRan (stepped_again (length earlier.answers) tries) accesses calls run answers
+SteppedResumeFits = (kind : Bursts) (tries : ℕ) (accesses : List Access) (calls : List Call) (run : Run)
+    (answers : List Answer) (end : End) (earlier : HostReport) → tries < 2 ^ 32
+    → SteppedRan (stepped_again kind (length earlier.answers) tries) accesses calls run answers
     → run.stage ≡ Ended end → (story : ℕ → Port) (past : List Call) → FitsStory story (calls ++ past)
     → ResumesOver accesses tries earlier (resume_report (stepped_report run (earlier.answers ++ answers) end) earlier)
     (port_at story past) (port_at story (calls ++ past))

@@ -62,9 +62,9 @@ pub record SteppedResumeReachesBus (list : List Access) (earlier told : HostRepo
 
 -- In a run that resumes, once a transfer that is still pending has taken effect.
 abbrev pub SteppedResumeReaches : Type 0
-SteppedResumeReaches = (tries : ℕ) (accesses : List Access) (calls : List Call) (run : Run) (answers : List Answer)
-    (end : End) (earlier : HostReport) → tries < 2 ^ 32
-    → SteppedRan (stepped_again (length earlier.answers) tries) accesses calls run answers
+SteppedResumeReaches = (kind : Bursts) (tries : ℕ) (accesses : List Access) (calls : List Call) (run : Run)
+    (answers : List Answer) (end : End) (earlier : HostReport) → tries < 2 ^ 32
+    → SteppedRan (stepped_again kind (length earlier.answers) tries) accesses calls run answers
     → run.stage ≡ Ended end → (story : ℕ → Port) (past : List Call) → (fits : FitsStory story (calls ++ past))
     → HostKnowsTarget (port_at story past).target → (c : Choice) → IsPortChoice c
     → SteppedResumeReachesBus accesses earlier

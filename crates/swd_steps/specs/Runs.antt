@@ -13,7 +13,7 @@ use Rattle.swd_host.specs.declared.outcome.End.TheVariants.{All, Lost, TriesOut}
 use Rattle.swd_host.specs.declared.outcome.Outcome.TheVariants.{Opened, Answered, Stopped}
 use Rattle.swd_host.specs.declared.outcome.Refused.TheVariants.{TooMany as HostTooMany, Unaligned as HostUnaligned}
 use Rattle.swd_host.specs.declared.task.Bursts.{Bursts}
-use Rattle.swd_host.specs.declared.task.Bursts.TheVariants.{Writes}
+use Rattle.swd_host.specs.Tasks.{resumed_bursts}
 use Rattle.swd_host.specs.Calls.{EngineTurned, host_idle_call}
 use Rattle.swd_host.specs.Engines.{EngineHasCue, IsEnginePhaseCue, engine_cue, engine_outcome, engine_is_resting}
 use Rattle.swd_host.specs.Plain.{AreHostAccesses}
@@ -27,8 +27,8 @@ use Rattle.swd_steps.specs.declared.run.Run.{Run}
 use Rattle.swd_steps.specs.declared.run.Stage.{Stage}
 use Rattle.swd_steps.specs.declared.run.Stage.TheVariants.{Driving, Between, Ended}
 
--- How a run was made: for bursts of writes or of reads, whether its target was open already, whether it resumes, its
--- tries, and the number of accesses answered before it.
+-- How a run was made: its kind of bursts, whether its target was open already, whether it resumes, its tries, and the
+-- number of accesses answered before it.
 pub record SteppedSetup : Type 0 where
   pub kind : Bursts
   pub opened : Bool
@@ -36,15 +36,16 @@ pub record SteppedSetup : Type 0 where
   pub tries : ℕ
   pub from : ℕ
 
--- a new run, one over a target that is open already, and one that resumes after `from` answers
+-- a new run, one over a target that is open already, and one that resumes one of this kind after `from` answers
 abbrev pub stepped_anew : Bursts → ℕ → SteppedSetup
 stepped_anew kind tries = record { kind = kind; opened = false; again = false; tries = tries; from = 0 }
 
 abbrev pub stepped_opened : Bursts → ℕ → SteppedSetup
 stepped_opened kind tries = record { kind = kind; opened = true; again = false; tries = tries; from = 0 }
 
-abbrev pub stepped_again : ℕ → ℕ → SteppedSetup
-stepped_again from tries = record { kind = Writes; opened = false; again = true; tries = tries; from = from }
+abbrev pub stepped_again : Bursts → ℕ → ℕ → SteppedSetup
+stepped_again kind from tries =
+    record { kind = resumed_bursts kind; opened = false; again = true; tries = tries; from = from }
 
 -- the engine of a run that was just made
 abbrev pub SteppedBeginsBy : Bool → SteppedSetup → Engine → Type 0

@@ -6,7 +6,7 @@ ghost use Rattle.swd_port.specs.declared.access.Access.{Access as AccessType};
 ghost use Rattle.swd_port.specs.Stories.{IsPortSeen};
 ghost use Rattle.swd_host.specs.declared.engine.Ahead.TheVariants.{Unsent};
 ghost use Rattle.swd_host.specs.declared.task.Bursts.TheVariants.{Reads, Writes};
-ghost use Rattle.swd_host.specs.Engines.{EngineHasCue, IsEnginePhaseCue, engine_begun, engine_cue, engine_outcome};
+ghost use Rattle.swd_host.specs.Engines.{EngineHasCue, IsEnginePhaseCue, engine_begun, engine_bursts, engine_cue, engine_outcome};
 ghost use Rattle.swd_host.specs.Engines.{engine_is_ahead, engine_is_resting, engine_may_start, engine_requests};
 ghost use Rattle.swd_host.specs.Plain.{AreHostAccesses, HostAccessHasRanges, host_access_is_aligned};
 ghost use Rattle.swd_host.specs.Turns.{EngineStarts};
@@ -81,11 +81,19 @@ pub struct Run {
 }
 
 impl Run {
-    /// Creates a run at the start of the opening. The opening, and each access, may meet up to `tries` events.
+    /// Creates a run at the start of the opening. The opening, and each access, may meet up to `tries` events. Writes
+    /// next to each other are sent in bursts.
     pub fn new(tries: u32) -> Run
         ensures { (list : List AccessType) → SteppedRan (stepped_anew Writes tries) list [] result [] }
     {
         Run::beginning(Engine::new(tries), 0)
+    }
+
+    /// Creates a run at the start of the opening, with bursts of this kind.
+    pub fn opening(bursts: Bursts, tries: u32) -> Run
+        ensures { (list : List AccessType) → SteppedRan (stepped_anew bursts tries) list [] result [] }
+    {
+        Run::beginning(Engine::opening(bursts, tries), 0)
     }
 
     /// Creates a run for a block of reads: its bursts are of reads instead of writes. The request for the next word
@@ -97,7 +105,7 @@ impl Run {
     }
 
     /// Creates a run over a target that is open already, as a run leaves it that ended `All`: it sends no opening. The
-    /// bursts are of writes or of reads, for this list alone. Pass the same list to each call of [`next`](Run::next).
+    /// bursts are of this kind, for this list alone. Pass the same list to each call of [`next`](Run::next).
     ///
     /// # Errors
     ///
@@ -121,16 +129,18 @@ impl Run {
 
     /// Creates a run that resumes this one over the same list, from the first unanswered access on. Returns `None` if
     /// this one didn't end `Lost` or `TriesOut`. Accesses in flight may take effect again. `requests` and
-    /// `begun` are those of the new run alone.
+    /// `begun` are those of the new run alone. It sends writes in bursts if this one does, and confirms each read by
+    /// itself.
     pub fn again(&self, tries: u32) -> Option<Run>
         ensures again { IfSome result (λ run.
-            (list : List AccessType) → SteppedRan (stepped_again self.now.answered tries) list [] run []) }
+            (list : List AccessType)
+            → SteppedRan (stepped_again (engine_bursts self.now.engine) self.now.answered tries) list [] run []) }
         ensures none { IfNone result (stepped_may_resume self.now.stage ≡ false) }
         ensures some { IfSome result (λ run. stepped_may_resume self.now.stage ≡ true) }
     {
         match self.stage {
             Stage::Ended(End::Lost | End::TriesOut) => {
-                Some(Run::beginning(Engine::again(tries), self.answered))
+                Some(Run::beginning(self.engine.resumed(tries), self.answered))
             }
             _ => None,
         }

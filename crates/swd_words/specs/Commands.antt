@@ -82,7 +82,8 @@ check_rules = file_rules ++ flag_rule (codes "made") ∷ flag_rule (codes "rest"
 abbrev pub run_rules : List Rule
 run_rules = place_rule (codes "SCRIPT") true ∷ value_rule (codes "plan") ∷ tries_rule ∷ resume_rule
     ∷ value_rule (codes "trace") ∷ value_rule (codes "accesses") ∷ flag_rule (codes "strict") ∷ remote_rule
-    ∷ value_rule (codes "report") ∷ flag_rule (codes "progress") ∷ flag_rule (codes "check") ∷ []
+    ∷ value_rule (codes "report") ∷ flag_rule (codes "progress") ∷ flag_rule (codes "check")
+    ∷ flag_rule (codes "bursts") ∷ []
 
 -- with the script of a target, in place of which there may be --memory
 abbrev pub target_rules : List Rule
@@ -102,6 +103,9 @@ image_rules = value_rule (codes "format") ∷ tries_rule ∷ resume_rule ∷ val
 abbrev pub read_rules : List Rule
 read_rules = place_rule (codes "ADDR") true ∷ place_rule (codes "FILE") true ∷ image_rules
 
+abbrev pub load_rules : List Rule
+load_rules = read_rules ++ flag_rule (codes "bursts") ∷ []
+
 abbrev pub dump_rules : List Rule
 dump_rules = place_rule (codes "ADDR") true ∷ place_rule (codes "BYTES") true ∷ place_rule (codes "FILE") true
     ∷ image_rules
@@ -117,7 +121,7 @@ abbrev pub swd_app : App
 swd_app = commands_app bare_args_app ((codes "one", file_rules) ∷ (codes "decode", decode_rules)
     ∷ (codes "encode", file_rules) ∷ (codes "run", run_rules) ∷ (codes "target", target_rules)
     ∷ (codes "draw", draw_rules) ∷ (codes "check", check_rules) ∷ (codes "info", remote_rule ∷ tries_rule ∷ [])
-    ∷ (codes "conform", conform_rules) ∷ (codes "load", read_rules) ∷ (codes "verify", read_rules)
+    ∷ (codes "conform", conform_rules) ∷ (codes "load", load_rules) ∷ (codes "verify", read_rules)
     ∷ (codes "dump", dump_rules) ∷ [])
 
 -- --remote alone is read as --remote=-, so that the argument after it isn't its value
@@ -198,7 +202,7 @@ IsResumeArgument resumes None = resumes ≡ 0
 IsResumeArgument resumes (Some text) = (resumes ≤ 1000) × (pos resumes ≡ signed_digits_value 10 text)
 
 -- the script, the plan, the two numbers, the trace, the accesses, what leads to a remote target, and the report that
--- the arguments name, and whether the run is strict, says how far it is, and checks its session
+-- the arguments name, and whether the run is strict, says how far it is, checks its session, and sends bursts
 pub record AreRunArguments (run : RunLine) (rows : List Row) : Type 0 where
   pub script : Some (string_bytes run.script) ≡ first_of (codes "SCRIPT") rows
   pub plan : option_map string_bytes run.plan ≡ first_of (codes "plan") rows
@@ -211,6 +215,7 @@ pub record AreRunArguments (run : RunLine) (rows : List Row) : Type 0 where
   pub report : option_map string_bytes run.report ≡ first_of (codes "report") rows
   pub progress : (run.progress ≡ true) ↔ (first_of (codes "progress") rows ≡ Some (codes "true"))
   pub check : (run.check ≡ true) ↔ (first_of (codes "check") rows ≡ Some (codes "true"))
+  pub bursts : (run.bursts ≡ true) ↔ (first_of (codes "bursts") rows ≡ Some (codes "true"))
 
 -- a number of bytes in units of this size: 1 to 10 decimal digits are the number of units
 abbrev pub AreBytesInUnits : ℕ → ℕ → Text → Type 0
@@ -315,7 +320,7 @@ IsTargetArgument (Some memory) rows = (first_of (codes "remote") rows ≡ None) 
 
 -- the action, the address of 1 to 8 hexadecimal digits after an optional 0x, the file with its format, the two numbers,
 -- the report, what leads to a remote target, and the target that the arguments name, and whether the command says how
--- far it is, and checks its session
+-- far it is, checks its session, and sends bursts
 pub record AreImageArguments (image : ImageLine) (name : Text) (rows : List Row) : Type 0 where
   pub action : IsActionArgument image.action name rows
   pub addr : Some image.addr ≡ option_and_then (λ text. script_hex_number text) (first_of (codes "ADDR") rows)
@@ -325,6 +330,7 @@ pub record AreImageArguments (image : ImageLine) (name : Text) (rows : List Row)
   pub report : option_map string_bytes image.report ≡ first_of (codes "report") rows
   pub progress : (image.progress ≡ true) ↔ (first_of (codes "progress") rows ≡ Some (codes "true"))
   pub check : (image.check ≡ true) ↔ (first_of (codes "check") rows ≡ Some (codes "true"))
+  pub bursts : (image.bursts ≡ true) ↔ (first_of (codes "bursts") rows ≡ Some (codes "true"))
   pub remote : option_map string_bytes image.remote ≡ first_of (codes "remote") rows
   pub target : IsTargetArgument image.memory rows
   pub format : AreFormatArguments image.action image.format image.elf (string_bytes image.file)

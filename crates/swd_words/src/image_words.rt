@@ -11,7 +11,7 @@ use crate::fault::LineFault;
 use crate::format_words::{READ_FORMAT, WRITTEN_FORMAT, format_form, formats_in};
 use crate::memory_words::{BASE, MEMORY, target_in};
 use crate::words::{
-    PLAN, PROGRESS, REMOTE, RESUME, SESSION, TRIES, invalid, is_asked_for, numbers_in, owned,
+    BURSTS, PLAN, PROGRESS, REMOTE, RESUME, SESSION, TRIES, invalid, is_asked_for, numbers_in, owned,
     refused, unknown, why_unchecked, why_unpaced,
 };
 use clap::ArgMatches;
@@ -45,7 +45,7 @@ are read first, so that their other bytes keep their values.
 With --remote the standard streams connect to a server of OpenOCD's
 remote_bitbang protocol for SWD, such as swd target. For a server on a socket:
   swd-line localhost:4711 -- swd load ADDR FILE --remote
---remote=IN,OUT is as for swd run.
+--remote=IN,OUT is as for swd run, and so is --bursts.
 
 With --memory the target is simulated. The memory's FILE has its bytes from
 --base on, a multiple of 4 of them, the byte at the lowest address first. A load
@@ -156,28 +156,26 @@ const REPORT: Argument = Argument {
     help: "Write the report of the calls to FILE, - is stderr",
 };
 
-// The arguments of `load` and `verify`.
-const READ: &[Argument] = &[
-    READ_ADDR,
-    READ_FILE,
-    READ_FORMAT,
-    TRIES,
-    RESUME,
-    REPORT,
-    PROGRESS,
-    REMOTE,
-    SESSION,
-    MEMORY,
-    BASE,
-    PLAN,
-];
-
 /// The command `load`.
 pub(crate) const LOAD: CommandRow = CommandRow {
     name: "load",
     about: "Load a file into a target's memory",
     after: Some(LOAD_AFTER),
-    arguments: READ,
+    arguments: &[
+        READ_ADDR,
+        READ_FILE,
+        READ_FORMAT,
+        TRIES,
+        RESUME,
+        REPORT,
+        PROGRESS,
+        REMOTE,
+        SESSION,
+        MEMORY,
+        BASE,
+        PLAN,
+        BURSTS,
+    ],
 };
 
 /// The command `verify`.
@@ -185,7 +183,20 @@ pub(crate) const VERIFY: CommandRow = CommandRow {
     name: "verify",
     about: "Compare a target's memory with a file",
     after: Some(VERIFY_AFTER),
-    arguments: READ,
+    arguments: &[
+        READ_ADDR,
+        READ_FILE,
+        READ_FORMAT,
+        TRIES,
+        RESUME,
+        REPORT,
+        PROGRESS,
+        REMOTE,
+        SESSION,
+        MEMORY,
+        BASE,
+        PLAN,
+    ],
 };
 
 /// The command `dump`.
@@ -317,6 +328,7 @@ pub(crate) fn image_line(
         return Err(LineFault::Memory);
     };
     let check = is_asked_for(matches.get_str("check"));
+    let bursts = is_asked_for(matches.get_str("bursts"));
     if let Some(why) = why_unchecked(check, &remote).or(why_unpaced(progress, &report)) {
         return Err(refused(alloc, ErrorKind::ArgumentConflict, why));
     }
@@ -338,5 +350,6 @@ pub(crate) fn image_line(
         check,
         remote,
         memory,
+        bursts,
     })
 }

@@ -77,6 +77,12 @@ two fifos; with --remote=DEVICE one file is both, such as a serial device that
 stty set raw. Each is opened for reading and writing, so opening one waits for
 no other end. If the server goes away the run waits until a signal ends it.
 
+With --remote each write is confirmed by a read of RDBUFF. With --bursts the next
+write confirms it, if that is at the next address in the same kilobyte: a word
+takes one request, not two. At a debug port with a write buffer the report may
+then be false: the port may answer OK to the next write before it has made this
+one, and discard it later. Without --remote a run always has bursts.
+
 A script has one command per line; # begins a comment. BASE, ADDR, VALUE and
 MASK are 1 to 8 hexadecimal digits, which may follow 0x, and addresses multiples
 of 4. WORDS, N and COUNT are 1 to 10 decimal digits.
@@ -258,6 +264,13 @@ pub(crate) const SESSION: Argument = Argument {
     help: "With --remote: check the session as swd check --rest",
 };
 
+/// Whether writes next to each other are sent to a remote target in bursts.
+pub(crate) const BURSTS: Argument = Argument {
+    name: "bursts",
+    form: Form::Flag,
+    help: "With --remote: send writes next to each other in bursts",
+};
+
 /// The number of events that an access may meet.
 pub(crate) const TRIES: Argument = Argument {
     name: "tries",
@@ -295,6 +308,7 @@ const RUN: CommandRow = CommandRow {
     after: Some(RUN_AFTER),
     arguments: &[
         SCRIPT, PLAN, TRIES, RESUME, TRACE, ACCESSES, STRICT, REMOTE, REPORT, PROGRESS, SESSION,
+        BURSTS,
     ],
 };
 
@@ -517,6 +531,7 @@ fn run_line(alloc: Global, matches: &ArgMatches<'_>) -> Result<RunLine, LineFaul
         remote,
         report,
         progress: is_asked_for(matches.get_str("progress")),
+        bursts: is_asked_for(matches.get_str("bursts")),
     })
 }
 

@@ -10,6 +10,7 @@ use swd_image_files::{Format, read_image};
 const LIMITS: Limits = Limits {
     tries: 3,
     resumes: 0,
+    bursts: true,
 };
 
 // The memory of a target, into which an image of five bytes was loaded. `None` where memory is refused.

@@ -3,7 +3,7 @@ use Rattle.swd_host.proofs.Words.{EnginePerforms, engine_report}
 use Rattle.std.proofs.Common.{arith}
 use Rattle.std.proofs.lemmas.List.{append-nil}
 use Rattle.swd_host.specs.Reports.{host_report_to}
-use Rattle.swd_host.specs.declared.task.Bursts.TheVariants.{Writes}
+use Rattle.swd_host.specs.Tasks.{resumed_bursts}
 use Rattle.swd_host.proofs.Alone.{opening_closes, list_closes}
 use Rattle.swd_host.proofs.Resumed.{resume_stops, resume_performs, resumed_equal_report, resumed_rest_slice}
 use Rattle.swd_host.proofs.Resumed.{resumed_continues}
@@ -23,7 +23,7 @@ returns-in-Err-clause-continues g c =
     _ [] _ c.requires.reported
     (c.since.ensures before before (omega arith) ∙ ap (λ x. resume_report x earlier) (c.ending.ensures before))
     (sym (append-nil before))
-    (opening_closes Writes true c.args.tries c.again-engine.result c.open.new.engine c.ranges.tries.fits
+    (opening_closes (resumed_bursts c.args.bursts) true c.args.tries c.again-engine.result c.open.new.engine c.ranges.tries.fits
     c.again-engine.ensures.again c.open.ensures.works _ c.in-Err.end _ c.in-Err.ensures.finished c.open.ensures.due)
 
 pub returns-clause-continues : goal.returns-clause-continues
@@ -45,7 +45,7 @@ returns-clause-continues g c =
     (c.since-2.ensures before after (omega (arith, c.count.ensures, c.count-answered.ensures))
     ∙ ap (λ x. resume_report x earlier) (c.ending-2.ensures after))
     p.added
-    (list_closes Writes true c.args.tries c.again-engine.result c.open.new.engine c.ranges.tries.fits
+    (list_closes (resumed_bursts c.args.bursts) true c.args.tries c.again-engine.result c.open.new.engine c.ranges.tries.fits
     c.again-engine.ensures.again c.open.ensures.works rest c.perform-ended.new.engine c.perform-ended.result _
     before after p)
 
@@ -58,7 +58,7 @@ returns-in-Err-clause-fits g c = λ lawful.
       λ known.
           resumed_equal_report c.args.accesses.now c.args.tries earlier _ _ _ _
           (c.since.ensures before before (omega arith) ∙ ap (λ x. resume_report x earlier) (c.ending.ensures before))
-          (resume_stops c.args.accesses.now c.args.tries earlier c.again-engine.result c.open.new.engine
+          (resume_stops c.args.bursts c.args.accesses.now c.args.tries earlier c.again-engine.result c.open.new.engine
           before (g.W.Wire.port c.args.wire.now) (g.W.Wire.port c.open.new.wire) c.ranges.tries.fits
           c.again-engine.ensures.again c.requires.accepted.1 c.requires.reported known opened.1 c.open.ensures.due
           refl c.in-Err.end c.in-Err.ensures.finished),
@@ -76,7 +76,7 @@ returns-clause-fits g c = λ lawful.
           resumed_equal_report c.args.accesses.now c.args.tries earlier _ _ _ _
           (c.since-2.ensures before after (omega (arith, c.count.ensures, c.count-answered.ensures))
           ∙ ap (λ x. resume_report x earlier) (c.ending-2.ensures after))
-          (resume_performs c.args.accesses.now c.args.tries earlier c.again-engine.result c.open.new.engine
+          (resume_performs c.args.bursts c.args.accesses.now c.args.tries earlier c.again-engine.result c.open.new.engine
           before (g.W.Wire.port c.args.wire.now) (g.W.Wire.port c.open.new.wire) c.ranges.tries.fits
           c.again-engine.ensures.again c.requires.accepted.1 c.requires.reported known opened.1 c.open.ensures.due
           refl c.perform-ended.result c.perform-ended.new.engine
@@ -99,7 +99,7 @@ returns-in-Err-clause-told g c =
     (c.ending.ensures before ∙ ap (λ l. engine_report l c.open.new.engine c.in-Err.end) (sym (append-nil before)))
     (resumed_requests_small c.args.accesses.now c.args.tries earlier _ _ c.requires.accepted.0 c.ranges.tries.fits
     (returns-in-Err-clause-continues g c))
-    (opening_stop_sent (drop (length before) c.args.accesses.now) Writes true c.args.tries c.again-engine.result
+    (opening_stop_sent (drop (length before) c.args.accesses.now) (resumed_bursts c.args.bursts) true c.args.tries c.again-engine.result
     c.open.new.engine c.in-Err.end calls c.again-engine.ensures.again turns c.in-Err.ensures.finished))
     c.open.ensures.made
 
@@ -125,6 +125,6 @@ returns-clause-told g c =
     (c.ending-2.ensures after ∙ ap (λ l. engine_report l c.perform-ended.new.engine c.perform-ended.result) tells.added)
     (resumed_requests_small c.args.accesses.now c.args.tries earlier _ _ c.requires.accepted.0 c.ranges.tries.fits
     (returns-clause-continues g c))
-    (tells.ends early (opening_counts rest Writes true c.args.tries c.again-engine.result c.open.new.engine early
+    (tells.ends early (opening_counts rest (resumed_bursts c.args.bursts) true c.args.tries c.again-engine.result c.open.new.engine early
     c.again-engine.ensures.again turns c.in_default.ensures.finished)))
     c.open.ensures.made tells

@@ -24,6 +24,9 @@ returns c = record {
   check = subst (λ (word : Option Text). (c.is_asked_for-check.result ≡ true) ↔ (word ≡ Some (codes "true")))
       (c.get_str-5.ensures ∙ first_value-rows (found_of c.args.matches.now) (codes "check"))
       c.is_asked_for-check.ensures;
+  bursts = subst (λ (word : Option Text). (c.is_asked_for-bursts.result ≡ true) ↔ (word ≡ Some (codes "true")))
+      (c.get_str-6.ensures ∙ first_value-rows (found_of c.args.matches.now) (codes "bursts"))
+      c.is_asked_for-bursts.ensures;
   remote = c.in-Ok-owned.ensures ∙ c.get_str-4.ensures
       ∙ first_value-rows (found_of c.args.matches.now) (codes "remote");
   target = c.in_ok-memory.ensures;

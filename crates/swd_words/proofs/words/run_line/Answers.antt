@@ -27,4 +27,7 @@ returns c = record {
   progress = subst (λ (word : Option Text). (c.is_asked_for-3.result ≡ true) ↔ (word ≡ Some (codes "true")))
       (c.get_str-9.ensures ∙ first_value-rows (found_of c.args.matches.now) (codes "progress"))
       c.is_asked_for-3.ensures;
+  bursts = subst (λ (word : Option Text). (c.is_asked_for-4.result ≡ true) ↔ (word ≡ Some (codes "true")))
+      (c.get_str-10.ensures ∙ first_value-rows (found_of c.args.matches.now) (codes "bursts"))
+      c.is_asked_for-4.ensures;
 }
