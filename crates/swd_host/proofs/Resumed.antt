@@ -164,12 +164,13 @@ pub resumed_equal_report : (list : List Access) (tries : ℕ) (earlier x y : Hos
 resumed_equal_report list tries earlier x y s t is h = subst (λ told. ResumeFits list tries earlier told s t) (sym is) h
 
 -- WHATEVER CAME BACK
-pub resumed_continues : (list : List Access) (tries : ℕ) (raw earlier report : HostReport) (part : List Answer)
-    (due : Due)
+pub resumed_continues : (kind : Bursts) (list : List Access) (tries : ℕ) (raw earlier report : HostReport)
+    (part : List Answer) (due : Due)
     → length earlier.answers ≤ length list → report ≡ resume_report raw earlier → raw.answers ≡ earlier.answers ++ part
-    → Closes 5 1 (drop (length earlier.answers) list) tries (record raw { answers = part }) due
+    → Closes 5 (bursts_limit (resumed_bursts kind)) (drop (length earlier.answers) list) tries
+    (record raw { answers = part }) due
     → ResumeCloses list tries earlier report due
-resumed_continues list tries raw earlier report part due reported is added h =
+resumed_continues kind list tries raw earlier report part due reported is added h =
     let rest : List Access = drop (length earlier.answers) list in
     let new : resume_added earlier raw ≡ part =
     ap (drop (length earlier.answers)) added ∙ drop-append_seam earlier.answers part in
@@ -181,7 +182,8 @@ resumed_continues list tries raw earlier report part due reported is added h =
       kept = added ∙ ap (λ l. earlier.answers ++ l) (sym new);
       number = omega (arith, long, many, number);
       begun = refl;
-      closes = subst (λ xs. Closes 5 1 rest tries (record raw { answers = xs }) due) (sym new) h;
+      closes = subst (λ xs. Closes 5 1 rest tries (record raw { answers = xs }) due) (sym new)
+          (subst (λ n. Closes 5 n rest tries (record raw { answers = part }) due) (resumed_limit kind) h);
     })
 
 -- the accesses from here on, as a slice

@@ -19,12 +19,12 @@ pub returns-in-Err-clause-continues : goal.returns-in-Err-clause-continues
 returns-in-Err-clause-continues g c =
     let before = g.K.AnswerSink.taken c.args.sink.now in
     let earlier = host_report_to before c.args.earlier in
-    resumed_continues c.args.accesses.now c.args.tries (engine_report before c.open.new.engine c.in-Err.end) earlier
-    _ [] _ c.requires.reported
+    resumed_continues c.args.bursts c.args.accesses.now c.args.tries
+    (engine_report before c.open.new.engine c.in-Err.end) earlier _ [] _ c.requires.reported
     (c.since.ensures before before (omega arith) ∙ ap (λ x. resume_report x earlier) (c.ending.ensures before))
     (sym (append-nil before))
-    (opening_closes (resumed_bursts c.args.bursts) true c.args.tries c.again-engine.result c.open.new.engine c.ranges.tries.fits
-    c.again-engine.ensures.again c.open.ensures.works _ c.in-Err.end _ c.in-Err.ensures.finished c.open.ensures.due)
+    (opening_closes (resumed_bursts c.args.bursts) true c.args.tries c.resuming-engine.result c.open.new.engine
+    c.ranges.tries.fits c.resuming-engine.ensures.again c.open.ensures.works _ c.in-Err.end _ c.in-Err.ensures.finished c.open.ensures.due)
 
 pub returns-clause-continues : goal.returns-clause-continues
 returns-clause-continues g c =
@@ -39,14 +39,14 @@ returns-clause-continues g c =
     (resumed_rest_slice c.count-answered.result (length before) c.args.accesses.now c.count-answered.ensures
     c.requires.reported)
     c.perform-ended.ensures.performs in
-    resumed_continues c.args.accesses.now c.args.tries
+    resumed_continues c.args.bursts c.args.accesses.now c.args.tries
     (engine_report after c.perform-ended.new.engine c.perform-ended.result) earlier
     _ p.answers _ c.requires.reported
     (c.since-2.ensures before after (omega (arith, c.count.ensures, c.count-answered.ensures))
     ∙ ap (λ x. resume_report x earlier) (c.ending-2.ensures after))
     p.added
-    (list_closes (resumed_bursts c.args.bursts) true c.args.tries c.again-engine.result c.open.new.engine c.ranges.tries.fits
-    c.again-engine.ensures.again c.open.ensures.works rest c.perform-ended.new.engine c.perform-ended.result _
+    (list_closes (resumed_bursts c.args.bursts) true c.args.tries c.resuming-engine.result c.open.new.engine
+    c.ranges.tries.fits c.resuming-engine.ensures.again c.open.ensures.works rest c.perform-ended.new.engine c.perform-ended.result _
     before after p)
 
 pub returns-in-Err-clause-fits : goal.returns-in-Err-clause-fits
@@ -58,9 +58,9 @@ returns-in-Err-clause-fits g c = λ lawful.
       λ known.
           resumed_equal_report c.args.accesses.now c.args.tries earlier _ _ _ _
           (c.since.ensures before before (omega arith) ∙ ap (λ x. resume_report x earlier) (c.ending.ensures before))
-          (resume_stops c.args.bursts c.args.accesses.now c.args.tries earlier c.again-engine.result c.open.new.engine
+          (resume_stops c.args.bursts c.args.accesses.now c.args.tries earlier c.resuming-engine.result c.open.new.engine
           before (g.W.Wire.port c.args.wire.now) (g.W.Wire.port c.open.new.wire) c.ranges.tries.fits
-          c.again-engine.ensures.again c.requires.accepted.1 c.requires.reported known opened.1 c.open.ensures.due
+          c.resuming-engine.ensures.again c.requires.accepted.1 c.requires.reported known opened.1 c.open.ensures.due
           refl c.in-Err.end c.in-Err.ensures.finished),
     )
 
@@ -76,9 +76,9 @@ returns-clause-fits g c = λ lawful.
           resumed_equal_report c.args.accesses.now c.args.tries earlier _ _ _ _
           (c.since-2.ensures before after (omega (arith, c.count.ensures, c.count-answered.ensures))
           ∙ ap (λ x. resume_report x earlier) (c.ending-2.ensures after))
-          (resume_performs c.args.bursts c.args.accesses.now c.args.tries earlier c.again-engine.result c.open.new.engine
+          (resume_performs c.args.bursts c.args.accesses.now c.args.tries earlier c.resuming-engine.result c.open.new.engine
           before (g.W.Wire.port c.args.wire.now) (g.W.Wire.port c.open.new.wire) c.ranges.tries.fits
-          c.again-engine.ensures.again c.requires.accepted.1 c.requires.reported known opened.1 c.open.ensures.due
+          c.resuming-engine.ensures.again c.requires.accepted.1 c.requires.reported known opened.1 c.open.ensures.due
           refl c.perform-ended.result c.perform-ended.new.engine
           after (g.W.Wire.port c.perform-ended.new.wire) c.in_default.ensures.finished
           (subst (λ rest. EngineDoes rest c.open.new.engine c.perform-ended.new.engine before after
@@ -99,8 +99,8 @@ returns-in-Err-clause-told g c =
     (c.ending.ensures before ∙ ap (λ l. engine_report l c.open.new.engine c.in-Err.end) (sym (append-nil before)))
     (resumed_requests_small c.args.accesses.now c.args.tries earlier _ _ c.requires.accepted.0 c.ranges.tries.fits
     (returns-in-Err-clause-continues g c))
-    (opening_stop_sent (drop (length before) c.args.accesses.now) (resumed_bursts c.args.bursts) true c.args.tries c.again-engine.result
-    c.open.new.engine c.in-Err.end calls c.again-engine.ensures.again turns c.in-Err.ensures.finished))
+    (opening_stop_sent (drop (length before) c.args.accesses.now) (resumed_bursts c.args.bursts) true c.args.tries
+    c.resuming-engine.result c.open.new.engine c.in-Err.end calls c.resuming-engine.ensures.again turns c.in-Err.ensures.finished))
     c.open.ensures.made
 
 pub returns-clause-told : goal.returns-clause-told
@@ -117,7 +117,7 @@ returns-clause-told g c =
     (resumed_rest_slice c.count-answered.result (length before) c.args.accesses.now c.count-answered.ensures
     c.requires.reported)
     c.perform-ended.ensures.told in
-    host_calls_append g.W.Wire.notes (λ calls. EngineTurns c.again-engine.result calls c.open.new.engine)
+    host_calls_append g.W.Wire.notes (λ calls. EngineTurns c.resuming-engine.result calls c.open.new.engine)
     (EngineListCalls rest c.open.new.engine c.perform-ended.new.engine before after c.perform-ended.result) _ _ _ _
     (λ early late turns tells. resumed_report_sent rest earlier (host_report_to after c.ending-2.result) _ tells.answers
     c.perform-ended.new.engine c.perform-ended.result (late ++ early)
@@ -125,6 +125,6 @@ returns-clause-told g c =
     (c.ending-2.ensures after ∙ ap (λ l. engine_report l c.perform-ended.new.engine c.perform-ended.result) tells.added)
     (resumed_requests_small c.args.accesses.now c.args.tries earlier _ _ c.requires.accepted.0 c.ranges.tries.fits
     (returns-clause-continues g c))
-    (tells.ends early (opening_counts rest (resumed_bursts c.args.bursts) true c.args.tries c.again-engine.result c.open.new.engine early
-    c.again-engine.ensures.again turns c.in_default.ensures.finished)))
+    (tells.ends early (opening_counts rest (resumed_bursts c.args.bursts) true c.args.tries c.resuming-engine.result
+    c.open.new.engine early c.resuming-engine.ensures.again turns c.in_default.ensures.finished)))
     c.open.ensures.made tells
