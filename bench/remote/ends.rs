@@ -1,5 +1,5 @@
 //! Both ends of a line of remote_bitbang characters in plain Rust, with the words of `swd`: `ends target SCRIPT` and
-//! `ends run SCRIPT --remote --report FILE`, on the standard streams. Beside them `ends make FOLDER` writes the scripts,
+//! `ends run SCRIPT --remote --bursts --report FILE`, on the standard streams. Beside them `ends make FOLDER` writes the scripts,
 //! `ends flushes SCRIPT HOST..` counts how often a host sends, and `ends rate WORDS COMMAND..` how many words a second
 //! a command does.
 #[allow(dead_code)]
@@ -355,7 +355,7 @@ fn main() -> Outcome<()> {
     let words: Vec<String> = std::env::args().skip(1).collect();
     match words.iter().map(String::as_str).collect::<Vec<_>>().as_slice() {
         ["make", folder] => Ok(make(folder)?),
-        ["run", script, "--remote", "--report", report] => run_remote(script, report),
+        ["run", script, "--remote", "--bursts", "--report", report] => run_remote(script, report),
         ["target", script] => serve_streams(script),
         ["flushes", script, host @ ..] => Ok(println!("{}", flushes(script, host)?)),
         ["rate", words, command @ ..] => Ok(println!("{:.0}", rate(words.parse()?, command)?)),

@@ -11,9 +11,13 @@ fn named(name: &Option<String>) -> &str {
     }
 }
 
+fn bursts_shown(bursts: bool) -> &'static str {
+    if bursts { " bursts" } else { "" }
+}
+
 fn run_shown(alloc: Global, run: &RunLine) -> Result<String, AllocError> {
     format!(in alloc;
-        "run {} {} {} {} {} {} {} {} {}",
+        "run {} {} {} {} {} {} {} {} {}{}",
         run.script,
         named(&run.plan),
         run.tries,
@@ -22,7 +26,8 @@ fn run_shown(alloc: Global, run: &RunLine) -> Result<String, AllocError> {
         named(&run.accesses),
         run.strict,
         run.progress,
-        named(&run.remote)
+        named(&run.remote),
+        bursts_shown(run.bursts)
     )
 }
 
@@ -40,7 +45,7 @@ fn image_shown(alloc: Global, image: &ImageLine) -> Result<String, AllocError> {
             memory.base,
             named(&memory.plan)
         ),
-        None => format!(in alloc; "{verb} {count} {}", image.check),
+        None => format!(in alloc; "{verb} {count} {}{}", image.check, bursts_shown(image.bursts)),
     }
 }
 
@@ -95,8 +100,8 @@ fn is_wanted(found: &str, wanted: &str) -> bool {
 // The words, ` => `, and what the row wants, which is one of these:
 //
 //   one|decode|encode FILE
-//   run SCRIPT PLAN TRIES RESUMES TRACE ACCESSES STRICT PROGRESS REMOTE
-//   load|verify|dump BYTES CHECK [MEMORY BASE PLAN]    BYTES is 0 but for a dump
+//   run SCRIPT PLAN TRIES RESUMES TRACE ACCESSES STRICT PROGRESS REMOTE [bursts]
+//   load|verify|dump BYTES CHECK [bursts] [MEMORY BASE PLAN]    BYTES is 0 but for a dump
 //   refused         the words ask for nothing, whatever `clap` says
 //   ends TEXT       a line of what it says ends with TEXT
 //   begins TEXT|    a line of it begins with TEXT, behind blanks
@@ -171,8 +176,10 @@ swd|run|--help => begins --remote |
 swd|run|--help => begins --report |
 swd|run|--help => begins --progress |
 swd|run|--help => begins --check |
+swd|run|--help => begins --bursts |
 swd|load|--help => begins --report |
 swd|load|--help => begins --check |
+swd|load|--help => begins --bursts |
 swd|verify|--help => begins --report |
 swd|verify|--help => begins --check |
 swd|dump|--help => begins --report |
@@ -216,6 +223,8 @@ swd|run|s|--plan|p => run s p 8 0 none none false false none
 swd|run|s|--plan|p|--trace|t|--accesses|a => run s p 8 0 t a false false none
 swd|run|--strict|s => run s none 8 0 none none true false none
 swd|run|s|--progress => run s none 8 0 none none false true none
+swd|run|s|--remote|--report|r|--bursts => run s none 8 0 none none false false - bursts
+swd|run|s|--bursts => run s none 8 0 none none false false none bursts
 swd|run|s|--tries|0 => run s none 0 0 none none false false none
 swd|run|s|--resume|0 => run s none 8 0 none none false false none
 swd|run|s|--tries|3 => run s none 3 0 none none false false none
@@ -255,6 +264,7 @@ swd|run|a|--trace => refused
 swd|run|a|--accesses => refused
 swd|run|a|--strict=yes => refused
 swd|run|a|--progress=yes => refused
+swd|run|a|--bursts=yes => refused
 swd|load|0|a|--remote|--check=yes => refused
 # Only a remote session is checked, and only with `--check`.
 swd|load|0|image|--remote => load 0 false
@@ -262,6 +272,7 @@ swd|load|0|image|--remote|--check => load 0 true
 swd|load|0|image|--check|--remote => load 0 true
 swd|load|0|image|--remote=in,out|--check => load 0 true
 swd|load|0|image|--remote|--progress => load 0 false
+swd|load|0|image|--remote|--bursts => load 0 false bursts
 swd|load|0|image|--memory|ram => load 0 false ram 20000000 none
 swd|load|0|image|--memory|ram|--check => refused
 swd|load|0|image|--check => refused
@@ -271,6 +282,7 @@ swd|verify|0|image|--remote|--check => verify 0 true
 swd|verify|0|image|--check|--remote => verify 0 true
 swd|verify|0|image|--remote=in,out|--check => verify 0 true
 swd|verify|0|image|--remote|--progress => verify 0 false
+swd|verify|0|image|--remote|--bursts => refused
 swd|verify|0|image|--memory|ram => verify 0 false ram 20000000 none
 swd|verify|0|image|--memory|ram|--check => refused
 swd|verify|0|image|--check => refused
@@ -280,6 +292,7 @@ swd|dump|0|4|to|--remote|--check => dump 4 true
 swd|dump|0|4|to|--check|--remote => dump 4 true
 swd|dump|0|4|to|--remote=in,out|--check => dump 4 true
 swd|dump|0|4|to|--remote|--progress => dump 4 false
+swd|dump|0|4|to|--remote|--bursts => refused
 swd|dump|0|4|to|--memory|ram => dump 4 false ram 20000000 none
 swd|dump|0|4|to|--memory|ram|--check => refused
 swd|dump|0|4|to|--check => refused
