@@ -261,6 +261,11 @@ fn tell_session<I: KeepsError, O: KeepsError, E: Write>(
     }
     let reached = Reached::of(input, output);
     if is_info {
+        let reached = if status == DONE {
+            reached.opened()
+        } else {
+            reached
+        };
         let _ = write!(errors, "{}", reached.info());
     } else if reached.is_answered() && !reached.is_open() {
         let _ = writeln!(errors, "swd: {reached}");

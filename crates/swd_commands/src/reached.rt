@@ -3,7 +3,7 @@
 use std::fmt;
 use std::fmt::{Display, Formatter};
 use swd_bits::{Reg4, Request, Tx, TxEnd};
-use swd_console::{KeepsError, Sample, SentClock};
+use swd_console::{FIRST_CLOCKS, KeepsError, Sample, SentClock};
 use swd_port::CtrlStat;
 use swd_trace::{Decoder, Item};
 
@@ -18,6 +18,10 @@ pub(crate) struct Reached {
     is_open: bool,
     // What ended the last transaction.
     last: Option<TxEnd>,
+    // Whether more clocks may have been sent than were looked at.
+    is_cut: bool,
+    // Whether the run opened the target.
+    is_opened: bool,
 }
 
 impl Reached {
@@ -29,12 +33,25 @@ impl Reached {
             asked: false,
             is_open: false,
             last: None,
+            is_cut: false,
+            is_opened: false,
         }
     }
 
     /// Returns what a session reached, by what was sent and what was read.
     pub(crate) fn of<R: KeepsError, W: KeepsError>(read: &R, sent: &W) -> Reached {
-        Reached::over(read.sample(), sent.sample())
+        let sent = sent.sample();
+        let mut reached = Reached::over(read.sample(), sent);
+        reached.is_cut = sent.is_cut();
+        reached
+    }
+
+    /// Returns what was reached by a run that opened the target, however long that took.
+    pub(crate) fn opened(self) -> Reached {
+        Reached {
+            is_opened: true,
+            ..self
+        }
     }
 
     // Returns what was reached in the first clocks of a connection, as far as their levels came.
@@ -110,6 +127,9 @@ impl Reached {
     }
 }
 
+// What is said of a target that was opened.
+const OPEN: &str = "debug power and system power are acknowledged: the target is open";
+
 // Returns what is said of a word of CTRL/STAT that doesn't acknowledge both powers.
 fn missing_power(status: u32) -> Option<&'static str> {
     match (
@@ -163,14 +183,13 @@ impl Display for Power<'_> {
     fn fmt<W: fmt::Write>(&self, f: &mut Formatter<W>) -> fmt::Result {
         let last = LastAnswer(self.0.last);
         match self.0.status {
+            _ if self.0.is_opened => f.write_str(OPEN),
             _ if !self.0.asked => {
                 write!(f, "power was not requested yet: the last answer was {last}")
             }
             Some(status) => match missing_power(status) {
                 Some(missing) => write!(f, "{missing}: CTRL/STAT is {status:08x}"),
-                None if self.0.is_open => {
-                    f.write_str("debug power and system power are acknowledged: the target is open")
-                }
+                None if self.0.is_open => f.write_str(OPEN),
                 None => write!(
                     f,
                     "power is acknowledged; no access port answered: the last answer was {last}"
@@ -183,6 +202,7 @@ impl Display for Power<'_> {
 
 impl Display for Reached {
     fn fmt<W: fmt::Write>(&self, f: &mut Formatter<W>) -> fmt::Result {
+        write!(f, "{}", LookedAt(self))?;
         match self.dpidr {
             Some(dpidr) => write!(f, "DPIDR was read, {dpidr:08x}; {}", Power(self)),
             None => {
@@ -193,6 +213,19 @@ impl Display for Reached {
     }
 }
 
+// Of which clocks something is said, if that isn't the whole session.
+#[derive(Clone, Copy)]
+struct LookedAt<'a>(&'a Reached);
+
+impl Display for LookedAt<'_> {
+    fn fmt<W: fmt::Write>(&self, f: &mut Formatter<W>) -> fmt::Result {
+        if self.0.is_cut && !self.0.is_opened {
+            write!(f, "in the first {FIRST_CLOCKS} clocks ")?;
+        }
+        Ok(())
+    }
+}
+
 /// The lines of `swd info`: DPIDR by its fields, and what is known of the power; or that DPIDR wasn't read.
 #[derive(Clone, Copy)]
 pub(crate) struct Info<'a>(&'a Reached);
@@ -200,7 +233,7 @@ pub(crate) struct Info<'a>(&'a Reached);
 impl Display for Info<'_> {
     fn fmt<W: fmt::Write>(&self, f: &mut Formatter<W>) -> fmt::Result {
         let Some(dpidr) = self.0.dpidr else {
-            return writeln!(f, "swd: {}", self.0);
+            return self.unidentified(f);
         };
         let (designer, part) = (dpidr >> 1 & 0x7ff, dpidr >> 20 & 0xff);
         let (version, revision) = (dpidr >> 12 & 0xf, dpidr >> 28);
@@ -214,6 +247,16 @@ impl Display for Info<'_> {
             "swd: DPIDR {dpidr:08x}: designer {designer:03x}, part {part:02x}, "
         )?;
         writeln!(f, "version {version:x}, revision {revision:x}{minimal}")?;
-        writeln!(f, "swd: {}", Power(self.0))
+        writeln!(f, "swd: {}{}", LookedAt(self.0), Power(self.0))
+    }
+}
+
+impl Info<'_> {
+    // Of a target of which no DPIDR was seen.
+    fn unidentified<W: fmt::Write>(&self, f: &mut Formatter<W>) -> fmt::Result {
+        if self.0.is_opened {
+            return writeln!(f, "swd: {}", Power(self.0));
+        }
+        writeln!(f, "swd: {}", self.0)
     }
 }

@@ -5,6 +5,9 @@ use swd_sequences::Character;
 // The words that keep bits.
 const WORDS: usize = 48;
 
+/// How many clocks of a connection are kept, the first ones.
+pub const FIRST_CLOCKS: usize = 32 * WORDS;
+
 // The first bits of a stream, as many as there is room for.
 #[derive(Clone, Copy)]
 struct FirstBits {
@@ -91,7 +94,7 @@ pub enum SentClock {
     Released,
 }
 
-/// The clocks that a host sent first, 1,536, by its characters. A stream that doesn't begin with `O` has none.
+/// The clocks that a host sent first, `FIRST_CLOCKS`, by its characters. A stream that doesn't begin with `O` has none.
 #[derive(Clone, Copy)]
 pub(crate) struct FirstClocks {
     // Two bits for each clock: whether SWDIO is driven, and its level, or whether that is asked for.
@@ -133,6 +136,11 @@ impl FirstClocks {
             }
             self.character(*byte);
         }
+    }
+
+    /// Returns whether no more clocks are kept.
+    pub(crate) fn are_full(&self) -> bool {
+        self.bits.is_full()
     }
 
     /// Returns whether the stream is a host's: whether it began with `O`.

@@ -24,7 +24,7 @@ mod watched;
 pub use clock::Clock;
 pub use connection::{Untold, gone_status, line_streams};
 pub use destination::Destination;
-pub use first_clocks::SentClock;
+pub use first_clocks::{FIRST_CLOCKS, SentClock};
 pub use in_use::{
     InUse, ReadRole, StreamsInUse, WriteRole, cut_off, cut_off_named, give_up_named, named_file_of,
     unnamed_file,

@@ -129,6 +129,11 @@ impl Sample {
         self.clocks.clock(place)
     }
 
+    /// Returns whether a connection may have had more clocks than are kept.
+    pub fn is_cut(&self) -> bool {
+        self.clocks.are_full()
+    }
+
     /// Returns whether a bit was read, if this is the text of a trace.
     pub fn has_bits(&self) -> bool {
         self.found.zero || self.found.one

@@ -60,10 +60,7 @@ pub(crate) fn checked_records<W, I, A: Allocator + Copy>(
 
 /// Returns the verdict on the trace that was written, if it was checked.
 pub(crate) fn verdict_of<W: Drop, A: Allocator + Copy>(
-    trace: Option<RecordFile<W, A>>,
+    trace: RecordFile<W, A>,
 ) -> Option<Result<Checked, TextFault>> {
-    match trace {
-        Some(trace) => trace.stream.finish(),
-        None => None,
-    }
+    trace.stream.finish()
 }

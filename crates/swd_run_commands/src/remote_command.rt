@@ -253,6 +253,9 @@ fn report_to_errors<
     ended(run, ran, console)
 }
 
+// What is said where the check lost its trace.
+const NO_VERDICT: &str = "the session has no verdict: its trace was not written";
+
 // Prints how a run ended, and the verdict on its session if that was checked. Returns the status, and the connection.
 fn ended<
     I: Read + KeepsError,
@@ -279,17 +282,26 @@ fn ended<
     let streams = remote_streams(run, report, &records);
     let status = reached_status(console.errors, run, answer, &line, streams.as_slice());
     let verdict = run_verdict(run.check, records.trace);
+    if run.check && verdict.is_none() {
+        let _ = writeln!(console.errors, "swd: {NO_VERDICT}");
+    }
     (verdict_status(console.errors, &verdict, status), line)
 }
 
-// Returns the verdict on the trace of a run, if it was checked.
+// Returns the verdict on the trace of a run, if it was checked. There is none where the trace's file failed, since the
+// check has no more of the session than the file was to get.
 fn run_verdict<T: Drop, A: Allocator + Copy>(
     check: bool,
     trace: Option<RecordFile<T, A>>,
 ) -> Option<Result<Checked, TextFault>>
     ensures { IsRunVerdict check result }
 {
-    if check { verdict_of(trace) } else { None }
+    let trace = trace?;
+    if check && trace.kept_error().is_none() {
+        verdict_of(trace)
+    } else {
+        None
+    }
 }
 
 // Returns the streams of a remote run beside its connection, in the order of their lines.
@@ -305,12 +317,18 @@ fn remote_streams<'a, T: KeepsError>(
     ]
 }
 
+// What is said of a run with bursts that ended as one at a debug port with a write buffer does.
+const BUFFERED: &str = "a debug port with a write buffer ends so with --bursts, and its report may be false";
+
 // Prints how a run ended that ended early.
-fn tell_early<E: Write>(errors: &mut E, answer: &Result<Finished, EngineFault>) {
+fn tell_early<E: Write>(errors: &mut E, bursts: bool, answer: &Result<Finished, EngineFault>) {
     if let Ok(finished) = answer
         && finished.ended != End::All
     {
         let _ = writeln!(errors, "swd: the run ended early: {}", finished.ended);
+        if bursts && finished.ended == End::Confused {
+            let _ = writeln!(errors, "swd: {BUFFERED}");
+        }
     }
 }
 
@@ -330,7 +348,7 @@ fn reached_status<R: KeepsError, W: KeepsError, E: Write>(
     }
     let reached = answer.is_ok();
     if line.fault.is_none() {
-        tell_early(errors, &answer);
+        tell_early(errors, run.bursts, &answer);
     }
     let status = run_status(errors, answer, run.strict);
     match line.fault {
