@@ -23,13 +23,14 @@ pub(crate) struct HeldPieces<A: Allocator> {
 }
 
 impl<A: Allocator> HeldPieces<A> {
-    ghost use Rattle.swd_image_files.specs.Readings.{ImageFileHolds};
+    ghost use Rattle.swd_image_files.specs.Readings.{ImageFileHolds, ImageFileSpans};
 
     /// Returns no data.
     pub(crate) fn new(alloc: A) -> HeldPieces<A>
     where
         A: Copy,
-        ensures { ImageFileHolds image_file_nothing result }
+        ensures holds { ImageFileHolds image_file_nothing result }
+        ensures spans { ImageFileSpans image_file_nothing result }
     {
         let image = Image {
             ranges: Vec::new(alloc),
@@ -51,6 +52,20 @@ impl<A: Allocator> HeldPieces<A> {
             return;
         }
         if append(&mut self.image, at as u32, bytes).is_err() {
+            self.failed = true;
+        }
+    }
+
+    /// Appends the range of bytes at an address, and keeps none of them.
+    pub(crate) fn add_span(&mut self, at: u64, bytes: &[u8])
+        requires { fits_in at (length bytes.now) ≡ true }
+        ensures { (old : ImageFileContents) → ImageFileSpans old self.old
+            → ImageFileSpans (image_file_add_data old at bytes.now) self.new }
+    {
+        if bytes.is_empty() || self.failed {
+            return;
+        }
+        if join(&mut self.image.ranges, at as u32, bytes.len()).is_err() {
             self.failed = true;
         }
     }
