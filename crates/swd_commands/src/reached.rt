@@ -185,6 +185,9 @@ impl Display for Reached {
     fn fmt<W: fmt::Write>(&self, f: &mut Formatter<W>) -> fmt::Result {
         match self.dpidr {
             Some(dpidr) => write!(f, "DPIDR was read, {dpidr:08x}; {}", Power(self)),
+            None if !self.is_answered() => {
+                f.write_str("DPIDR was not read: no request was answered")
+            }
             None => {
                 let last = LastAnswer(self.last);
                 write!(f, "DPIDR was not read: the last answer was {last}")

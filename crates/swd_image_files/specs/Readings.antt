@@ -1,6 +1,8 @@
 -- What the reader of a file keeps.
-use Rattle.std.specs.Prelude.{◌≡◌, Bool, false, true, All}
+use Rattle.std.specs.Prelude.{◌≡◌, false, All}
 use Rattle.swd_image_files.specs.declared.reading.HeldPieces.{HeldPieces}
+use Rattle.swd_image_files.specs.declared.reading.Kept.{Kept}
+use Rattle.swd_image_files.specs.declared.reading.Kept.TheVariants.{Span, Whole}
 use Rattle.swd_image_files.specs.Images.{ImageFileContents, contents_of_image}
 use Rattle.swd_image_files.specs.Overlaps.{IsSoundImageRange}
 
@@ -15,6 +17,6 @@ pub record ImageFileSpans {A : Type 0} (image : ImageFileContents) (held : HeldP
   pub sound : All IsSoundImageRange image.ranges
 
 -- it has this image so far, or its ranges alone
-abbrev pub IsImageFileHeld : {A : Type 0} → Bool → ImageFileContents → HeldPieces A → Type 0
-IsImageFileHeld true image held = ImageFileHolds image held
-IsImageFileHeld false image held = ImageFileSpans image held
+abbrev pub IsImageFileHeld : {A : Type 0} → Kept → ImageFileContents → HeldPieces A → Type 0
+IsImageFileHeld Whole image held = ImageFileHolds image held
+IsImageFileHeld Span image held = ImageFileSpans image held

@@ -15,6 +15,15 @@ use crate::line::{record_bytes, record_kind};
 use crate::place::{RecordState, field, fits, room, start};
 use std::alloc::{AllocError, Allocator};
 
+/// What is kept of a piece.
+#[derive(Clone, Copy)]
+pub(crate) enum Kept {
+    /// Its range and its bytes.
+    Whole,
+    /// Its range alone.
+    Span,
+}
+
 /// The data so far, unless memory ran out.
 #[derive(Drop)]
 pub(crate) struct HeldPieces<A: Allocator> {
@@ -23,14 +32,13 @@ pub(crate) struct HeldPieces<A: Allocator> {
 }
 
 impl<A: Allocator> HeldPieces<A> {
-    ghost use Rattle.swd_image_files.specs.Readings.{ImageFileHolds, ImageFileSpans};
+    ghost use Rattle.swd_image_files.specs.Readings.{ImageFileHolds, ImageFileSpans, IsImageFileHeld};
 
     /// Returns no data.
     pub(crate) fn new(alloc: A) -> HeldPieces<A>
     where
         A: Copy,
-        ensures holds { ImageFileHolds image_file_nothing result }
-        ensures spans { ImageFileSpans image_file_nothing result }
+        ensures { ImageFileHolds image_file_nothing result }
     {
         let image = Image {
             ranges: Vec::new(alloc),
@@ -56,8 +64,20 @@ impl<A: Allocator> HeldPieces<A> {
         }
     }
 
-    /// Appends the range of bytes at an address, and keeps none of them.
-    pub(crate) fn add_span(&mut self, at: u64, bytes: &[u8])
+    /// Appends bytes at an address, or their range alone.
+    pub(crate) fn add_kept(&mut self, kept: Kept, at: u64, bytes: &[u8])
+        requires { fits_in at (length bytes.now) ≡ true }
+        ensures { (old : ImageFileContents) → IsImageFileHeld kept old self.old
+            → IsImageFileHeld kept (image_file_add_data old at bytes.now) self.new }
+    {
+        match kept {
+            Kept::Whole => self.add(at, bytes),
+            Kept::Span => self.add_span(at, bytes),
+        }
+    }
+
+    // Appends the range of bytes at an address, and keeps none of them.
+    fn add_span(&mut self, at: u64, bytes: &[u8])
         requires { fits_in at (length bytes.now) ≡ true }
         ensures { (old : ImageFileContents) → ImageFileSpans old self.old
             → ImageFileSpans (image_file_add_data old at bytes.now) self.new }

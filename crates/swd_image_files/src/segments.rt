@@ -11,7 +11,7 @@ use crate::fault::{ElfFlaw, ImageFileFault};
 use crate::image::Image;
 use crate::overlap::first_overlap;
 use crate::parts::{behind, between};
-use crate::reading::HeldPieces;
+use crate::reading::{HeldPieces, Kept};
 use std::alloc::Allocator;
 
 /// Finds the error of an ELF file before the bytes of a segment are copied: segments that name the same bytes of the
@@ -28,7 +28,7 @@ pub(crate) fn refuse_overlap<A: Allocator + Copy>(
 ) -> Result<(), ImageFileFault>
     ensures { IfErr result (IsImageFileFaultIn (image_file_of_elf base bytes.now)) }
 {
-    let held = hold_segments(alloc, bytes, base, false)?;
+    let held = hold_segments(alloc, bytes, base, Kept::Span)?;
     if held.failed {
         return Err(ImageFileFault::Memory);
     }
@@ -49,7 +49,7 @@ pub(crate) fn read_segments<A: Allocator + Copy>(
     ensures sound { IfOk result (λ image. All IsSoundImageRange image.ranges.items) }
     ensures err { IfErr result (IsImageFileFaultIn (image_file_of_elf base bytes.now)) }
 {
-    let held = hold_segments(alloc, bytes, base, true)?;
+    let held = hold_segments(alloc, bytes, base, Kept::Whole)?;
     if held.failed {
         return Err(ImageFileFault::Memory);
     }
@@ -62,9 +62,9 @@ fn hold_segments<A: Allocator + Copy>(
     alloc: A,
     bytes: &[u8],
     base: u32,
-    whole: bool,
+    kept: Kept,
 ) -> Result<HeldPieces<A>, ImageFileFault>
-    ensures ok { IfOk result (λ held. (image : ImageFileContents) × IsImageFileHeld whole image held
+    ensures ok { IfOk result (λ held. (image : ImageFileContents) × IsImageFileHeld kept image held
         × (image_file_of_elf base bytes.now ≡ Ok image)) }
     ensures err { IfErr result (IsImageFileFaultIn (image_file_of_elf base bytes.now)) }
 {
@@ -76,7 +76,7 @@ fn hold_segments<A: Allocator + Copy>(
     let mut rest = behind(bytes, table.start as usize);
     let mut number = 0u16;
     while number < table.count {
-        match take_segment(&mut held, bytes, base, number, program_header(rest), whole) {
+        match take_segment(&mut held, bytes, base, number, program_header(rest), kept) {
             Ok(()) => {}
             Err(flaw) => return Err(ImageFileFault::Elf(flaw)),
         }
@@ -93,10 +93,10 @@ fn take_segment<A: Allocator>(
     base: u32,
     number: u16,
     header: ProgramHeader,
-    whole: bool,
+    kept: Kept,
 ) -> Result<(), ElfFlaw>
-    ensures ok { OnOk result ((old : ImageFileContents) → IsImageFileHeld whole old held.old
-        → (new : ImageFileContents) × IsImageFileHeld whole new held.new
+    ensures ok { OnOk result ((old : ImageFileContents) → IsImageFileHeld kept old held.old
+        → (new : ImageFileContents) × IsImageFileHeld kept new held.new
         × (elf_with_segment bytes.now base number header old ≡ Ok new)) }
     ensures err { IfErr result (λ flaw. (old : ImageFileContents)
         → elf_with_segment bytes.now base number header old ≡ Err flaw) }
@@ -113,11 +113,6 @@ fn take_segment<A: Allocator>(
     if at + header.p_filesz as u64 > 0x1_0000_0000 {
         return Err(ElfFlaw::Range(number));
     }
-    let part = between(bytes, start, end);
-    if whole {
-        held.add(at, part);
-    } else {
-        held.add_span(at, part);
-    }
+    held.add_kept(kept, at, between(bytes, start, end));
     Ok(())
 }

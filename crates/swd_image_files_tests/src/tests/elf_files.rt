@@ -3,9 +3,7 @@
 use super::expect::{Pieces, expect_at, expect_eq_at, expect_pieces, said};
 use std::alloc::{AllocError, Global};
 use std::test::Fail;
-use swd_image_files::{
-    ElfChoice, Format, has_addresses, is_elf_name, read_elf, read_image_or_elf,
-};
+use swd_image_files::{ElfChoice, Format, has_addresses, is_elf_name, read_elf, read_image_or_elf};
 
 /// The file that the tests change: 122 bytes.
 pub(super) const FILE: &[u8] = b"\x7fELF\x01\x01\x01\x00\x00\x00\x00\x00\x00\x00\x00\x00\
@@ -376,14 +374,22 @@ const BEGUN: &[(&str, &[u8], Pieces)] = &[
         b"S104000001FA\nS9030000FC\n",
         &[(0, b"\x01")],
     ),
-    ("a wrong checksum", b":0000000100\n", &[(0, b":0000000100\n")]),
+    (
+        "a wrong checksum",
+        b":0000000100\n",
+        &[(0, b":0000000100\n")],
+    ),
     ("another length", b":01000001FF\n", &[(0, b":01000001FF\n")]),
     ("a space", b" :00000001FF\n", &[(0, b" :00000001FF\n")]),
     ("no digit", b"S9030000FC \n", &[(0, b"S9030000FC \n")]),
     ("a colon", b":", &[(0, b":")]),
     ("an S", b"S", &[(0, b"S")]),
     ("no byte", b"", &[]),
-    ("a line feed", b"\n:00000001FF\n", &[(0, b"\n:00000001FF\n")]),
+    (
+        "a line feed",
+        b"\n:00000001FF\n",
+        &[(0, b"\n:00000001FF\n")],
+    ),
 ];
 
 // A binary by its name is what its first line says, unless `Never` takes its bytes.

@@ -54,8 +54,12 @@ fn crowded(alloc: Global) -> Result<Vec<u8, Global>, AllocError> {
     file.extend_from_slice(b"\x00\x01")?;
     file.extend_from_slice(&elf_files::FILE[46..52])?;
     for _ in 0..256 {
-        file.extend_from_slice(b"\x01\x00\x00\x00\x00\x00\x00\x00\x00\x00\x00\x08\x00\x00\x00\x08")?;
-        file.extend_from_slice(b"\x00\x20\x00\x00\x00\x20\x00\x00\x05\x00\x00\x00\x04\x00\x00\x00")?;
+        file.extend_from_slice(
+            b"\x01\x00\x00\x00\x00\x00\x00\x00\x00\x00\x00\x08\x00\x00\x00\x08",
+        )?;
+        file.extend_from_slice(
+            b"\x00\x20\x00\x00\x00\x20\x00\x00\x05\x00\x00\x00\x04\x00\x00\x00",
+        )?;
     }
     Ok(file)
 }
