@@ -13,6 +13,9 @@ use swd_checker::CheckStart;
 use swd_command_line::{CheckLine, PlainWords};
 use swd_console::{Console, DONE, FAULT, KeepsError, STOPPED, tell};
 
+const NOT_BEGUN: &str = "\
+nothing was checked: no part of the trace shows a state of the target to begin with; --made and --rest say one";
+
 /// Checks what the reader has, and writes the verdict. `name` is the input's. Returns the status: 0 if the trace fits,
 /// 1 if it breaks a rule, 2 if that isn't decided, or at an error.
 pub(crate) fn check_read<
@@ -37,7 +40,12 @@ pub(crate) fn check_read<
     };
     let reading = reading_of(check);
     match check_to(reading, Check::new(options(check), plain), input, output) {
-        Ok(checked) => checked_status(&checked),
+        Ok(checked) => {
+            if let Checked::Crowded { place: 0 } = &checked {
+                let _ = writeln!(console.errors, "swd: {NOT_BEGUN}");
+            }
+            checked_status(&checked)
+        }
         Err(fault) => trace_status(console.errors, Err(fault), reading, name, input, output),
     }
 }

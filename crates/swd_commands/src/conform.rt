@@ -43,8 +43,8 @@ pub(crate) fn carry_out_conform<
             if console.files.shows_output() {
                 return tell(console.errors, SHOWN);
             }
-            let status = conform_here(conform, run, input, &mut *output, console);
-            status_after(output.kept_error(), status)
+            // (a line that is closed is the other end's, which is gone)
+            conform_here(conform, run, input, output, console)
         }
     }
 }

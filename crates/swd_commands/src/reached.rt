@@ -205,6 +205,9 @@ impl Display for Reached {
         write!(f, "{}", LookedAt(self))?;
         match self.dpidr {
             Some(dpidr) => write!(f, "DPIDR was read, {dpidr:08x}; {}", Power(self)),
+            None if !self.is_answered() => {
+                f.write_str("DPIDR was not read: no request was answered")
+            }
             None => {
                 let last = LastAnswer(self.last);
                 write!(f, "DPIDR was not read: the last answer was {last}")

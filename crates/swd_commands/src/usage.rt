@@ -19,8 +19,15 @@ const TOO_LARGE: &str = "number too large to fit in target type";
 
 const TOO_SMALL: &str = "number too small to fit in target type";
 
-// What `clap` prints before a tip of its own.
+// What `clap` prints before a tip of its own, and the tip for an option that a command doesn't have.
 const TIP: &str = "  tip: ";
+
+const AS_VALUE: &str = "  tip: to pass '--";
+
+// What `clap` prints of a command without its file.
+const NO_FILE: &str = "were not provided:\n  <FILE>\n";
+
+const VERSION: &str = "swd --version prints the version";
 
 // The text of a usage error: control characters are escaped, and the usage is that of the command.
 #[derive(Drop)]
@@ -34,10 +41,16 @@ struct UsageText<'a> {
 }
 
 // Returns what to do about these arguments, where `clap` can't know it.
-fn tip_for(words: &[&str]) -> Option<&'static str> {
+fn tip_for(words: &[&str], text: &str) -> Option<&'static str> {
     let name = words.get(1)?;
     match *name {
-        "version" => Some("swd --version prints the version"),
+        "version" | "-v" | "-version" => Some(VERSION),
+        name if name.starts_with("vers") || name.starts_with("veri") && name.ends_with("on") => {
+            Some(VERSION)
+        }
+        "load" | "verify" if text.contains(NO_FILE) => {
+            Some("ADDR comes before FILE, also for one with its own addresses: ADDR 0 adds nothing")
+        }
         "help" => Some("swd --help prints the help, and swd COMMAND --help that of a command"),
         "one" | "decode" | "encode" | "draw" | "check" if names_output(words) => {
             Some("the result goes to standard output: >FILE writes it to a file")
@@ -48,6 +61,7 @@ fn tip_for(words: &[&str]) -> Option<&'static str> {
         "run" | "info" | "load" | "verify" | "dump" if names_files(words) => {
             Some("the files of --remote follow =, as in --remote=IN,OUT")
         }
+        _ if text.contains(AS_VALUE) => Some("swd COMMAND --help lists the options of a command"),
         _ => None,
     }
 }
@@ -83,7 +97,7 @@ fn names_files(words: &[&str]) -> bool {
 }
 
 impl UsageText<'_> {
-    // Displays what follows the first line.
+    // Displays what follows the first lines, before an empty one.
     fn more<W: fmt::Write>(&self, f: &mut Formatter<W>) -> fmt::Result {
         if let Some(commands) = &self.commands {
             writeln!(f, "{}", commands.as_str())?;
@@ -116,7 +130,7 @@ impl UsageText<'_> {
 
 impl Display for UsageText<'_> {
     fn fmt<W: fmt::Write>(&self, f: &mut Formatter<W>) -> fmt::Result {
-        let (mut is_first, mut is_tip) = (true, false);
+        let (mut is_told, mut is_tip) = (false, false);
         let text = self.text.strip_suffix('\n').unwrap_or(self.text);
         for line in text.split('\n') {
             // A tip of `clap`, and the empty line behind it.
@@ -125,13 +139,13 @@ impl Display for UsageText<'_> {
             if is_tip || was_tip && line.is_empty() {
                 continue;
             }
-            self.line(f, line)?;
-            if is_first {
+            if line.is_empty() && !is_told {
                 self.more(f)?;
+                is_told = true;
             }
-            is_first = false;
+            self.line(f, line)?;
         }
-        Ok(())
+        if is_told { Ok(()) } else { self.more(f) }
     }
 }
 
@@ -153,7 +167,7 @@ pub(crate) fn tell_usage<E: Write>(
         let _ = writeln!(errors, "{}", Escaped(text));
         return FAULT;
     }
-    let tip = tip_for(words);
+    let tip = tip_for(words, text);
     let is_unknown = matches!(error.kind(), ErrorKind::InvalidSubcommand) && tip.is_none();
     let commands = if is_unknown && !text.contains("tip:") {
         commands_line(alloc)

@@ -38,8 +38,8 @@ pub use open_files::{Files, Identity, Opened};
 pub use pace::Pace;
 pub use reason::{script_status, texts_status};
 pub use report::{
-    DONE, Escaped, FAULT, STOPPED, cannot_open, cannot_open_line, cannot_use, engine_status,
-    run_status, tell, tell_used_up,
+    DONE, Escaped, FAULT, STOPPED, advice_on, cannot_open, cannot_open_line, cannot_use,
+    engine_status, run_status, tell, tell_used_up,
 };
 pub use sample::Sample;
 pub use streams::{

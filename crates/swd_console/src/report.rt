@@ -111,6 +111,15 @@ pub fn engine_status<E: Write, F: Display + Drop>(errors: &mut E, answer: Result
     }
 }
 
+/// Returns what to do about a run that ended early: the end of a line that says how it ended.
+pub fn advice_on(ended: End) -> &'static str {
+    match ended {
+        End::Lost => ", see --resume",
+        End::TriesOut => ", see --tries",
+        End::All | End::WrongId(_) | End::Confused => "",
+    }
+}
+
 /// Prints what went wrong in a run, and returns the status: 2 at an error, else that of `finished_status`.
 pub fn run_status<E: Write, F: Display + Drop>(
     errors: &mut E,

@@ -1,6 +1,6 @@
 -- The status of a load, a verification or a dump at a remote target.
 use Rattle.std.specs.Prelude.{◌≡◌, ◌<◌, ◌⊎◌, ◌||◌, not, ℕ, List, [], length, take, Option, Some, None, Result, Ok}
-use Rattle.std.specs.Prelude.{Err, is_some, if◌then◌else◌}
+use Rattle.std.specs.Prelude.{Err, Bool, false, is_some, if◌then◌else◌}
 use Rattle.std.specs.Io.KnownBytes.{Appends}
 use Rattle.swd_port.specs.declared.call.Call.{Call}
 use Rattle.swd_port.specs.Port.{Port}
@@ -12,7 +12,10 @@ use Rattle.swd_image.specs.declared.fault.ImageFault.{ImageFault}
 use Rattle.swd_image.specs.declared.fault.ImageFault.TheVariants.{Range, Memory, Stopped, Report, BusFault as FaultAt}
 use Rattle.swd_image.specs.declared.verifying.ByteDifference.{ByteDifference}
 use Rattle.swd_image_files.specs.declared.format.Format.{Format}
+use Rattle.swd_image_files.specs.declared.elf.ElfChoice.{ElfChoice}
+use Rattle.swd_image_files.specs.declared.elf.ElfChoice.TheVariants.{Auto, Always, Never}
 use Rattle.swd_image_files.specs.Files.{IsImageOrElf}
+use Rattle.swd_image_files.specs.Formats.{is_elf_image_name}
 use Rattle.swd_image_files.specs.Images.{ImageFileBytes, ImageFileContents, image_file_pieces}
 use Rattle.swd_image_files.specs.Texts.{image_file_of_piece}
 use Rattle.swd_image_ends.specs.Came.{DumpCame}
@@ -90,11 +93,18 @@ IsCommandDumpedTo old new format addr (Ok bytes) status =
     IsCommandWrittenTo old new status (image_file_of_piece format addr bytes)
 IsCommandDumpedTo old new format addr (Err error) status = (status ≡ error) × (new ≡ old)
 
--- The pieces of the image of a file, in its format or ELF. No contract knows the contents of a file.
+-- no format is named for a dump, whose name is one of ELF files
+abbrev pub is_command_dump_named_elf : ElfChoice → List ℕ → Bool
+is_command_dump_named_elf Auto name = is_elf_image_name name
+is_command_dump_named_elf Always name = false
+is_command_dump_named_elf Never name = false
+
+-- The pieces of the image of a file, in its format or ELF, which has some. No contract knows the contents of a file.
 pub record AreCommandPieces (image : ImageLine) (pieces : List ImageFileBytes) : Type 0 where
   pub file : List ℕ
   pub whole : ImageFileContents
   pub is : IsImageOrElf image.elf image.format image.addr file whole
+  pub some : 0 < length whole.ranges
   pub are : pieces ≡ image_file_pieces whole.ranges whole.bytes
 
 module _ {R W : Type 0} (story : ℕ → Port) (image : ImageLine) (status : ℕ) (remaining : R → Option (List ℕ))

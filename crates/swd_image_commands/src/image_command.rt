@@ -2,19 +2,16 @@
 ghost use Rattle.swd_image_commands.specs.Images.{PerformsDump, PerformsPieces};
 ghost use Rattle.swd_image_commands.specs.Targeted.{PerformsImage};
 
-use crate::image_file::{finish_dump, keep_or_give_up, read_image_file};
+use crate::image_file::{finish_dump, keep_or_give_up, open_dump, read_image_file};
 use crate::image_report::{image_reports, limits_of, open_report, words_in, words_of};
 use crate::pieces::{PiecesAction, PiecesJob};
-use crate::result::{pieces_status, reached};
+use crate::result::{Came, pieces_status, range_of, reached};
 use crate::simulated_command::perform_simulated;
 use std::alloc::Allocator;
 use std::io::{Read, Write};
 use swd_command_line::{ImageAction, ImageLine};
 use swd_conform::over_checked_line;
-use swd_console::{
-    Clock, Console, Files, InUse, KeepsError, Stream, StreamsInUse, Watched, WriteRole,
-    session_status,
-};
+use swd_console::{Clock, Console, Files, InUse, KeepsError, Stream, StreamsInUse, session_status};
 use swd_image_ends::DumpJob;
 use swd_port::Story;
 use swd_remote::RemoteStreams;
@@ -110,8 +107,12 @@ fn perform_pieces<
         output,
     );
     let streams = call_streams(job.report.stream(image), &line);
+    let came = Came {
+        ranges: whole.ranges.as_slice(),
+        done: job.report.done,
+    };
     drop(job);
-    let answer = reached(console.errors, answer, line.fault, streams.as_slice());
+    let answer = reached(console.errors, answer, line.fault, streams.as_slice(), came);
     let status = pieces_status(console.errors, image, action, &whole, answer);
     (session_status(console.errors, &verdict, status), line)
 }
@@ -136,8 +137,8 @@ fn perform_dump<
         result.1 count }
 {
     let mut in_use = InUse::new(StreamsInUse::Both);
-    let mut file = match in_use.open_write(image.file.as_str(), WriteRole::Dump, console) {
-        Ok(opened) => Watched::new(opened.file),
+    let mut file = match open_dump(image, &mut in_use, console) {
+        Ok(file) => file,
         Err(status) => return (status, RemoteStreams::unused(input, output)),
     };
     let opened = match open_report(image, &mut in_use, console) {
@@ -163,8 +164,13 @@ fn perform_dump<
         output,
     );
     let streams = call_streams(job.report.stream(image), &line);
+    let range = range_of(image.addr, count);
+    let came = Came {
+        ranges: &[range],
+        done: job.report.done,
+    };
     drop(job);
-    let answer = reached(console.errors, answer, line.fault, streams.as_slice());
+    let answer = reached(console.errors, answer, line.fault, streams.as_slice(), came);
     let status = finish_dump(image, answer, &mut file, console);
     (session_status(console.errors, &verdict, status), line)
 }

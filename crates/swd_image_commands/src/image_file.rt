@@ -1,19 +1,26 @@
 //! Reads and writes the files of images.
-ghost use Rattle.std.specs.Prelude.{◌≡◌, ◌+◌, ◌≤◌, ◌^◌, IfErr, IfOk, length};
+ghost use Rattle.std.specs.Prelude.{◌≡◌, ◌+◌, ◌≤◌, ◌^◌, false, IfErr, IfOk, length};
+ghost use Rattle.std.specs.String.{string_bytes};
 ghost use Rattle.swd_image_ends.specs.Pieces.{pieces_to_load};
 ghost use Rattle.swd_image_files.specs.Texts.{image_file_of_piece};
 ghost use Rattle.swd_image_commands.specs.Images.{AreCommandPieces, CommandWritesBytes, IsCommandDumpedTo};
-ghost use Rattle.swd_image_commands.specs.Images.{IsCommandWrittenTo, command_bytes_of};
+ghost use Rattle.swd_image_commands.specs.Images.{IsCommandWrittenTo, command_bytes_of, is_command_dump_named_elf};
 
 use std::alloc::Allocator;
 use std::io::{Read, Write};
 use swd_command_line::ImageLine;
 use swd_console::{
-    Console, DONE, Files, InUse, KeepsError, ReadRole, Stream, Watched, cannot_open, cannot_use,
-    streams_status, tell_failure_or,
+    Console, DONE, Escaped, Files, InUse, KeepsError, ReadRole, Stream, Watched, WriteRole,
+    cannot_open, cannot_use, streams_status, tell_failure_or,
 };
 use swd_image_ends::read_file;
-use swd_image_files::{ElfChoice, Format, Image, read_image_or_elf, write_image};
+use swd_image_files::{
+    ElfChoice, Format, Image, has_addresses, is_elf_name, read_image_or_elf, write_image,
+};
+
+const NO_BYTES: &str = "it has no bytes: nothing to load or verify";
+
+const NEVER_ELF: &str = "a dump is never ELF: --format bin writes its bytes under this name";
 
 // Returns the most bytes that the file of an image may have. A binary ends at ffffffff. What may be ELF has its own
 // addresses, and if it is a binary that is too long, it is refused once it was read.
@@ -61,8 +68,54 @@ fn read_opened_image<R: Read + Drop, A: Allocator + Copy, F, C, E: Write>(
     };
     let (elf, format) = (image.elf, image.format);
     match read_image_or_elf(console.alloc, elf, format, bytes.as_slice(), image.addr) {
-        Ok(whole) => Ok(whole),
+        Ok(whole) => {
+            if whole.ranges.is_empty() {
+                return Err(cannot_use(console.errors, name, &NO_BYTES));
+            }
+            tell_added(console.errors, image, bytes.as_slice());
+            Ok(whole)
+        }
         Err(fault) => Err(cannot_use(console.errors, name, &fault)),
+    }
+}
+
+// Prints that the address is added to those of the file, if it has some and the address isn't 0.
+fn tell_added<E: Write>(errors: &mut E, image: &ImageLine, bytes: &[u8]) {
+    if image.addr != 0 && has_addresses(image.elf, image.format, bytes) {
+        let (name, addr) = (Escaped(image.file.as_str()), image.addr);
+        let _ = writeln!(
+            errors,
+            "swd: {name} has addresses of its own, to which ADDR, {addr:08x}, is added"
+        );
+    }
+}
+
+// Returns whether a dump has the name of an ELF file, and no format is named.
+fn is_named_elf(image: &ImageLine) -> bool
+    ensures { result ≡ is_command_dump_named_elf image.now.elf (string_bytes image.now.file) }
+{
+    match image.elf {
+        ElfChoice::Auto => is_elf_name(image.file.as_str()),
+        ElfChoice::Always | ElfChoice::Never => false,
+    }
+}
+
+/// Opens the file of a dump. At an error, or if its name is one of ELF files, prints a line and returns the status 2.
+pub(crate) fn open_dump<A, F: Files, C, E: Write>(
+    image: &ImageLine,
+    in_use: &mut InUse,
+    console: &mut Console<'_, A, F, C, E>,
+) -> Result<Watched<F::Made>, u8>
+    ensures named { IfOk result (λ _. is_command_dump_named_elf image.now.elf (string_bytes image.now.file) ≡ false) }
+    ensures status { IfErr result (λ status. status ≡ 2) }
+{
+    let name = image.file.as_str();
+    if is_named_elf(image) {
+        return Err(cannot_use(console.errors, name, &NEVER_ELF));
+    }
+    match in_use.open_write(name, WriteRole::Dump, console) {
+        Ok(opened) => Ok(Watched::new(opened.file)),
+        Err(status) => Err(status),
     }
 }
 

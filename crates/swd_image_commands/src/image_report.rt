@@ -1,7 +1,7 @@
 //! The reports of the calls of an image, how far they are, and what they may meet.
 ghost use Rattle.std.specs.Prelude.{◌≡◌, IfErr, IfOk, is_some};
 ghost use Rattle.swd_image_commands.specs.Images.{command_limits};
-ghost use Rattle.swd_image_commands.specs.Reports.{command_reports_held};
+ghost use Rattle.swd_image_commands.specs.Reports.{command_reports_held, command_reports_to};
 
 use std::alloc::Allocator;
 use std::io::Write;
@@ -12,15 +12,24 @@ use swd_console::{
 use swd_host::Report;
 use swd_image::{CallReports, Counted, ImageFault, Limits, PacedReports};
 use swd_image_files::Image;
-use swd_port::Wire;
+use swd_port::{Access, Wire};
 use swd_script::Batch;
 
 /// Where the reports of the calls go, if they are made.
 pub(crate) type ReportTo<M> = Option<Destination<M>>;
 
-/// What gets the reports of the calls.
+/// What gets the reports of the calls, and how many words these did.
 #[derive(Drop)]
-pub(crate) enum ImageReports<'a, M, E, C> {
+pub(crate) struct ImageReports<'a, M, E, C> {
+    to: CallsTo<'a, M, E, C>,
+    action: ImageAction,
+    /// How many words were loaded, or read for a dump or a verification, at most 2^64 - 1.
+    pub(crate) done: u64,
+}
+
+// What gets the reports of the calls.
+#[derive(Drop)]
+enum CallsTo<'a, M, E, C> {
     /// A file, if one is named. Standard error says how far the calls are, if the arguments ask for that.
     Paced(PacedReports<Watched<M>, Pace<'a, E, C>>),
     /// Standard error, which then doesn't say how far they are.
@@ -37,19 +46,33 @@ impl<'a, M: Write, E: Write, C: Clock> CallReports for ImageReports<'a, M, E, C>
         batch: &Batch<A>,
         limits: Limits,
     ) -> Result<Report<A>, ImageFault> {
-        match self {
-            ImageReports::Paced(reports) => reports.make_call(alloc, wire, batch, limits),
-            ImageReports::Errors(report) => report.make_call(alloc, wire, batch, limits),
+        let made = match &mut self.to {
+            CallsTo::Paced(reports) => reports.make_call(alloc, wire, batch, limits),
+            CallsTo::Errors(report) => report.make_call(alloc, wire, batch, limits),
+        };
+        if let Ok(report) = &made
+            && counts(self.action, batch.accesses.as_slice())
+        {
+            self.done = self.done.saturating_add(report.answers.len() as u64);
         }
+        made
+    }
+}
+
+// Returns whether the accesses of a call count: those that read the partial words of a load don't.
+fn counts(action: ImageAction, accesses: &[Access]) -> bool {
+    match (action, accesses.first()) {
+        (ImageAction::Load, Some(Access::Read(_))) => false,
+        _ => true,
     }
 }
 
 impl<'a, M, E, C> ImageReports<'a, M, E, C> {
     /// Returns the stream of the reports.
     pub(crate) fn stream<'b>(&self, image: &'b ImageLine) -> Stream<'b> {
-        match self {
-            ImageReports::Paced(reports) => Stream::record(&image.report, &reports.report),
-            ImageReports::Errors(report) => Stream::record(&image.report, report),
+        match &self.to {
+            CallsTo::Paced(reports) => Stream::record(&image.report, &reports.report),
+            CallsTo::Errors(report) => Stream::record(&image.report, report),
         }
     }
 }
@@ -101,10 +124,25 @@ pub(crate) fn image_reports<'a, M: Write, E: Write, C: Clock>(
 ) -> ImageReports<'a, M, E, C>
     ensures { is_some (command_reports_held M.contents E.contents result) ≡ is_some opened }
 {
+    ImageReports {
+        to: reports_to(image, opened, words, errors, clock),
+        action: image.action,
+        done: 0,
+    }
+}
+
+// Returns what gets the reports, before calls over so many words.
+fn reports_to<'a, M: Write, E: Write, C: Clock>(
+    image: &ImageLine,
+    opened: ReportTo<M>,
+    words: u64,
+    errors: &'a mut E,
+    clock: &'a C,
+) -> CallsTo<'a, M, E, C>
+    ensures { is_some (command_reports_to M.contents E.contents result) ≡ is_some opened }
+{
     let file = match opened {
-        Some(Destination::Errors) => {
-            return ImageReports::Errors(Some(Watched::new(errors)));
-        }
+        Some(Destination::Errors) => return CallsTo::Errors(Some(Watched::new(errors))),
         Some(Destination::File(file)) => Some(Watched::new(file)),
         None => None,
     };
@@ -113,7 +151,7 @@ pub(crate) fn image_reports<'a, M: Write, E: Write, C: Clock>(
         ImageAction::Verify | ImageAction::Dump(_) => Counted::Read,
     };
     let pace = Pace::new(image.progress, "words", errors, clock);
-    ImageReports::Paced(PacedReports::new(file, pace, counted, words))
+    CallsTo::Paced(PacedReports::new(file, pace, counted, words))
 }
 
 /// Returns how many words have a byte of this range.

@@ -3,13 +3,18 @@ ghost use Rattle.std.specs.Prelude.{◌≡◌};
 ghost use Rattle.swd_image_commands.specs.Images.{command_result_reached as reached_by, command_status_of_fault};
 ghost use Rattle.swd_image_commands.specs.Images.{command_status_compared, command_status_in};
 
+use crate::image_report::words_of;
 use crate::pieces::PiecesAction;
 use std::alloc::Allocator;
+use std::fmt;
+use std::fmt::{Display, Formatter};
 use std::io::Write;
 use swd_command_line::ImageLine;
-use swd_console::{DONE, STOPPED, Stream, engine_status, gone_status, tell, tell_failure_or};
+use swd_console::{
+    DONE, STOPPED, Stream, advice_on, engine_status, gone_status, tell, tell_failure_or,
+};
 use swd_image::{ByteDifference, ImageFault};
-use swd_image_files::Image;
+use swd_image_files::{Image, Range};
 use swd_remote::Fault;
 
 // Prints how many bytes were loaded or verified, and where. `offset` stands for the address of an image without bytes.
@@ -63,6 +68,43 @@ pub(crate) fn pieces_status<E: Write, A: Allocator>(
     }
 }
 
+/// Returns where a dump of so many bytes lies.
+pub(crate) fn range_of(addr: u32, count: u32) -> Range {
+    Range {
+        addr,
+        len: count as usize,
+    }
+}
+
+/// How far the calls of an image came.
+#[derive(Drop)]
+pub(crate) struct Came<'a> {
+    /// Where the image lies.
+    pub(crate) ranges: &'a [Range],
+    /// How many of its words are done, in the order of its pieces.
+    pub(crate) done: u64,
+}
+
+impl Display for Came<'_> {
+    fn fmt<W: fmt::Write>(&self, f: &mut Formatter<W>) -> fmt::Result {
+        let (mut words, mut next) = (0u64, None);
+        for range in self.ranges {
+            let of_range = words_of(range.addr, range.len as u64);
+            let before = self.done.saturating_sub(words);
+            if next.is_none() && before < of_range {
+                next = Some(u64::from(range.addr - range.addr % 4).saturating_add(
+                    4u64.saturating_mul(before),
+                ));
+            }
+            words = words.saturating_add(of_range);
+        }
+        if let Some(addr) = next {
+            write!(f, "at {addr:08x}, ")?;
+        }
+        write!(f, "{} of {words} words done", self.done)
+    }
+}
+
 /// Returns the value of a result if the other end isn't gone. Otherwise prints a line with the reason, and returns the
 /// status: 1 or 2.
 pub(crate) fn reached<V: Drop, E: Write>(
@@ -70,6 +112,7 @@ pub(crate) fn reached<V: Drop, E: Write>(
     answer: Result<V, ImageFault>,
     gone: Option<Fault>,
     streams: &[Stream<'_>],
+    came: Came<'_>,
 ) -> Result<V, u8>
     ensures { result ≡ reached_by gone answer }
 {
@@ -78,7 +121,7 @@ pub(crate) fn reached<V: Drop, E: Write>(
             Some(fault) => Err(gone_status(errors, fault, streams)),
             None => Ok(value),
         },
-        Err(fault) => Err(fault_status(errors, fault, gone, streams)),
+        Err(fault) => Err(fault_status(errors, fault, gone, streams, came)),
     }
 }
 
@@ -88,6 +131,7 @@ fn fault_status<E: Write>(
     fault: ImageFault,
     gone: Option<Fault>,
     streams: &[Stream<'_>],
+    came: Came<'_>,
 ) -> u8
     ensures { result ≡ command_status_of_fault fault }
 {
@@ -98,7 +142,14 @@ fn fault_status<E: Write>(
         ),
         ImageFault::Memory => engine_status(errors, Err(fault)),
         ImageFault::Report => tell_failure_or(errors, streams, "write failed"),
-        ImageFault::Stopped(_) | ImageFault::BusFault(_) => match gone {
+        ImageFault::Stopped(ended) => match gone {
+            Some(gone) => gone_status(errors, gone, streams),
+            None => {
+                let _ = writeln!(errors, "swd: {fault} {came}{}", advice_on(ended));
+                STOPPED
+            }
+        },
+        ImageFault::BusFault(_) => match gone {
             Some(gone) => gone_status(errors, gone, streams),
             None => {
                 let _ = writeln!(errors, "swd: {fault}");

@@ -11,10 +11,10 @@ ghost use Rattle.swd_image_commands.specs.Simulated.{PiecesCommandSimulated, Sim
 ghost use Rattle.swd_image_commands.specs.Simulated.{SimulatesDump, SimulatesImage, SimulatesPieces};
 ghost use Rattle.swd_image_commands.specs.Simulated.{simulated_back_held};
 
-use crate::image_file::{finish_dump, keep_or_give_up, read_image_file};
+use crate::image_file::{finish_dump, keep_or_give_up, open_dump, read_image_file};
 use crate::image_report::{ReportTo, image_reports, limits_of, open_report, words_in, words_of};
 use crate::pieces::{PiecesAction, PiecesJob};
-use crate::result::{pieces_status, reached};
+use crate::result::{Came, pieces_status, range_of, reached};
 use std::alloc::Allocator;
 use std::io::Write;
 use swd_command_line::{ImageAction, ImageLine, MemoryLine};
@@ -107,9 +107,14 @@ fn tell_outside<V, A: Allocator, E: Write>(
         && after.word(*at - *at % 4).is_none()
     {
         let (name, base) = (Escaped(memory.file.as_str()), memory.base);
+        let longer = if *at < base {
+            ""
+        } else {
+            ", or it is too short"
+        };
         let _ = writeln!(
             errors,
-            "swd: {name} has no word at {at:08x}: its words begin at {base:08x}, see --base"
+            "swd: {name} has no word at {at:08x}: its words begin at {base:08x}, see --base{longer}"
         );
     }
 }
@@ -230,11 +235,15 @@ fn pieces_over<A: Allocator + Copy, F: Files, C: Clock, E: Write>(
     };
     let answer = job.make_calls(&mut bench);
     let streams = [job.report.stream(image)];
+    let came = Came {
+        ranges: whole.ranges.as_slice(),
+        done: job.report.done,
+    };
     drop(job);
     tell_outside(console.errors, image, &answer, bench.memory());
     match write_back_to(bench.memory(), back, console) {
         Ok(()) => {
-            let answer = reached(console.errors, answer, None, streams.as_slice());
+            let answer = reached(console.errors, answer, None, streams.as_slice(), came);
             pieces_status(console.errors, image, action, whole, answer)
         }
         Err(status) => status,
@@ -253,8 +262,8 @@ fn simulate_dump<A: Allocator + Copy, F: Files, C: Clock, E: Write>(
     ensures { SimulatesDump A image.now count held.entry.memory.now.base held.entry.bytes.items held.entry.marks.items
         result }
 {
-    let mut file = match in_use.open_write(image.file.as_str(), WriteRole::Dump, console) {
-        Ok(opened) => Watched::new(opened.file),
+    let mut file = match open_dump(image, in_use, console) {
+        Ok(file) => file,
         Err(status) => return status,
     };
     let report = match open_report(image, in_use, console) {
@@ -299,8 +308,13 @@ fn dump_over<A: Allocator + Copy, F: Files, C: Clock, E: Write>(
         &mut report,
     );
     let streams = [report.stream(image)];
+    let range = range_of(addr, count);
+    let came = Came {
+        ranges: &[range],
+        done: report.done,
+    };
     drop(report);
     tell_outside(console.errors, image, &answer, bench.memory());
-    let answer = reached(console.errors, answer, None, streams.as_slice());
+    let answer = reached(console.errors, answer, None, streams.as_slice(), came);
     finish_dump(image, answer, file, console)
 }

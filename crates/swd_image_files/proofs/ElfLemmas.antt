@@ -8,7 +8,18 @@ use Rattle.swd_image_files.specs.declared.fault.ElfFlaw.{ElfFlaw}
 use Rattle.swd_image_files.specs.declared.fault.ElfFlaw.TheVariants.{Segment, Range}
 use Rattle.swd_image_files.specs.Elf.{elf_program_header, elf_program_headers, elf_segment_bytes, elf_then}
 use Rattle.swd_image_files.specs.Elf.{elf_with_loaded, elf_with_segment, elf_with_segments, is_elf_loaded}
+use Rattle.swd_image_files.specs.declared.reading.HeldPieces.{HeldPieces}
+use Rattle.swd_image_files.specs.declared.reading.Kept.{Kept}
+use Rattle.swd_image_files.specs.declared.reading.Kept.TheVariants.{Span, Whole}
 use Rattle.swd_image_files.specs.Images.{ImageFileContents, image_file_add_data}
+use Rattle.swd_image_files.specs.Readings.{ImageFileHolds, IsImageFileHeld}
+
+-- what has an image has its ranges
+pub image_file_held : {A : Type 0} (kept : Kept) (image : ImageFileContents) (held : HeldPieces A)
+    → ImageFileHolds image held → IsImageFileHeld kept image held
+image_file_held Whole image held holds = holds
+image_file_held Span image held holds =
+    record { stored = λ fine. ap (λ (i : ImageFileContents). i.ranges) (holds.stored fine); sound = holds.sound }
 
 -- a segment that is loaded, within the file and the addresses
 pub elf_loaded_step : (bytes : List ℕ) (base number : ℕ) (header : ProgramHeader) (old : ImageFileContents)

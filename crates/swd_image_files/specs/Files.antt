@@ -1,6 +1,6 @@
 -- What an image file means, or its first error.
-use Rattle.std.specs.Prelude.{◌≡◌, ℕ, ◌+◌, ◌^◌, nat_le, Bool, List, [], ◌∷◌, length, Result, Ok, Err, IsOk}
-use Rattle.std.specs.Prelude.{if◌then◌else◌}
+use Rattle.std.specs.Prelude.{◌≡◌, ℕ, ◌+◌, ◌^◌, nat_le, Bool, true, false, ◌||◌, List, [], ◌∷◌, length, take, Result, Ok}
+use Rattle.std.specs.Prelude.{Err, IsOk, is_ok, if◌then◌else◌}
 use Rattle.swd_image_files.specs.declared.fault.ImageFileFault.{ImageFileFault}
 use Rattle.swd_image_files.specs.declared.fault.ImageFileFault.TheVariants.{Line, NoEnd, Range, Elf, Overlap, Memory}
 use Rattle.swd_image_files.specs.declared.elf.ElfChoice.{ElfChoice}
@@ -14,10 +14,11 @@ use Rattle.swd_image_files.specs.declared.kind.RecordFormat.TheVariants.{Intel, 
 use Rattle.swd_image_files.specs.declared.place.RecordState.{RecordState}
 use Rattle.swd_image_files.specs.Elf.{elf_contents, is_elf_file}
 use Rattle.swd_image_files.specs.Images.{ImageFileContents, image_file_add_data, image_file_nothing}
-use Rattle.swd_image_files.specs.Lines.{image_file_lines}
+use Rattle.swd_image_files.specs.Lines.{image_file_line_len, image_file_lines, image_file_without_return}
 use Rattle.swd_image_files.specs.Overlaps.{AreImageRangesApart, IsLowestImageOverlap}
 use Rattle.swd_image_files.specs.Places.{image_file_after_line, image_file_next_number, image_file_start}
 use Rattle.swd_image_files.specs.Places.{image_file_with_line}
+use Rattle.swd_image_files.specs.Records.{image_file_record_bytes}
 
 -- the image, if an end record came
 abbrev pub image_file_at_end : Bool → ImageFileContents → Result ImageFileContents ImageFileFault
@@ -62,12 +63,43 @@ image_file_elf_result (Err flaw) = Err (Elf flaw)
 abbrev pub image_file_of_elf : ℕ → List ℕ → Result ImageFileContents ImageFileFault
 image_file_of_elf base bytes = image_file_elf_result (elf_contents base bytes)
 
--- the image of a file that may be ELF: with Auto it is where it begins as such a file
+-- the format of which a line is a record, by its digits, its length and its checksum
+abbrev pub image_format_of_line : List ℕ → Format
+image_format_of_line line =
+    if is_ok (image_file_record_bytes Intel line) then IntelHex else
+    (if is_ok (image_file_record_bytes Motorola line) then SRecord else Binary)
+
+-- the first line of a file
+abbrev pub image_file_first_line : List ℕ → List ℕ
+image_file_first_line bytes = image_file_without_return (take (image_file_line_len bytes) bytes)
+
+-- the format of a file that isn't ELF: one that is a binary by its name may begin with a record
+abbrev pub image_format_begun : Format → List ℕ → Format
+image_format_begun Binary bytes = image_format_of_line (image_file_first_line bytes)
+image_format_begun IntelHex bytes = IntelHex
+image_format_begun SRecord bytes = SRecord
+
+-- the image of a file that may be ELF: with Auto it is where it begins as such a file, and a binary where it doesn't
+-- begin as a file of records either
 abbrev pub image_file_or_elf : ElfChoice → Format → ℕ → List ℕ → Result ImageFileContents ImageFileFault
 image_file_or_elf Auto format base bytes =
-    if is_elf_file bytes then image_file_of_elf base bytes else image_file_contents format base bytes
+    if is_elf_file bytes then image_file_of_elf base bytes else
+    image_file_contents (image_format_begun format bytes) base bytes
 image_file_or_elf Always format base bytes = image_file_of_elf base bytes
 image_file_or_elf Never format base bytes = image_file_contents format base bytes
+
+-- a format has addresses of its own
+abbrev pub is_addressed_format : Format → Bool
+is_addressed_format Binary = false
+is_addressed_format IntelHex = true
+is_addressed_format SRecord = true
+
+-- a file that may be ELF has addresses of its own, to which the base is added
+abbrev pub has_image_file_addresses : ElfChoice → Format → List ℕ → Bool
+has_image_file_addresses Auto format bytes =
+    is_elf_file bytes || is_addressed_format (image_format_begun format bytes)
+has_image_file_addresses Always format bytes = true
+has_image_file_addresses Never format bytes = is_addressed_format format
 
 -- a result is this image, in which no two pieces have an address
 pub record IsImageIn (meaning : Result ImageFileContents ImageFileFault) (image : ImageFileContents) : Type 0 where

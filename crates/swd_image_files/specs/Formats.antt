@@ -27,6 +27,10 @@ is_srec_name name =
 abbrev pub image_format_of_name : List ℕ → Format
 image_format_of_name name = if is_hex_name name then IntelHex else (if is_srec_name name then SRecord else Binary)
 
+-- an extension of ELF files
+abbrev pub is_elf_image_name : List ℕ → Bool
+is_elf_image_name name = image_name_ends_in name (codes ".elf") || image_name_ends_in name (codes ".axf")
+
 -- the format with this word
 abbrev pub image_format_of_word : List ℕ → Option Format
 image_format_of_word word =

@@ -8,11 +8,12 @@ use crate::fault::ElfFlaw;
 /// Whether a file is read as ELF.
 #[derive(Clone, Copy, Debug, PartialEq, Eq)]
 pub enum ElfChoice {
-    /// If it begins with the magic number of ELF files.
+    /// If it begins with the magic number of ELF files. Otherwise its content also says whether a binary is a file of
+    /// records.
     Auto,
     /// Always. A file without the magic number is invalid.
     Always,
-    /// Never.
+    /// Never. Then a binary is any bytes.
     Never,
 }
 

@@ -2,6 +2,7 @@
 ghost use Rattle.std.specs.Prelude.{◌≡◌};
 ghost use Rattle.swd_image_files.specs.Formats.{image_name_ends_in as ends_in_text};
 ghost use Rattle.swd_image_files.specs.Formats.{image_format_of_name, image_format_of_word};
+ghost use Rattle.swd_image_files.specs.Formats.{is_elf_image_name};
 
 use crate::parts::behind;
 
@@ -46,6 +47,14 @@ impl Format {
             _ => None,
         }
     }
+}
+
+/// Returns whether the extension of a file name is one of ELF files, in upper or lower case: `elf` or `axf`.
+pub fn is_elf_name(name: &str) -> bool
+    ensures { result ≡ is_elf_image_name name.now }
+{
+    let name = name.as_bytes();
+    ends_in(name, b".elf") || ends_in(name, b".axf")
 }
 
 // Returns whether a name ends in an extension of lower case, in upper or lower case.

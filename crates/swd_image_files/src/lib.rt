@@ -2,6 +2,7 @@
 //! It reads ELF files, too.
 #![tactic(auto)]
 
+mod content;
 mod digits;
 mod elf;
 mod fault;
@@ -18,9 +19,10 @@ mod reading;
 mod segments;
 mod write;
 
+pub use content::has_addresses;
 pub use elf::ElfChoice;
 pub use fault::{ElfFlaw, ImageFileFault, LineFlaw};
-pub use format::Format;
+pub use format::{Format, is_elf_name};
 pub use image::{Image, Piece, Pieces, Range};
 pub use read::{read_elf, read_image, read_image_or_elf};
 pub use write::write_image;

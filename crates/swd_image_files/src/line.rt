@@ -1,5 +1,5 @@
 //! Decodes the record of a line.
-ghost use Rattle.std.specs.Prelude.{◌≡◌, ◌+◌, ◌*◌, ◌^◌, ◌≤◌, ◌<◌, length, IfOk, IfErr, Ok, Err};
+ghost use Rattle.std.specs.Prelude.{◌≡◌, ◌+◌, ◌*◌, ◌^◌, ◌≤◌, ◌<◌, length, IfOk, IfErr, Ok, Err, is_ok};
 ghost use Rattle.swd_image_files.specs.Records.{image_file_record_bytes as bytes_in, hex_bytes as hex_bytes_in};
 ghost use Rattle.swd_image_files.specs.Records.{srec_bytes as srec_bytes_in, image_file_record_kind as kind_in};
 ghost use Rattle.swd_image_files.specs.Records.{hex_record_kind as hex_kind_in, srec_kind as srec_kind_in};
@@ -21,6 +21,16 @@ pub(crate) fn record_bytes(records: RecordFormat, line: &[u8]) -> Result<RecordB
     match records {
         RecordFormat::Intel => hex_bytes(line),
         RecordFormat::Motorola => srec_bytes(line),
+    }
+}
+
+/// Returns whether a line is a record, by its digits, its length and its checksum.
+pub(crate) fn is_record(records: RecordFormat, line: &[u8]) -> bool
+    ensures { result ≡ is_ok (bytes_in records line.now) }
+{
+    match record_bytes(records, line) {
+        Ok(_) => true,
+        Err(_) => false,
     }
 }
 

@@ -1,14 +1,13 @@
 //! Reads image files.
-ghost use Rattle.std.specs.Prelude.{◌≡◌, All, IfErr, IfOk, Ok, position};
+ghost use Rattle.std.specs.Prelude.{◌≡◌, All, IfErr, IfOk, Ok};
 ghost use Rattle.swd_image_files.specs.Files.{IsImageFileFaultIn, IsImageFileFault, IsImage, image_file_of_binary};
 ghost use Rattle.swd_image_files.specs.Files.{IsElfImage, IsElfFileFault, IsImageIn, IsImageOrElf, IsImageOrElfFault};
 ghost use Rattle.swd_image_files.specs.Files.{image_file_contents, image_file_at_end, image_file_of_lines};
 ghost use Rattle.swd_image_files.specs.Images.{ImageFileContents, contents_of_image};
 ghost use Rattle.swd_image_files.specs.Overlaps.{IsSoundImageRange};
 ghost use Rattle.swd_image_files.specs.Readings.{ImageFileHolds};
-ghost use Rattle.swd_image_files.specs.Lines.{is_image_file_feed, image_file_line_len as line_len_in};
-ghost use Rattle.swd_image_files.specs.Lines.{image_file_without_return as without_return_in};
 
+use crate::content::{format_begun, line_len, without_return};
 use crate::elf::{ElfChoice, is_elf};
 use crate::fault::ImageFileFault;
 use crate::format::Format;
@@ -17,7 +16,7 @@ use crate::kind::RecordFormat;
 use crate::overlap::first_overlap;
 use crate::parts::{behind, front};
 use crate::reading::{HeldPieces, RecordReading};
-use crate::segments::read_segments;
+use crate::segments::{read_segments, refuse_overlap};
 use std::alloc::Allocator;
 
 /// Reads an image file that isn't ELF. A binary is one piece at `base`. In the other formats `base` is added to each
@@ -55,10 +54,13 @@ pub fn read_elf<A: Allocator + Copy>(
     ensures ok { IfOk result (λ image. IsElfImage base bytes.now (contents_of_image image)) }
     ensures err { IfErr result (IsElfFileFault base bytes.now) }
 {
+    refuse_overlap(alloc, bytes, base)?;
     apart(alloc, read_segments(alloc, bytes, base)?)
 }
 
-/// Reads an image file that may be ELF, as `elf` says: as `read_elf` does, or in this format as `read_image` does.
+/// Reads an image file that may be ELF, as `elf` says: as `read_elf` does, or in this format as `read_image` does. With
+/// `Auto` a file that would be a binary is one of Intel HEX or S-records if its first line is such a record: if its
+/// digits, its length and its checksum are right.
 ///
 /// # Errors
 ///
@@ -78,7 +80,7 @@ pub fn read_image_or_elf<A: Allocator + Copy>(
             if is_elf(bytes) {
                 read_elf(alloc, bytes, base)
             } else {
-                read_image(alloc, format, bytes, base)
+                read_image(alloc, format_begun(format, bytes), bytes, base)
             }
         }
         ElfChoice::Always => read_elf(alloc, bytes, base),
@@ -187,33 +189,4 @@ fn read_lines<A: Allocator + Copy>(
         rest = behind(rest, rest.len().min(len + 1));
     }
     Ok(reading)
-}
-
-// Returns how many bytes come before the first line feed.
-fn line_len(text: &[u8]) -> usize
-    ensures { result ≡ line_len_in text.now }
-{
-    match first_feed(text) {
-        Some(at) => at,
-        None => text.len(),
-    }
-}
-
-// Returns the place of the first line feed.
-fn first_feed(text: &[u8]) -> Option<usize>
-    ensures { result ≡ position is_image_file_feed text.now }
-{
-    text.iter().position(|byte| *byte == b'\n')
-}
-
-// Returns a line without the carriage return at its end.
-fn without_return(line: &[u8]) -> &[u8]
-    ensures { result.now ≡ without_return_in line.now }
-{
-    let len = line.len();
-    if len > 0 && line[len - 1] == b'\r' {
-        &line[..len - 1]
-    } else {
-        line
-    }
 }

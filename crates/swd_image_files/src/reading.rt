@@ -15,6 +15,15 @@ use crate::line::{record_bytes, record_kind};
 use crate::place::{RecordState, field, fits, room, start};
 use std::alloc::{AllocError, Allocator};
 
+/// What is kept of a piece.
+#[derive(Clone, Copy)]
+pub(crate) enum Kept {
+    /// Its range and its bytes.
+    Whole,
+    /// Its range alone.
+    Span,
+}
+
 /// The data so far, unless memory ran out.
 #[derive(Drop)]
 pub(crate) struct HeldPieces<A: Allocator> {
@@ -23,7 +32,7 @@ pub(crate) struct HeldPieces<A: Allocator> {
 }
 
 impl<A: Allocator> HeldPieces<A> {
-    ghost use Rattle.swd_image_files.specs.Readings.{ImageFileHolds};
+    ghost use Rattle.swd_image_files.specs.Readings.{ImageFileHolds, ImageFileSpans, IsImageFileHeld};
 
     /// Returns no data.
     pub(crate) fn new(alloc: A) -> HeldPieces<A>
@@ -51,6 +60,32 @@ impl<A: Allocator> HeldPieces<A> {
             return;
         }
         if append(&mut self.image, at as u32, bytes).is_err() {
+            self.failed = true;
+        }
+    }
+
+    /// Appends bytes at an address, or their range alone.
+    pub(crate) fn add_kept(&mut self, kept: Kept, at: u64, bytes: &[u8])
+        requires { fits_in at (length bytes.now) ≡ true }
+        ensures { (old : ImageFileContents) → IsImageFileHeld kept old self.old
+            → IsImageFileHeld kept (image_file_add_data old at bytes.now) self.new }
+    {
+        match kept {
+            Kept::Whole => self.add(at, bytes),
+            Kept::Span => self.add_span(at, bytes),
+        }
+    }
+
+    // Appends the range of bytes at an address, and keeps none of them.
+    fn add_span(&mut self, at: u64, bytes: &[u8])
+        requires { fits_in at (length bytes.now) ≡ true }
+        ensures { (old : ImageFileContents) → ImageFileSpans old self.old
+            → ImageFileSpans (image_file_add_data old at bytes.now) self.new }
+    {
+        if bytes.is_empty() || self.failed {
+            return;
+        }
+        if join(&mut self.image.ranges, at as u32, bytes.len()).is_err() {
             self.failed = true;
         }
     }

@@ -21,8 +21,8 @@ use swd_check::Checked;
 use swd_command_line::RunLine;
 use swd_console::{
     Clock, Console, Destination, ERRORS, FAULT, Files, InUse, KeepsError, Stream, TrackedReader,
-    Watched, WriteRole, cannot_open, cut_off, gone_status, line_streams, name_or_nothing,
-    run_status, tell, tell_failure, verdict_status,
+    Watched, WriteRole, advice_on, cannot_open, cut_off, gone_status, line_streams,
+    name_or_nothing, run_status, tell, tell_failure, verdict_status,
 };
 use swd_ends::{Line, run_remote_script};
 use swd_host::End;
@@ -325,8 +325,13 @@ fn tell_early<E: Write>(errors: &mut E, bursts: bool, answer: &Result<Finished, 
     if let Ok(finished) = answer
         && finished.ended != End::All
     {
-        let _ = writeln!(errors, "swd: the run ended early: {}", finished.ended);
-        if bursts && finished.ended == End::Confused {
+        let ended = finished.ended;
+        let _ = writeln!(
+            errors,
+            "swd: the run ended early: {ended}{}",
+            advice_on(ended)
+        );
+        if bursts && ended == End::Confused {
             let _ = writeln!(errors, "swd: {BUFFERED}");
         }
     }

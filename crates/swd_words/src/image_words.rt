@@ -27,16 +27,19 @@ const MEGA: u32 = 1024 * 1024;
 
 const LOAD_AFTER: &str = "\
 FILE is ELF (elf) if it begins with 7f 45 4c 46. Otherwise it is Intel HEX (hex)
-if its name ends in .hex, .ihex or .ihx, S-records (srec) if it ends in .srec,
-.s19, .s28, .s37 or .mot, and else the bytes themselves (bin). --format
-overrides its content and its name.
+if its name ends in .hex, .ihex or .ihx, and S-records (srec) if it ends in
+.srec, .s19, .s28, .s37 or .mot. Under any other name it is hex or srec if its
+first line is a record with a right checksum, and else the bytes themselves
+(bin). --format overrides its content and its name. A FILE without bytes is
+refused.
 
 Of an ELF file, a 32-bit little-endian executable for Arm, the bytes of each
 PT_LOAD segment are taken, at the segment's physical address.
 
 ADDR is 1 to 8 hexadecimal digits, after an optional 0x, and need not be a
 multiple of 4. It is the address of a bin file. It is added to each address of
-a hex, srec or elf file, so 0 leaves these as they are.
+a hex, srec or elf file, so 0 leaves these as they are. With another ADDR a line
+on standard error says so.
 
 The pieces of FILE are loaded in its order, over one connection. The bytes of a
 word are the least significant first. Words of which FILE has only some bytes
@@ -100,7 +103,8 @@ follow, or 1 to 8 hexadecimal digits after 0x. ADDR is 1 to 8 hexadecimal
 digits, after an optional 0x. --remote and --memory are as for swd load, and so
 is --check; the memory's FILE is only read. --report and --progress are as for
 swd verify. FILE is hex, srec or bin by its name, as for swd load, or by
---format. In a hex or srec file the addresses are the target's.
+--format. Without that a name in .elf or .axf is refused: a dump is never ELF.
+In a hex or srec file the addresses are the target's.
 
 FILE is replaced once all bytes are read, by a new file beside it that gets its
 name. At an error it is unchanged, or isn't created. A line on standard error

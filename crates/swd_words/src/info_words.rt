@@ -21,8 +21,8 @@ If the opening failed, the last line says how far it came. Designer 23b is Arm.
 --remote is as for swd run. For a server on a socket:
   swd-line localhost:4711 -- swd info --remote
 
-Status: 0 if the target was opened, 1 if it wasn't or the other end went away,
-2 at an error.";
+Status: 0 if the target was opened, 1 if it wasn't, the other end went away, or
+its line can't be read or written, 2 at any other error.";
 
 const NO_TARGET: &str = "the target is missing: give --remote";
 

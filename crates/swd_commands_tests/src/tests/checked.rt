@@ -121,7 +121,7 @@ fn a_session_is_checked(rt: HostRuntime) -> Result<(), Fail> {
 #[test]
 fn a_check_changes_no_other_status(rt: HostRuntime) {
     let ran = run_on(rt.alloc(), CHECKED.as_slice(), b"111".as_slice());
-    let said = b"swd: the run ended early: lost\ncrowded @0\n\
+    let said = b"swd: the run ended early: lost, see --resume\ncrowded @0\n\
         swd: no reply to the first request, SWDIO read 1: is it driven, and the target connected and powered?\n";
     expect_eq_at(&rt, &1, &ran.errors.as_slice(), &said.as_slice());
     expect_eq_at(&rt, &1, &ran.status, &1);

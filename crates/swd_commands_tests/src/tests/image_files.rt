@@ -1,46 +1,16 @@
 //! The files of images in their formats: what the arguments make of them before anything is sent.
 use super::expect::{expect_eq, expect_eq_at};
-use super::remote::LOST_LINES;
+use super::remote::LOST_IMAGE;
 use super::run_on;
 use std::test::Fail;
 use swd_command_line::CommandLine;
 use swd_image_files::{ElfChoice, Format};
 use swd_words::line;
 
-// Only Q is sent for a file without bytes, and a dump of no bytes is the end record alone.
+// Only Q is sent for a dump of no bytes, which is the end record alone.
 #[test]
-fn an_image_file_without_bytes_takes_no_call(rt: HostRuntime) {
-    let rows: [(&[&str], &[u8], usize); 9] = [
-        (
-            &["swd", "load", "0", "end.hex", "--remote"],
-            b"swd: loaded 0 bytes at 00000000\n",
-            0,
-        ),
-        (
-            &["swd", "verify", "20000000", "end.IHX", "--remote"],
-            b"swd: verified 0 bytes at 20000000\n",
-            0,
-        ),
-        (
-            &["swd", "load", "8", "end", "--remote", "--format", "hex"],
-            b"swd: loaded 0 bytes at 00000008\n",
-            0,
-        ),
-        (
-            &["swd", "load", "0", "elf", "--remote"],
-            b"swd: loaded 0 bytes at 00000000\n",
-            0,
-        ),
-        (
-            &["swd", "verify", "10", "elf.hex", "--remote"],
-            b"swd: verified 0 bytes at 00000010\n",
-            0,
-        ),
-        (
-            &["swd", "load", "0", "elf", "--remote", "--format", "elf"],
-            b"swd: loaded 0 bytes at 00000000\n",
-            0,
-        ),
+fn a_dump_without_bytes_takes_no_call(rt: HostRuntime) {
+    let rows: [(&[&str], &[u8], usize); 3] = [
         (
             &["swd", "dump", "20000000", "0", "traced.hex", "--remote"],
             b"swd: dumped 0 bytes at 20000000\n",
@@ -80,7 +50,31 @@ fn an_image_file_without_bytes_takes_no_call(rt: HostRuntime) {
 // Nothing is sent: the file isn't valid in its format, or there is no such format.
 #[test]
 fn an_invalid_image_file_is_named_with_its_line(rt: HostRuntime) {
-    let rows: [(&[&str], &[u8]); 13] = [
+    let rows: [(&[&str], &[u8]); 19] = [
+        (
+            &["swd", "load", "0", "end.hex", "--remote"],
+            b"swd: end.hex: it has no bytes: nothing to load or verify\n",
+        ),
+        (
+            &["swd", "verify", "20000000", "end.IHX", "--remote"],
+            b"swd: end.IHX: it has no bytes: nothing to load or verify\n",
+        ),
+        (
+            &["swd", "load", "8", "end", "--remote", "--format", "hex"],
+            b"swd: end: it has no bytes: nothing to load or verify\n",
+        ),
+        (
+            &["swd", "load", "0", "elf", "--remote"],
+            b"swd: elf: it has no bytes: nothing to load or verify\n",
+        ),
+        (
+            &["swd", "verify", "10", "elf.hex", "--remote"],
+            b"swd: elf.hex: it has no bytes: nothing to load or verify\n",
+        ),
+        (
+            &["swd", "load", "0", "elf", "--remote", "--format", "elf"],
+            b"swd: elf: it has no bytes: nothing to load or verify\n",
+        ),
         (
             &["swd", "load", "0", "bad.hex", "--remote"],
             b"swd: bad.hex: line 3: wrong checksum\n",
@@ -150,7 +144,7 @@ fn an_invalid_image_file_is_named_with_its_line(rt: HostRuntime) {
     // A valid one is: the target doesn't acknowledge the first request.
     let words = ["swd", "load", "0", "two.hex", "--remote"];
     let ran = run_on(rt.alloc(), words.as_slice(), b"111".as_slice());
-    expect_eq(&rt, &ran.errors.as_slice(), &LOST_LINES);
+    expect_eq(&rt, &ran.errors.as_slice(), &LOST_IMAGE);
     expect_eq(&rt, &ran.output.ends_with(b"dcfQ"), &true);
     expect_eq(&rt, &ran.status, &1);
 }

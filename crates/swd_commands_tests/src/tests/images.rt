@@ -1,6 +1,6 @@
 //! Images at a target behind the standard streams: what the arguments make of them.
 use super::expect::{expect_at, expect_eq, expect_eq_at};
-use super::remote::LOST_LINES;
+use super::remote::LOST_IMAGE;
 use super::run_on;
 use std::test::Fail;
 use swd_command_line::{CommandLine, ImageAction};
@@ -8,18 +8,8 @@ use swd_words::line;
 
 // No bytes take no call: only Q is sent.
 #[test]
-fn an_empty_image_takes_no_call(rt: HostRuntime) {
-    let rows: [(&[&str], &[u8], usize); 4] = [
-        (
-            &["swd", "load", "20000000", "empty", "--remote"],
-            b"swd: loaded 0 bytes at 20000000\n",
-            0,
-        ),
-        (
-            &["swd", "verify", "0x2000000A", "empty", "--remote"],
-            b"swd: verified 0 bytes at 2000000a\n",
-            0,
-        ),
+fn an_empty_dump_takes_no_call(rt: HostRuntime) {
+    let rows: [(&[&str], &[u8], usize); 2] = [
         (
             &["swd", "dump", "ffffffff", "0", "traced", "--remote"],
             b"swd: dumped 0 bytes at ffffffff\n",
@@ -57,7 +47,7 @@ fn a_target_that_goes_away_ends_each_command(rt: HostRuntime) {
             b"swd: the other end sent byte 120, which is no level, 0 or 1: is it a server of remote_bitbang?\n",
             b"dcf",
         ),
-        (b"111", LOST_LINES, b"dcfQ"),
+        (b"111", LOST_IMAGE, b"dcfQ"),
     ];
     for words in COMMANDS {
         for (levels, errors, last) in rows {
@@ -76,7 +66,15 @@ fn a_target_that_goes_away_ends_each_command(rt: HostRuntime) {
 // Before anything is sent: the file isn't there, or is a stream of the target, or the image doesn't fit.
 #[test]
 fn a_file_that_is_refused_leaves_the_line_unused(rt: HostRuntime) {
-    let rows: [(&[&str], &[u8]); 11] = [
+    let rows: [(&[&str], &[u8]); 13] = [
+        (
+            &["swd", "load", "20000000", "empty", "--remote"],
+            b"swd: empty: it has no bytes: nothing to load or verify\n",
+        ),
+        (
+            &["swd", "verify", "0x2000000A", "empty", "--remote"],
+            b"swd: empty: it has no bytes: nothing to load or verify\n",
+        ),
         (
             &["swd", "load", "0", "nowhere", "--remote"],
             b"swd: cannot open nowhere: entity not found\n",

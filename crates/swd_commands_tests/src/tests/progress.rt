@@ -276,7 +276,7 @@ fn a_remote_run_says_how_far_it_is(rt: HostRuntime) {
             "traced",
             b"111",
             1,
-            b"swd: 0 of 4 accesses, 0 a second\nswd: the run ended early: lost\n\
+            b"swd: 0 of 4 accesses, 0 a second\nswd: the run ended early: lost, see --resume\n\
               swd: no reply to the first request, SWDIO read 1: is it driven, and the target connected and powered?\n",
             b"dcfQ",
         ),

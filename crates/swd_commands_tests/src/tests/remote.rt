@@ -7,7 +7,18 @@ use std::test::Fail;
 const LOST: &[u8] = b"end lost 0 begun 0\n";
 
 /// The lines where the target gave no reply.
-pub(super) const LOST_LINES: &[u8] = b"swd: the run ended early: lost\n\
+pub(super) const LOST_LINES: &[u8] = b"swd: the run ended early: lost, see --resume\n\
+    swd: no reply to the first request, SWDIO read 1: \
+    is it driven, and the target connected and powered?\n";
+
+/// The lines where it gave none to a command over the words at 20000000 and 20000004.
+pub(super) const LOST_IMAGE: &[u8] =
+    b"swd: the run ended early: lost at 20000000, 0 of 2 words done, see --resume\n\
+    swd: no reply to the first request, SWDIO read 1: \
+    is it driven, and the target connected and powered?\n";
+
+// The lines where it gave none to an info.
+const LOST_INFO: &[u8] = b"swd: the run ended early: lost\n\
     swd: no reply to the first request, SWDIO read 1: \
     is it driven, and the target connected and powered?\n";
 
@@ -43,18 +54,18 @@ fn a_lost_acknowledgement_is_no_fault_of_the_line(rt: HostRuntime) {
         (b"111", LOST_LINES),
         (
             b"000",
-            b"swd: the run ended early: lost\n\
+            b"swd: the run ended early: lost, see --resume\n\
                 swd: no reply to the first request, SWDIO read 0: is it driven, and the target connected and \
                 powered?\n",
         ),
         (
             b"101",
-            b"swd: the run ended early: lost\n\
+            b"swd: the run ended early: lost, see --resume\n\
                 swd: DPIDR was not read: the last answer was no acknowledgement, but the three bits 5\n",
         ),
         (
             b"110",
-            b"swd: the run ended early: lost\n\
+            b"swd: the run ended early: lost, see --resume\n\
                 swd: DPIDR was not read: the last answer was no acknowledgement, but the three bits 3\n",
         ),
     ];
@@ -96,7 +107,7 @@ fn a_session_says_how_far_it_came(rt: HostRuntime) -> Result<(), Fail> {
         ),
         (
             &[IDENTIFIED, b"111"],
-            b"swd: the run ended early: lost\n\
+            b"swd: the run ended early: lost, see --resume\n\
                 swd: DPIDR was read, 2ba01477; power was not requested yet: the last answer was no acknowledgement, \
                 but the three bits 7\n",
         ),
@@ -107,19 +118,19 @@ fn a_session_says_how_far_it_came(rt: HostRuntime) -> Result<(), Fail> {
         ),
         (
             &[IDENTIFIED, OK, NO_FLAGS, OK, OK, REQUESTED],
-            b"swd: the run ended early: tries\n\
+            b"swd: the run ended early: tries, see --tries\n\
                 swd: DPIDR was read, 2ba01477; power was requested and is not acknowledged: CTRL/STAT is 50000000\n",
         ),
         (
             &[IDENTIFIED, OK, NO_FLAGS, OK, OK, POWERED, b"111"],
-            b"swd: the run ended early: lost\n\
+            b"swd: the run ended early: lost, see --resume\n\
                 swd: DPIDR was read, 2ba01477; power is acknowledged; no access port answered: the last answer was \
                 no acknowledgement, but the three bits 7\n",
         ),
         // Once an access port answered, the report says the rest.
         (
             &[IDENTIFIED, OK, NO_FLAGS, OK, OK, POWERED, OK, b"111"],
-            b"swd: the run ended early: lost\n",
+            b"swd: the run ended early: lost, see --resume\n",
         ),
     ];
     for (levels, said) in rows {
@@ -365,10 +376,10 @@ fn an_info_identifies_the_target(rt: HostRuntime) -> Result<(), Fail> {
                 swd: system power is acknowledged, and debug power is not: CTRL/STAT is d0000000\n",
             1,
         ),
-        (&[b"111"], LOST_LINES, 1),
+        (&[b"111"], LOST_INFO, 1),
         (
             &[b"1"],
-            b"swd: the other end went away\nswd: DPIDR was not read: the last answer was none\n",
+            b"swd: the other end went away\nswd: DPIDR was not read: no request was answered\n",
             1,
         ),
     ];

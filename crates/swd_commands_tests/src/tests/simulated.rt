@@ -9,6 +9,10 @@ use std::io::{ErrorKind, Read};
 use swd_commands::run_words;
 use swd_console::{Clock, Console, Files, Identity, Opened};
 
+// What is said where 4 is added to the addresses of a load.
+const ADDED: &[u8] =
+    b"swd: image.hex has addresses of its own, to which ADDR, 00000004, is added\nswd: loaded ";
+
 // Five bytes from 20000002 on, and two from 20000011 on.
 const PIECES: &[u8] = b":020000042000DA\n:050002001122334455FA\n:02001100AABB88\n:00000001FF\n";
 
@@ -228,7 +232,7 @@ pub(super) fn run_at_by<C: Clock>(
 #[test]
 fn a_load_puts_the_image_into_the_file(rt: HostRuntime) {
     // The address, the image's name and bytes, the memory before and after, and the line on standard error.
-    let rows: [(&str, &str, &[u8], &[u8], &[u8], &[u8]); 9] = [
+    let rows: [(&str, &str, &[u8], &[u8], &[u8], &[u8]); 8] = [
         (
             "20000001",
             "image",
@@ -278,14 +282,6 @@ fn a_load_puts_the_image_into_the_file(rt: HostRuntime) {
             b"8 bytes at 20000000\n",
         ),
         (
-            "20000004",
-            "image",
-            b"",
-            b"abcdefgh",
-            b"abcdefgh",
-            b"0 bytes at 20000004\n",
-        ),
-        (
             "0",
             "image.hex",
             PIECES,
@@ -306,12 +302,23 @@ fn a_load_puts_the_image_into_the_file(rt: HostRuntime) {
         let words = ["swd", "load", addr, name, "--memory", "ram"];
         let ran = run_at(rt.alloc(), words.as_slice(), ram, image, b"");
         expect_eq_at(&rt, &words, &ran.written.text(), &after);
-        expect_at(&rt, &words, ran.errors.starts_with(b"swd: loaded "));
+        expect_at(
+            &rt,
+            &words,
+            ran.errors
+                .starts_with(if addr == "4" { ADDED } else { b"swd: loaded " }),
+        );
         expect_at(&rt, &words, ran.errors.ends_with(line));
         expect_eq_at(&rt, &words, &ran.cuts, &1);
         expect_at(&rt, &words, !ran.spoke);
         expect_eq_at(&rt, &words, &ran.status, &0);
     }
+    let words = ["swd", "load", "20000004", "image", "--memory", "ram"];
+    let ran = run_at(rt.alloc(), words.as_slice(), b"abcdefgh", b"", b"");
+    let errors = b"swd: image: it has no bytes: nothing to load or verify\n".as_slice();
+    expect_eq(&rt, &ran.errors.as_slice(), &errors);
+    expect_eq(&rt, &ran.cuts, &0);
+    expect_eq(&rt, &ran.status, &2);
 }
 
 // The memory begins at --base, of any form of an address; and a memory without bytes has no word.
@@ -347,14 +354,14 @@ fn a_memory_begins_at_its_base(rt: HostRuntime) {
                 "swd", "load", "20000000", "image", "--memory", "ram", "--base", "8000000",
             ],
             b"abcdefgh",
-            b"swd: ram has no word at 20000004: its words begin at 08000000, see --base\n\
+            b"swd: ram has no word at 20000004: its words begin at 08000000, see --base, or it is too short\n\
                 swd: bus error at 20000004\n",
             1,
         ),
         (
             &["swd", "load", "20000005", "image", "--memory", "ram"],
             b"abcdefgh",
-            b"swd: ram has no word at 20000008: its words begin at 20000000, see --base\n\
+            b"swd: ram has no word at 20000008: its words begin at 20000000, see --base, or it is too short\n\
                 swd: bus error at 20000008\n",
             1,
         ),
@@ -375,9 +382,10 @@ fn a_memory_begins_at_its_base(rt: HostRuntime) {
     }
     let words = ["swd", "load", "20000000", "image", "--memory", "ram"];
     let ran = run_at(rt.alloc(), words.as_slice(), b"", b"1234", b"");
-    let errors = b"swd: ram has no word at 20000000: its words begin at 20000000, see --base\n\
+    let errors =
+        b"swd: ram has no word at 20000000: its words begin at 20000000, see --base, or it is too short\n\
         swd: bus error at 20000000\n"
-        .as_slice();
+            .as_slice();
     expect_eq(&rt, &ran.errors.as_slice(), &errors);
     expect_eq(&rt, &ran.status, &1);
 }
@@ -399,7 +407,7 @@ fn a_plan_injects_faults(rt: HostRuntime) {
             "0",
             "0",
             b"abcdefgh",
-            b"swd: the run ended early: tries\n",
+            b"swd: the run ended early: tries at 20000000, 0 of 2 words done, see --tries\n",
             1,
         ),
         (
@@ -407,7 +415,7 @@ fn a_plan_injects_faults(rt: HostRuntime) {
             "8",
             "0",
             b"abcdefgh",
-            b"swd: the run ended early: lost\n",
+            b"swd: the run ended early: lost at 20000000, 0 of 2 words done, see --resume\n",
             1,
         ),
         (
@@ -423,7 +431,7 @@ fn a_plan_injects_faults(rt: HostRuntime) {
             "8",
             "0",
             b"1234efgh",
-            b"swd: the run ended early: lost\n",
+            b"swd: the run ended early: lost at 20000004, 1 of 2 words done, see --resume\n",
             1,
         ),
         (
@@ -447,7 +455,7 @@ fn a_plan_injects_faults(rt: HostRuntime) {
             "0",
             "0",
             b"abcdefgh",
-            b"swd: the run ended early: lost\n",
+            b"swd: the run ended early: lost at 20000000, 0 of 2 words done, see --resume\n",
             1,
         ),
     ];
@@ -507,7 +515,7 @@ fn a_verification_and_a_dump_only_read(rt: HostRuntime) {
             "20000007",
             "image",
             b"hi",
-            b"swd: locked has no word at 20000008: its words begin at 20000000, see --base\n\
+            b"swd: locked has no word at 20000008: its words begin at 20000000, see --base, or it is too short\n\
                 swd: bus error at 20000008\n",
             1,
         ),
@@ -558,7 +566,7 @@ fn a_verification_and_a_dump_only_read(rt: HostRuntime) {
             "20000006",
             "3",
             b"",
-            b"swd: locked has no word at 20000008: its words begin at 20000000, see --base\n\
+            b"swd: locked has no word at 20000008: its words begin at 20000000, see --base, or it is too short\n\
                 swd: bus error at 20000008\n",
             0,
             1,

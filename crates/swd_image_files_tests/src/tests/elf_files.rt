@@ -3,7 +3,7 @@
 use super::expect::{Pieces, expect_at, expect_eq_at, expect_pieces, said};
 use std::alloc::{AllocError, Global};
 use std::test::Fail;
-use swd_image_files::{ElfChoice, Format, read_elf, read_image_or_elf};
+use swd_image_files::{ElfChoice, Format, has_addresses, is_elf_name, read_elf, read_image_or_elf};
 
 /// The file that the tests change: 122 bytes.
 pub(super) const FILE: &[u8] = b"\x7fELF\x01\x01\x01\x00\x00\x00\x00\x00\x00\x00\x00\x00\
@@ -352,7 +352,96 @@ const CHOSEN: &[(&str, ElfChoice, Format, &[u8], Pieces)] = &[
 const REFUSED: &[(ElfChoice, Format)] = &[
     (ElfChoice::Always, Format::IntelHex),
     (ElfChoice::Never, Format::SRecord),
+    (ElfChoice::Auto, Format::SRecord),
 ];
+
+// What a file without an extension begins with, and its pieces.
+const BEGUN: &[(&str, &[u8], Pieces)] = &[
+    ("a record of HEX", HEX, &[(0, b"\xaa")]),
+    (
+        "one in lower case, with a carriage return",
+        b":01000000aa55\r\n:00000001ff\r\n",
+        &[(0, b"\xaa")],
+    ),
+    ("the end of a HEX file", b":00000001FF\n", &[]),
+    (
+        "an S0 record",
+        b"S0030000FC\nS104000001FA\nS9030000FC\n",
+        &[(0, b"\x01")],
+    ),
+    (
+        "an S1 record",
+        b"S104000001FA\nS9030000FC\n",
+        &[(0, b"\x01")],
+    ),
+    (
+        "a wrong checksum",
+        b":0000000100\n",
+        &[(0, b":0000000100\n")],
+    ),
+    ("another length", b":01000001FF\n", &[(0, b":01000001FF\n")]),
+    ("a space", b" :00000001FF\n", &[(0, b" :00000001FF\n")]),
+    ("no digit", b"S9030000FC \n", &[(0, b"S9030000FC \n")]),
+    ("a colon", b":", &[(0, b":")]),
+    ("an S", b"S", &[(0, b"S")]),
+    ("no byte", b"", &[]),
+    (
+        "a line feed",
+        b"\n:00000001FF\n",
+        &[(0, b"\n:00000001FF\n")],
+    ),
+];
+
+// A binary by its name is what its first line says, unless `Never` takes its bytes.
+#[test]
+fn a_file_without_an_extension_is_what_it_begins_with(rt: HostRuntime) {
+    for (name, file, wanted) in BEGUN {
+        let read = read_image_or_elf(rt.alloc(), ElfChoice::Auto, Format::Binary, file, 0);
+        expect_pieces(&rt, name, &read, wanted);
+    }
+    let read = read_image_or_elf(rt.alloc(), ElfChoice::Never, Format::Binary, HEX, 0);
+    expect_pieces(&rt, &"never", &read, &[(0, HEX)]);
+}
+
+// Whether a file has addresses of its own.
+const ADDRESSED: &[(ElfChoice, Format, &[u8], bool)] = &[
+    (ElfChoice::Auto, Format::Binary, FILE, true),
+    (ElfChoice::Auto, Format::Binary, HEX, true),
+    (ElfChoice::Auto, Format::Binary, b"bytes", false),
+    (ElfChoice::Auto, Format::IntelHex, b"bytes", true),
+    (ElfChoice::Auto, Format::SRecord, HEX, true),
+    (ElfChoice::Always, Format::Binary, b"bytes", true),
+    (ElfChoice::Never, Format::Binary, FILE, false),
+    (ElfChoice::Never, Format::Binary, HEX, false),
+    (ElfChoice::Never, Format::IntelHex, b"bytes", true),
+    (ElfChoice::Never, Format::SRecord, b"bytes", true),
+];
+
+#[test]
+fn elf_and_records_have_addresses_of_their_own(rt: HostRuntime) {
+    for (elf, format, file, wanted) in ADDRESSED {
+        let found = has_addresses(*elf, *format, file);
+        expect_eq_at(&rt, &(elf, format), &found, wanted);
+    }
+}
+
+const NAMES: &[(&str, bool)] = &[
+    ("a.elf", true),
+    ("a.ELF", true),
+    ("b.axf", true),
+    (".elf", true),
+    ("elf", false),
+    ("a.elf.bin", false),
+    ("a.hex", false),
+    ("", false),
+];
+
+#[test]
+fn names_of_elf_files_are_known(rt: HostRuntime) {
+    for (name, wanted) in NAMES {
+        expect_eq_at(&rt, name, &is_elf_name(name), wanted);
+    }
+}
 
 // With `Auto` the content decides, with `Always` and `Never` it doesn't.
 #[test]

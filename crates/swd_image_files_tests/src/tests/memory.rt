@@ -2,14 +2,19 @@
 use super::elf_files;
 use super::expect::{expect_eq, expect_eq_at};
 use linked_list_allocator::LocalHeap;
+use std::alloc::{AllocError, Global};
 use std::test::Fail;
-use swd_image_files::{ElfChoice, Format, ImageFileFault, LineFlaw, read_image, read_image_or_elf};
+use swd_image_files::{
+    ElfChoice, Format, ImageFileFault, LineFlaw, read_elf, read_image, read_image_or_elf,
+};
 
 const FILE: &[u8] = b":01000000AA55\n:02000400CCDD51\n:01000100BB43\n:00000001FF\n";
 
+const BINARY: &[u8] = b" 01000000AA55\n:02000400CCDD51\n:01000100BB43\n:00000001FF\n";
+
 // A file, and how many bytes its image has.
 const FILES: &[(&str, Format, &[u8], usize)] = &[
-    ("bin", Format::Binary, FILE, 56),
+    ("bin", Format::Binary, BINARY, 56),
     ("hex", Format::IntelHex, FILE, 4),
     (
         "srec",
@@ -40,6 +45,35 @@ fn memory_ends_while_a_file_is_read(rt: HostRuntime) -> Result<(), Fail> {
         }
     }
     expect_eq(&rt, &(counts.0 > 20, counts.1 > 20), &(true, true));
+    Ok(())
+}
+
+// 256 program headers of the same 8,192 bytes, at the same address.
+fn crowded(alloc: Global) -> Result<Vec<u8, Global>, AllocError> {
+    let mut file = Vec::from_slice(alloc, &elf_files::FILE[..44])?;
+    file.extend_from_slice(b"\x00\x01")?;
+    file.extend_from_slice(&elf_files::FILE[46..52])?;
+    for _ in 0..256 {
+        file.extend_from_slice(
+            b"\x01\x00\x00\x00\x00\x00\x00\x00\x00\x00\x00\x08\x00\x00\x00\x08",
+        )?;
+        file.extend_from_slice(
+            b"\x00\x20\x00\x00\x00\x20\x00\x00\x05\x00\x00\x00\x04\x00\x00\x00",
+        )?;
+    }
+    Ok(file)
+}
+
+// A copy of each segment would take 2 MiB.
+#[test]
+fn segments_are_compared_before_they_are_copied(rt: HostRuntime) -> Result<(), Fail> {
+    let file = crowded(rt.alloc())?;
+    let heap = LocalHeap::new(rt.alloc(), 1 << 16)?;
+    let wanted = ImageFileFault::Overlap { addr: 0x0800_0000 };
+    match read_elf(&heap, &file, 0) {
+        Ok(_) => expect_eq(&rt, &"read", &"refused"),
+        Err(fault) => expect_eq(&rt, &fault, &wanted),
+    }
     Ok(())
 }
 

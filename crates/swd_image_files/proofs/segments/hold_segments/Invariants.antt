@@ -1,13 +1,13 @@
 use Rattle.std.proofs.Common.{◌≡◌, ◌*◌, ◌-◌, ◌≤◌, length}
 use Rattle.swd_image_files.specs.Elf.{elf_contents, elf_program_headers, elf_with_segments}
 use Rattle.swd_image_files.specs.Images.{ImageFileContents}
-use Rattle.swd_image_files.specs.Readings.{ImageFileHolds}
+use Rattle.swd_image_files.specs.Readings.{IsImageFileHeld}
 use Rattle.swd_image_files.proofs.segments.hold_segments.Given as goal
 
 abbrev pub invariant-loop-number : goal.invariant-loop-number
 invariant-loop-number g l = record {
   image : ImageFileContents;
-  holds : ImageFileHolds image l.held;
+  holds : IsImageFileHeld l.kept image l.held;
   some : l.number ≤ l.table.count;
   within : 32 * (l.table.count - l.number) ≤ length l.rest;
   meaning : elf_contents l.base l.bytes

@@ -11,7 +11,7 @@ returns-clause-ok g c = λ old holds.
     let loaded : is_elf_loaded header ≡ true =
     sym c.is_loaded.ensures ∙ c.if-not-is_loaded.false in (
       image_file_add_data old (c.args.base + header.p_paddr) part,
-      c.add.ensures old holds,
+      c.add_kept.ensures old holds,
       elf_loaded_step c.args.bytes.now c.args.base c.args.number header old part loaded (omega arith) (omega arith)
           c.between.ensures,
     )
