@@ -20,6 +20,7 @@ class Said:
     answers: dict[int, str] = field(default_factory=dict)  # written, busfault or a word
     attempts: list[tuple[int, int]] = field(default_factory=list)  # the accesses answered so far, and how many more were begun
     ended: Optional[str] = None
+    misplaced: bool = False  # a line is of another access, or counts the answers wrong
 
     def begun(self) -> Counter[int]:
         """How often each access was begun without an answer."""
@@ -27,19 +28,23 @@ class Said:
 
 
 def said_of(report: str, calls: list[list[Access]]) -> Said:
-    said, base, call, answered = Said(), 0, 0, 0
+    said, base, rest, answered = Said(), 0, [*calls], 0
     for line in report.splitlines():
         match line.split():
-            case ["r" | "w", _, answer]:
+            case ["r" | "w" as kind, addr, answer]:
+                access = rest[0][answered]
+                said.misplaced |= (kind == "r", int(addr, 16)) != (access.read, access.addr)
                 said.answers[base + answered] = answer
                 answered += 1
             case ["resume", first, "begun", count]:
-                said.attempts.append((base + int(first), int(count)))
-            case ["end", kind, *counts]:
-                begun = int(counts[-1]) if "begun" in counts else 0
+                said.misplaced |= int(first) != answered
+                said.attempts.append((base + answered, int(count)))
+            case ["end", kind, *numbers]:
+                begun = int(numbers[2]) if "begun" in numbers else 0
+                said.misplaced |= kind != "id" and int(numbers[0]) != answered
                 said.attempts.append((base + answered, begun))
                 said.ended = kind
-                base, call, answered = base + len(calls[call]), call + 1, 0
+                base, answered = base + len(rest.pop(0)), 0
             case _:
                 raise ValueError(f"no line of a report: {line}")
     return said
@@ -64,7 +69,8 @@ def is_told(accesses: list[Access], said: Said, effects: list[Effect]) -> bool:
             for more in range(begun + 1):
                 wanted = range(first, answered + more)
                 found = effects[place : place + len(wanted)]
-                if len(found) == len(wanted) and all(is_of(it, accesses[at], said.answers.get(at)) for it, at in zip(found, wanted)):
+                told = (is_of(it, accesses[at], said.answers.get(at)) for it, at in zip(found, wanted))
+                if len(found) == len(wanted) and all(told):
                     after.add(place + len(wanted))
         places, first = after, answered
     return len(effects) in places
@@ -74,11 +80,11 @@ def wrong_write(access: Access, answer: Optional[str], begun: int, effects: list
     """What is wrong of a write that was begun so often without an answer."""
     mine = [it for it in effects if not it.read and it.word == access.word]
     done = sum(it.done and it.addr == access.addr for it in mine)
-    if any(it.done and it.addr != access.addr for it in mine):
+    if any(it.addr != access.addr for it in mine):
         yield "elsewhere"
     if answer == "written" and not done:
         yield "never"
-    if answer == "busfault" and (done > begun or all(it.done for it in mine)):
+    if answer == "busfault" and (done > begun or all(it.done or it.addr != access.addr for it in mine)):
         yield "no bus error"
     if answer is None and mine and not begun:
         yield "not begun"
@@ -108,6 +114,8 @@ def wrongs(calls: list[list[Access]], report: str, effects: list[Effect]) -> lis
             found.update(wrong_write(access, said.answers.get(place), begun[place], effects))
     if not found and not is_told(accesses, said, effects):
         found.add("order")
+    if said.misplaced:
+        found.add("line")
     if said.ended in ("confused", "id"):
         found.add("confused")
     return sorted(found)
@@ -134,6 +142,7 @@ TRIALS = (
     ("bus error", RIGHT.replace("8 written", "8 busfault"), "0=1 4=2 8=3! 0", ""),
     ("bus error that was none", RIGHT.replace("8 written", "8 busfault"), "0=1 4=2 8=3 0", "no bus error"),
     ("bus error that never came", RIGHT.replace("8 written", "8 busfault"), "0=1 4=2 0", "no bus error"),
+    ("bus error elsewhere", RIGHT.replace("8 written", "8 busfault"), "0=1 4=2 c=3! 0", "elsewhere no bus error"),
     ("read that is no bus error", RIGHT.replace(" 00000001", " busfault"), "0=1 4=2 8=3 0", "order"),
     ("begun 0", LOST + " 0", "0=1", ""),
     ("not begun", LOST + " 0", "0=1 4=2", "not begun"),
@@ -147,6 +156,8 @@ TRIALS = (
     ("resumed, made three times", "w 20000000 written|resume 1 begun 1|" + RIGHT[19:], "0=1 4=2 4=2 4=2 8=3 0", "twice"),
     ("resumed, another made twice", "w 20000000 written|resume 1 begun 1|" + RIGHT[19:], "0=1 0=1 4=2 8=3 0", "twice"),
     ("resumed, late", "w 20000000 written|resume 1 begun 1|" + RIGHT[19:], "0=1 4=2 8=3 4=2 0", "order"),
+    ("a line of another access", RIGHT.replace("w 20000004", "w 20000008"), "0=1 4=2 8=3 0", "line"),
+    ("a count of answers", LOST.replace("1", "2") + " 0", "0=1", "line"),
     ("confused", "w 20000000 written|end confused 1 begun 0", "0=1", "confused"),
 )
 BASE = 0x20000000
