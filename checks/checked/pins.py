@@ -1,7 +1,10 @@
 """A server of remote_bitbang for serial wire, with a target of target.py behind the pins.
 
 `Pins(target, waits).serve(read, write)` answers what `read()` returns, bytes at a time, by `write(bytes)`, up to `Q` or the end.
+`serve_run(run)` does so at the standard streams of a program.
 """
+import os
+
 RESET = 50
 SPOKEN = {"ok": 1, "wait": 2, "fault": 4}
 
@@ -110,3 +113,18 @@ class Pins:
                     write(bytes(out))
                     return
             write(bytes(out))
+
+    def serve_run(self, run):
+        """Serves a program with pipes as its standard streams: its status and its standard error, once it has ended."""
+        def write(levels):
+            if levels:
+                run.stdin.write(levels)
+                run.stdin.flush()
+
+        try:
+            self.serve(lambda: os.read(run.stdout.fileno(), 1 << 16), write)
+        except BrokenPipeError:
+            pass
+        run.stdin.close()
+        said = run.stderr.read().decode()
+        return run.wait(), said
