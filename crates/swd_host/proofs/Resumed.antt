@@ -32,7 +32,8 @@ resumed_limit kind = grind arith
 
 -- THE REPORT
 module _ (kind : Bursts) (list : List Access) (tries : ℕ) (earlier : HostReport) (e f : Engine) (before : List Answer)
-    (s t : Port) (small : tries < 2 ^ 32) (new : EngineIsNew (resumed_bursts kind) true tries e) (ok : AreHostAccesses list)
+    (s t : Port) (small : tries < 2 ^ 32) (new : EngineIsNew (resumed_bursts kind) true tries e)
+    (ok : AreHostAccesses list)
     (reported : length earlier.answers ≤ length list) (known : HostKnowsTarget s.target)
     (goes : EngineGoesWithPort e s f t) (due : EngineDueFits f t) (kept : before ≡ earlier.answers) where
   odd : t.target.identification % 2 ≡ 1
@@ -68,7 +69,8 @@ module _ (kind : Bursts) (list : List Access) (tries : ℕ) (earlier : HostRepor
     stop_most = elim stop.paid [
       | inl p ↦
           (let lost : f.state ≡ Resting (Stopped Lost) = at ∙ ap (λ x. Resting (Stopped x)) p.0 in
-          let few = opening_lost (resumed_bursts kind) true tries e f s t small new goes (opening_counts_at s) s first lost in
+          let few = opening_lost (resumed_bursts kind) true tries e f s t small new goes (opening_counts_at s) s first
+          lost in
           omega (arith, few, p.1))
       | inr p ↦ omega (arith, p, opening_spends (resumed_bursts kind) true tries e f s t small new goes, same_tries)
     ]
@@ -154,7 +156,9 @@ module _ (kind : Bursts) (list : List Access) (tries : ℕ) (earlier : HostRepor
       goes = λ now may. record { before = opened.memory; comes = opened.comes; fits = done_fits now may };
       ends = done_ends;
       stops_only = stops_only end tries s u done_ends;
-      counted = (let h = opening_asked (resumed_bursts kind) true tries e f s t small new goes in omega (arith, h, does.asked));
+      counted =
+          let h = opening_asked (resumed_bursts kind) true tries e f s t small new goes in
+          omega (arith, h, does.asked);
       most = done_most;
     }
 

@@ -155,8 +155,8 @@ impl Engine {
         Engine::resuming(Bursts::Writes, tries)
     }
 
-    /// Creates an engine that resumes after a lost acknowledgement, at the start of a new opening. It performs writes in
-    /// bursts with `Bursts::Writes`, and else no accesses.
+    /// Creates an engine that resumes after a lost acknowledgement, at the start of a new opening. It performs writes
+    /// in bursts with `Bursts::Writes`, and else no accesses.
     ///
     /// Its line reset has 100 ones, of which the first 34 are undriven. In them a data phase that the target may be in
     /// can pass (IHI 0031, B4, protocol error response). A transfer that was left pending may turn out to be a bus
@@ -175,7 +175,8 @@ impl Engine {
         engine
     }
 
-    /// Creates an engine that resumes the run of this one, as [`resuming`](Engine::resuming) does with its kind of bursts.
+    /// Creates an engine that resumes the run of this one, as [`resuming`](Engine::resuming) does with its kind of
+    /// bursts.
     pub fn resumed(&self, tries: u32) -> Engine
         ensures again { EngineIsNew (resumed_bursts (engine_bursts self.now)) true tries result }
         ensures open { engine_open_requests result ≤ 9 + 5 * (tries + 2) }

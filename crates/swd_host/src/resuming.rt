@@ -57,7 +57,14 @@ pub fn resume<W: Wire, A: Allocator>(
     let Some(mut answers) = copy_answers(alloc, &report.answers, accesses.len()) else {
         return Err(Refused::Memory);
     };
-    let ending = resume_to(wire, accesses, report.ending(), Bursts::Writes, tries, &mut answers);
+    let ending = resume_to(
+        wire,
+        accesses,
+        report.ending(),
+        Bursts::Writes,
+        tries,
+        &mut answers,
+    );
     Ok(ending.with(answers))
 }
 

@@ -1,6 +1,6 @@
 -- What an image file means, or its first error.
-use Rattle.std.specs.Prelude.{◌≡◌, ℕ, ◌+◌, ◌^◌, nat_le, Bool, true, false, ◌||◌, List, [], ◌∷◌, length, take, Result, Ok}
-use Rattle.std.specs.Prelude.{Err, IsOk, is_ok, if◌then◌else◌}
+use Rattle.std.specs.Prelude.{◌≡◌, ℕ, ◌+◌, ◌^◌, nat_le, Bool, true, false, ◌||◌, List, [], ◌∷◌, length, take}
+use Rattle.std.specs.Prelude.{Result, Ok, Err, IsOk, is_ok, if◌then◌else◌}
 use Rattle.swd_image_files.specs.declared.fault.ImageFileFault.{ImageFileFault}
 use Rattle.swd_image_files.specs.declared.fault.ImageFileFault.TheVariants.{Line, NoEnd, Range, Elf, Overlap, Memory}
 use Rattle.swd_image_files.specs.declared.elf.ElfChoice.{ElfChoice}

@@ -7,7 +7,7 @@ pub struct Limits {
     pub tries: u32,
     /// How often the call is resumed at most, each time after a lost acknowledgement.
     pub resumes: u32,
-    /// Whether writes next to each other are sent in a burst, each confirmed by the request of the next one. Otherwise a
-    /// read of RDBUFF confirms each: one request more for a write, and true of a debug port with a write buffer, too.
+    /// Whether writes next to each other are sent in a burst, each confirmed by the request of the next one. Otherwise
+    /// a read of RDBUFF confirms each: one request more for a write, as a debug port with a write buffer needs it.
     pub bursts: bool,
 }

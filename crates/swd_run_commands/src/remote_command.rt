@@ -318,7 +318,8 @@ fn remote_streams<'a, T: KeepsError>(
 }
 
 // What is said of a run with bursts that ended as one at a debug port with a write buffer does.
-const BUFFERED: &str = "a debug port with a write buffer ends so with --bursts, and its report may be false";
+const BUFFERED: &str =
+    "a debug port with a write buffer ends so with --bursts, and its report may be false";
 
 // Prints how a run ended that ended early.
 fn tell_early<E: Write>(errors: &mut E, bursts: bool, answer: &Result<Finished, EngineFault>) {

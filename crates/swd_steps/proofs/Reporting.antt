@@ -244,15 +244,15 @@ does_after list o f before answers end s t h = record {
 }
 
 resumes_by : (kind : Bursts) (tries : ℕ) (accesses : List Access) (calls : List Call) (e : Engine)
-    (answers : List Answer) (end : End) (earlier : HostReport) (story : ℕ → Port) (past : List Call) → tries < 2 ^ 32 → AreHostAccesses accesses
-    → length earlier.answers ≤ length accesses
+    (answers : List Answer) (end : End) (earlier : HostReport) (story : ℕ → Port) (past : List Call) → tries < 2 ^ 32
+    → AreHostAccesses accesses → length earlier.answers ≤ length accesses
     → SteppedAtEnd story past (stepped_again kind (length earlier.answers) tries) (drop (length earlier.answers)
     accesses) calls e answers end
     → FitsStory story (calls ++ past) → HostKnowsTarget (port_at story past).target
     → ResumeFits accesses tries earlier (resume_report (engine_report (earlier.answers ++ answers) e end) earlier)
     (port_at story past) (port_at story (calls ++ past))
-resumes_by kind tries accesses calls e answers end earlier story past small ok reported (never_opened h at none) fits known
-    =
+resumes_by kind tries accesses calls e answers end earlier story past small ok reported (never_opened h at none) fits
+    known =
     resume_stops kind accesses tries earlier h.first e (earlier.answers ++ answers) (port_at story past)
     (port_at story (calls ++ past)) small h.new ok reported known (h.went.goes fits).1 h.went.due
     (ap (λ l. earlier.answers ++ l) none ∙ append-nil earlier.answers) end at

@@ -11,8 +11,8 @@ use crate::fault::LineFault;
 use crate::format_words::{READ_FORMAT, WRITTEN_FORMAT, format_form, formats_in};
 use crate::memory_words::{BASE, MEMORY, target_in};
 use crate::words::{
-    BURSTS, PLAN, PROGRESS, REMOTE, RESUME, SESSION, TRIES, invalid, is_asked_for, numbers_in, owned,
-    refused, unknown, why_unchecked, why_unpaced,
+    BURSTS, PLAN, PROGRESS, REMOTE, RESUME, SESSION, TRIES, invalid, is_asked_for, numbers_in,
+    owned, refused, unknown, why_unchecked, why_unpaced,
 };
 use clap::ArgMatches;
 use clap::error::ErrorKind;

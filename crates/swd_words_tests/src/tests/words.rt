@@ -45,7 +45,11 @@ fn image_shown(alloc: Global, image: &ImageLine) -> Result<String, AllocError> {
             memory.base,
             named(&memory.plan)
         ),
-        None => format!(in alloc; "{verb} {count} {}{}", image.check, bursts_shown(image.bursts)),
+        None => format!(in alloc;
+            "{verb} {count} {}{}",
+            image.check,
+            bursts_shown(image.bursts)
+        ),
     }
 }
 

@@ -24,7 +24,8 @@ returns-in-Err-clause-continues g c =
     (c.since.ensures before before (omega arith) ∙ ap (λ x. resume_report x earlier) (c.ending.ensures before))
     (sym (append-nil before))
     (opening_closes (resumed_bursts c.args.bursts) true c.args.tries c.resuming-engine.result c.open.new.engine
-    c.ranges.tries.fits c.resuming-engine.ensures.again c.open.ensures.works _ c.in-Err.end _ c.in-Err.ensures.finished c.open.ensures.due)
+    c.ranges.tries.fits c.resuming-engine.ensures.again c.open.ensures.works _ c.in-Err.end _
+    c.in-Err.ensures.finished c.open.ensures.due)
 
 pub returns-clause-continues : goal.returns-clause-continues
 returns-clause-continues g c =
@@ -46,7 +47,8 @@ returns-clause-continues g c =
     ∙ ap (λ x. resume_report x earlier) (c.ending-2.ensures after))
     p.added
     (list_closes (resumed_bursts c.args.bursts) true c.args.tries c.resuming-engine.result c.open.new.engine
-    c.ranges.tries.fits c.resuming-engine.ensures.again c.open.ensures.works rest c.perform-ended.new.engine c.perform-ended.result _
+    c.ranges.tries.fits c.resuming-engine.ensures.again c.open.ensures.works rest c.perform-ended.new.engine
+    c.perform-ended.result _
     before after p)
 
 pub returns-in-Err-clause-fits : goal.returns-in-Err-clause-fits
@@ -58,8 +60,8 @@ returns-in-Err-clause-fits g c = λ lawful.
       λ known.
           resumed_equal_report c.args.accesses.now c.args.tries earlier _ _ _ _
           (c.since.ensures before before (omega arith) ∙ ap (λ x. resume_report x earlier) (c.ending.ensures before))
-          (resume_stops c.args.bursts c.args.accesses.now c.args.tries earlier c.resuming-engine.result c.open.new.engine
-          before (g.W.Wire.port c.args.wire.now) (g.W.Wire.port c.open.new.wire) c.ranges.tries.fits
+          (resume_stops c.args.bursts c.args.accesses.now c.args.tries earlier c.resuming-engine.result
+          c.open.new.engine before (g.W.Wire.port c.args.wire.now) (g.W.Wire.port c.open.new.wire) c.ranges.tries.fits
           c.resuming-engine.ensures.again c.requires.accepted.1 c.requires.reported known opened.1 c.open.ensures.due
           refl c.in-Err.end c.in-Err.ensures.finished),
     )
@@ -76,8 +78,8 @@ returns-clause-fits g c = λ lawful.
           resumed_equal_report c.args.accesses.now c.args.tries earlier _ _ _ _
           (c.since-2.ensures before after (omega (arith, c.count.ensures, c.count-answered.ensures))
           ∙ ap (λ x. resume_report x earlier) (c.ending-2.ensures after))
-          (resume_performs c.args.bursts c.args.accesses.now c.args.tries earlier c.resuming-engine.result c.open.new.engine
-          before (g.W.Wire.port c.args.wire.now) (g.W.Wire.port c.open.new.wire) c.ranges.tries.fits
+          (resume_performs c.args.bursts c.args.accesses.now c.args.tries earlier c.resuming-engine.result
+          c.open.new.engine before (g.W.Wire.port c.args.wire.now) (g.W.Wire.port c.open.new.wire) c.ranges.tries.fits
           c.resuming-engine.ensures.again c.requires.accepted.1 c.requires.reported known opened.1 c.open.ensures.due
           refl c.perform-ended.result c.perform-ended.new.engine
           after (g.W.Wire.port c.perform-ended.new.wire) c.in_default.ensures.finished
@@ -100,7 +102,8 @@ returns-in-Err-clause-told g c =
     (resumed_requests_small c.args.accesses.now c.args.tries earlier _ _ c.requires.accepted.0 c.ranges.tries.fits
     (returns-in-Err-clause-continues g c))
     (opening_stop_sent (drop (length before) c.args.accesses.now) (resumed_bursts c.args.bursts) true c.args.tries
-    c.resuming-engine.result c.open.new.engine c.in-Err.end calls c.resuming-engine.ensures.again turns c.in-Err.ensures.finished))
+    c.resuming-engine.result c.open.new.engine c.in-Err.end calls c.resuming-engine.ensures.again turns
+    c.in-Err.ensures.finished))
     c.open.ensures.made
 
 pub returns-clause-told : goal.returns-clause-told
