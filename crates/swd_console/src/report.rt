@@ -25,14 +25,21 @@ pub const FAULT: u8 = 2;
 /// signal 13.
 pub const CLOSED: u8 = 128 + 13;
 
-/// A name, displayed on one line: control characters are escaped.
+// Returns whether a character isn't shown, or changes how others are: a control character, or one that formats text, as
+// those that turn its direction.
+fn is_unshown(c: char) -> bool {
+    c.is_control()
+        || matches!(c as u32, 0x061c | 0x200b..=0x200f | 0x2028..=0x202e | 0x2060..=0x206f | 0xfeff)
+}
+
+/// A name, displayed on one line: characters that aren't shown are escaped.
 #[derive(Drop)]
 pub struct Escaped<'a>(pub &'a str);
 
 impl Display for Escaped<'_> {
     fn fmt<W: fmt::Write>(&self, f: &mut Formatter<W>) -> fmt::Result {
         for c in self.0.chars() {
-            if c.is_control() {
+            if is_unshown(c) {
                 write!(f, "{}", c.escape_default())?;
             } else {
                 write!(f, "{c}")?;

@@ -101,7 +101,7 @@ impl Display for Came<'_> {
         if let Some(addr) = next {
             write!(f, "at {addr:08x}, ")?;
         }
-        write!(f, "{} of {words} words done", self.done)
+        write!(f, "{} of {words} words certainly done", self.done)
     }
 }
 

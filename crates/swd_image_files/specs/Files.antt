@@ -70,12 +70,12 @@ image_format_of_line line =
     (if is_ok (image_file_record_bytes Motorola line) then SRecord else Binary)
 
 -- the first line of a file
-abbrev pub image_file_first_line : List ℕ → List ℕ
-image_file_first_line bytes = image_file_without_return (take (image_file_line_len bytes) bytes)
+abbrev pub image_file_head_line : List ℕ → List ℕ
+image_file_head_line bytes = image_file_without_return (take (image_file_line_len bytes) bytes)
 
 -- the format of a file that isn't ELF: one that is a binary by its name may begin with a record
 abbrev pub image_format_begun : Format → List ℕ → Format
-image_format_begun Binary bytes = image_format_of_line (image_file_first_line bytes)
+image_format_begun Binary bytes = image_format_of_line (image_file_head_line bytes)
 image_format_begun IntelHex bytes = IntelHex
 image_format_begun SRecord bytes = SRecord
 

@@ -1,6 +1,6 @@
 //! The format of a file by its content.
 ghost use Rattle.std.specs.Prelude.{◌≡◌, position};
-ghost use Rattle.swd_image_files.specs.Files.{has_image_file_addresses, image_file_first_line as first_line_in};
+ghost use Rattle.swd_image_files.specs.Files.{has_image_file_addresses, image_file_head_line as first_line_in};
 ghost use Rattle.swd_image_files.specs.Files.{image_format_begun, image_format_of_line, is_addressed_format};
 ghost use Rattle.swd_image_files.specs.Lines.{is_image_file_feed, image_file_line_len as line_len_in};
 ghost use Rattle.swd_image_files.specs.Lines.{image_file_without_return as without_return_in};

@@ -11,7 +11,7 @@ fn a_report_has_the_lines_of_each_call(rt: HostRuntime) {
     let verify = ["swd", "verify", "20000000", "image", "--memory", "ram"];
     let loaded = b"swd: loaded 8 bytes at 20000000\n".as_slice();
     let lost =
-        b"swd: the run ended early: lost at 20000000, 0 of 2 words done, see --resume\n".as_slice();
+        b"swd: the run ended early: lost at 20000000, 0 of 2 words certainly done, see --resume\n".as_slice();
     let differs = b"swd: 20000000 has 61, not 31\n".as_slice();
     let resumed =
         b"resume 0 begun 1\nw 20000000 written\nw 20000004 written\nend all 2\n".as_slice();

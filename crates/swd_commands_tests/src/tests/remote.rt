@@ -13,7 +13,7 @@ pub(super) const LOST_LINES: &[u8] = b"swd: the run ended early: lost, see --res
 
 /// The lines where it gave none to a command over the words at 20000000 and 20000004.
 pub(super) const LOST_IMAGE: &[u8] =
-    b"swd: the run ended early: lost at 20000000, 0 of 2 words done, see --resume\n\
+    b"swd: the run ended early: lost at 20000000, 0 of 2 words certainly done, see --resume\n\
     swd: no reply to the first request, SWDIO read 1: \
     is it driven, and the target connected and powered?\n";
 

@@ -313,8 +313,8 @@ fn a_load_puts_the_image_into_the_file(rt: HostRuntime) {
         expect_at(&rt, &words, !ran.spoke);
         expect_eq_at(&rt, &words, &ran.status, &0);
     }
-    let words = ["swd", "load", "20000004", "image", "--memory", "ram"];
-    let ran = run_at(rt.alloc(), words.as_slice(), b"abcdefgh", b"", b"");
+    let words: &[&str] = &["swd", "load", "20000004", "image", "--memory", "ram"];
+    let ran = run_at(rt.alloc(), words, b"abcdefgh", b"", b"");
     let errors = b"swd: image: it has no bytes: nothing to load or verify\n".as_slice();
     expect_eq(&rt, &ran.errors.as_slice(), &errors);
     expect_eq(&rt, &ran.cuts, &0);
@@ -407,7 +407,7 @@ fn a_plan_injects_faults(rt: HostRuntime) {
             "0",
             "0",
             b"abcdefgh",
-            b"swd: the run ended early: tries at 20000000, 0 of 2 words done, see --tries\n",
+            b"swd: the run ended early: tries at 20000000, 0 of 2 words certainly done, see --tries\n",
             1,
         ),
         (
@@ -415,7 +415,7 @@ fn a_plan_injects_faults(rt: HostRuntime) {
             "8",
             "0",
             b"abcdefgh",
-            b"swd: the run ended early: lost at 20000000, 0 of 2 words done, see --resume\n",
+            b"swd: the run ended early: lost at 20000000, 0 of 2 words certainly done, see --resume\n",
             1,
         ),
         (
@@ -431,7 +431,7 @@ fn a_plan_injects_faults(rt: HostRuntime) {
             "8",
             "0",
             b"1234efgh",
-            b"swd: the run ended early: lost at 20000004, 1 of 2 words done, see --resume\n",
+            b"swd: the run ended early: lost at 20000000, 0 of 2 words certainly done, see --resume\n",
             1,
         ),
         (
@@ -455,7 +455,7 @@ fn a_plan_injects_faults(rt: HostRuntime) {
             "0",
             "0",
             b"abcdefgh",
-            b"swd: the run ended early: lost at 20000000, 0 of 2 words done, see --resume\n",
+            b"swd: the run ended early: lost at 20000000, 0 of 2 words certainly done, see --resume\n",
             1,
         ),
     ];
