@@ -104,9 +104,9 @@ def _library() -> Optional[bytes]:
         with open(path, "rb") as opened:
             return opened.read()
     if named is None and not _is_in_the_system():
-        raise FileNotFoundError(
-            "no libswd_c.so: run ./swd --library in the repository of swd, which makes it in about a minute, and name it by "
-            "SWD_LIBRARY; where that is empty, the package is installed without one"
+        raise SystemExit(
+            "swd: no libswd_c.so: run ./swd --library in the repository of swd, which makes it in about a minute, and name "
+            "it by SWD_LIBRARY; where that is empty, the package is installed without one"
         )
     return None
 

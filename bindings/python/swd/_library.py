@@ -102,10 +102,10 @@ _run = ctypes.POINTER(RunStruct)
 # The result and the arguments of each function. Where the second is None, the arguments are passed as objects of ctypes:
 # to convert others would take longer than the call, and these are called at each cue or list.
 _FUNCTIONS: Dict[str, Tuple[Any, Optional[Tuple[Any, ...]]]] = {
-    "swd_version": (_u32, ()),
     "swd_layout": (None, (ctypes.c_void_p,)),
     "swd_run_layout": (None, (ctypes.c_void_p,)),
     "swd_check_layout": (None, (ctypes.c_void_p,)),
+    "swd_version": (_u32, ()),
     "swd_run_new": (None, (_run, _u32)),
     "swd_run_blocks": (None, (_run, _u32)),
     "swd_run_opened": (CueStruct, None),
