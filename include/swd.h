@@ -43,7 +43,12 @@ extern "C" {
 #define SWD_VERSION_NUMBER 0x000100
 
 /*
- * Returns SWD_VERSION_NUMBER of the library that is linked.
+ * Set in swd_version() of a library that `./swd --library` compiled without a proof. Clear in a proved one.
+ */
+#define SWD_UNPROVED 0x80000000
+
+/*
+ * Returns SWD_VERSION_NUMBER of the library that is linked, with SWD_UNPROVED where that isn't proved.
  */
 uint32_t swd_version(void);
 

@@ -1,15 +1,21 @@
 """Builds the wheel of the package swd, with the standard library alone, so that `pip install .` needs no network.
 
-The wheel has the shared library in it where SWD_LIBRARY names one, or the folder swd has libswd_c.so; the environment
-variable SWD_PLATFORM then names its platform, as linux_x86_64, which is this machine's without it. Else it has the
-package alone, which searches the library when it is used. The same files give the same bytes.
+The wheel has the shared library in it: the one that SWD_LIBRARY names, or the folder swd has as libswd_c.so, or in a clone
+of the repository the one of `./swd --library`, which is compiled in about a minute where there is none. The environment
+variable SWD_PLATFORM then names its platforms, as linux_x86_64, which is this machine's without it. Of a library that
+isn't proved the version says so: 0.1.0+unproved.
+
+Where SWD_LIBRARY is empty, or the system's loader finds libswd_c.so.0, the wheel has the package alone, which searches the
+library when it is used. The same files give the same bytes.
 
 `python3 backend.py FOLDER` writes the wheel to a folder, and prints its name."""
 import base64
+import ctypes
 import hashlib
 import io
 import os
 import re
+import subprocess
 import sys
 import sysconfig
 import tarfile
@@ -34,9 +40,11 @@ def _value(name: str, of: str) -> str:
 
 
 VERSION = _value("__version__", "swd/__init__.py")
+# What a library has in it that was compiled without a proof, and what the wheel's version then has at its end.
+UNPROVED, MARK = b"the C library isn't proved", "+unproved"
 METADATA = f"""Metadata-Version: 2.1
 Name: {_value("name", "pyproject.toml")}
-Version: {VERSION}
+Version: %s
 Summary: {_value("description", "pyproject.toml")}
 License: {_value("license", "pyproject.toml")}
 Requires-Python: {_value("requires-python", "pyproject.toml")}
@@ -67,19 +75,40 @@ def _notices() -> Files:
     return {"LICENSES-LINKED": _file(os.environ["SWD_NOTICES"])} if "SWD_NOTICES" in os.environ else {}
 
 
-def _metadata() -> bytes:
-    return METADATA.encode() + _file("README.md")
+def _metadata(version: str = VERSION) -> bytes:
+    return (METADATA % version).encode() + _file("README.md")
+
+
+def _made() -> Optional[str]:
+    """The library of `./swd --library`, which makes it where it isn't there."""
+    script = os.path.join(HERE, "..", "..", "swd")
+    if not os.path.exists(script):
+        return None
+    folder = subprocess.run([script, "--library"], stdout=subprocess.PIPE, universal_newlines=True).stdout.strip()
+    return os.path.join(folder, "lib", "libswd_c.so") if folder else None
+
+
+def _is_in_the_system() -> bool:
+    try:
+        ctypes.CDLL("libswd_c.so.0")
+    except OSError:
+        return False
+    return True
 
 
 def _library() -> Optional[bytes]:
-    """The shared library that goes into the wheel."""
-    path = os.environ.get("SWD_LIBRARY") or os.path.join(HERE, "swd", "libswd_c.so")
-    if not os.path.exists(path):
-        if "SWD_LIBRARY" in os.environ:
-            raise FileNotFoundError(f"SWD_LIBRARY names no file: {path}")
-        return None
-    with open(path, "rb") as opened:
-        return opened.read()
+    """The shared library that goes into the wheel; None where the package is to search it."""
+    beside, named = os.path.join(HERE, "swd", "libswd_c.so"), os.environ.get("SWD_LIBRARY")
+    path = named or (beside if os.path.exists(beside) else None if named == "" else _made())
+    if path is not None:
+        with open(path, "rb") as opened:
+            return opened.read()
+    if named is None and not _is_in_the_system():
+        raise SystemExit(
+            "swd: no libswd_c.so: run ./swd --library in the repository of swd, which makes it in about a minute, and name "
+            "it by SWD_LIBRARY; where that is empty, the package is installed without one"
+        )
+    return None
 
 
 def _record(files: Files, name: str) -> bytes:
@@ -94,19 +123,22 @@ def build_wheel(
     wheel_directory: str, config_settings: Optional[Dict[str, Any]] = None, metadata_directory: Optional[str] = None,
 ) -> str:
     """Writes the wheel, and returns its name (PEP 517)."""
-    library, platform = _library(), "any"
+    library, platform, version = _library(), "any", VERSION
     files = _package()
     if library is not None:
         files["swd/libswd_c.so"] = library
         platform = os.environ.get("SWD_PLATFORM") or re.sub(r"[^A-Za-z0-9]", "_", sysconfig.get_platform())
-    info, tag = f"swd-{VERSION}.dist-info", f"py3-none-{platform}"
+        if UNPROVED in library:
+            version += MARK
+    info = f"swd-{version}.dist-info"
     pure = "true" if library is None else "false"
-    files[f"{info}/METADATA"] = _metadata()
-    files[f"{info}/WHEEL"] = f"Wheel-Version: 1.0\nGenerator: swd\nRoot-Is-Purelib: {pure}\nTag: {tag}\n".encode()
+    tags = "".join(f"Tag: py3-none-{it}\n" for it in platform.split("."))
+    files[f"{info}/METADATA"] = _metadata(version)
+    files[f"{info}/WHEEL"] = f"Wheel-Version: 1.0\nGenerator: swd\nRoot-Is-Purelib: {pure}\n{tags}".encode()
     for license_name, text in {**_licenses(), **_notices()}.items():
         files[f"{info}/{license_name}"] = text
     files[f"{info}/RECORD"] = _record(files, f"{info}/RECORD")
-    name = f"swd-{VERSION}-{tag}.whl"
+    name = f"swd-{version}-py3-none-{platform}.whl"
     # Stored, since what deflate writes depends on zlib's version.
     with zipfile.ZipFile(os.path.join(wheel_directory, name), "w", zipfile.ZIP_STORED) as wheel:
         for path, content in sorted(files.items()):

@@ -1,7 +1,10 @@
 """Makes of rattle's LLVM module of swd_c for aarch64 one for a 32-bit Arm: numbers of 64 bits keep them, pointers get
 32, and every field stays at its byte. Stops at anything that it doesn't know.
 
-usage: retarget.py MODULE.ll TRIPLE SWD_H >OUT.ll
+usage: retarget.py MODULE.ll TRIPLE [SWD_H] >OUT.ll
+
+With SWD_H, the exports get the convention by which C calls what that header declares. Without it each function keeps its own:
+a count has 64 bits.
 """
 import re
 import sys
@@ -92,8 +95,20 @@ def narrowed(text, name, gives, takes):
     return text[:found.start()] + whole + text[found.end():]
 
 
+def with_exports(text, header):
+    """The module with the exports of the header."""
+    known = set()
+    for name, gives, takes in prototypes(header):
+        text = narrowed(text, name, gives, takes)
+        known.add(name)
+    exports = set(re.findall(r"^define (?!internal)[^@\n]* @\"?([^\"(]*)", text, re.M))
+    if exports != known:
+        stop("not both in module and header: " + " ".join(sorted(exports ^ known)))
+    return text
+
+
 def main():
-    text, triple, header = open(sys.argv[1]).read(), sys.argv[2], open(sys.argv[3]).read()
+    text, triple = open(sys.argv[1]).read(), sys.argv[2]
     # Nothing takes a pointer for a number or a number for a pointer, but for the address of something as a number.
     if re.search(r"= (ptrtoint|inttoptr|atomicrmw|cmpxchg|fence)\b|call [^@\n]* asm ", text):
         stop("the module does with pointers what isn't known here")
@@ -103,13 +118,8 @@ def main():
     text = re.sub(r"(%[\w.]+) = ptrtoaddr ptr (%[\w.]+) to i64",
                   r"\1.a = ptrtoaddr ptr \2 to i32\n  \1 = zext i32 \1.a to i64", text)
     text = move_fields(text)
-    known = set()
-    for name, gives, takes in prototypes(header):
-        text = narrowed(text, name, gives, takes)
-        known.add(name)
-    exports = set(re.findall(r"^define (?!internal)[^@\n]* @\"?([^\"(]*)", text, re.M))
-    if exports != known:
-        stop("not both in module and header: " + " ".join(sorted(exports ^ known)))
+    if len(sys.argv) > 3:
+        text = with_exports(text, open(sys.argv[3]).read())
     print(text, end="")
 
 

@@ -29,7 +29,8 @@ The library, libswd_c.so, is searched in this order; `Library` checks it once, f
     1. the argument `library` of each class and function: a `Library`, or a path
     2. the path in the environment variable SWD_LIBRARY
     3. libswd_c.so in the folder of this package
-    4. libswd_c.so.0, then libswd_c.so, where the system's loader finds it
+    4. in a clone of the repository, the one that ./swd --library made: the proved one, then that without a proof
+    5. libswd_c.so.0, then libswd_c.so, where the system's loader finds it
 """
 from ._accesses import (
     MOST_ACCESSES, Access, Answer, BusFault, End, Read, Report, Value, Write, Written, block,
@@ -40,8 +41,8 @@ from ._cues import Ask, Cue, Drive, Give, Lead, Pass, Release, Sample, Sequence,
 from ._decoding import Bits, Cut, Decoder, Idle, Item, Junk, Reset, Switch, Transaction, decode, trace_bits
 from ._errors import (
     AccessFaulted, BusError, CallbackFailed, ConditionNotMet, DecoderFinished, ImageDiffers, ImageInterrupted,
-    ImageStopped, Interrupted, LibraryMismatch, LibraryNotFound, LibraryRefused, LineFailed, NotABit, NotALine,
-    NotAnAccess, NotAnItem, NotBytes, NotResumable, OutOfRange, Reentered, RunEnded, RunFailed, RunStopped,
+    ImageStopped, Interrupted, LibraryMismatch, LibraryNotFound, LibraryNotProved, LibraryRefused, LineFailed, NotABit,
+    NotALine, NotAnAccess, NotAnItem, NotBytes, NotResumable, OutOfRange, Reentered, RunEnded, RunFailed, RunStopped,
     SwdError, TooManyAccesses, Unaligned, report_of,
 )
 from ._hosts import Host, Session
@@ -56,8 +57,8 @@ __all__ = [
     "Access", "AccessFaulted", "Answer", "Ask", "AsyncSequenceLine", "AsyncSequences", "Bits", "Bus", "BusError",
     "BusFault", "CallbackFailed", "Checker", "ConditionNotMet", "Cue", "Cut", "Decoder", "DecoderFinished", "Drive",
     "End", "Give", "Host", "Idle", "Identification", "ImageDiffers", "ImageInterrupted", "ImageStopped",
-    "Interrupted", "Item", "Junk", "Lead", "Library", "LibraryMismatch", "LibraryNotFound", "LibraryRefused", "Line",
-    "LineFailed", "MOST_ACCESSES", "NotABit", "NotALine", "NotAnAccess", "NotAnItem", "NotBytes", "NotResumable",
+    "Interrupted", "Item", "Junk", "Lead", "Library", "LibraryMismatch", "LibraryNotFound", "LibraryNotProved",
+    "LibraryRefused", "Line", "LineFailed", "MOST_ACCESSES", "NotABit", "NotALine", "NotAnAccess", "NotAnItem", "NotBytes", "NotResumable",
     "Opening", "OutOfRange", "Pass", "Read", "Reentered", "Release", "Report", "Reset", "Run", "RunEnded",
     "RunFailed", "RunStopped", "Sample", "Sequence", "SequenceLine", "Sequences", "Session", "SwdError", "Switch",
     "Take", "Target", "TooManyAccesses", "Transaction", "Unaligned", "Value", "Verdict", "Write", "Written", "block",

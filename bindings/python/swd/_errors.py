@@ -14,6 +14,10 @@ class LibraryNotFound(SwdError, OSError):
     """No library could be loaded. The message lists what was tried."""
 
 
+class LibraryNotProved(UserWarning):
+    """The library that was loaded is compiled without a proof."""
+
+
 class LibraryMismatch(SwdError):
     """The library's structs aren't those of this package: it is another version, or for another processor."""
 

@@ -1,9 +1,10 @@
 """The shared library: its structs, its functions, and the search for it."""
 import ctypes
 import os
+import warnings
 from typing import Any, Dict, Iterator, List, Optional, Tuple, Union
 
-from ._errors import LibraryMismatch, LibraryNotFound
+from ._errors import LibraryMismatch, LibraryNotFound, LibraryNotProved
 
 
 def _struct(name: str, *fields: Tuple[str, Any]) -> Any:
@@ -104,6 +105,7 @@ _FUNCTIONS: Dict[str, Tuple[Any, Optional[Tuple[Any, ...]]]] = {
     "swd_layout": (None, (ctypes.c_void_p,)),
     "swd_run_layout": (None, (ctypes.c_void_p,)),
     "swd_check_layout": (None, (ctypes.c_void_p,)),
+    "swd_version": (_u32, ()),
     "swd_run_new": (None, (_run, _u32)),
     "swd_run_blocks": (None, (_run, _u32)),
     "swd_run_opened": (CueStruct, None),
@@ -128,6 +130,8 @@ _FUNCTIONS: Dict[str, Tuple[Any, Optional[Tuple[Any, ...]]]] = {
 NAME = "libswd_c.so"
 # By which programs find the library: its soname, with the number of release/shared. NAME is the linker's.
 _SONAME = "libswd_c.so.0"
+# Set in swd_version() of a library that `./swd --library` compiled without a proof.
+_UNPROVED = 0x8000_0000
 
 
 class Library:
@@ -135,7 +139,8 @@ class Library:
 
     `path` names the file; without it the library is searched as this package's documentation says. Raises
     `LibraryNotFound` if none can be loaded. Raises `LibraryMismatch` if a function is missing, or if a struct's size or
-    a field's offset differs from this package."""
+    a field's offset differs from this package. Warns with `LibraryNotProved` of one that was compiled without a proof:
+    `is_proved` is False then."""
 
     def __init__(self, path: Union[None, str, "os.PathLike[str]"] = None) -> None:
         self.path, self._functions = _load(path)
@@ -146,6 +151,10 @@ class Library:
                 raise LibraryMismatch(f"{self.path} has no function {name}") from None
             function.restype, function.argtypes = result, arguments
         self._check_layout()
+        self.is_proved = not self._functions.swd_version() & _UNPROVED
+        if not self.is_proved:
+            why = f"the C library isn't proved: ./swd --library --prove proves it ({self.path})"
+            warnings.warn(why, LibraryNotProved, stacklevel=2)
 
     def _check_layout(self) -> None:
         """Compares every struct's size and every field's offset with those of the library."""
@@ -196,12 +205,19 @@ def _elements(path: str, value: Any) -> Iterator[Tuple[str, Any]]:
             yield from ((f"{path}.{name}[{place}]", element) for place, element in enumerate(field))
 
 
+def _places() -> List[str]:
+    """Where the library is searched: beside the package, where `./swd --library` leaves it, and where the system's loader
+    searches a bare name. No compiler or linker is asked."""
+    here = os.path.dirname(os.path.abspath(__file__))
+    out = os.path.normpath(os.path.join(here, "..", "..", "..", "crates", "swd_c", "out"))
+    made = [os.path.join(out, kind, "lib", NAME) for kind in ("proved", "unproved")]
+    return [os.path.join(here, NAME), *filter(os.path.exists, made), _SONAME, NAME]
+
+
 def _load(path: Union[None, str, "os.PathLike[str]"]) -> Tuple[str, ctypes.PyDLL]:
     if path is None:
         path = os.environ.get("SWD_LIBRARY")
-    beside = os.path.join(os.path.dirname(os.path.abspath(__file__)), NAME)
-    # The system's loader searches a bare name: no compiler or linker is asked where the library is.
-    tried = [os.fspath(path)] if path else [beside, _SONAME, NAME]
+    tried = [os.fspath(path)] if path else _places()
     reasons = []
     for name in tried:
         try:
@@ -209,7 +225,8 @@ def _load(path: Union[None, str, "os.PathLike[str]"]) -> Tuple[str, ctypes.PyDLL
             return name, ctypes.PyDLL(name)
         except OSError as reason:
             reasons.append(str(reason))
-    raise LibraryNotFound(f"no library; SWD_LIBRARY may name one. Tried: {'; '.join(reasons)}")
+    how = "./swd --library, in the repository of swd, makes one in about a minute; SWD_LIBRARY may name one"
+    raise LibraryNotFound(f"no library: {how}. Tried: {'; '.join(reasons)}")
 
 
 _found: Optional[Library] = None

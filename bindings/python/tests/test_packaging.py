@@ -24,6 +24,7 @@ def content_of(*path):
 def build(sources, what, folder):
     """Builds an archive from these sources, without a library, and returns its path."""
     environment = {name: value for name, value in os.environ.items() if not name.startswith("SWD_")}
+    environment["SWD_LIBRARY"] = ""
     code = f"import backend; print(backend.build_{what}({folder!r}))"
     told = subprocess.run([sys.executable, "-B", "-c", code], cwd=sources, env=environment, check=True,
                           stdout=subprocess.PIPE, universal_newlines=True).stdout
