@@ -9,6 +9,7 @@ use std::process::Abort;
 use swd_commands::run_words;
 use swd_console::{Clock, Console, Files, Identity, Opened, engine_status};
 use swd_ends::RemoteFault;
+use swd_fakes::ShortWriter;
 use swd_run::{EngineFault, RunFault, TextsFault};
 use swd_script::ScriptFault;
 use swd_text::{DecodeFault, EncodeFault, TextFault};
@@ -237,6 +238,11 @@ where
     run_in(alloc, words, input, clock, false)
 }
 
+// Standard error that takes all.
+fn unbroken(alloc: Global) -> ShortWriter {
+    ShortWriter::new(alloc, usize::MAX, true)
+}
+
 // The same where standard output may be unknown.
 fn run_in<I: Read, C: Clock>(
     alloc: Global,
@@ -271,24 +277,23 @@ where
 
 // A run whose streams are given: its status, and the streams.
 #[derive(Drop)]
-struct Ended<O, E> {
+struct Ended<O> {
     status: u8,
     output: O,
-    errors: E,
+    errors: ShortWriter,
 }
 
-fn run_to<I: Read, O: Write, E: Write, C: Clock>(
+fn run_to<I: Read, O: Write, C: Clock>(
     alloc: Global,
     words: &[&str],
     mut input: I,
     mut output: O,
-    mut errors: E,
+    mut errors: ShortWriter,
     clock: &C,
-) -> Ended<O, E>
+) -> Ended<O>
 where
     I: Drop,
     O: Drop,
-    E: Drop,
 {
     let cuts = Cell::new(0);
     let shelf = Shelf {

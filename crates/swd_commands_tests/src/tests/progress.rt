@@ -1,8 +1,10 @@
 //! The lines that say how far a run is.
 use super::desk::{Texts, run_at};
 use super::expect::{expect_at, expect_eq, expect_eq_at};
-use super::{RESUMED, run_by, run_to};
+use super::{RESUMED, run_by, run_to, unbroken};
+use std::alloc::Global;
 use std::cell::Cell;
+use std::process::Abort;
 use std::test::Fail;
 use swd_console::Clock;
 use swd_fakes::{OneByteWriter, ShortWriter};
@@ -195,13 +197,13 @@ const TWO_REPORT: &[u8] = b"w 20000000 written\nr 20000000 00000001\nend all 2\n
 #[test]
 fn answers_count_once_their_lines_are_written(rt: HostRuntime) {
     let output = OneByteWriter::new(rt.alloc());
-    let errors = Vec::new(rt.alloc());
+    let errors = unbroken(rt.alloc());
     let clock = Readings::new([Some(0), Some(1000)].as_slice());
     let ran = run_to(rt.alloc(), PACED, TWO, output, errors, &clock);
     expect_eq(&rt, &ran.status, &0);
     expect_eq(&rt, &ran.output.taken.as_slice(), &TWO_REPORT);
     let line = b"swd: 2 of 2 accesses, 2 a second\n".as_slice();
-    expect_eq(&rt, &ran.errors.as_slice(), &line);
+    expect_eq(&rt, &ran.errors.taken(), &line);
 }
 
 // How many bytes of the reports are taken, and the lines.
@@ -220,12 +222,12 @@ const CUTS: &[(usize, &[u8])] = &[
 fn a_call_without_its_report_counts_for_nothing(rt: HostRuntime) {
     for (room, lines) in CUTS {
         let output = ShortWriter::new(rt.alloc(), *room, true);
-        let errors = Vec::new(rt.alloc());
+        let errors = unbroken(rt.alloc());
         let clock = Readings::new([Some(0), Some(1000), Some(2000)].as_slice());
         let ran = run_to(rt.alloc(), PACED, FIVE, output, errors, &clock);
         expect_eq_at(&rt, room, &ran.status, &141);
         expect_eq_at(&rt, room, &ran.output.taken(), &&FIVE_REPORTS[..*room]);
-        expect_eq_at(&rt, room, &ran.errors.as_slice(), lines);
+        expect_eq_at(&rt, room, &ran.errors.taken(), lines);
     }
 }
 
@@ -304,18 +306,19 @@ const TWELVE: Texts = Texts {
 };
 
 // Tries a command over an image, with these arguments more.
-fn says<'a>(
-    rt: &HostRuntime,
+fn says<'a, R: Abort>(
+    rt: &R,
+    alloc: Global,
     command: &[&'a str],
     more: &[&'a str],
     said: &[u8],
     report: &[u8],
 ) -> Result<(), Fail> {
-    let mut words = Vec::new(rt.alloc());
+    let mut words = Vec::new(alloc);
     words.extend_from_slice(command)?;
     words.extend_from_slice(more)?;
     let clock = Readings::new([Some(0), Some(1000), Some(2000), Some(3000)].as_slice());
-    let ran = run_at(rt.alloc(), words.as_slice(), &TWELVE, &clock);
+    let ran = run_at(alloc, words.as_slice(), &TWELVE, &clock);
     expect_eq_at(rt, &words, &ran.errors.as_slice(), &said);
     expect_eq_at(rt, &words, &ran.calls.text(), &report);
     Ok(())
@@ -326,9 +329,9 @@ fn says<'a>(
 #[test]
 fn a_command_over_an_image_says_how_far_it_is(rt: HostRuntime) -> Result<(), Fail> {
     for (command, said, report) in IMAGES {
-        says(&rt, command, &["--progress"], said, b"")?;
+        says(&rt, rt.alloc(), command, &["--progress"], said, b"")?;
         let reported = &["--progress", "--report", "calls"];
-        says(&rt, command, reported, said, report)?;
+        says(&rt, rt.alloc(), command, reported, said, report)?;
     }
     Ok(())
 }

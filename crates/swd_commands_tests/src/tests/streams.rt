@@ -1,9 +1,10 @@
 //! Streams that fail: the line on standard error, and the status.
 use super::expect::{expect_at, expect_eq, expect_eq_at};
-use super::{DPIDR_LINE, DPIDR_READ, Ended, REPORT, SCRIPT, Still, run_on, run_to};
+use super::{DPIDR_LINE, DPIDR_READ, Ended, REPORT, SCRIPT, Still, run_on, run_to, unbroken};
 use std::alloc::Global;
 use std::io;
 use std::io::{ErrorKind, Read, Write};
+use std::process::Abort;
 
 // The lines where the target gave no reply.
 const LOST_LINES: &[u8] = b"swd: the run ended early: lost\n\
@@ -67,13 +68,13 @@ fn run_short(
     input: &[u8],
     room: usize,
     fails: Option<ErrorKind>,
-) -> Ended<Short, Vec<u8>> {
+) -> Ended<Short> {
     let output = Short {
         taken: Vec::new(alloc),
         room,
         fails,
     };
-    run_to(alloc, words, input, output, Vec::new(alloc), &Still)
+    run_to(alloc, words, input, output, unbroken(alloc), &Still)
 }
 
 // Why standard output can't be written, the line, and the status.
@@ -146,7 +147,7 @@ fn an_output_that_fails_at_any_place_has_its_line_and_its_status(rt: HostRuntime
             }
             for (fails, line, status) in OUTPUTS {
                 let cut = run_short(rt.alloc(), words, input, room, *fails);
-                expect_eq_at(&rt, &(words, room), &cut.errors.as_slice(), line);
+                expect_eq_at(&rt, &(words, room), &cut.errors.taken(), line);
                 expect_eq_at(&rt, &(words, room), &cut.status, status);
                 expect_eq_at(
                     &rt,
@@ -200,12 +201,12 @@ fn help_that_is_interrupted_goes_on(rt: HostRuntime) {
             &["swd", "--version"],
             b"".as_slice(),
             output,
-            Vec::new(rt.alloc()),
+            unbroken(rt.alloc()),
             &Still,
         );
         expect_eq_at(&rt, room, &ran.status, status);
         expect_eq_at(&rt, room, &ran.output.then.taken.as_slice(), taken);
-        expect_at(&rt, room, ran.errors.is_empty());
+        expect_at(&rt, room, ran.errors.taken().is_empty());
     }
 }
 
@@ -227,7 +228,7 @@ fn an_output_that_is_not_used_does_not_fail(rt: HostRuntime) {
     for (words, input, line) in UNUSED {
         let cut = run_short(rt.alloc(), words, input, 0, Some(ErrorKind::BrokenPipe));
         expect_eq_at(&rt, words, &cut.status, &2);
-        expect_at(&rt, words, cut.errors.starts_with(line));
+        expect_at(&rt, words, cut.errors.taken().starts_with(line));
     }
 }
 
@@ -542,17 +543,22 @@ const CONNECTED: &[(&[&str], &[u8], u8)] = &[
     ),
 ];
 
+// Tries a connection whose output fails, for each reason, after each number of characters.
+fn is_unsent<R: Abort>(rt: &R, alloc: Global, words: &[&str], input: &[u8], status: u8) {
+    for (fails, line) in SENT {
+        for room in ROOMS {
+            let cut = run_short(alloc, words, input, *room, *fails);
+            expect_eq_at(rt, &words, &cut.errors.taken(), line);
+            expect_eq_at(rt, &words, &cut.status, &status);
+            expect_eq_at(rt, &words, &cut.output.taken.len(), room);
+        }
+    }
+}
+
 #[test]
 fn a_connection_that_fails_has_its_line_and_its_status(rt: HostRuntime) {
     for (words, input, status) in CONNECTED {
-        for (fails, line) in SENT {
-            for room in ROOMS {
-                let cut = run_short(rt.alloc(), words, input, *room, *fails);
-                expect_eq_at(&rt, &(words, room), &cut.errors.as_slice(), line);
-                expect_eq_at(&rt, &(words, room), &cut.status, status);
-                expect_eq_at(&rt, &(words, room), &cut.output.taken.len(), room);
-            }
-        }
+        is_unsent(&rt, rt.alloc(), words, input, *status);
     }
 }
 
