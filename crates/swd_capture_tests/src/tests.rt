@@ -1,12 +1,9 @@
-//! Worked captures: their parts, what is printed and drawn of them, and what they show of the target's memory; at ends
-//! that fail, and cut off at each byte.
+//! Worked captures: their parts, what is printed and drawn of them; at ends that fail, and cut off at each byte.
 mod access_faults;
-mod accesses;
 mod captures;
 mod drawings;
 mod drawn;
 mod expect;
-mod observed;
 mod part_rows;
 mod parts;
 mod phase_rows;

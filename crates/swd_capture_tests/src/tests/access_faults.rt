@@ -1,9 +1,11 @@
-//! Texts at fault, and readers and writers that fail at each place.
+//! Accesses: texts at fault, and readers and writers that fail at each place.
 use super::expect::expect_eq_at;
-use super::observed::observe;
 use super::trace_of;
 use std::alloc::Global;
+use std::io::{Read, Write};
 use std::test::Fail;
+use swd_capture::Printed;
+use swd_capture_text::{Reading, print_capture};
 use swd_fakes::{FailingReader, OneByteReader, OneByteWriter, ShortWriter};
 use swd_text::{DecodeFault, TextFault};
 
@@ -11,6 +13,15 @@ const LISTING: &[u8] =
     b"ap c write ok 00000001\nap c write ok 00000002\ndp c read none 7\njunk 0\n";
 
 const TOLD: &[u8] = b"@0 w 00000000 00000001\n@46 w 00000000 00000002 may\n@104 gap\n";
+
+// Writes the lines of what a trace tells, of a target that was just made or not.
+fn observe<R: Read, W: Write>(
+    reader: &mut R,
+    writer: &mut W,
+    made: bool,
+) -> Result<(), DecodeFault> {
+    print_capture(Reading::Trace, Printed::Accesses { made }, reader, writer)
+}
 
 #[test]
 fn byte_by_byte(rt: HostRuntime) -> Result<(), Fail> {

@@ -14,9 +14,9 @@ use swd_console::Console;
 fn ran_on<A: Allocator>(alloc: Global, list: A, arguments: io::Result<Vec<String>>) -> Ran {
     let mut output = Vec::new(alloc);
     let mut errors = Vec::new(alloc);
-    let (written, cuts) = (Cell::new(0), Cell::new(0));
+    let cuts = Cell::new(0);
     let shelf = Shelf {
-        written: &written,
+        is_unknown: false,
         cuts: &cuts,
     };
     let mut console = Console {
@@ -36,7 +36,6 @@ fn ran_on<A: Allocator>(alloc: Global, list: A, arguments: io::Result<Vec<String
         status,
         output,
         errors,
-        traced: written.get(),
         cuts: cuts.get(),
     }
 }
@@ -44,23 +43,24 @@ fn ran_on<A: Allocator>(alloc: Global, list: A, arguments: io::Result<Vec<String
 // `decode trace`, behind the program's name.
 fn decode(alloc: Global) -> Result<Vec<String>, Fail> {
     let mut arguments = Vec::new(alloc);
-    for word in ["decode", "trace"] {
-        arguments.push(String::from_str(alloc, word)?)?;
-    }
+    arguments.push(String::from_str(alloc, "decode")?)?;
+    arguments.push(String::from_str(alloc, "trace")?)?;
     Ok(arguments)
 }
 
+const UNREAD: &[(ErrorKind, &[u8])] = &[
+    (ErrorKind::OutOfMemory, b"swd: no memory\n"),
+    (
+        ErrorKind::InvalidData,
+        b"swd: an argument is not UTF-8: rename the file, or link to it\n",
+    ),
+];
+
 #[test]
 fn arguments_that_are_not_read_are_a_fault(rt: HostRuntime) {
-    for (kind, line) in [
-        (ErrorKind::OutOfMemory, b"swd: no memory\n".as_slice()),
-        (
-            ErrorKind::InvalidData,
-            b"swd: an argument is not UTF-8: rename the file, or link to it\n",
-        ),
-    ] {
-        let ran = ran_on(rt.alloc(), rt.alloc(), Err(io::Error::from(kind)));
-        expect_eq(&rt, &ran.errors.as_slice(), &line);
+    for (kind, line) in UNREAD {
+        let ran = ran_on(rt.alloc(), rt.alloc(), Err(io::Error::from(*kind)));
+        expect_eq(&rt, &ran.errors.as_slice(), line);
         expect_eq(&rt, &ran.status, &2);
         assert!(rt; ran.output.is_empty());
     }

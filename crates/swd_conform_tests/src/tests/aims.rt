@@ -23,7 +23,7 @@ const AROUND: u32 = 1024;
 
 // The first of the words that a run may overwrite: the other words that it writes to TAR are not in the target's
 // memory, or are.
-const BASES: [u32; 2] = [0x2000_03f0, 0x2468_a3f0];
+const BASES: &[u32] = &[0x2000_03f0, 0x2468_a3f0];
 
 // An address without memory.
 const HOLE: u32 = 0x3000_0000;
@@ -126,11 +126,13 @@ fn make_run(alloc: Global, base: u32, hole: u32, events: Vec<Mark>) -> Result<Ra
     Ok(Ran { conformed, astray })
 }
 
+const EVENTS: &[Event] = &[Event::Busy, Event::Deaf, Event::Mute, Event::Flip];
+
 // Returns whether all events at these requests leave all transfers in the memory.
 fn stays<R: Abort>(rt: &R, alloc: Global, at: usize) -> Result<(), Fail> {
     for base in BASES {
-        for event in [Event::Busy, Event::Deaf, Event::Mute, Event::Flip] {
-            let ran = make_run(alloc, base, HOLE, marks(alloc, event, at)?)?;
+        for event in EVENTS {
+            let ran = make_run(alloc, *base, HOLE, marks(alloc, *event, at)?)?;
             assert!(rt;
                 ran.astray.is_none(),
                 "{:?} with an event at {at}",
@@ -145,13 +147,15 @@ fn stays<R: Abort>(rt: &R, alloc: Global, at: usize) -> Result<(), Fail> {
     Ok(())
 }
 
+const PLACES: &[usize] = &[16, 337, 501, 669, 689, 911, 1200, 1498];
+
 // Events at requests all over a run. At 337 and 669 a write of TAR was once given up, or lost, and the transfers behind
 // it went to the word that was written to TAR before, or over the end of a kilobyte. At 689 an answer that was lost was
 // once taken for one that was no bus error.
 #[test]
 fn transfers_stay_in_the_memory(rt: HostRuntime) -> Result<(), Fail> {
-    for at in [16, 337, 501, 669, 689, 911, 1200, 1498] {
-        stays(&rt, rt.alloc(), at)?;
+    for at in PLACES {
+        stays(&rt, rt.alloc(), *at)?;
     }
     Ok(())
 }

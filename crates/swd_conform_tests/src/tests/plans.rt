@@ -17,7 +17,7 @@ const WHOLE: Option<Without> = Some(Without {
     kilobyte: false,
 });
 
-const ROWS: [Row; 15] = [
+const ROWS: &[Row] = &[
     Row {
         base: 0x2000_0ff0,
         words: 80,
@@ -138,7 +138,7 @@ const ROWS: [Row; 15] = [
 
 // The row of the memory for which a plan leaves out another thing than its row says.
 fn first_wrong() -> Option<u32> {
-    for row in &ROWS {
+    for row in ROWS {
         let plan = Plan::new(row.base, row.words, row.hole);
         if plan.map(|plan| plan.without()) != row.without {
             return Some(row.base);
@@ -193,12 +193,16 @@ fn is_drw_write(request: Request) -> bool {
     request.ap && !request.read && request.addr as u8 == 3
 }
 
+// An address without memory, and how many steps there are at least.
+const LEAST: &[(Option<u32>, u32)] = &[(Some(0x3000_0000), 1500), (None, 900)];
+
 // The steps of a plan end before its greatest number of them, and a plan without bus errors has fewer. Each ends with
 // the same step: a word of the text that is none would end it before.
 #[test]
 fn plans_end(rt: HostRuntime) {
-    for (hole, least) in [(Some(0x3000_0000), 1500), (None, 900)] {
-        let Some(plan) = Plan::new(0x2000_0ff0, 80, hole) else {
+    for (hole, least) in LEAST {
+        let least = *least;
+        let Some(plan) = Plan::new(0x2000_0ff0, 80, *hole) else {
             assert!(rt; false, "no plan");
             return;
         };

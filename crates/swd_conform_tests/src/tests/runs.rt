@@ -164,7 +164,7 @@ impl Story for Any {
 }
 
 // Requests that are unanswered at first, the answer to the others, and after how many requests a rule is broken.
-const WRONG: [(u32, u64, u64); 5] = [
+const WRONG: &[(u32, u64, u64)] = &[
     // OK before any line reset.
     (0, 1, 1),
     // OK to a read of CTRL/STAT behind a line reset.
@@ -179,29 +179,30 @@ const WRONG: [(u32, u64, u64); 5] = [
 #[test]
 fn runs_stop_at_a_broken_rule(rt: HostRuntime) -> Result<(), Fail> {
     for (silent, bits, requests) in WRONG {
+        let (silent, bits) = (*silent, *bits);
         let mut wire: TransportWire<Answers, Any> = TransportWire::new(Answers { silent, bits });
         let conformed = conform(&mut wire, plan()?, check(rt.alloc())?);
         assert!(rt;
             matches!(conformed.checked, Checked::Breaks(_)),
             "{conformed:?}"
         );
-        assert_eq!(rt; conformed.requests, requests);
+        assert_eq!(rt; conformed.requests, *requests);
     }
     Ok(())
 }
 
 // The other end sends these levels, and then nothing; the requests that were sent.
-const SENT: [(&[u8], u64); 3] = [(b"", 1), (b"11", 1), (b"1111", 2)];
+const SENT: &[(&[u8], u64)] = &[(b"", 1), (b"11", 1), (b"1111", 2)];
 
 #[test]
 fn runs_stop_where_the_other_end_goes_away(rt: HostRuntime) -> Result<(), Fail> {
     for (sent, requests) in SENT {
         let mut run = ConformRun::new(plan()?, check(rt.alloc())?);
-        let mut input = sent;
+        let mut input = *sent;
         let mut output = Vec::new(rt.alloc());
         let (conformed, line) = over_line::<Any, _, _, _>(&mut run, &mut input, &mut output);
         assert_eq!(rt; line.fault, Some(Fault::Ended));
-        assert_eq!(rt; conformed.requests, requests);
+        assert_eq!(rt; conformed.requests, *requests);
     }
     Ok(())
 }

@@ -422,13 +422,17 @@ fn each_word_of_a_block_comes_with_the_request_for_the_next(rt: HostRuntime) -> 
     Ok(())
 }
 
+// A name, the number of words, and that of requests.
+const LONG: &[(&str, u32, u64)] = &[
+    ("a block of 101 words", 101, 9 + 103),
+    ("a block of 65,536 words", 65_536, 9 + 65_536 + 2 * 256),
+];
+
 // Each kilobyte takes the write of TAR, its reads, and a read of RDBUFF.
 #[test]
 fn a_block_has_at_most_65536_words(rt: HostRuntime) -> Result<(), Fail> {
-    for (name, count, requests) in [
-        ("a block of 101 words", 101, 9 + 103),
-        ("a block of 65,536 words", 65_536, 9 + 65_536 + 2 * 256),
-    ] {
+    for (name, count, requests) in LONG {
+        let (name, count, requests) = (*name, *count, *requests);
         let mut answers = Vec::new(rt.alloc());
         let mut log = Vec::new(rt.alloc());
         let mut addr = BASE;

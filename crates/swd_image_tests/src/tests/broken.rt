@@ -39,15 +39,20 @@ impl Transport for Always {
     }
 }
 
+const ANSWERS: &[(u64, End)] = &[(2, End::Confused), (4, End::Confused), (1, End::WrongId(0))];
+
+const JOBS: &[&str] = &["load", "dump", "verify"];
+
 // The read of DPIDR is answered WAIT or FAULT, or its word isn't an identification. No further request is sent.
 #[test]
 fn an_image_stops_at_the_first_request(rt: HostRuntime) -> Result<(), Fail> {
     let bytes = b"12345".as_slice();
-    for (answer, end) in [(2, End::Confused), (4, End::Confused), (1, End::WrongId(0))] {
-        let stopped = Some(ImageFault::Stopped(end));
-        for job in ["load", "dump", "verify"] {
+    for (answer, end) in ANSWERS {
+        let stopped = Some(ImageFault::Stopped(*end));
+        for job in JOBS {
+            let job = *job;
             let mut wire: TransportWire<Always, Untold> = TransportWire::new(Always {
-                answer,
+                answer: *answer,
                 bits: 0,
                 requests: 0,
             });

@@ -30,7 +30,7 @@ const DUMP: Row = Row {
     transfers: 0,
 };
 
-const ROWS: [Row; 12] = [
+const ROWS: &[Row] = &[
     DUMP,
     Row {
         name: "a byte in the middle of a word",
@@ -127,7 +127,7 @@ const ROWS: [Row; 12] = [
 
 #[test]
 fn a_range_of_each_shape(rt: HostRuntime) -> Result<(), Fail> {
-    for row in &ROWS {
+    for row in ROWS {
         let target = target_of(rt.alloc(), row.base, &WORDS, 64, row.marks)?;
         let mut bench = target.expect(&rt, "a target");
         match dump_at(rt.alloc(), &mut bench, row.addr, row.count, row.resumes) {
@@ -150,7 +150,7 @@ struct Verified {
     end: Result<Option<ByteDifference>, ImageFault>,
 }
 
-const VERIFIED: [Verified; 8] = [
+const VERIFIED: &[Verified] = &[
     Verified {
         name: "no byte",
         addr: BASE + 3,
@@ -215,7 +215,7 @@ const VERIFIED: [Verified; 8] = [
 
 #[test]
 fn an_image_is_verified(rt: HostRuntime) -> Result<(), Fail> {
-    for row in &VERIFIED {
+    for row in VERIFIED {
         let target = target_of(rt.alloc(), BASE, &WORDS, 64, &[])?;
         let mut bench = target.expect(&rt, "a target");
         let end = verify_at(rt.alloc(), &mut bench, row.addr, row.bytes, 0);

@@ -4,12 +4,7 @@
 use std::fmt::Debug;
 use std::process::Abort;
 
-/// Ends the test where it found another value than it wanted.
-pub(super) fn expect_eq<R: Abort, T: PartialEq + Debug>(rt: &R, found: &T, wanted: &T) {
-    assert_eq!(rt; found, wanted);
-}
-
-/// The same at one of several places, which is told.
+/// Ends the test where it found another value than it wanted at one of several places, which is told.
 pub(super) fn expect_eq_at<R: Abort, P: Debug, T: PartialEq + Debug>(
     rt: &R,
     place: &P,

@@ -20,7 +20,7 @@ struct Row {
     transfers: usize,
 }
 
-const ROWS: [Row; 11] = [
+const ROWS: &[Row] = &[
     Row {
         name: "no byte",
         addr: BASE + 1,
@@ -116,7 +116,7 @@ fn expect_words<R: Abort>(
 
 #[test]
 fn an_image_of_each_shape(rt: HostRuntime) -> Result<(), Fail> {
-    for row in &ROWS {
+    for row in ROWS {
         let target = target_of(rt.alloc(), BASE, &WORDS, 64, &[])?;
         let mut bench = target.expect(&rt, "a target");
         let done = load_at(rt.alloc(), &mut bench, row.addr, row.bytes, 0);
@@ -143,7 +143,7 @@ struct Failing {
 const IMAGE: &[u8] = b"\xa0\xa1\xa2\xa3\xa4\xa5\xa6\xa7";
 
 // The opening takes nine requests, TAR one, and each write of a burst one, which the next one confirms.
-const FAILING: [Failing; 9] = [
+const FAILING: &[Failing] = &[
     Failing {
         name: "to the last address",
         base: 0xffff_fff4,
@@ -234,7 +234,7 @@ const FAILING: [Failing; 9] = [
 
 #[test]
 fn loads_that_fail_and_loads_that_are_resumed(rt: HostRuntime) -> Result<(), Fail> {
-    for row in &FAILING {
+    for row in FAILING {
         let target = target_of(rt.alloc(), row.base, &WORDS, 64, row.marks)?;
         let mut bench = target.expect(&rt, "a target");
         let done = load_at(rt.alloc(), &mut bench, row.addr, IMAGE, row.resumes);

@@ -14,7 +14,7 @@ struct Row {
     len: usize,
 }
 
-const ROWS: [Row; 3] = [
+const ROWS: &[Row] = &[
     Row {
         name: "across a kilobyte, from one byte before its end",
         addr: BASE + 1023,
@@ -89,7 +89,7 @@ fn is_there<R: Abort>(rt: &R, alloc: Global, row: &Row) -> Result<(), Fail> {
 
 #[test]
 fn an_image_that_is_long(rt: HostRuntime) -> Result<(), Fail> {
-    for row in &ROWS {
+    for row in ROWS {
         is_there(&rt, rt.alloc(), row)?;
     }
     Ok(())

@@ -29,7 +29,7 @@ impl Progress for &mut Told {
 // and the numbers.
 type Row<'a> = (&'a str, Counted, u32, &'a [u8], Option<usize>, &'a [u64]);
 
-const ROWS: [Row; 7] = [
+const ROWS: &[Row] = &[
     (
         "a load counts no read of a partial word",
         Counted::Written,
@@ -114,7 +114,7 @@ fn told_at(alloc: Global, row: &Row<'_>) -> Result<Vec<u64>, Fail> {
 
 #[test]
 fn words_count_once_their_lines_are_written(rt: HostRuntime) -> Result<(), Fail> {
-    for row in &ROWS {
+    for row in ROWS {
         let (name, _, _, _, _, done) = row;
         let told = told_at(rt.alloc(), row)?;
         expect_eq_at(&rt, name, &told.as_slice(), done);

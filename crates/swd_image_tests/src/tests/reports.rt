@@ -37,7 +37,7 @@ const EDGES: Row = Row {
 };
 
 // The opening takes nine requests, TAR one, and the first access is the eleventh.
-const ROWS: [Row; 9] = [
+const ROWS: &[Row] = &[
     EDGES,
     Row {
         name: "no byte",
@@ -134,7 +134,7 @@ fn text_of(report: &Option<Vec<u8>>) -> &[u8] {
 
 #[test]
 fn a_load_of_each_shape_and_end(rt: HostRuntime) -> Result<(), Fail> {
-    for row in &ROWS {
+    for row in ROWS {
         let target = target_of(rt.alloc(), BASE, &WORDS, 64, row.marks)?;
         let mut bench = target.expect(&rt, "a target");
         let mut report = Some(Vec::new(rt.alloc()));
@@ -179,15 +179,16 @@ fn a_writer_that_fails_at_each_byte(rt: HostRuntime) -> Result<(), Fail> {
     Ok(())
 }
 
+const PARTS: &[&[u8]] = &[
+    b"",
+    b"r 20000000 44332211\nend all 1\n",
+    b"r 20000000 44332211\nend all 1\nr 20000008 ccbbaa99\nend all 1\n",
+    EDGES.text,
+];
+
 // The report has the calls before memory ran out, each whole.
 #[test]
 fn memory_ends_at_each_place(rt: HostRuntime) -> Result<(), Fail> {
-    let texts: [&[u8]; 4] = [
-        b"",
-        b"r 20000000 44332211\nend all 1\n",
-        b"r 20000000 44332211\nend all 1\nr 20000008 ccbbaa99\nend all 1\n",
-        EDGES.text,
-    ];
     let mut refused = false;
     let mut done = false;
     for size in 1..200usize {
@@ -203,7 +204,7 @@ fn memory_ends_at_each_place(rt: HostRuntime) -> Result<(), Fail> {
             other => {
                 expect_eq_at(&rt, &size, &other, &Some(Err(ImageFault::Memory)));
                 let text = text_of(&report);
-                expect_at(&rt, &size, texts.iter().any(|part| *part == text));
+                expect_at(&rt, &size, PARTS.iter().any(|part| *part == text));
                 refused = true;
             }
         }

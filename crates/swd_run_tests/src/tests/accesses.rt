@@ -1,6 +1,6 @@
-//! Runs with their accesses: worked ones, and writers that fail.
+//! Runs with their accesses: writers that fail, and each request disturbed.
 use super::expect::expect_eq_at;
-use super::{ONE_READ, ONE_WRITE, WORKED, WORKED_REPORT, limits};
+use super::{WORKED, WORKED_REPORT, limits, unwritten};
 use std::test::Fail;
 use swd_capture_text::AccessesPrinter;
 use swd_fakes::ShortWriter;
@@ -53,78 +53,17 @@ fn run_on(rt: &HostRuntime, script: &[u8], plan: &[u8], trace: usize, accesses: 
     }
 }
 
-// The opening has 544 bits and ten requests; a transaction with a data phase has 46, and one without 13. TAR is
-// written first, so that the first access is at 590.
-const ROWS: [(&str, &[u8], &[u8], &[u8]); 10] = [
-    ("none", b"memory 20000000 1\n", b"", b""),
-    ("a write", ONE_WRITE, b"", b"@590 w 20000000 deadbeef\n"),
-    (
-        "a write, two reads and a bus error, each behind a read of RDBUFF, and two of them behind a write of TAR",
-        WORKED,
-        b"",
-        b"@590 w 20000000 deadbeef\n@728 r 20000000 deadbeef\n@820 r 20000004 00000000\n\
-            @958 r 30000000 ???????? not\n",
-    ),
-    (
-        "a write whose data is damaged is written again, after FAULT, CTRL/STAT, ABORT and CTRL/STAT",
-        ONE_WRITE,
-        b".\n.\n.\n.\n.\n.\n.\n.\n.\n.\nflip 17\n",
-        b"@590 w 20000000 deadbeef not\n@787 w 20000000 deadbeef\n",
-    ),
-    (
-        "a read whose word arrives with wrong parity, and again by RESEND",
-        ONE_READ,
-        b".\n.\n.\n.\n.\n.\n.\n.\n.\n.\n.\nflip 5\n",
-        b"@590 r 20000000 00000000\n",
-    ),
-    (
-        "the same, where RESEND's word has wrong parity too: a second RESEND gives it to the host, and it isn't shown",
-        ONE_READ,
-        b".\n.\n.\n.\n.\n.\n.\n.\n.\n.\n.\nflip 5\nflip 6\n",
-        b"@590 r 20000000 ????????\n",
-    ),
-    (
-        "in a block, RESEND confirms the next read too; its word has wrong parity in turn, and isn't shown",
-        b"memory 20000000 16\nblock 20000000 3\n",
-        b".\n.\n.\n.\n.\n.\n.\n.\n.\n.\n.\nflip 5\n.\nflip 6\n",
-        b"@590 r 20000000 00000000\n@636 r 20000004 ????????\n@728 r 20000008 00000000\n",
-    ),
-    (
-        "a read whose acknowledgement is lost: it doesn't confirm the write of TAR either",
-        ONE_READ,
-        b".\n.\n.\n.\n.\n.\n.\n.\n.\n.\nmute 0\n",
-        b"@590 r ???????? ???????? may\n",
-    ),
-    (
-        "a write whose acknowledgement is lost gets no data",
-        ONE_WRITE,
-        b".\n.\n.\n.\n.\n.\n.\n.\n.\n.\nmute 0\n",
-        b"",
-    ),
-    (
-        "a second call has no opening: it writes TAR, 8 idle cycles after the RDBUFF read of the first",
-        b"memory 20000000 16\nw 20000000 1\nnext\nr 20000000\n",
-        b"",
-        b"@590 w 20000000 00000001\n@736 r 20000000 00000001\n",
-    ),
-];
-
-#[test]
-fn accesses_are_written(rt: HostRuntime) {
-    for (name, script, plan, accesses) in ROWS {
-        let seen = run_on(&rt, script, plan, ROOM, ROOM);
-        expect_eq_at(&rt, &name, &seen.answer.is_ok(), &true);
-        expect_eq_at(&rt, &name, &seen.accesses.taken(), &accesses);
-    }
-}
+const WORKED_ACCESSES: &[u8] =
+    b"@590 w 20000000 deadbeef\n@728 r 20000000 deadbeef\n@820 r 20000004 00000000\n\
+    @958 r 30000000 ???????? not\n";
 
 // The writer fails at each place: the report and the trace stand whole. Where the trace's writer fails, nothing of the
 // accesses is written.
 #[test]
 fn accesses_at_each_write_that_fails(rt: HostRuntime) {
     let whole = run_on(&rt, WORKED, b"".as_slice(), ROOM, ROOM);
-    let (_, _, _, text) = ROWS[2];
-    for room in 0..text.len() {
+    expect_eq_at(&rt, &ROOM, &whole.accesses.taken(), &WORKED_ACCESSES);
+    for room in 0..WORKED_ACCESSES.len() {
         let seen = run_on(&rt, WORKED, b"".as_slice(), ROOM, room);
         let fault = EngineFault::WriteAccesses {
             written: room as u64,
@@ -132,12 +71,14 @@ fn accesses_at_each_write_that_fails(rt: HostRuntime) {
         expect_eq_at(&rt, &room, &seen.answer, &Err(RunFault::Engine(fault)));
         expect_eq_at(&rt, &room, &seen.report.taken(), &WORKED_REPORT);
         expect_eq_at(&rt, &room, &seen.trace.taken(), &whole.trace.taken());
-        expect_eq_at(&rt, &room, &seen.accesses.taken(), &&text[..room]);
+        expect_eq_at(
+            &rt,
+            &room,
+            &seen.accesses.taken(),
+            &&WORKED_ACCESSES[..room],
+        );
         let seen = run_on(&rt, WORKED, b"".as_slice(), room, ROOM);
-        let fault = EngineFault::Write {
-            written: room as u64,
-        };
-        expect_eq_at(&rt, &room, &seen.answer, &Err(RunFault::Engine(fault)));
+        expect_eq_at(&rt, &room, &seen.answer, &unwritten(room));
         expect_eq_at(&rt, &room, &seen.accesses.taken(), &b"".as_slice());
     }
 }
@@ -167,11 +108,13 @@ fn taken_effect(rt: &HostRuntime, accesses: &[u8]) -> Result<Vec<u8>, Fail> {
     Ok(shown)
 }
 
+const MARKS: &[&[u8]] = &[b"wait", b"flip 0", b"flip 7", b"flip 32"];
+
 // Whichever request is answered WAIT or has a bit of its data changed: all that took effect is shown, with addresses
 // and words.
 #[test]
 fn accesses_where_one_request_is_disturbed(rt: HostRuntime) -> Result<(), Fail> {
-    for mark in [b"wait".as_slice(), b"flip 0", b"flip 7", b"flip 32"] {
+    for mark in MARKS {
         for place in 0..52 {
             let mut plan = Vec::new(rt.alloc());
             for _ in 0..place {

@@ -1,13 +1,13 @@
 //! Runs on heaps of each size: where memory ended is told, and nothing has been written but the report of the calls
 //! before.
 use super::expect::{expect_at, expect_eq, expect_eq_at};
-use super::{ended_with, limits, only_trace};
+use super::{ended_with, reported, traced};
 use linked_list_allocator::LocalHeap;
 use std::alloc::Allocator;
 use std::process::Abort;
 use std::test::Fail;
 use swd_host::End;
-use swd_run::{EngineFault, Finished, Records, RunFault, TextsFault, run_text};
+use swd_run::{EngineFault, Finished, RunFault, TextsFault};
 use swd_script::ScriptFault;
 
 // The list of accesses grows at lines 3 and 4.
@@ -59,9 +59,9 @@ fn stage_of(answer: Result<Finished, RunFault>) -> Option<Stage> {
     }
 }
 
-const STAGES: [Stage; 4] = [Stage::Script, Stage::Plan, Stage::Run, Stage::Whole];
+const STAGES: &[Stage] = &[Stage::Script, Stage::Plan, Stage::Run, Stage::Whole];
 
-const TRACED_STAGES: [Stage; 5] = [
+const TRACED_STAGES: &[Stage] = &[
     Stage::Script,
     Stage::Plan,
     Stage::Run,
@@ -110,17 +110,8 @@ fn a_run_where_memory_ends(rt: HostRuntime) -> Result<(), Fail> {
     let mut stages = Stages::new(&rt);
     for size in 1..80usize {
         let heap = LocalHeap::new(rt.alloc(), size * STEP)?;
-        let mut script = SCRIPT;
-        let mut plan = PLAN;
         let mut report = Vec::new(rt.alloc());
-        let answer = run_text(
-            &heap,
-            &mut script,
-            &mut plan,
-            limits(0),
-            &mut report,
-            &mut Records::<Vec<u8>>::none(),
-        );
+        let answer = reported(&heap, SCRIPT, PLAN, 0, &mut report);
         let Some(stage) = stage_of(answer) else {
             panic!(rt; "{size}: {answer:?}");
         };
@@ -129,7 +120,7 @@ fn a_run_where_memory_ends(rt: HostRuntime) -> Result<(), Fail> {
         expect_eq(&rt, &heap.used(), &0);
         stages.add(&rt, stage)?;
     }
-    stages.are(&rt, &STAGES);
+    stages.are(&rt, STAGES);
     Ok(())
 }
 
@@ -146,17 +137,8 @@ fn a_second_call_where_memory_ends(rt: HostRuntime) -> Result<(), Fail> {
     let mut whole = false;
     for size in 1..100usize {
         let heap = LocalHeap::new(rt.alloc(), size * STEP)?;
-        let mut script = TWO_CALLS;
-        let mut plan = b"".as_slice();
         let mut report = Vec::new(rt.alloc());
-        let answer = run_text(
-            &heap,
-            &mut script,
-            &mut plan,
-            limits(0),
-            &mut report,
-            &mut Records::<Vec<u8>>::none(),
-        );
+        let answer = reported(&heap, TWO_CALLS, b"", 0, &mut report);
         let report = report.as_slice();
         match answer {
             Ok(_) => whole = true,
@@ -174,37 +156,28 @@ fn a_second_call_where_memory_ends(rt: HostRuntime) -> Result<(), Fail> {
     Ok(())
 }
 
-// What a traced run answers, what it reports, and its trace.
+/// What a traced run answers, what it reports, and its trace.
 #[derive(Drop)]
-struct Traced {
+pub(super) struct Traced {
     answer: Result<Finished, RunFault>,
     report: Vec<u8>,
-    trace: Vec<u8>,
+    pub(super) trace: Vec<u8>,
 }
 
-fn traced_on<A: Allocator + Copy>(
+/// Runs a script under a plan with its trace.
+pub(super) fn traced_on<A: Allocator + Copy>(
     rt: &HostRuntime,
     alloc: A,
     script: &[u8],
     plan: &[u8],
 ) -> Traced {
-    let mut script = script;
-    let mut plan = plan;
     let mut report = Vec::new(rt.alloc());
-    let mut records = only_trace(Vec::new(rt.alloc()));
-    let answer = run_text(
-        alloc,
-        &mut script,
-        &mut plan,
-        limits(0),
-        &mut report,
-        &mut records,
-    );
-    let trace = records.trace.unwrap_or(Vec::new(rt.alloc()));
+    let trace = Vec::new(rt.alloc());
+    let (answer, trace) = traced(alloc, script, plan, &mut report, trace);
     Traced {
         answer,
         report,
-        trace,
+        trace: trace.unwrap_or(Vec::new(rt.alloc())),
     }
 }
 
@@ -239,7 +212,7 @@ fn a_traced_run_where_memory_ends(rt: HostRuntime) -> Result<(), Fail> {
             longest_cut = most;
         }
     }
-    stages.are(&rt, &TRACED_STAGES);
+    stages.are(&rt, TRACED_STAGES);
     // What was kept before memory was refused has been written: more than the opening.
     assert!(rt; longest_cut > 14 * 47);
     Ok(())

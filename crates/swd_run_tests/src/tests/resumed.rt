@@ -1,83 +1,14 @@
 //! Runs that are resumed at a lost acknowledgement.
-use super::expect::expect_eq;
-use super::{ONE_WRITE, Ran, TRIES, WORKED, ended, ended_with, limits, only_trace, resumed_on};
+use super::expect::{expect_eq, expect_eq_at};
+use super::{ONE_WRITE, ended, reported};
 use linked_list_allocator::LocalHeap;
 use std::alloc::Allocator;
-use std::process::Abort;
 use std::test::Fail;
 use swd_host::End;
-use swd_run::{EngineFault, Finished, Records, RunFault, run_text};
-use swd_text::decode_text;
+use swd_run::{EngineFault, Finished, RunFault};
 
-/// The DRW request of a first access is the eleventh: nine requests are the opening's, and one is TAR's.
-pub(super) const LOST_WRITE: &[u8] = b".\n.\n.\n.\n.\n.\n.\n.\n.\n.\nmute 0\n";
-
-// A run ends so, after this report.
-fn comes_to<R: Abort>(rt: &R, run: &Ran, end: End, report: &[u8]) {
-    expect_eq(rt, &run.answer, &ended_with(end, report));
-    expect_eq(rt, &run.text.as_slice(), &report);
-}
-
-// The write is confirmed at the twelfth request, TAR is the thirteenth, and the read the fourteenth.
-#[test]
-fn a_run_goes_on_in_the_middle_of_its_list(rt: HostRuntime) {
-    for mark in [b"mute 0\n".as_slice(), b"mute 1\n", b"mute 2\n", b"deaf\n"] {
-        let mut plan = Vec::new(rt.alloc());
-        for _ in 0..13u8 {
-            assert!(rt; plan.extend_from_slice(b".\n").is_ok());
-        }
-        assert!(rt; plan.extend_from_slice(mark).is_ok());
-        let run = resumed_on(&rt, WORKED, plan.as_slice(), TRIES, 1);
-        let report = b"w 20000000 written\nresume 1 begun 1\nr 20000000 deadbeef\n\
-            r 20000004 00000000\nr 30000000 busfault\nend all 4\n"
-            .as_slice();
-        comes_to(&rt, &run, End::All, report);
-        let run = resumed_on(&rt, WORKED, plan.as_slice(), TRIES, 0);
-        let report = b"w 20000000 written\nend lost 1 begun 1\n".as_slice();
-        comes_to(&rt, &run, End::Lost, report);
-    }
-}
-
-// How many lines begin with one of these.
-fn lines_with(listing: &[u8], first: &[u8]) -> usize {
-    listing
-        .split(|byte| *byte == b'\n')
-        .filter(|line| line.starts_with(first))
-        .count()
-}
-
-// Eleven requests and twelve: the opening is done again, and TAR and the write are sent again, and confirmed.
-#[test]
-fn a_resumed_run_is_traced_whole(rt: HostRuntime) {
-    let mut script = ONE_WRITE;
-    let mut plan = LOST_WRITE;
-    let mut report = Vec::new(rt.alloc());
-    let mut records = only_trace(Vec::new(rt.alloc()));
-    let answer = run_text(
-        rt.alloc(),
-        &mut script,
-        &mut plan,
-        limits(1),
-        &mut report,
-        &mut records,
-    );
-    let trace = records.trace.expect(&rt, "its writer");
-    expect_eq(&rt, &answer, &ended(End::All));
-    expect_eq(
-        &rt,
-        &report.as_slice(),
-        &b"resume 0 begun 1\nw 20000000 written\nend all 1\n".as_slice(),
-    );
-    let mut text = trace.as_slice();
-    let mut listing = Vec::new(rt.alloc());
-    expect_eq(&rt, &decode_text(&mut text, &mut listing), &Ok(()));
-    let listing = listing.as_slice();
-    let transactions = lines_with(listing, b"dp ").saturating_add(lines_with(listing, b"ap "));
-    expect_eq(&rt, &transactions, &23);
-    expect_eq(&rt, &lines_with(listing, b"reset 100"), &1);
-    expect_eq(&rt, &lines_with(listing, b"ap c write none 0"), &1);
-    expect_eq(&rt, &lines_with(listing, b"ap c write ok deadbeef"), &1);
-}
+// The DRW request of a first access is the eleventh: nine requests are the opening's, and one is TAR's.
+const LOST_WRITE: &[u8] = b".\n.\n.\n.\n.\n.\n.\n.\n.\n.\nmute 0\n";
 
 // A write whose acknowledgement is lost, resumed at most so many times.
 fn lost_write_on<A: Allocator + Copy>(
@@ -85,16 +16,8 @@ fn lost_write_on<A: Allocator + Copy>(
     resumes: u32,
     report: &mut Vec<u8>,
 ) -> Result<Finished, RunFault> {
-    let mut script = b"memory 20000000 16\nroom 8\nw 20000000 deadbeef\n".as_slice();
-    let mut plan = LOST_WRITE;
-    run_text(
-        alloc,
-        &mut script,
-        &mut plan,
-        limits(resumes),
-        report,
-        &mut Records::<Vec<u8>>::none(),
-    )
+    let script = b"memory 20000000 16\nroom 8\nw 20000000 deadbeef\n";
+    reported(alloc, script, LOST_WRITE, resumes, report)
 }
 
 fn is_refused(answer: &Result<Finished, RunFault>) -> bool {
@@ -135,4 +58,16 @@ fn a_resumed_run_where_memory_ends(rt: HostRuntime) -> Result<(), Fail> {
     }
     assert!(rt; refused && done);
     Ok(())
+}
+
+// The first request of each of two calls is lost. The program allows fewer resumptions.
+#[test]
+fn a_run_is_resumed_as_often_as_may_be(rt: HostRuntime) {
+    let name = "twice, where it may be as often as may be";
+    let plan = b"deaf\ndeaf\n".as_slice();
+    let mut report = Vec::new(rt.alloc());
+    let answer = reported(rt.alloc(), ONE_WRITE, plan, u32::MAX, &mut report);
+    expect_eq_at(&rt, &name, &answer, &ended(End::All));
+    let wanted = b"resume 0 begun 0\nresume 0 begun 0\nw 20000000 written\nend all 1\n".as_slice();
+    expect_eq_at(&rt, &name, &report.as_slice(), &wanted);
 }

@@ -154,7 +154,7 @@ pub(super) fn lost_after(alloc: Global, clean: usize) -> Result<Vec<u8>, Fail> {
 // How many reads a call has, and its writes: after how many requests, and of how many bytes.
 type Row = (&'static str, usize, &'static [(u64, usize)]);
 
-const ROWS: [Row; 5] = [
+const ROWS: &[Row] = &[
     ("no read", 0, &[(9, 10)]),
     ("one less than wait", 1023, &[(3078, 20473)]),
     ("as many as wait", 1024, &[(3081, 20480), (3081, 13)]),
@@ -167,13 +167,18 @@ fn the_lines_of_1024_answers_are_written_while_the_call_goes_on(
     rt: HostRuntime,
 ) -> Result<(), Fail> {
     for (name, count, writes) in ROWS {
-        let script = reads(rt.alloc(), count, b"".as_slice())?;
+        let script = reads(rt.alloc(), *count, b"".as_slice())?;
         let run = run_at(rt.alloc(), script.as_slice(), b"".as_slice(), 0, 100)?;
-        expect_eq_at(&rt, &name, &run.answer, &super::ended(End::All));
-        expect_eq_at(&rt, &name, &run.writes.as_slice(), &writes);
+        expect_eq_at(&rt, name, &run.answer, &super::ended(End::All));
+        expect_eq_at(&rt, name, &run.writes.as_slice(), writes);
     }
     Ok(())
 }
+
+const RESUMED_WRITES: &[(u64, usize)] = &[(3081, 20480), (3320, 1553)];
+
+// 26 answers more, and "end lost 1050 begun 1".
+const LOST_WRITES: &[(u64, usize)] = &[(3081, 20480), (3161, 542)];
 
 // The acknowledgement of the DRW request of the read at index 1050 is lost. The call is resumed with an opening, and
 // with this read.
@@ -184,22 +189,23 @@ fn a_resumed_call_is_written_while_it_goes_on(rt: HostRuntime) -> Result<(), Fai
     let run = run_at(rt.alloc(), script.as_slice(), plan.as_slice(), 1, 100)?;
     let name = "resumed";
     expect_eq_at(&rt, &name, &run.answer, &super::ended(End::All));
-    let writes = [(3081, 20480), (3320, 1553)];
-    expect_eq_at(&rt, &name, &run.writes.as_slice(), &writes.as_slice());
+    expect_eq_at(&rt, &name, &run.writes.as_slice(), &RESUMED_WRITES);
     let run = run_at(rt.alloc(), script.as_slice(), plan.as_slice(), 0, 100)?;
     let name = "not resumed";
     expect_eq_at(&rt, &name, &run.answer, &super::ended(End::Lost));
-    // 26 answers more, and "end lost 1050 begun 1".
-    let writes = [(3081, 20480), (3161, 542)];
-    expect_eq_at(&rt, &name, &run.writes.as_slice(), &writes.as_slice());
+    expect_eq_at(&rt, &name, &run.writes.as_slice(), &LOST_WRITES);
     Ok(())
 }
+
+// The write that fails, and how many bytes were written before.
+const FAILING: &[(usize, u64)] = &[(0, 0), (1, 20480), (2, 40960)];
 
 // The call is made to its end, and no other one. Nothing is written after that write.
 #[test]
 fn a_writer_that_fails_in_a_call(rt: HostRuntime) -> Result<(), Fail> {
     let script = reads(rt.alloc(), 2500, b"next\nr 0\n".as_slice())?;
-    for (fails_at, written) in [(0, 0), (1, 20480), (2, 40960)] {
+    for (fails_at, written) in FAILING {
+        let (fails_at, written) = (*fails_at, *written);
         let run = run_at(rt.alloc(), script.as_slice(), b"".as_slice(), 0, fails_at)?;
         let fault = EngineFault::Write { written };
         expect_eq_at(&rt, &fails_at, &run.answer, &Err(fault));

@@ -96,7 +96,7 @@ type Row = (
     &'static [u64],
 );
 
-const ROWS: [Row; 7] = [
+const ROWS: &[Row] = &[
     ("no read", 0, b"", None, &[0, 9]),
     ("a few reads", 5, b"", None, &[0, 24]),
     // The zeros at its end are the item after which 1024 wait.
@@ -146,9 +146,9 @@ fn bytes_in(writes: &[(u64, usize)], count: usize) -> usize {
 #[test]
 fn the_trace_is_written_at_line_resets_and_after_1024_items(rt: HostRuntime) -> Result<(), Fail> {
     for (name, count, rest, clean, requests) in ROWS {
-        let script = reads(rt.alloc(), count, rest)?;
+        let script = reads(rt.alloc(), *count, rest)?;
         let plan = match clean {
-            Some(clean) => lost_after(rt.alloc(), clean)?,
+            Some(clean) => lost_after(rt.alloc(), *clean)?,
             None => Vec::new(rt.alloc()),
         };
         let run = run_at(
@@ -158,12 +158,12 @@ fn the_trace_is_written_at_line_resets_and_after_1024_items(rt: HostRuntime) -> 
             1,
             NONE_FAILS,
         )?;
-        expect_eq_at(&rt, &name, &run.answer, &super::ended(End::All));
+        expect_eq_at(&rt, name, &run.answer, &super::ended(End::All));
         let places = places_of(rt.alloc(), run.writes.as_slice())?;
-        expect_eq_at(&rt, &name, &places.as_slice(), &requests);
+        expect_eq_at(&rt, name, &places.as_slice(), requests);
         let bytes = bytes_in(run.writes.as_slice(), usize::MAX);
-        expect_eq_at(&rt, &name, &run.trace.len(), &bytes);
-        expect_eq_at(&rt, &name, &run.trace.last(), &Some(&b'\n'));
+        expect_eq_at(&rt, name, &run.trace.len(), &bytes);
+        expect_eq_at(&rt, name, &run.trace.last(), &Some(&b'\n'));
     }
     Ok(())
 }

@@ -2,13 +2,12 @@ use super::expect::{expect_eq, expect_eq_at};
 use super::recorded::{DEAF, FLIPPED_READ, FLIPPED_WRITE, MUTE, Recorded, UNDISTURBED, WAITS};
 use std::alloc::Global;
 use std::cell::Cell;
-use std::io;
-use std::io::{Read, Write};
+use std::io::Read;
 use std::process::Abort;
 use std::test::Fail;
 use swd_bitbang::{Pins, Served, Trace, serve};
 use swd_clocked::FaultyClocked;
-use swd_fakes::{CountingWriter, FailingReader, ShortWriter, WatchingReader};
+use swd_fakes::{CountingWriter, FailingReader, OneByteWriter, ShortWriter, WatchingReader};
 use swd_port::Mark;
 use swd_target::{Memory, Quirks};
 
@@ -18,28 +17,6 @@ const QUIRKS: Quirks = Quirks {
     filler: 0,
     idr: None,
 };
-
-// Takes one byte at a write.
-#[derive(Drop)]
-struct SlowWriter {
-    taken: Vec<u8>,
-}
-
-impl Write for SlowWriter {
-    fn write(&mut self, buf: &[u8]) -> io::Result<usize> {
-        match buf.first() {
-            Some(byte) => {
-                self.taken.push(*byte)?;
-                Ok(1)
-            }
-            None => Ok(0),
-        }
-    }
-
-    fn flush(&mut self) -> io::Result<()> {
-        Ok(())
-    }
-}
 
 /// The pins at a target of sixteen words from 20000000, of whose requests this one meets the mark.
 pub(super) fn pins_under(alloc: Global, request: usize, mark: Mark) -> Result<Pins<Memory>, Fail> {
@@ -71,9 +48,7 @@ fn comes_out<R: Read>(
     served: Served,
 ) -> Result<(), Fail> {
     let pins = pins_under(alloc, session.request, session.mark)?;
-    let mut writer = SlowWriter {
-        taken: Vec::new(alloc),
-    };
+    let mut writer = OneByteWriter::new(alloc);
     let (ended, pins) = serve(reader, &mut writer, pins);
     expect_eq_at(rt, &session.name, &ended, &served);
     expect_eq_at(rt, &session.name, &writer.taken.as_slice(), &session.levels);
@@ -122,30 +97,31 @@ fn answered(rt: &HostRuntime, text: &[u8]) -> Result<(Served, Vec<u8>, u64), Fai
     Ok((served, answers, target.cycles()))
 }
 
+// Each text, what is answered, and how many clocks went by.
+const CLOCKED: &[(&[u8], &[u8], u64)] = &[
+    (b"", b"", 0),
+    // A host that drives sees its own level, and a look is no clock.
+    (b"cdcec", b"101", 0),
+    (b"ccegcdcec", b"11101", 1),
+    // One that leaves the line alone: at the first look, which stays until the clock falls.
+    (b"odccfccdf", b"1111", 2),
+    (b"odcfdcf", b"11", 2),
+    // Where it doesn't look first, at the rising edge.
+    (b"odfcdf", b"1", 2),
+    // A low level after a low level is no edge, nor a high one after a high one.
+    (b"odcececf", b"111", 1),
+    (b"egggdg", b"", 2),
+    // The lamp, the reset lines and the waits.
+    (b"BbrstuZz", b"", 0),
+];
+
 #[test]
 fn a_clock_goes_by_once(rt: HostRuntime) -> Result<(), Fail> {
-    // Each text, what is answered, and how many clocks went by.
-    let rows: [(&[u8], &[u8], u64); 9] = [
-        (b"", b"", 0),
-        // A host that drives sees its own level, and a look is no clock.
-        (b"cdcec", b"101", 0),
-        (b"ccegcdcec", b"11101", 1),
-        // One that leaves the line alone: at the first look, which stays until the clock falls.
-        (b"odccfccdf", b"1111", 2),
-        (b"odcfdcf", b"11", 2),
-        // Where it doesn't look first, at the rising edge.
-        (b"odfcdf", b"1", 2),
-        // A low level after a low level is no edge, nor a high one after a high one.
-        (b"odcececf", b"111", 1),
-        (b"egggdg", b"", 2),
-        // The lamp, the reset lines and the waits.
-        (b"BbrstuZz", b"", 0),
-    ];
-    for (text, levels, cycles) in rows {
+    for (text, levels, cycles) in CLOCKED {
         let (served, answers, went_by) = answered(&rt, text)?;
         expect_eq(&rt, &served, &Served::Ended);
-        expect_eq(&rt, &answers.as_slice(), &levels);
-        expect_eq(&rt, &went_by, &cycles);
+        expect_eq(&rt, &answers.as_slice(), levels);
+        expect_eq(&rt, &went_by, cycles);
     }
     Ok(())
 }
@@ -155,7 +131,8 @@ fn a_session_ends_at_quit_and_at_a_bad_byte(rt: HostRuntime) -> Result<(), Fail>
     let (served, answers, _) = answered(&rt, b"cdcQcx")?;
     expect_eq(&rt, &served, &Served::Quit);
     expect_eq(&rt, &answers.as_slice(), &b"10".as_slice());
-    for byte in [b'0', b'7', b'R', b'x', b'\n', 0, 255] {
+    for byte in b"07Rx\n\0\xff" {
+        let byte = *byte;
         let text = [b'c', b'd', b'c', byte, b'c', b'Q'];
         let (served, answers, _) = answered(&rt, text.as_slice())?;
         expect_eq(&rt, &served, &Served::Bad { place: 3, byte });
@@ -163,6 +140,9 @@ fn a_session_ends_at_quit_and_at_a_bad_byte(rt: HostRuntime) -> Result<(), Fail>
     }
     Ok(())
 }
+
+// How many levels were told before each read.
+const NOTED: &[usize] = &[0, 1, 1, 1, 2, 2, 2, 3, 3, 3, 3, 3];
 
 #[test]
 fn a_level_is_told_before_more_is_read(rt: HostRuntime) -> Result<(), Fail> {
@@ -172,8 +152,7 @@ fn a_level_is_told_before_more_is_read(rt: HostRuntime) -> Result<(), Fail> {
     let mut writer = CountingWriter { taken: &taken };
     let (served, _) = serve(&mut reader, &mut writer, plain_pins(rt.alloc())?);
     expect_eq(&rt, &served, &Served::Ended);
-    let noted = [0usize, 1, 1, 1, 2, 2, 2, 3, 3, 3, 3, 3];
-    expect_eq(&rt, &reader.noted.as_slice(), &noted.as_slice());
+    expect_eq(&rt, &reader.noted.as_slice(), &NOTED);
     Ok(())
 }
 

@@ -7,18 +7,17 @@ ghost use Rattle.swd_port.specs.Port.{port_made};
 
 use super::expect::{expect_eq, expect_eq_at};
 use super::recorded::UNDISTURBED;
-use super::sessions::calls_of;
-use super::{ended, limits, only_trace};
+use std::alloc::Global;
 use std::cell::Cell;
+use std::io::{Read, Write};
 use std::process::Abort;
-use std::test::Fail;
 use swd_capture_text::AccessesPrinter;
 use swd_ends::{Line, RemoteFault, run_remote};
 use swd_fakes::{CountingWriter, ShortWriter, WatchingReader};
 use swd_host::End;
 use swd_port::{Answer, Story};
-use swd_remote::Fault;
-use swd_run::{Difference, EngineFault, Finished, Records, run_text};
+use swd_remote::{Fault, RemoteStreams};
+use swd_run::{Difference, EngineFault, Finished, Limits, Records, run_text};
 
 // Any story.
 struct Untold;
@@ -30,6 +29,48 @@ impl Story for Untold {
 const SCRIPT: &[u8] = b"memory 20000000 16\nw 20000000 deadbeef\nr 20000000\n";
 
 const REPORT: &[u8] = b"w 20000000 written\nr 20000000 deadbeef\nend all 2\n";
+
+const LIMITS: Limits = Limits {
+    tries: 8,
+    resumes: 0,
+};
+
+// A run that ended so, in which no word differed and no access met a bus error.
+fn ended(ended: End) -> Finished {
+    Finished {
+        ended,
+        never_came: false,
+        differs: None,
+        bus_fault: false,
+        full: None,
+    }
+}
+
+// The writer of a trace, with no file beside it.
+fn only_trace<T>(trace: T) -> Records<T> {
+    Records {
+        trace: Some(trace),
+        accesses: None,
+        printer: (),
+        progress: (),
+    }
+}
+
+type Ran<R> = (Result<Finished, RemoteFault>, RemoteStreams<R, Vec<u8>>);
+
+// Runs a script at a target that gives these levels, with no trace.
+fn run_at<R: Read, O: Write>(alloc: Global, script: &[u8], reader: R, report: &mut O) -> Ran<R> {
+    let mut script = script;
+    let writer = Vec::new(alloc);
+    run_remote::<Untold, _, _, _, _, _, _, _, _>(
+        alloc,
+        &mut script,
+        Line { reader, writer },
+        LIMITS,
+        report,
+        &mut Records::<Vec<u8>>::none(),
+    )
+}
 
 // The recorded host takes SWDIO for driven at first. This one says so: a server may begin with it released.
 fn expect_sent<R: Abort>(rt: &R, sent: &[u8]) {
@@ -46,31 +87,12 @@ fn began(sent: &[u8]) -> bool {
 
 #[test]
 fn a_script_sends_what_was_recorded(rt: HostRuntime) {
-    let mut sent = Vec::new(rt.alloc());
     let mut report = Vec::new(rt.alloc());
-    let mut script = SCRIPT;
-    let (answer, line) = run_remote::<Untold, _, _, _, _, _, _, _, _>(
-        rt.alloc(),
-        &mut script,
-        Line {
-            reader: UNDISTURBED.levels,
-            writer: &mut sent,
-        },
-        limits(0),
-        &mut report,
-        &mut Records::<Vec<u8>>::none(),
-    );
-    let finished = Finished {
-        ended: End::All,
-        never_came: false,
-        differs: None,
-        bus_fault: false,
-        full: None,
-    };
-    expect_eq(&rt, &answer, &Ok(finished));
+    let (answer, line) = run_at(rt.alloc(), SCRIPT, UNDISTURBED.levels, &mut report);
+    expect_eq(&rt, &answer, &Ok(ended(End::All)));
     expect_eq(&rt, &line.fault, &None);
     expect_eq(&rt, &report.as_slice(), &REPORT);
-    expect_sent(&rt, sent.as_slice());
+    expect_sent(&rt, line.writer.as_slice());
 }
 
 // The trace is that of a run over the simulated target, which shows the same words. The opening shows SELECT and CSW,
@@ -93,7 +115,7 @@ fn a_remote_run_is_traced(rt: HostRuntime) {
             reader: UNDISTURBED.levels,
             writer: &mut sent,
         },
-        limits(0),
+        LIMITS,
         &mut report,
         &mut records,
     );
@@ -104,14 +126,7 @@ fn a_remote_run_is_traced(rt: HostRuntime) {
         &accesses.as_slice(),
         &b"@590 w 20000000 deadbeef\n@728 r 20000000 deadbeef\n".as_slice(),
     );
-    let finished = Finished {
-        ended: End::All,
-        never_came: false,
-        differs: None,
-        bus_fault: false,
-        full: None,
-    };
-    expect_eq(&rt, &answer, &Ok(finished));
+    expect_eq(&rt, &answer, &Ok(ended(End::All)));
     expect_eq(&rt, &line.fault, &None);
     expect_eq(&rt, &report.as_slice(), &REPORT);
     expect_sent(&rt, sent.as_slice());
@@ -123,20 +138,24 @@ fn a_remote_run_is_traced(rt: HostRuntime) {
         rt.alloc(),
         &mut script,
         &mut plan,
-        limits(0),
+        LIMITS,
         &mut told,
         &mut simulated,
     );
     let simulated = simulated.trace.expect(&rt, "its writer");
-    expect_eq(&rt, &answer, &ended(End::All));
+    expect_eq(&rt, &answer, &Ok(ended(End::All)));
     expect_eq(&rt, &trace.as_slice(), &simulated.as_slice());
 }
+
+// How many bytes of the report are taken, and of the trace.
+const FAILING: &[(usize, usize)] = &[(3, 100), (REPORT.len(), 100), (REPORT.len(), 0)];
 
 // Where the report or the trace can't be written the other end is told all the same that the host is done. The trace is
 // written also where the report fails.
 #[test]
 fn a_failed_write_ends_the_session(rt: HostRuntime) {
-    for (report_room, trace_room) in [(3usize, 100usize), (REPORT.len(), 100), (REPORT.len(), 0)] {
+    for (report_room, trace_room) in FAILING {
+        let (report_room, trace_room) = (*report_room, *trace_room);
         let mut sent = Vec::new(rt.alloc());
         let mut report = ShortWriter::new(rt.alloc(), report_room, true);
         let mut records = only_trace(ShortWriter::new(rt.alloc(), trace_room, false));
@@ -148,7 +167,7 @@ fn a_failed_write_ends_the_session(rt: HostRuntime) {
                 reader: UNDISTURBED.levels,
                 writer: &mut sent,
             },
-            limits(0),
+            LIMITS,
             &mut report,
             &mut records,
         );
@@ -180,21 +199,9 @@ const BOTH_REPORTS: &[u8] =
 fn a_report_is_written_before_the_next_call(rt: HostRuntime) {
     let taken = Cell::new(0);
     let mut reader = WatchingReader::new(rt.alloc(), UNDISTURBED.levels, &taken);
-    let mut sent = Vec::new(rt.alloc());
     let mut report = CountingWriter { taken: &taken };
-    let mut script = TWO_CALLS;
-    let (answer, _line) = run_remote::<Untold, _, _, _, _, _, _, _, _>(
-        rt.alloc(),
-        &mut script,
-        Line {
-            reader: &mut reader,
-            writer: &mut sent,
-        },
-        limits(0),
-        &mut report,
-        &mut Records::<Vec<u8>>::none(),
-    );
-    expect_eq(&rt, &answer, &ended(End::Lost));
+    let (answer, _line) = run_at(rt.alloc(), TWO_CALLS, &mut reader, &mut report);
+    expect_eq(&rt, &answer, &Ok(ended(End::Lost)));
     let noted = reader.noted.as_slice();
     let first = UNDISTURBED.levels.len();
     assert!(rt; noted.len() > first);
@@ -210,61 +217,34 @@ fn a_report_is_written_before_the_next_call(rt: HostRuntime) {
 #[test]
 fn no_call_is_made_after_a_failed_write(rt: HostRuntime) {
     for room in 0..REPORT.len() {
-        let mut sent = Vec::new(rt.alloc());
         let mut report = ShortWriter::new(rt.alloc(), room, true);
-        let mut script = TWO_CALLS;
-        let (answer, line) = run_remote::<Untold, _, _, _, _, _, _, _, _>(
-            rt.alloc(),
-            &mut script,
-            Line {
-                reader: UNDISTURBED.levels,
-                writer: &mut sent,
-            },
-            limits(0),
-            &mut report,
-            &mut Records::<Vec<u8>>::none(),
-        );
+        let levels = UNDISTURBED.levels;
+        let (answer, line) = run_at(rt.alloc(), TWO_CALLS, levels, &mut report);
         let fault = EngineFault::Write {
             written: room as u64,
         };
         expect_eq_at(&rt, &room, &answer, &Err(RemoteFault::Engine(fault)));
         expect_eq_at(&rt, &room, &line.fault, &None);
         expect_eq_at(&rt, &room, &report.taken(), &&REPORT[..room]);
-        expect_sent(&rt, sent.as_slice());
+        expect_sent(&rt, line.writer.as_slice());
     }
 }
 
 // The same list as two calls, of which the second was not recorded, so that nothing comes back.
 #[test]
 fn a_call_that_is_lost_is_the_last_one(rt: HostRuntime) {
-    let mut sent = Vec::new(rt.alloc());
+    let script =
+        b"memory 20000000 16\nw 20000000 deadbeef\nverify 20000000 5\nnext\nr 20000000\nnext\nr 20000000\n";
     let mut report = Vec::new(rt.alloc());
-    let mut script =
-        b"memory 20000000 16\nw 20000000 deadbeef\nverify 20000000 5\nnext\nr 20000000\nnext\nr 20000000\n".as_slice();
-    let (answer, line) = run_remote::<Untold, _, _, _, _, _, _, _, _>(
-        rt.alloc(),
-        &mut script,
-        Line {
-            reader: UNDISTURBED.levels,
-            writer: &mut sent,
-        },
-        limits(0),
-        &mut report,
-        &mut Records::<Vec<u8>>::none(),
-    );
+    let (answer, line) = run_at(rt.alloc(), script, UNDISTURBED.levels, &mut report);
     let differs = Difference {
         line: 3,
         addr: 0x2000_0000,
         expected: 5,
         found: Answer::Value(0xdead_beef),
     };
-    let finished = Finished {
-        ended: End::Lost,
-        never_came: false,
-        differs: Some(differs),
-        bus_fault: false,
-        full: None,
-    };
+    let mut finished = ended(End::Lost);
+    finished.differs = Some(differs);
     expect_eq(&rt, &answer, &Ok(finished));
     expect_eq(&rt, &line.fault, &Some(Fault::Ended));
     expect_eq(
@@ -274,88 +254,38 @@ fn a_call_that_is_lost_is_the_last_one(rt: HostRuntime) {
     );
 }
 
+// How many levels come, and the report.
+const AWAY: &[(usize, &[u8])] = &[
+    (100, b"end lost 0 begun 0\n"),
+    // The last levels of the data phase that reads the word are missing.
+    (
+        UNDISTURBED.levels.len() - 9,
+        b"w 20000000 written\nend lost 1 begun 1\n",
+    ),
+    (0, b"end lost 0 begun 0\n"),
+];
+
 #[test]
 fn a_target_that_goes_away_is_told(rt: HostRuntime) {
-    // The last levels of the data phase that reads the word are missing, or none comes at all.
-    for (levels, text) in [
-        (
-            &UNDISTURBED.levels[..100],
-            b"end lost 0 begun 0\n".as_slice(),
-        ),
-        (
-            &UNDISTURBED.levels[..UNDISTURBED.levels.len() - 9],
-            b"w 20000000 written\nend lost 1 begun 1\n".as_slice(),
-        ),
-        (b"".as_slice(), b"end lost 0 begun 0\n".as_slice()),
-    ] {
-        let mut sent = Vec::new(rt.alloc());
-        let mut report = Vec::new(rt.alloc());
-        let mut script = SCRIPT;
-        let (answer, line) = run_remote::<Untold, _, _, _, _, _, _, _, _>(
-            rt.alloc(),
-            &mut script,
-            Line {
-                reader: levels,
-                writer: &mut sent,
-            },
-            limits(0),
-            &mut report,
-            &mut Records::<Vec<u8>>::none(),
-        );
-        let finished = Finished {
-            ended: End::Lost,
-            never_came: false,
-            differs: None,
-            bus_fault: false,
-            full: None,
+    for (count, text) in AWAY {
+        let Some(levels) = UNDISTURBED.levels.get(..*count) else {
+            panic!(rt; "{count}: more than the levels");
         };
-        expect_eq(&rt, &answer, &Ok(finished));
+        let mut report = Vec::new(rt.alloc());
+        let (answer, line) = run_at(rt.alloc(), SCRIPT, levels, &mut report);
+        expect_eq(&rt, &answer, &Ok(ended(End::Lost)));
         expect_eq(&rt, &line.fault, &Some(Fault::Ended));
-        expect_eq(&rt, &report.as_slice(), &text);
-        assert!(rt; began(sent.as_slice()));
+        expect_eq(&rt, &report.as_slice(), text);
+        assert!(rt; began(line.writer.as_slice()));
     }
 }
 
 #[test]
 fn a_script_at_fault_sends_nothing(rt: HostRuntime) {
-    let mut sent = Vec::new(rt.alloc());
+    let script = b"w 20000000 deadbeef\n";
     let mut report = Vec::new(rt.alloc());
-    let mut script = b"w 20000000 deadbeef\n".as_slice();
-    let (answer, line) = run_remote::<Untold, _, _, _, _, _, _, _, _>(
-        rt.alloc(),
-        &mut script,
-        Line {
-            reader: UNDISTURBED.levels,
-            writer: &mut sent,
-        },
-        limits(0),
-        &mut report,
-        &mut Records::<Vec<u8>>::none(),
-    );
+    let (answer, line) = run_at(rt.alloc(), script, UNDISTURBED.levels, &mut report);
     assert!(rt; matches!(&answer, Err(RemoteFault::Script(_))));
     expect_eq(&rt, &line.fault, &None);
-    assert!(rt; sent.as_slice().is_empty() && report.as_slice().is_empty());
-}
-
-// Nothing comes back, so that the first call is lost, and the last one.
-#[test]
-fn a_remote_script_of_a_thousand_calls_is_begun(rt: HostRuntime) -> Result<(), Fail> {
-    let script = calls_of(&rt, 1000)?;
-    let mut script = script.as_slice();
-    let mut sent = Vec::new(rt.alloc());
-    let mut report = Vec::new(rt.alloc());
-    let (answer, _line) = run_remote::<Untold, _, _, _, _, _, _, _, _>(
-        rt.alloc(),
-        &mut script,
-        Line {
-            reader: b"".as_slice(),
-            writer: &mut sent,
-        },
-        limits(0),
-        &mut report,
-        &mut Records::<Vec<u8>>::none(),
-    );
-    expect_eq(&rt, &answer, &ended(End::Lost));
-    expect_eq(&rt, &report.as_slice(), &b"end lost 0 begun 0\n".as_slice());
-    Ok(())
+    assert!(rt; line.writer.is_empty() && report.is_empty());
 }

@@ -135,15 +135,18 @@ fn the_log_has_each_transfer_before_more_is_read(rt: HostRuntime) -> Result<(), 
     Ok(())
 }
 
+const PIECES: &[&[u8]] = &[b"egdf", b"egeg", b"d", b"fQ"];
+
+// The trace before each of them.
+const BEFORE: &[&[u8]] = &[b"", b"10", b"1011", b"1011"];
+
 #[test]
 fn the_trace_has_each_bit_before_more_is_read(rt: HostRuntime) -> Result<(), Fail> {
     // The host drives each bit; in a piece's midst the clock is low.
-    let pieces: [&[u8]; 4] = [b"egdf", b"egeg", b"d", b"fQ"];
-    let looked = looked_at(rt.alloc(), pieces.as_slice())?;
+    let looked = looked_at(rt.alloc(), PIECES)?;
     expect_eq(&rt, &looked.traces.len(), &4);
-    let wanted: [&[u8]; 4] = [b"", b"10", b"1011", b"1011"];
-    for (trace, wanted) in looked.traces.iter().zip(wanted) {
-        expect_eq(&rt, &trace.as_slice(), &wanted);
+    for (trace, wanted) in looked.traces.iter().zip(BEFORE) {
+        expect_eq(&rt, &trace.as_slice(), wanted);
     }
     expect_eq(&rt, &looked.trace.as_slice(), &b"10110\n".as_slice());
     for log in looked.logs.iter() {

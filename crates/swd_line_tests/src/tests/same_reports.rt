@@ -16,20 +16,11 @@ const READ: Access = Access::Read(BASE);
 
 const FAR: Access = Access::Read(0x3000_0000);
 
-const BURST: [Access; 3] = [
+const BURST: &[Access] = &[
     WRITE,
     Access::Write(0x2000_0004, 1),
     Access::Write(0x2000_0008, 2),
 ];
-
-// Accesses whose requests meet these marks.
-fn marked<'a>(accesses: &'a [Access], marks: &'a [(usize, Mark)]) -> Task<'a> {
-    Task {
-        accesses,
-        block: None,
-        marks,
-    }
-}
 
 // A block of so many words whose requests meet these marks.
 fn block(marks: &[(usize, Mark)], count: u32) -> Task<'_> {
@@ -67,47 +58,55 @@ fn comes_out<R: Abort>(rt: &R, alloc: Global, row: usize, task: &Task) -> Result
     Ok(())
 }
 
+// Accesses, and the marks that their requests meet.
+type Marked = (&'static [Access], &'static [(usize, Mark)]);
+
+const RUNS: &[Marked] = &[
+    (&[], &[]),
+    (&[WRITE, READ], &[]),
+    (&[FAR, READ, WRITE, FAR], &[]),
+    (BURST, &[]),
+    (
+        &[WRITE, READ],
+        &[(1, Mark::Wait), (11, Mark::Wait), (12, Mark::Wait)],
+    ),
+    (
+        &[WRITE, READ],
+        &[
+            (9, Mark::Flip(3)),
+            (11, Mark::Flip(0)),
+            (14, Mark::Flip(32)),
+        ],
+    ),
+    (BURST, &[(12, Mark::Flip(7)), (13, Mark::Wait)]),
+    (&[WRITE, READ], &[(10, Mark::Deaf)]),
+    (&[WRITE, READ], &[(11, Mark::Mute(0))]),
+    (&[READ, READ], &[(12, Mark::Mute(2))]),
+];
+
 #[test]
 fn reports_are_those_of_a_simulated_wire(rt: HostRuntime) -> Result<(), Fail> {
-    let rows = [
-        plain(&[]),
-        plain(&[WRITE, READ]),
-        plain(&[FAR, READ, WRITE, FAR]),
-        plain(&BURST),
-        marked(
-            &[WRITE, READ],
-            &[(1, Mark::Wait), (11, Mark::Wait), (12, Mark::Wait)],
-        ),
-        marked(
-            &[WRITE, READ],
-            &[
-                (9, Mark::Flip(3)),
-                (11, Mark::Flip(0)),
-                (14, Mark::Flip(32)),
-            ],
-        ),
-        marked(&BURST, &[(12, Mark::Flip(7)), (13, Mark::Wait)]),
-        marked(&[WRITE, READ], &[(10, Mark::Deaf)]),
-        marked(&[WRITE, READ], &[(11, Mark::Mute(0))]),
-        marked(&[READ, READ], &[(12, Mark::Mute(2))]),
-    ];
-    for (row, task) in rows.iter().enumerate() {
-        comes_out(&rt, rt.alloc(), row, task)?;
+    for (row, (accesses, marks)) in RUNS.iter().enumerate() {
+        let mut task = plain(accesses);
+        task.marks = marks;
+        comes_out(&rt, rt.alloc(), row, &task)?;
     }
     Ok(())
 }
 
+// How many words a block has, and the marks that its requests meet.
+const BLOCKS: &[(u32, &[(usize, Mark)])] = &[
+    (1, &[]),
+    (16, &[]),
+    (20, &[]),
+    (8, &[(12, Mark::Flip(1)), (14, Mark::Wait)]),
+    (8, &[(13, Mark::Mute(1))]),
+];
+
 #[test]
 fn blocks_are_those_of_a_simulated_wire(rt: HostRuntime) -> Result<(), Fail> {
-    let rows = [
-        block(&[], 1),
-        block(&[], 16),
-        block(&[], 20),
-        block(&[(12, Mark::Flip(1)), (14, Mark::Wait)], 8),
-        block(&[(13, Mark::Mute(1))], 8),
-    ];
-    for (row, task) in rows.iter().enumerate() {
-        comes_out(&rt, rt.alloc(), row, task)?;
+    for (row, (count, marks)) in BLOCKS.iter().enumerate() {
+        comes_out(&rt, rt.alloc(), row, &block(marks, *count))?;
     }
     Ok(())
 }
@@ -120,34 +119,36 @@ fn flushes(alloc: Global, task: &Task) -> Result<usize, Fail> {
     Ok(writes)
 }
 
+const WRITES: &[Access] = &[
+    WRITE,
+    Access::Write(0x2000_0004, 1),
+    Access::Write(0x2000_0008, 2),
+    Access::Write(0x2000_000c, 3),
+    Access::Write(0x2000_0010, 4),
+];
+
+const READS: &[Access] = &[
+    READ,
+    Access::Read(0x2000_0004),
+    Access::Read(0x2000_0008),
+    Access::Read(0x2000_000c),
+    Access::Read(0x2000_0010),
+];
+
 #[test]
 fn characters_are_sent_where_an_answer_is_needed(rt: HostRuntime) -> Result<(), Fail> {
     let alloc = rt.alloc();
-    let writes: [Access; 5] = [
-        WRITE,
-        Access::Write(0x2000_0004, 1),
-        Access::Write(0x2000_0008, 2),
-        Access::Write(0x2000_000c, 3),
-        Access::Write(0x2000_0010, 4),
-    ];
-    let reads: [Access; 5] = [
-        READ,
-        Access::Read(0x2000_0004),
-        Access::Read(0x2000_0008),
-        Access::Read(0x2000_000c),
-        Access::Read(0x2000_0010),
-    ];
     // A word that is written, a read, a word of a block.
-    let four = flushes(alloc, &plain(&writes[..4]))?;
+    let four = flushes(alloc, &plain(&WRITES[..4]))?;
     expect_eq(
         &rt,
-        &flushes(alloc, &plain(&writes))?,
+        &flushes(alloc, &plain(WRITES))?,
         &four.saturating_add(1),
     );
-    let four = flushes(alloc, &plain(&reads[..4]))?;
+    let four = flushes(alloc, &plain(&READS[..4]))?;
     expect_eq(
         &rt,
-        &flushes(alloc, &plain(&reads))?,
+        &flushes(alloc, &plain(READS))?,
         &four.saturating_add(4),
     );
     let four = flushes(alloc, &block(&[], 4))?;

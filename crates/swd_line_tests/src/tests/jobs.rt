@@ -132,21 +132,21 @@ fn ended_by(
     }
 }
 
+const JOBS: &[&str] = &["load", "verify", "dump"];
+
+const BROKEN: &[(&[u8], RunEnd, &[u8])] = &[
+    (WAITS, RunEnd::Confused, b"end confused 0 begun 0\n"),
+    (ZEROS, RunEnd::WrongId(0), b"end id 00000000\n"),
+];
+
 // The read of DPIDR is answered WAIT, or its word isn't an identification. There is no level for a further request.
 #[test]
 fn a_job_stops_where_the_target_breaks_the_protocol(rt: HostRuntime) -> Result<(), Fail> {
-    for job in ["load", "verify", "dump"] {
-        for (levels, end, line) in [
-            (
-                WAITS,
-                RunEnd::Confused,
-                b"end confused 0 begun 0\n".as_slice(),
-            ),
-            (ZEROS, RunEnd::WrongId(0), b"end id 00000000\n".as_slice()),
-        ] {
+    for job in JOBS {
+        for (levels, end, line) in BROKEN {
             let (fault, report) = ended_by(rt.alloc(), job, levels)?;
-            expect_eq_at(&rt, &job, &fault, &Some(ImageFault::Stopped(end)));
-            expect_eq_at(&rt, &job, &report.as_slice(), &line);
+            expect_eq_at(&rt, job, &fault, &Some(ImageFault::Stopped(*end)));
+            expect_eq_at(&rt, job, &report.as_slice(), line);
         }
     }
     Ok(())

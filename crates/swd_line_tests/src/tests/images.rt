@@ -1,7 +1,7 @@
 //! Images over a served line, and the files that they come from.
 use super::expect::{expect_at, expect_eq, expect_eq_at};
 use super::jobs::{dump_over, load_over, piece_of, verify_over};
-use super::memory_server::{BASE, Cut, End, Task, plain, server_of, transfers};
+use super::memory_server::{BASE, Cut, End, Task, plain, server_of, transfers, were_made};
 use linked_list_allocator::LocalHeap;
 use std::test::Fail;
 use swd_fakes::FailingReader;
@@ -9,7 +9,7 @@ use swd_host::End as RunEnd;
 use swd_image::{ByteDifference, ImageFault};
 use swd_image_ends::{FileFault, read_file};
 use swd_io::Unread;
-use swd_port::{Mark, Transfer};
+use swd_port::Mark;
 use swd_remote::Fault;
 
 // Two bytes of the first word, and three of the second.
@@ -53,6 +53,13 @@ fn an_image_goes_over_a_line_and_back(rt: HostRuntime) -> Result<(), Fail> {
     Ok(())
 }
 
+const LOADED: &[(bool, u32, u32)] = &[
+    (true, BASE, 0),
+    (true, BASE + 4, 0),
+    (false, BASE, WORDS[0]),
+    (false, BASE + 4, WORDS[1]),
+];
+
 // A load reads both of its partial words, and writes each word once.
 #[test]
 fn a_load_over_a_line_is_logged(rt: HostRuntime) -> Result<(), Fail> {
@@ -60,121 +67,126 @@ fn a_load_over_a_line_is_logged(rt: HostRuntime) -> Result<(), Fail> {
     let end = End { server: &server };
     let (answer, _) = load_over(rt.alloc(), end, &piece_of(rt.alloc(), AT, IMAGE)?, 0);
     expect_eq(&rt, &answer, &Ok(()));
-    let wanted = [
-        (true, BASE, 0),
-        (true, BASE + 4, 0),
-        (false, BASE, WORDS[0]),
-        (false, BASE + 4, WORDS[1]),
-    ];
     let log = transfers(rt.alloc(), server)?;
-    expect_eq(&rt, &log.len(), &4);
-    for (transfer, (read, addr, word)) in log.iter().zip(wanted) {
-        expect_eq(&rt, transfer, &Transfer { read, addr, word });
-    }
+    were_made(&rt, &log, LOADED);
     Ok(())
 }
 
+// A name, the marks of the requests, what happens to the line, the address, how often it may be resumed; and the answer,
+// and why the line ended.
+type Met = (
+    &'static str,
+    &'static [(usize, Mark)],
+    Cut,
+    u32,
+    u32,
+    Result<(), ImageFault>,
+    Option<Fault>,
+);
+
+const LOST: &[(usize, Mark)] = &[(11, Mark::Mute(0))];
+
+const STOPPED: Result<(), ImageFault> = Err(ImageFault::Stopped(RunEnd::Lost));
+
+const MET: &[Met] = &[
+    ("nothing", &[], Cut::Never, AT, 0, Ok(()), None),
+    (
+        "a lost acknowledgement",
+        LOST,
+        Cut::Never,
+        AT,
+        0,
+        STOPPED,
+        None,
+    ),
+    ("the same, resumed", LOST, Cut::Never, AT, 1, Ok(()), None),
+    // The last word is partial, and read first.
+    (
+        "no memory there",
+        &[],
+        Cut::Never,
+        BASE + 0x40,
+        0,
+        Err(ImageFault::BusFault(BASE + 0x44)),
+        None,
+    ),
+    (
+        "no such address",
+        &[],
+        Cut::Never,
+        0xffff_fffc,
+        0,
+        Err(ImageFault::Range),
+        None,
+    ),
+    (
+        "the end",
+        &[],
+        Cut::Ends(10),
+        AT,
+        0,
+        STOPPED,
+        Some(Fault::Ended),
+    ),
+    (
+        "no level",
+        &[],
+        Cut::Says(0, b'x'),
+        AT,
+        0,
+        STOPPED,
+        Some(Fault::NoLevel(b'x')),
+    ),
+    (
+        "no read",
+        &[],
+        Cut::Unread(40),
+        AT,
+        0,
+        STOPPED,
+        Some(Fault::Read),
+    ),
+    (
+        "no write",
+        &[],
+        Cut::Unsent(9),
+        AT,
+        0,
+        STOPPED,
+        Some(Fault::Write),
+    ),
+];
+
 #[test]
 fn an_image_ends_at_what_it_meets(rt: HostRuntime) -> Result<(), Fail> {
-    let none: &[(usize, Mark)] = &[];
-    let lost: &[(usize, Mark)] = &[(11, Mark::Mute(0))];
-    let stopped = Err(ImageFault::Stopped(RunEnd::Lost));
-    let rows = [
-        ("nothing", none, Cut::Never, AT, 0, Ok(()), None),
-        (
-            "a lost acknowledgement",
-            lost,
-            Cut::Never,
-            AT,
-            0,
-            stopped,
-            None,
-        ),
-        ("the same, resumed", lost, Cut::Never, AT, 1, Ok(()), None),
-        (
-            "no memory there",
-            none,
-            Cut::Never,
-            BASE + 0x40,
-            0,
-            // The last word is partial, and read first.
-            Err(ImageFault::BusFault(BASE + 0x44)),
-            None,
-        ),
-        (
-            "no such address",
-            none,
-            Cut::Never,
-            0xffff_fffc,
-            0,
-            Err(ImageFault::Range),
-            None,
-        ),
-        (
-            "the end",
-            none,
-            Cut::Ends(10),
-            AT,
-            0,
-            stopped,
-            Some(Fault::Ended),
-        ),
-        (
-            "no level",
-            none,
-            Cut::Says(0, b'x'),
-            AT,
-            0,
-            stopped,
-            Some(Fault::NoLevel(b'x')),
-        ),
-        (
-            "no read",
-            none,
-            Cut::Unread(40),
-            AT,
-            0,
-            stopped,
-            Some(Fault::Read),
-        ),
-        (
-            "no write",
-            none,
-            Cut::Unsent(9),
-            AT,
-            0,
-            stopped,
-            Some(Fault::Write),
-        ),
-    ];
-    for (name, marks, cut, addr, resumes, wanted, fault) in rows {
+    for (name, marks, cut, addr, resumes, wanted, fault) in MET {
         let task = Task {
             accesses: &[],
             block: None,
             marks,
         };
-        let server = server_of(rt.alloc(), &task, cut, usize::MAX)?;
+        let server = server_of(rt.alloc(), &task, *cut, usize::MAX)?;
         let end = End { server: &server };
-        let (answer, line) = load_over(
-            rt.alloc(),
-            end,
-            &piece_of(rt.alloc(), addr, IMAGE)?,
-            resumes,
-        );
-        expect_eq_at(&rt, &name, &answer, &wanted);
-        expect_eq_at(&rt, &name, &line.fault, &fault);
+        let image = piece_of(rt.alloc(), *addr, IMAGE)?;
+        let (answer, line) = load_over(rt.alloc(), end, &image, *resumes);
+        expect_eq_at(&rt, name, &answer, wanted);
+        expect_eq_at(&rt, name, &line.fault, fault);
         let server = server.into_inner();
-        expect_eq_at(&rt, &name, &server.calls_after, &0);
+        expect_eq_at(&rt, name, &server.calls_after, &0);
         // Where no call was made, O and Q alone are sent.
-        let is_range = wanted == Err(ImageFault::Range);
-        expect_eq_at(&rt, &name, &(server.taken == 2), &is_range);
+        let is_range = *wanted == Err(ImageFault::Range);
+        expect_eq_at(&rt, name, &(server.taken == 2), &is_range);
     }
     Ok(())
 }
 
+// How many bytes are taken at most, and whether these are enough.
+const SIZES: &[(u64, bool)] = &[(5, true), (6, true), (4, false), (0, false)];
+
 #[test]
 fn a_file_is_read_whole(rt: HostRuntime) -> Result<(), Fail> {
-    for (most, taken) in [(5, true), (6, true), (4, false), (0, false)] {
+    for (most, taken) in SIZES {
+        let (most, taken) = (*most, *taken);
         let mut file = IMAGE;
         match read_file(rt.alloc(), &mut file, most) {
             Ok(bytes) => {

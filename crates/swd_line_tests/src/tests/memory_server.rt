@@ -6,10 +6,12 @@ ghost use Rattle.swd_port.specs.Port.{port_made};
 ghost use Rattle.std.specs.FinMap.{empty};
 ghost use Rattle.swd_target.specs.Marks.{IsLegalPlan};
 
+use super::expect::expect_eq;
 use std::alloc::Global;
 use std::cell::RefCell;
 use std::io;
 use std::io::{ErrorKind, Read, Write};
+use std::process::Abort;
 use std::test::Fail;
 use swd_bitbang::{PinReply, Pins, Trace};
 use swd_clocked::{ClockedBench, FaultyClocked};
@@ -308,4 +310,13 @@ pub(super) fn transfers(alloc: Global, server: RefCell<Server>) -> Result<Vec<Tr
     let Server { pins, .. } = server.into_inner();
     let (target, _) = pins.into_parts();
     Ok(target.memory().log().to_vec(alloc)?)
+}
+
+/// These transfers took place: whether each is a read, its address and its word.
+pub(super) fn were_made<R: Abort>(rt: &R, log: &[Transfer], wanted: &[(bool, u32, u32)]) {
+    expect_eq(rt, &log.len(), &wanted.len());
+    for (transfer, (read, addr, word)) in log.iter().zip(wanted) {
+        let (read, addr, word) = (*read, *addr, *word);
+        expect_eq(rt, transfer, &Transfer { read, addr, word });
+    }
 }

@@ -1,26 +1,15 @@
 //! Scripts at targets that answer the first request as none does, or have another identification: the run ends there,
 //! nothing more is sent, and no other call is made.
-ghost use Rattle.std.specs.Prelude.{[]};
-ghost use Rattle.std.specs.FinMap.{empty};
-ghost use Rattle.swd_port.specs.Bus.{bus_of};
-ghost use Rattle.swd_port.specs.Port.{port_made};
-
 use super::expect::expect_eq_at;
 use super::limits;
+use super::memory_server::Untold;
 use std::process::Abort;
 use std::test::Fail;
 use swd_ends::{Line, run_remote};
 use swd_host::End;
-use swd_port::{Cue, Disconnected, Story, Transport, TransportWire};
+use swd_port::{Cue, Disconnected, Transport, TransportWire};
 use swd_run::{Finished, Records, run_batches};
 use swd_script::read_script;
-
-// Any story.
-struct Untold;
-
-impl Story for Untold {
-    ghost at = { λ _. port_made 0 (bus_of (record { words = empty; log = []; room = 0 })) };
-}
 
 // The first request is a read of DPIDR, which no target answers WAIT or FAULT. Bit 0 of an identification is 1.
 struct Row {
@@ -34,7 +23,7 @@ struct Row {
     report: &'static [u8],
 }
 
-const ROWS: [Row; 3] = [
+const ROWS: &[Row] = &[
     Row {
         name: "WAIT",
         acknowledgement: 2,
@@ -103,7 +92,7 @@ impl Transport for Answering {
 
 #[test]
 fn batches_stop_where_no_target_answers_so(rt: HostRuntime) -> Result<(), Fail> {
-    for row in &ROWS {
+    for row in ROWS {
         let mut text = SCRIPT;
         let Ok(script) = read_script(rt.alloc(), &mut text) else {
             return Err(Fail::from("the script is not valid"));
@@ -143,7 +132,7 @@ fn batches_stop_where_no_target_answers_so(rt: HostRuntime) -> Result<(), Fail> 
 // Were there a further request, its levels would be missing.
 #[test]
 fn a_remote_run_stops_where_no_target_answers_so(rt: HostRuntime) {
-    for row in &ROWS {
+    for row in ROWS {
         let mut sent = Vec::new(rt.alloc());
         let mut report = Vec::new(rt.alloc());
         let mut script = SCRIPT;

@@ -1,0 +1,5 @@
+mod expect;
+mod logged;
+mod recorded;
+mod remote;
+mod serving;
