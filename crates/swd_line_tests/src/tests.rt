@@ -12,5 +12,9 @@ mod stopped;
 
 // Returns what each call may meet, if it may be resumed so often.
 fn limits(resumes: u32) -> Limits {
-    Limits { tries: 8, resumes }
+    Limits {
+        tries: 8,
+        resumes,
+        bursts: true,
+    }
 }

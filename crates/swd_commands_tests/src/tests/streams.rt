@@ -7,7 +7,7 @@ use std::io::{ErrorKind, Read, Write};
 use std::process::Abort;
 
 // The lines where the target gave no reply.
-const LOST_LINES: &[u8] = b"swd: the run ended early: lost\n\
+const LOST_LINES: &[u8] = b"swd: the run ended early: lost, see --resume\n\
     swd: no reply to the first request, SWDIO read 1: \
     is it driven, and the target connected and powered?\n";
 

@@ -33,6 +33,7 @@ const REPORT: &[u8] = b"w 20000000 written\nr 20000000 deadbeef\nend all 2\n";
 const LIMITS: Limits = Limits {
     tries: 8,
     resumes: 0,
+    bursts: true,
 };
 
 // A run that ended so, in which no word differed and no access met a bus error.
