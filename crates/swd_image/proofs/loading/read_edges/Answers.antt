@@ -8,7 +8,7 @@ use Rattle.swd_image.specs.Bytes.{image_word_of}
 use Rattle.swd_image.specs.Lists.{image_edge_list, image_last_word, image_needs_head, image_needs_tail, image_read_if}
 use Rattle.swd_image.specs.Lists.{image_word_if}
 use Rattle.swd_image.specs.Sessions.{FailsAs, ReadsAs}
-use Rattle.swd_image.proofs.CallLemmas.{fails_after, reads_append}
+use Rattle.swd_image.proofs.CallLemmas.{fails_after, fails_before, reads_append}
 use Rattle.swd_image.proofs.ReportLemmas.{to_after, to_front}
 use Rattle.swd_image.proofs.loading.read_edges.Goals as goal
 
@@ -19,6 +19,21 @@ edge_read : {W : Type 0} (wire : Ghosts W) (limits : Limits) (needed needs : Boo
 edge_read wire limits needed needs at addr word s t e f h =
     subst (λ a. ReadsAs wire limits (image_read_if needs a) (image_word_if needs word) s t) f
     (subst (λ b. ReadsAs wire limits (image_read_if b at) (image_word_if b word) s t) e h)
+
+pub returns-in_err-head-clause-fault : goal.returns-in_err-head-clause-fault
+returns-in_err-head-clause-fault g c =
+    let s = c.args.wire.now in
+    let r = c.read_word.new.wire in
+    let head = image_word_of c.args.addr in
+    let needs = image_needs_head c.args.addr c.args.len in
+    let tail = image_read_if (image_needs_tail c.args.addr c.args.len) (image_last_word c.args.addr c.args.len) in
+    let Fails = FailsAs g.W.Wire c.args.limits in
+    let fault = c.in_err-head.field-0.0 in
+    let p = err_from_is_err_and c.from_residual.result c.from_residual.ensures.1 in
+    rw (p.1, p.2) (fails_before g.W.Wire c.args.limits s r (image_read_if needs head) tail fault
+    (subst (λ a. Fails (image_read_if needs a) s r fault) c.word_of.ensures
+    (subst (λ b. Fails (image_read_if b c.word_of.result) s r fault) c.needs_head-first.ensures
+    c.in_err-head.ensures.fault)))
 
 pub returns-in_err-tail-clause-fault : goal.returns-in_err-tail-clause-fault
 returns-in_err-tail-clause-fault g c =
