@@ -58,7 +58,6 @@ pub(crate) fn read_segments<A: Allocator + Copy>(
 }
 
 // Collects the segments, in the order of their program headers, or their ranges alone.
-#[tactic(auto, using(crate::proofs::ElfLemmas::image_file_held))]
 fn hold_segments<A: Allocator + Copy>(
     alloc: A,
     bytes: &[u8],

@@ -27,9 +27,10 @@ Behind fits N there may be:
   faults F               at least F requests were damaged or lost
   gaps G                 G times stray bits hid all up to the next line reset
 
-The rules are the standard's. What it leaves to a target is left open: any
-memory, any damage on the line. So a target that acknowledges a write and drops
-it fits, unless --plain says that there is memory.
+The rules are those of the port model (docs/PROTOCOL.md). Some are this
+project's choice, so that good silicon may break them (docs/CONFORMANCE.md). Any
+memory fits, and so does damage on the line. So a target that acknowledges a
+write and drops it fits, unless --plain says that there is memory.
 
 Without --made and --rest the target's first state is unknown. It is checked
 from where the trace shows enough of it: with --rest from the first read of
@@ -71,7 +72,7 @@ pub(crate) const PLAIN: Argument = Argument {
 /// The command `check`.
 pub(crate) const CHECK: CommandRow = CommandRow {
     name: "check",
-    about: "Check whether a trace's target keeps the standard",
+    about: "Check whether a trace's target conforms to the model",
     after: Some(CHECK_AFTER),
     arguments: &[
         FILE,

@@ -26,8 +26,8 @@ ends without power.
 
 With --hole there are bus errors, at ADDR, 1 to 8 hexadecimal digits, a multiple
 of 4 and no word of the memory; without, this part is left out. All other
-transfers are in the memory: one is left out where an event on the line leaves
-open at which address it would be.
+transfers of access port 0 are in the memory, if the port conforms: one is left
+out where an event on the line leaves open at which address it would be.
 
 --remote is as for swd run. Without =IN,OUT standard output is the line's, and
 the verdict is on standard error. For a server on a socket:
@@ -47,7 +47,7 @@ const HOLE_FORM: &str = "it is not 1 to 8 hexadecimal digits";
 /// The command `conform`.
 pub(crate) const CONFORM: CommandRow = CommandRow {
     name: "conform",
-    about: "Check whether a port keeps the standard, by requests",
+    about: "Check whether a port conforms to the model, by requests",
     after: Some(CONFORM_AFTER),
     arguments: &[
         REMOTE,

@@ -33,7 +33,7 @@ with its count first:
 Of idle, junk and cut the bits are counted. An invalid trace has no counts.
 
 With --accesses there is a line for each access of the target's memory, with the
-place of its request:
+place of its request, if the target conforms to the port model:
   @590 w 20000000 deadbeef      took effect, once
   @787 w 20000000 deadbeef may  took effect once or not at all: not shown
   @925 r 30000000 ???????? not  met a bus error, or its data was corrupted

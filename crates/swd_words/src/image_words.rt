@@ -59,16 +59,17 @@ run, and injects faults.
 --report FILE has the lines of swd run for each access of the load: the reads of
 the partial words, and then up to 65,536 writes in a call. FILE is overwritten,
 and written while the load goes on. So after a load with --remote that was
-killed it shows which words were certainly written; with --memory none were.
-With - it is appended to standard error.
+killed it shows which words were certainly written, if the target conforms to
+the port model; with --memory none were. With - it is appended to standard
+error.
 
 --progress is as for swd run, but counts the words that are written:
   swd: 12288 of 16384 words, 4096 a second
 
 With --check and --remote the session is checked while it goes on. At the end a
 line on standard error has the verdict: that of swd check --rest of its items.
-If it is breaks, the target doesn't keep the standard, or it wasn't at rest
-before.
+If it is breaks, the target doesn't conform to the port model, or it wasn't at
+rest before.
 
 A line on standard error has the result, or the first error of FILE:
   swd: loaded 65536 bytes at 20000000

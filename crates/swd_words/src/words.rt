@@ -118,10 +118,11 @@ It has one line per answer, in the script's order:
   r ADDR WORD        the word that was read. Of until only the last read has a
                      line, with the number of reads: r ADDR WORD reads N
   w ADDR written     the word was written: once, unless a line resume came while
-                     the access was in flight
+                     the access was in flight, and if the target conforms to
+                     the port model (docs/PROTOCOL.md)
   r ADDR busfault    bus error. A simulated target has no memory at ADDR, or no
-                     room left, which a line on standard error says. Nothing is
-                     read or written then
+                     room left, which a line on standard error says. In a plain
+                     memory nothing is read or written then
   w ADDR busfault    the same of a write
   resume K begun B   no acknowledgement was seen after K answers, and --resume
                      continued the call. The accesses in flight, B at most, may
@@ -134,7 +135,7 @@ accesses after these were in flight, and may have taken effect:
   end lost K begun B     no acknowledgement was seen
   end tries K begun B    the retries of an access ran out: see --tries
   end id WORD            the target's DPIDR is invalid: WORD
-  end confused K begun B the target violated the protocol
+  end confused K begun B the target doesn't conform, or it wasn't at rest before
 
 With --progress a line on standard error says how many accesses are done, at
 most one line a second, and none in the first second:
@@ -146,8 +147,8 @@ line before, rounded down. --progress can't be combined with --report -.
 
 With --check and --remote the session is checked while it goes on. At the end a
 line on standard error has the verdict: that of swd check --rest of its trace.
-If it is breaks, the target doesn't keep the standard, or it wasn't at rest
-before, and the status is 1 in place of 0.
+If it is breaks, the target doesn't conform to the port model, or it wasn't at
+rest before, and the status is 1 in place of 0.
 
 The trace has every bit on the line, one item per line: see swd decode. The
 accesses are those of the target's memory that the trace shows, one per line:

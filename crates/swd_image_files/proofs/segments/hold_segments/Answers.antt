@@ -1,9 +1,30 @@
 use Rattle.std.proofs.Common.{◌≡◌, ◌+◌, ◌-◌, arith, suc, ap, sym, ◌∙◌, drop, length}
 use Rattle.std.proofs.lemmas.List.{length-drop}
-use Rattle.swd_image_files.specs.Elf.{elf_program_headers, elf_with_segments}
+use Rattle.swd_image_files.specs.declared.elf.ProgramTable.{ProgramTable}
+use Rattle.swd_image_files.specs.Elf.{elf_program_headers, elf_then, elf_with_segments}
 use Rattle.swd_image_files.specs.Files.{image_file_elf_result}
-use Rattle.swd_image_files.proofs.ElfLemmas.{elf_flaw_step, elf_next_header, elf_valid_step}
+use Rattle.swd_image_files.specs.Images.{image_file_nothing}
+use Rattle.swd_image_files.proofs.ElfLemmas.{elf_flaw_step, elf_next_header, elf_valid_step, image_file_held}
 use Rattle.swd_image_files.proofs.segments.hold_segments.Goals as goal
+
+pub loop-number-init : goal.loop-number-init
+loop-number-init g c =
+    let bytes = c.args.bytes.now in
+    let base = c.args.base in
+    let table = c.in-Ok.table in
+    let within = c.in-Ok.ensures.within in
+    let behind = c.behind-rest.ensures in
+    let len : length c.behind-rest.result.now ≡ length bytes - table.start =
+    ap length behind ∙ length-drop table.start bytes in
+    record {
+      image = image_file_nothing;
+      holds = image_file_held c.args.kept image_file_nothing c.new-held.result c.new-held.ensures;
+      some = omega arith;
+      within = omega (arith, within, len);
+      meaning = ap (elf_then (λ (t : ProgramTable). elf_with_segments bytes base 0
+          (elf_program_headers t.count (drop t.start bytes)) image_file_nothing)) (sym c.in-Ok.ensures.value)
+          ∙ ap (λ r. elf_with_segments bytes base 0 (elf_program_headers table.count r) image_file_nothing) (sym behind);
+    }
 
 pub returns-in-Err-take_segment-clause-err : goal.returns-in-Err-take_segment-clause-err
 returns-in-Err-take_segment-clause-err g c =
