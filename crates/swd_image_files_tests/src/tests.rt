@@ -3,6 +3,5 @@
 mod elf_files;
 mod expect;
 mod files;
-mod invalid;
 mod memory;
 mod writing;

@@ -1,5 +1,5 @@
-//! The tests of scripts that are run over a simulated target. They stand apart, so that no crate is proved a second time
-//! for its tests.
+//! The tests of scripts that are run over a simulated target. They stand apart, so that no crate is proved a second
+//! time for its tests.
 #![tactic(auto)]
 
 #[cfg(test)]

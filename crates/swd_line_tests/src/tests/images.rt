@@ -72,8 +72,8 @@ fn a_load_over_a_line_is_logged(rt: HostRuntime) -> Result<(), Fail> {
     Ok(())
 }
 
-// A name, the marks of the requests, what happens to the line, the address, how often it may be resumed; and the answer,
-// and why the line ended.
+// A name, the marks of the requests, what happens to the line, the address, how often it may be resumed; and the
+// answer, and why the line ended.
 type Met = (
     &'static str,
     &'static [(usize, Mark)],
