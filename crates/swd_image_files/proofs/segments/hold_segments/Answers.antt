@@ -1,4 +1,4 @@
-use Rattle.std.proofs.Common.{◌≡◌, ◌+◌, ◌-◌, arith, suc, ap, sym, ◌∙◌, drop, length}
+use Rattle.std.proofs.Common.{◌≡◌, ◌+◌, ◌-◌, arith, suc, ap, ap₂, sym, ◌∙◌, drop, length}
 use Rattle.std.proofs.lemmas.List.{length-drop}
 use Rattle.swd_image_files.specs.declared.elf.ProgramTable.{ProgramTable}
 use Rattle.swd_image_files.specs.Elf.{elf_program_headers, elf_then, elf_with_segments}
@@ -16,6 +16,7 @@ loop-number-init g c =
     let behind = c.behind-rest.ensures in
     let len : length c.behind-rest.result.now ≡ length bytes - table.start =
     ap length behind ∙ length-drop table.start bytes in
+    let all : table.count ≡ table.count - 0 = omega arith in
     record {
       image = image_file_nothing;
       holds = image_file_held c.args.kept image_file_nothing c.new-held.result c.new-held.ensures;
@@ -23,7 +24,7 @@ loop-number-init g c =
       within = omega (arith, within, len);
       meaning = ap (elf_then (λ (t : ProgramTable). elf_with_segments bytes base 0
           (elf_program_headers t.count (drop t.start bytes)) image_file_nothing)) (sym c.in-Ok.ensures.value)
-          ∙ ap (λ r. elf_with_segments bytes base 0 (elf_program_headers table.count r) image_file_nothing) (sym behind);
+          ∙ ap₂ (λ n r. elf_with_segments bytes base 0 (elf_program_headers n r) image_file_nothing) all (sym behind);
     }
 
 pub returns-in-Err-take_segment-clause-err : goal.returns-in-Err-take_segment-clause-err
