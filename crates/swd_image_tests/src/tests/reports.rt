@@ -25,6 +25,9 @@ struct Row {
 const WHOLE: &[u8] = b"\xa0\xa1\xa2\xa3\xa4\xa5\xa6\xa7";
 
 // A word between a byte of each of its neighbours: two reads, a call for each, and a call of three writes.
+const EDGES_TEXT: &[u8] = b"r 20000000 44332211\nend all 1\nr 20000008 ccbbaa99\nend all 1\n\
+    w 20000000 written\nw 20000004 written\nw 20000008 written\nend all 3\n";
+
 const EDGES: Row = Row {
     name: "a word between a byte of each of its neighbours",
     addr: BASE + 3,
@@ -32,8 +35,7 @@ const EDGES: Row = Row {
     marks: &[],
     resumes: 0,
     end: Ok(()),
-    text: b"r 20000000 44332211\nend all 1\nr 20000008 ccbbaa99\nend all 1\n\
-        w 20000000 written\nw 20000004 written\nw 20000008 written\nend all 3\n",
+    text: EDGES_TEXT,
 };
 
 // The opening takes nine requests, TAR one, and the first access is the eleventh.
@@ -183,7 +185,7 @@ const PARTS: &[&[u8]] = &[
     b"",
     b"r 20000000 44332211\nend all 1\n",
     b"r 20000000 44332211\nend all 1\nr 20000008 ccbbaa99\nend all 1\n",
-    EDGES.text,
+    EDGES_TEXT,
 ];
 
 // The report has the calls before memory ran out, each whole.
