@@ -298,7 +298,9 @@ fn files_lead_to_the_target(rt: HostRuntime) {
         ),
         (
             &["swd", "load", "0", "image", "--remote=silent,to"],
-            LOST_LINES,
+            b"swd: the run ended early: lost at 00000000, 0 of 2 words certainly done, see --resume\n\
+                swd: no reply to the first request, SWDIO read 1: \
+                is it driven, and the target connected and powered?\n",
             1,
         ),
         (
