@@ -69,7 +69,8 @@ fn read_opened_image<R: Read + Drop, A: Allocator + Copy, F, C, E: Write>(
     let (elf, format) = (image.elf, image.format);
     match read_image_or_elf(console.alloc, elf, format, bytes.as_slice(), image.addr) {
         Ok(whole) => {
-            if whole.ranges.is_empty() {
+            let ranges = whole.ranges.as_slice();
+            if ranges.is_empty() {
                 return Err(cannot_use(console.errors, name, &NO_BYTES));
             }
             tell_added(console.errors, image, bytes.as_slice());
