@@ -1,2 +1,3 @@
+mod LimitLemmas
 pub mod RecordLemmas
 mod ServedLemmas

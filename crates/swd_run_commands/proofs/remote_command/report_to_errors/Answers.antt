@@ -3,10 +3,9 @@ use Rattle.swd_check.specs.Checkings.{checking_contents}
 use Rattle.swd_console.specs.Streams.{stream_watched}
 use Rattle.swd_capture_text.specs.Captures.{accesses_printed}
 use Rattle.swd_script.specs.Readers.{read_script_meaning}
-use Rattle.swd_run.specs.declared.limits.Limits.{Limits}
 use Rattle.swd_run.specs.Records.{run_files_of}
-use Rattle.swd_ends.specs.RemoteRuns.{RanRemoteEndScript}
 use Rattle.swd_run_commands.specs.Remotes.{RunsRemoteScript}
+use Rattle.swd_run_commands.proofs.LimitLemmas.{ran_by_limits}
 use Rattle.swd_run_commands.proofs.remote_command.report_to_errors.Goals as goal
 
 pub returns : goal.returns
@@ -21,7 +20,6 @@ returns g c =
       run_files_of contents accesses_printed c.args.records,
       run_files_of contents accesses_printed c.run_remote_script-answer.new.records,
       c.requires.files,
-      subst (λ (limits : Limits). RanRemoteEndScript g.P.Story.at limits _ _ _ _ _ _ _) c.limits_of-limits.ensures
-          c.run_remote_script-answer.ensures,
+      ran_by_limits _ _ c.limits_of-limits.ensures c.run_remote_script-answer.ensures,
       c.ended.ensures.status,
     )

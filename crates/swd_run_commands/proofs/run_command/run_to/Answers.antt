@@ -22,7 +22,7 @@ returns g c =
           c.requires.files,
       subst (λ (limits : Limits). ScriptRunAnswers limits (read_script_meaning c.args.texts.script)
           c.args.texts.plan.items c.run_script-answer.result (g.O.Write.contents c.args.output.now)
-          (g.O.Write.contents c.run_script-answer.new.output) before after) c.limits_of-limits.ensures
+          (g.O.Write.contents c.run_script-answer.new.writer) before after) c.limits_of-limits.ensures
           c.run_script-answer.ensures,
       c.answer_status.ensures,
     )
