@@ -199,11 +199,11 @@ const BOTH_REPORTS: &[u8] =
 #[test]
 fn a_report_is_written_before_the_next_call(rt: HostRuntime) {
     let taken = Cell::new(0);
-    let mut reader = WatchingReader::new(rt.alloc(), UNDISTURBED.levels, &taken);
+    let reader = WatchingReader::new(rt.alloc(), UNDISTURBED.levels, &taken);
     let mut report = CountingWriter { taken: &taken };
-    let (answer, _line) = run_at(rt.alloc(), TWO_CALLS, &mut reader, &mut report);
+    let (answer, line) = run_at(rt.alloc(), TWO_CALLS, reader, &mut report);
     expect_eq(&rt, &answer, &Ok(ended(End::Lost)));
-    let noted = reader.noted.as_slice();
+    let noted = line.reader.noted.as_slice();
     let first = UNDISTURBED.levels.len();
     assert!(rt; noted.len() > first);
     for (level, taken) in noted.iter().enumerate() {
