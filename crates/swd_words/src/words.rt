@@ -77,11 +77,11 @@ two fifos; with --remote=DEVICE one file is both, such as a serial device that
 stty set raw. Each is opened for reading and writing, so opening one waits for
 no other end. If the server goes away the run waits until a signal ends it.
 
-With --remote each write is confirmed by a read of RDBUFF. With --bursts the next
-write confirms it, if that is at the next address in the same kilobyte: a word
-takes one request, not two. At a debug port with a write buffer the report may
-then be false: the port may answer OK to the next write before it has made this
-one, and discard it later. Without --remote a run always has bursts.
+With --remote a read of RDBUFF confirms each write. With --bursts the next write
+confirms it, if that is at the next address in the same kilobyte: a word takes
+one request, not two. At a debug port with a write buffer the report may then be
+false: the port may answer OK to the next write before it has made this one, and
+discard it later. Without --remote a run always has bursts.
 
 A script has one command per line; # begins a comment. BASE, ADDR, VALUE and
 MASK are 1 to 8 hexadecimal digits, which may follow 0x, and addresses multiples
