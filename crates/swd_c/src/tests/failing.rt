@@ -19,13 +19,14 @@ struct Row {
 
 // A burst of two writes over an open target. Behind TAR and its data phase come DRW and its data phase, DRW of the second
 // write and its data phase, RDBUFF and its data phase, and idle cycles. A request counts as sent where the line fails in
-// it; that of DRW begins its access, and that of the second write confirms the first one at its OK alone.
+// it. Begun is the first access without an answer, from the request of its DRW on: the second write's confirms the first
+// one at its OK alone.
 const ROWS: &[Row] = &[
     Row { cues: 0, requests: 1, answered: 0, begun: 0 },
     Row { cues: 1, requests: 1, answered: 0, begun: 0 },
     Row { cues: 2, requests: 2, answered: 0, begun: 1 },
     Row { cues: 3, requests: 2, answered: 0, begun: 1 },
-    Row { cues: 4, requests: 3, answered: 0, begun: 2 },
+    Row { cues: 4, requests: 3, answered: 0, begun: 1 },
     Row { cues: 5, requests: 3, answered: 1, begun: 1 },
     Row { cues: 6, requests: 4, answered: 1, begun: 1 },
     Row { cues: 7, requests: 4, answered: 1, begun: 1 },
