@@ -8,8 +8,8 @@ const LAST: u32 = 32;
 
 /// Returns the bits that end a data phase of these 33 bits inside which the line failed, so that the target drops it,
 /// and doesn't write another word: the first in time least significant, `33 - made` of them. The host drove `made` bits
-/// in clocks that were made. Then `failed` clocks failed, in each of which it drove the next bit, and which were made or
-/// weren't. Whatever was made, the parity of what the target took is wrong.
+/// in clocks that were made. Then `failed` clocks failed, in each of which it drove the next bit, and which were made
+/// or weren't. Whatever was made, the parity of what the target took is wrong.
 ///
 /// Returns 0 if all 33 were made.
 #[unsafe(no_mangle)]

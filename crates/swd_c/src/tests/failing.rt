@@ -17,20 +17,65 @@ struct Row {
     begun: u8,
 }
 
-// A burst of two writes over an open target. Behind TAR and its data phase come DRW and its data phase, DRW of the second
-// write and its data phase, RDBUFF and its data phase, and idle cycles. A request counts as sent where the line fails in
-// it. Begun is the first access without an answer, from the request of its DRW on: the second write's confirms the first
-// one at its OK alone.
+// A burst of two writes over an open target. Behind TAR and its data phase come DRW and its data phase, DRW of the
+// second write and its data phase, RDBUFF and its data phase, and idle cycles. A request counts as sent where the line
+// fails in it. Begun is the first access without an answer, from the request of its DRW on: the second write's confirms
+// the first one at its OK alone.
 const ROWS: &[Row] = &[
-    Row { cues: 0, requests: 1, answered: 0, begun: 0 },
-    Row { cues: 1, requests: 1, answered: 0, begun: 0 },
-    Row { cues: 2, requests: 2, answered: 0, begun: 1 },
-    Row { cues: 3, requests: 2, answered: 0, begun: 1 },
-    Row { cues: 4, requests: 3, answered: 0, begun: 1 },
-    Row { cues: 5, requests: 3, answered: 1, begun: 1 },
-    Row { cues: 6, requests: 4, answered: 1, begun: 1 },
-    Row { cues: 7, requests: 4, answered: 1, begun: 1 },
-    Row { cues: 8, requests: 4, answered: 2, begun: 0 },
+    Row {
+        cues: 0,
+        requests: 1,
+        answered: 0,
+        begun: 0,
+    },
+    Row {
+        cues: 1,
+        requests: 1,
+        answered: 0,
+        begun: 0,
+    },
+    Row {
+        cues: 2,
+        requests: 2,
+        answered: 0,
+        begun: 1,
+    },
+    Row {
+        cues: 3,
+        requests: 2,
+        answered: 0,
+        begun: 1,
+    },
+    Row {
+        cues: 4,
+        requests: 3,
+        answered: 0,
+        begun: 1,
+    },
+    Row {
+        cues: 5,
+        requests: 3,
+        answered: 1,
+        begun: 1,
+    },
+    Row {
+        cues: 6,
+        requests: 4,
+        answered: 1,
+        begun: 1,
+    },
+    Row {
+        cues: 7,
+        requests: 4,
+        answered: 1,
+        begun: 1,
+    },
+    Row {
+        cues: 8,
+        requests: 4,
+        answered: 2,
+        begun: 0,
+    },
 ];
 
 fn burst() -> [SwdAccess; 2] {
@@ -120,18 +165,19 @@ fn is_dropped<R: Abort>(rt: &R, bits: u64, made: u32, failed: u32) {
     }
 }
 
-// Bits, how many were made, how many failed, and what is left: one bit makes the parity wrong, and the others are at the
-// level of the clock that failed. Of the word ffffffff 10 ones were made, and perhaps one more: 23 or 22 follow.
+// Bits, how many were made, how many failed, and what is left: one bit makes the parity wrong, and the others are at
+// the level of the clock that failed. Of the word ffffffff 10 ones were made, and perhaps one more: 23 or 22 follow.
+const RESTS: &[(u64, u32, u32, u64)] = &[
+    (0, 0, 1, 0x8000_0000),
+    (0, 0, 2, 0x4000_0000),
+    (0xffff_ffff, 10, 1, 0x7f_ffff),
+    (1, 32, 1, 0),
+    (0, 32, 1, 1),
+];
+
 #[test]
 fn the_rest_of_a_data_phase(rt: HostRuntime) {
-    for (bits, made, failed, rest) in [
-        (0, 0, 1, 1 << 31),
-        (0, 0, 2, 1 << 30),
-        (0xffff_ffff, 10, 1, (1 << 23) - 1),
-        (1, 32, 1, 0),
-        (0, 32, 1, 1),
-    ] {
-        expect_eq_at(&rt, &made, &swd_give_rest(bits, made, failed), &rest);
+    for (bits, made, failed, rest) in RESTS {
+        expect_eq_at(&rt, made, &swd_give_rest(*bits, *made, *failed), rest);
     }
 }
-
