@@ -1,6 +1,6 @@
 //! The rest of a write's data phase inside which the line failed.
-ghost use Rattle.std.specs.Prelude.{◌≡◌, ◌≤◌, ◌<◌, ◌+◌, ◌-◌, ◌^◌, ℕ, true};
-ghost use Rattle.swd_bits.specs.Bits.{odd};
+ghost use Rattle.std.specs.Prelude.{◌≡◌, ◌≤◌, ◌<◌, ◌+◌, ◌-◌, ◌%◌, ◌^◌, ℕ, true, if◌then◌else◌, count_ones, replicate};
+ghost use Rattle.swd_bits.specs.Bits.{low_bits, odd};
 ghost use Rattle.swd_c.specs.Gives.{c_api_cut_phase};
 
 // The last bit of a data phase.
@@ -25,13 +25,26 @@ pub extern "C" fn swd_give_rest(bits: u64, made: u32, failed: u32) -> u64
     let after = LAST - made;
     // The last bit that the target takes, however many of the clocks that failed were made.
     let place = after.saturating_sub(failed);
-    let level = bits >> made & 1;
-    let ones = u64::from((bits & ((1 << made) - 1)).count_ones()) + level * u64::from(after);
-    let deciding = (ones + 1) % 2;
-    (levels(level, after - place) << 1 | deciding) << place | levels(level, place)
+    let level = (bits >> made) % 2 == 1;
+    let before = levels(level, place);
+    let deciding = deciding(bits & ((1 << made) - 1), level, after);
+    (levels(level, after - place) << 1 | deciding) << place | before
 }
 
 // Returns so many bits of this level.
-fn levels(level: u64, count: u32) -> u64 {
-    level * ((1 << count) - 1)
+fn levels(level: bool, count: u32) -> u64
+    requires { count ≤ 32 }
+    ensures bound { result < 2 ^ count }
+    ensures bits { (n : ℕ) → n ≤ count → low_bits n result ≡ replicate n level }
+{
+    if level { (1 << count) - 1 } else { 0 }
+}
+
+// Returns the bit with which the number of ones among these bits, and so many of this level, is odd.
+fn deciding(bits: u64, level: bool, count: u32) -> u64
+    requires { count ≤ 32 }
+    ensures { result ≡ (count_ones bits + (if level then count else 0) + 1) % 2 }
+{
+    let levels = if level { count } else { 0 };
+    u64::from((bits.count_ones() + levels + 1) % 2)
 }
