@@ -331,15 +331,17 @@ static void add(struct list *list, uint32_t place, uint32_t word, uint8_t write)
 
 int main(int count, char **words)
 {
-	static const char *const wrongs[] = { "", "ones", "bits", "owed" };
+	static const char *const wrongs[] = { "right", "ones", "bits", "owed" };
 	struct list lists[] = { { "a list", { { 0, 0, 0 } }, 0, 0 },
 	                        { "a poll", { { 0, 0, 0 } }, 0, 0 },
 	                        { "a block", { { 0, 0, 0 } }, 0, 1 },
 	                        { "a load", { { 0, 0, 0 } }, 0, 0 } };
 	unsigned long step = count > 1 ? strtoul(words[1], NULL, 10) : 1, tried = 0, failed = 0;
 	uint32_t i;
-	for (wrong = RIGHT; count > 2 && wrong < OWED && strcmp(words[2], wrongs[wrong]) != 0; wrong++)
-		;
+	for (i = RIGHT; count > 2 && i <= OWED; i++) {
+		if (strcmp(words[2], wrongs[i]) == 0)
+			wrong = (enum wrong)i;
+	}
 	add(&lists[0], 0, 0x00001001, 1);
 	add(&lists[0], 1, 0, 0);
 	add(&lists[0], 2, 0x7fffffff, 1);

@@ -93,32 +93,49 @@ rest_first : (place k j d low high : ℕ) (level : Bool) → place + k ≤ 32 �
     → low_bits (place + (1 + j)) (bit_or (bit_or (high * 2 ^ 1 % 2 ^ 64) d * 2 ^ place % 2 ^ 64) low)
     ≡ replicate place level ++ low_bits 1 d ++ replicate j level
 rest_first place k j d low high level room few bit_d small_low small_high lows highs =
-    let above : ℕ = bit_or (high * 2 ^ 1 % 2 ^ 64) d in
-    let above_lt : above < 2 ^ (1 + k) = low_bits_join_lt 1 k high d small_high bit_d (omega arith) in
-    rw (join_sum place (1 + k) above low above_lt small_low (omega arith), low_bits-cat place (1 + j) above low small_low,
-    lows, join_sum 1 k high d small_high bit_d (omega arith), low_bits-cat 1 j high d bit_d, highs) refl
+    let above_lt : bit_or (high * 2 ^ 1 % 2 ^ 64) d < 2 ^ (1 + k) =
+    low_bits_join_lt 1 k high d small_high bit_d (omega arith) in
+    rw (
+      join_sum place (1 + k) (bit_or (high * 2 ^ 1 % 2 ^ 64) d) low above_lt small_low (omega arith),
+      low_bits-cat place (1 + j) (bit_or (high * 2 ^ 1 % 2 ^ 64) d) low small_low,
+      lows,
+      join_sum 1 k high d small_high bit_d (omega arith),
+      low_bits-cat 1 j high d bit_d,
+      highs,
+    ) refl
+
+ones_of_cut : (first : List Bool) (again place j d : ℕ) (level : Bool) → d < 2
+    → ones_in (first ++ replicate again level ++ replicate place level ++ low_bits 1 d ++ replicate j level)
+    ≡ ones_in first + (if level then again else 0) + (if level then place else 0) + d + (if level then j else 0)
+ones_of_cut first again place j d level small =
+    omega (
+      arith,
+      ones_in_both first (replicate again level ++ replicate place level ++ low_bits 1 d ++ replicate j level),
+      ones_in_both (replicate again level) (replicate place level ++ low_bits 1 d ++ replicate j level),
+      ones_in_both (replicate place level) (low_bits 1 d ++ replicate j level),
+      ones_in_both (low_bits 1 d) (replicate j level),
+      ones_in_one d small,
+      ones_in_level again level,
+      ones_in_level place level,
+      ones_in_level j level,
+    )
+
+sum_is_odd : (ones again place j d : ℕ) (level : Bool)
+    → d ≡ (ones + (if level then place + (again + j) else 0) + 1) % 2
+    → (ones + (if level then again else 0) + (if level then place else 0) + d + (if level then j else 0)) % 2 ≡ 1
+sum_is_odd ones again place j d true decides = omega arith
+sum_is_odd ones again place j d false decides = omega arith
 
 -- whatever of the clocks that failed was made: the number of ones is odd
-pub cut_phase_is_odd : (bits made again place k j d low high : ℕ) (level : Bool) → place + k ≤ 32 → again + j ≡ k
-    → d ≡ (count_ones (bits % 2 ^ made) + (if level then place + k else 0) + 1) % 2 → low < 2 ^ place → high < 2 ^ k
-    → low_bits place low ≡ replicate place level → low_bits j high ≡ replicate j level
+pub cut_phase_is_odd : (bits made again place j d low high : ℕ) (level : Bool) → place + (again + j) ≤ 32
+    → d ≡ (count_ones (bits % 2 ^ made) + (if level then place + (again + j) else 0) + 1) % 2 → low < 2 ^ place
+    → high < 2 ^ (again + j) → low_bits place low ≡ replicate place level → low_bits j high ≡ replicate j level
     → odd (low_bits made bits ++ replicate again level
     ++ low_bits (place + (1 + j)) (bit_or (bit_or (high * 2 ^ 1 % 2 ^ 64) d * 2 ^ place % 2 ^ 64) low)) ≡ true
-cut_phase_is_odd bits made again place k j d low high true room sum decides small_low small_high lows highs =
+cut_phase_is_odd bits made again place j d low high level room decides small_low small_high lows highs =
     let bit_d : d < 2 = omega arith in
-    rw (rest_first place k j d low high true room (omega arith) bit_d small_low small_high lows highs)
-    (is_one _ (bit_odd _ ∙ omega (arith, ones_in_first made bits,
-    ones_in_both (low_bits made bits) (replicate again true ++ replicate place true ++ low_bits 1 d ++ replicate j true),
-    ones_in_both (replicate again true) (replicate place true ++ low_bits 1 d ++ replicate j true),
-    ones_in_both (replicate place true) (low_bits 1 d ++ replicate j true),
-    ones_in_both (low_bits 1 d) (replicate j true), ones_in_one d bit_d, ones_in_level again true,
-    ones_in_level place true, ones_in_level j true, decides, sum)))
-cut_phase_is_odd bits made again place k j d low high false room sum decides small_low small_high lows highs =
-    let bit_d : d < 2 = omega arith in
-    rw (rest_first place k j d low high false room (omega arith) bit_d small_low small_high lows highs)
-    (is_one _ (bit_odd _ ∙ omega (arith, ones_in_first made bits,
-    ones_in_both (low_bits made bits) (replicate again false ++ replicate place false ++ low_bits 1 d ++ replicate j false),
-    ones_in_both (replicate again false) (replicate place false ++ low_bits 1 d ++ replicate j false),
-    ones_in_both (replicate place false) (low_bits 1 d ++ replicate j false),
-    ones_in_both (low_bits 1 d) (replicate j false), ones_in_one d bit_d, ones_in_level again false,
-    ones_in_level place false, ones_in_level j false, decides, sum)))
+    rw (rest_first place (again + j) j d low high level room (omega arith) bit_d small_low small_high lows highs)
+    (is_one _ (bit_odd _ ∙ ap (λ n. n % 2) (ones_of_cut (low_bits made bits) again place j d level bit_d)
+    ∙ ap (λ n. (n + (if level then again else 0) + (if level then place else 0) + d + (if level then j else 0)) % 2)
+    (ones_in_first made bits)
+    ∙ sum_is_odd (count_ones (bits % 2 ^ made)) again place j d level decides))
