@@ -1,5 +1,5 @@
 -- A write's data phase inside which the line failed.
-use Rattle.std.specs.Prelude.{ℕ, ◌+◌, ◌-◌, ◌/◌, ◌%◌, ◌^◌, ◌==◌, Bool, List, ◌++◌, replicate}
+use Rattle.std.specs.Prelude.{ℕ, ◌-◌, ◌/◌, ◌%◌, ◌^◌, ◌==◌, Bool, List, ◌++◌, replicate}
 use Rattle.swd_bits.specs.Bits.{low_bits}
 
 -- the level that the host drove in the clocks that failed
