@@ -68,7 +68,7 @@ enum {
 	SWD_BUS_FAULT = 4, /* the access was a bus error: the bus refused it */
 	/* From here on the end of a run. */
 	SWD_ALL = 5, /* every access of the list is answered */
-	SWD_LOST = 6, /* no acknowledgement was seen: send nothing more, except by swd_run_again */
+	SWD_LOST = 6, /* no acknowledgement was seen, or the line failed: send nothing more, except by swd_run_again */
 	SWD_TRIES_OUT = 7, /* the opening or an access met more than `tries` events: see swd_run_new */
 	SWD_WRONG_ID = 8, /* bit 0 of DPIDR isn't 1; `word` is DPIDR */
 	SWD_CONFUSED = 9 /* the target violated the protocol */
@@ -96,8 +96,8 @@ enum {
 	SWD_TAKE = 3, /* sample 33 bits, which are the reply; then a turnaround */
 	SWD_GIVE = 4, /* a turnaround; then send 33 bits */
 	SWD_PASS = 5, /* a turnaround */
-	/* The call was refused; of swd_run_next and swd_run_opened `outcome` says why, below. *run is unchanged: it still
-	   says how the run before ended. */
+	/* The call was refused; of swd_run_next, swd_run_opened and swd_run_fail `outcome` says why, below. *run is
+	   unchanged: it still says how the run before ended. */
 	SWD_REFUSED = 255
 };
 
@@ -157,7 +157,7 @@ struct swd_run {
 };
 
 /*
- * Why swd_run_next or swd_run_opened refuses a call, as the `outcome.kind` of its cue.
+ * Why swd_run_next, swd_run_opened or swd_run_fail refuses a call, as the `outcome.kind` of its cue.
  */
 enum {
 	SWD_INVALID = 0, /* *run is invalid */
@@ -208,15 +208,26 @@ struct swd_cue swd_run_opened(struct swd_run *run, const struct swd_access *acce
  * run alone, whose opening may take five requests more. An access that was in flight may take effect again. After
  * swd_run_blocks, the rest of the block is read one by one.
  *
- * If the line failed inside a cue, the target may be at a turnaround or inside an acknowledgement, and then drives for up
- * to four clocks more than the lead of the new run releases: release the line for four clocks before that lead. If it
- * failed inside the bits of SWD_GIVE, end these before the four clocks, or the target may write another word: where the
- * clock that failed may have been made or not, by bits after which the parity is wrong in both cases, as line_drop of
- * examples/c/line.c does.
+ * If the line failed inside a cue (swd_run_fail), the target may be at a turnaround or inside an acknowledgement, and
+ * then drives for up to four clocks more than the lead of the new run releases: release the line for four clocks before
+ * that lead. If it failed inside the 33 bits of SWD_GIVE, drive the bits of swd_give_rest before the four clocks, or the
+ * target may write another word.
  *
  * Returns false: *run is invalid, or didn't end so.
  */
 bool swd_run_again(struct swd_run *run, uint32_t tries) SWD_CHECKED;
+
+/*
+ * Returns the bits that end a data phase inside which the line failed, so that the target drops it: `33 - made` of them.
+ * `bits` are those of SWD_GIVE, and `made` of them were driven in clocks that were certainly made. `failed` is 1: the
+ * clock of the next bit was made or wasn't. In either case the parity of what the target takes is wrong, unless it had
+ * taken all 33 bits before.
+ *
+ * If the line fails again, inside these bits and after `more` of them: put them in place of `bits` from bit `made` on,
+ * add `more` to `made` and 1 to `failed`, and call it again. That holds unless the clock of the bit failed by which the
+ * parity is made wrong: the last one that the target takes in any case.
+ */
+uint64_t swd_give_rest(uint64_t bits, uint32_t made, uint32_t failed);
 
 /*
  * Returns what has to be sent next. SWD_REST: the run has ended; `outcome` is `end`. SWD_REFUSED: *run is invalid.
@@ -225,16 +236,25 @@ struct swd_cue swd_run_cue(const struct swd_run *run);
 
 /*
  * Takes the reply to the cue, and returns the next cue. `reply` is the three bits sampled at SWD_ASK (an undriven line
- * reads 1), or the 33 bits sampled at SWD_TAKE; at any other kind it is ignored. If the line failed inside this cue or
- * before, it is 7 or 0x1ffffffff, whatever was sampled. The answer of each access that ended,
- * SWD_VALUE, SWD_WRITTEN or SWD_BUS_FAULT, is written to `answers`, which has `room` objects, at the access's index. In
- * each call `accesses` must be the same list of `count`. The call at the first cue checks all of it (of swd_run_opened,
- * that call), each later one only `count`.
+ * reads 1), or the 33 bits sampled at SWD_TAKE; at any other kind it is ignored. If the line failed inside the cue, call
+ * swd_run_fail in place of this: bits that were sampled before and after a failure may pass for a word. The answer of each
+ * access that ended, SWD_VALUE, SWD_WRITTEN or SWD_BUS_FAULT, is written to `answers`, which has `room` objects, at the
+ * access's index. In each call `accesses` must be the same list of `count`. The call at the first cue checks all of it (of
+ * swd_run_opened, that call), each later one only `count`.
  *
  * SWD_REFUSED: for one of the reasons above, in `outcome`. *run and the answers are unchanged.
  */
 struct swd_cue swd_run_next(struct swd_run *run, const struct swd_access *accesses, size_t count,
                             struct swd_outcome *answers, size_t room, uint64_t reply) SWD_CHECKED;
+
+/*
+ * Ends the run, since the line failed inside its cue, and returns the last cue: SWD_REST, with the outcome SWD_LOST. The
+ * answers so far stand, and `begun` says whether an access is in flight. If the cue was SWD_ASK, its request counts as
+ * sent, since the target may have seen it. Make no further clock in this run; swd_run_again says how to continue.
+ *
+ * SWD_REFUSED: *run is invalid, or has ended (SWD_INVALID or SWD_ENDED in `outcome`). *run is unchanged.
+ */
+struct swd_cue swd_run_fail(struct swd_run *run) SWD_CHECKED;
 
 /*
  * The name of an outcome, for messages: "value", or as a report of the program says it, "lost".
@@ -247,7 +267,7 @@ static inline const char *swd_outcome_name(uint8_t kind)
 }
 
 /*
- * The name of a reason why swd_run_next or swd_run_opened refuses a call.
+ * The name of a reason why swd_run_next, swd_run_opened or swd_run_fail refuses a call.
  */
 static inline const char *swd_refusal_name(uint8_t kind)
 {

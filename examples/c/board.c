@@ -15,6 +15,7 @@ static bool transfer(struct board *board)
 	if (wanted.addr % 4 != 0 || wanted.addr < BOARD_BASE || place >= BOARD_WORDS)
 		return swd_target_settle(&board->target, SWD_BUS_FAULT, 0);
 	board->transfers++;
+	board->last = wanted;
 	if (wanted.kind == SWD_READ)
 		return swd_target_settle(&board->target, SWD_VALUE, board->words[place]);
 	board->words[place] = wanted.word;

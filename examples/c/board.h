@@ -13,8 +13,9 @@ enum { BOARD_WORDS = 4096 };
 struct board {
 	struct swd_target target;
 	uint32_t words[BOARD_WORDS];
-	/* How many transfers took place. */
+	/* How many transfers took place, and the last of them. */
 	unsigned long transfers;
+	struct swd_transfer last;
 	/* How many cycles the bus takes for a transfer, 0 for none, and how many are left of one. */
 	unsigned takes, left;
 	/* The cycle with this number, from 1, arrives at the target changed; 0 for none. */

@@ -54,24 +54,14 @@ struct list {
 	bool is_block;
 };
 
-/* The data phase inside which the line failed, and how many of its bits were made before. */
-struct broken {
-	uint64_t bits;
-	uint32_t made;
-	bool is_data;
-};
-
 /* Does a list over a new board whose line works for so many clocks. */
 static struct swd_run run_list(const struct list *list, uint32_t tries, unsigned long clocks,
-                               struct swd_outcome *answers, struct broken *broken)
+                               struct swd_outcome *answers, struct line_failure *failure)
 {
 	struct swd_run run;
-	struct swd_cue cue;
-	bool failed = false;
 	board_new(&board);
 	memcpy(board.words, words, sizeof words);
 	memset(answers, 0, MOST_ACCESSES * sizeof *answers);
-	memset(broken, 0, sizeof *broken);
 	left = clocks;
 	has_failed = has_other = false;
 	more = 0;
@@ -79,35 +69,18 @@ static struct swd_run run_list(const struct list *list, uint32_t tries, unsigned
 		swd_run_blocks(&run, tries);
 	else
 		swd_run_new(&run, tries);
-	cue = swd_run_cue(&run);
-	while (cue.kind != SWD_REST && cue.kind != SWD_REFUSED) {
-		unsigned long before = failed ? 0 : left;
-		uint64_t reply = line_reply(&failed, &cue);
-		/* (the turnaround comes before the bits) */
-		if (failed && before > 0 && cue.kind == SWD_GIVE) {
-			broken->bits = cue.bits;
-			broken->made = (uint32_t)before - 1;
-			broken->is_data = true;
-		}
-		cue = swd_run_next(&run, list->accesses, list->count, answers, list->count, reply);
-	}
+	line_try(&run, list->accesses, list->count, answers, failure);
 	return run;
 }
 
 /* Continues a run whose line failed, over the line that works again. Gives whether each access is answered then. */
 static bool is_continued(const struct list *list, struct swd_run *run, struct swd_outcome *answers,
-                         const struct swd_outcome *sure, const struct broken *broken)
+                         const struct swd_outcome *sure, struct line_failure *failure)
 {
 	size_t i;
-	if (run->end.kind == SWD_ALL)
-		return true;
 	has_failed = false;
 	left = (unsigned long)-1;
-	if (broken->is_data && !line_drop(broken->bits, broken->made))
-		return false;
-	for (i = 0; i < 4; i++)
-		line_clock(RELEASED);
-	if (!swd_run_again(run, 8))
+	if (!line_leave(failure) || !swd_run_again(run, 8))
 		return false;
 	line_run(run, list->accesses, list->count, answers);
 	for (i = 0; i < list->count; i++) {
@@ -135,39 +108,35 @@ static bool are_written(const struct list *list, const struct swd_run *run)
 static bool is_right(const struct list *list, const struct swd_run *run, const struct swd_outcome *answers,
                      const struct swd_outcome *sure)
 {
-	bool ended = run->end.kind == SWD_ALL ? run->answered == list->count
-	                                      : run->end.kind == SWD_LOST || run->end.kind == SWD_TRIES_OUT;
 	size_t i;
 	for (i = 0; i < list->count; i++) {
 		if (i >= run->answered ? answers[i].kind != 0
 		                       : answers[i].kind != sure[i].kind || answers[i].word != sure[i].word)
 			return false;
 	}
-	return ended && more == 0 && !has_other && are_written(list, run);
+	return run->end.kind == SWD_LOST && more == 0 && !has_other && are_written(list, run);
 }
 
 /* Fails the line at each clock. Gives how many runs were wrong. */
 static unsigned long fail_each(const struct list *list, uint32_t tries)
 {
 	struct swd_outcome sure[MOST_ACCESSES], answers[MOST_ACCESSES];
-	unsigned long clocks, at, ends[SWD_CONFUSED + 1] = { 0 }, wrong = 0;
-	struct broken broken;
-	struct swd_run run = run_list(list, tries, (unsigned long)-1, sure, &broken);
+	unsigned long clocks, at, wrong = 0;
+	struct line_failure failure;
+	struct swd_run run = run_list(list, tries, (unsigned long)-1, sure, &failure);
 	clocks = (unsigned long)board.target.cycles;
 	if (run.end.kind != SWD_ALL)
 		return 1;
 	for (at = 0; at < clocks; at++) {
-		run = run_list(list, tries, at, answers, &broken);
-		ends[run.end.kind <= SWD_CONFUSED ? run.end.kind : 0]++;
-		if (!is_right(list, &run, answers, sure) || !is_continued(list, &run, answers, sure, &broken)) {
+		run = run_list(list, tries, at, answers, &failure);
+		if (!is_right(list, &run, answers, sure) || !is_continued(list, &run, answers, sure, &failure)) {
 			if (wrong++ == 0)
 				printf("%s, clock %lu: %s, %u answered\n", list->name, at, swd_outcome_name(run.end.kind),
 				       (unsigned)run.answered);
 		}
 	}
-	printf("%s, %u tries, at each of %lu clocks, %s: %lu lost, %lu tries, %lu all, %lu wrong\n", list->name,
-	       (unsigned)tries, clocks, is_made ? "made" : "not made", ends[SWD_LOST], ends[SWD_TRIES_OUT], ends[SWD_ALL],
-	       wrong);
+	printf("%s, %u tries, lost at each of %lu clocks, %s: %lu wrong\n", list->name, (unsigned)tries, clocks,
+	       is_made ? "made" : "not made", wrong);
 	return wrong;
 }
 

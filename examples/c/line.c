@@ -1,110 +1,137 @@
 #include <stdio.h>
+#include <string.h>
 #include "line.h"
 
 enum { MOST_WORDS = 64 };
 
 /* One clock, if none has failed. */
-static int clock_line(bool *failed, int drive)
+static int clock_line(struct line_failure *failure, int drive)
 {
-	int bit = *failed ? LINE_FAILED : line_clock(drive);
+	int bit = failure->has_failed ? LINE_FAILED : line_clock(drive);
 	if (bit < 0)
-		*failed = true;
+		failure->has_failed = true;
 	return bit;
 }
 
-static void send(bool *failed, uint64_t bits, uint32_t count)
+/* Gives how many of these bits were sent before the line failed. */
+static uint32_t send(struct line_failure *failure, uint64_t bits, uint32_t count)
 {
 	uint32_t i;
-	for (i = 0; i < count; i++) {
-		clock_line(failed, (int)(bits & 1));
+	for (i = 0; i < count && clock_line(failure, (int)(bits & 1)) >= 0; i++)
 		bits >>= 1;
-	}
+	return i;
 }
 
-static void send_ones(bool *failed, uint32_t count, uint32_t undriven)
+static void send_ones(struct line_failure *failure, uint32_t count, uint32_t undriven)
 {
 	uint32_t i;
 	for (i = 0; i < count; i++)
-		clock_line(failed, i < undriven ? RELEASED : 1);
+		clock_line(failure, i < undriven ? RELEASED : 1);
 }
 
-static uint64_t receive(bool *failed, unsigned count)
+static uint64_t receive(struct line_failure *failure, unsigned count)
 {
 	uint64_t bits = 0;
 	unsigned i;
 	for (i = 0; i < count; i++)
-		bits |= (uint64_t)(clock_line(failed, RELEASED) != 0) << i;
+		bits |= (uint64_t)(clock_line(failure, RELEASED) != 0) << i;
 	return bits;
 }
 
-static void lead(bool *failed, const struct swd_cue *cue)
+static void lead(struct line_failure *failure, const struct swd_cue *cue)
 {
-	send_ones(failed, cue->ones, cue->undriven);
+	send_ones(failure, cue->ones, cue->undriven);
 	if (cue->with_switch) {
-		send(failed, SWD_SWITCH_BITS, 16);
-		send_ones(failed, cue->ones, 0);
+		send(failure, SWD_SWITCH_BITS, 16);
+		send_ones(failure, cue->ones, 0);
 	}
-	send(failed, 0, cue->zeros);
+	send(failure, 0, cue->zeros);
 }
 
-/*
- * If the line fails inside a cue, the bits that were seen in it don't count: some bits of a word, and ones after them,
- * may have the parity of a word. The reply is then that of a line which nobody drives: no acknowledgement, or a word
- * with wrong parity.
- */
-uint64_t line_reply(bool *failed, const struct swd_cue *cue)
+/* A turnaround, and the bits of a data phase; notes how many of them were made if the line fails inside. */
+static void give(struct line_failure *failure, uint64_t bits)
+{
+	uint32_t made;
+	if (clock_line(failure, RELEASED) < 0)
+		return;
+	made = send(failure, bits, 33);
+	if (failure->has_failed) {
+		failure->bits = bits;
+		failure->made = made;
+		failure->failed = 1;
+	}
+}
+
+uint64_t line_reply(struct line_failure *failure, const struct swd_cue *cue)
 {
 	uint64_t seen = 0;
 	switch (cue->kind) {
 	case SWD_LEAD:
-		lead(failed, cue);
+		lead(failure, cue);
 		break;
 	case SWD_ASK:
-		send(failed, cue->request, 8);
-		clock_line(failed, RELEASED);
-		seen = receive(failed, 3);
-		return *failed ? 7 : seen;
+		send(failure, cue->request, 8);
+		clock_line(failure, RELEASED);
+		seen = receive(failure, 3);
+		break;
 	case SWD_TAKE:
-		seen = receive(failed, 33);
-		clock_line(failed, RELEASED);
-		return *failed ? 0x1ffffffff : seen;
+		seen = receive(failure, 33);
+		clock_line(failure, RELEASED);
+		break;
 	case SWD_GIVE:
-		clock_line(failed, RELEASED);
-		send(failed, cue->bits, 33);
+		give(failure, cue->bits);
 		break;
 	case SWD_PASS:
-		clock_line(failed, RELEASED);
+		clock_line(failure, RELEASED);
 		break;
 	default:
 		break;
 	}
-	return 0;
+	return seen;
+}
+
+struct swd_cue line_try(struct swd_run *run, const struct swd_access *accesses, size_t count,
+                        struct swd_outcome *answers, struct line_failure *failure)
+{
+	struct swd_cue cue = swd_run_cue(run);
+	memset(failure, 0, sizeof *failure);
+	while (cue.kind != SWD_REST && cue.kind != SWD_REFUSED) {
+		uint64_t reply = line_reply(failure, &cue);
+		cue = failure->has_failed ? swd_run_fail(run) : swd_run_next(run, accesses, count, answers, count, reply);
+	}
+	return cue;
 }
 
 struct swd_cue line_run(struct swd_run *run, const struct swd_access *accesses, size_t count,
                         struct swd_outcome *answers)
 {
-	struct swd_cue cue = swd_run_cue(run);
-	bool failed = false;
-	while (cue.kind != SWD_REST && cue.kind != SWD_REFUSED)
-		cue = swd_run_next(run, accesses, count, answers, count, line_reply(&failed, &cue));
-	return cue;
+	struct line_failure failure;
+	return line_try(run, accesses, count, answers, &failure);
 }
 
-/*
- * All bits but one are at the level of the clock that failed, so that the parity is the same with it and without it.
- * The other one is the last that the target takes in either case, and makes that parity odd.
- */
-bool line_drop(uint64_t bits, uint32_t made)
+/* Ends the data phase inside which the line failed. Gives whether it didn't fail again. */
+static bool drop(struct line_failure *failure)
 {
-	uint32_t count = 33 - made, place = count > 1 ? count - 2 : 0, i;
-	int level = (int)(bits >> made & 1), deciding = 1 ^ (level & (int)(count - 1));
-	bool failed = false;
-	for (i = 0; i < made; i++)
-		deciding ^= (int)(bits >> i & 1);
-	for (i = 0; i < count; i++)
-		clock_line(&failed, i == place ? deciding : level);
-	return !failed;
+	uint32_t made = failure->made, more;
+	uint64_t rest = swd_give_rest(failure->bits, made, failure->failed);
+	more = send(failure, rest, 33 - made);
+	if (failure->has_failed) {
+		failure->bits = (failure->bits & (((uint64_t)1 << made) - 1)) | rest << made;
+		failure->made += more;
+		failure->failed++;
+		return false;
+	}
+	failure->failed = 0;
+	return true;
+}
+
+bool line_leave(struct line_failure *failure)
+{
+	failure->has_failed = false;
+	if (failure->failed > 0 && !drop(failure))
+		return false;
+	receive(failure, 4);
+	return !failure->has_failed;
 }
 
 bool line_program(struct swd_run *run, uint32_t addr, const uint32_t *words, size_t count)

@@ -15,23 +15,40 @@ enum { RELEASED = -1, LINE_FAILED = -1 };
 int line_clock(int drive);
 
 /*
+ * Where the line failed in a run, if it did. In the data phase of SWD_GIVE: what swd_give_rest takes; elsewhere `failed`
+ * is 0.
+ */
+struct line_failure {
+	bool has_failed;
+	uint64_t bits;
+	uint32_t made, failed;
+};
+
+/*
  * Does a list of accesses by a run that was made, and stores their answers, for which there is room. Gives the last
- * cue: SWD_REST where the run has ended. Makes no clock after one that fails: the run then ends SWD_LOST or
- * SWD_TRIES_OUT, or SWD_ALL if all accesses were answered before.
+ * cue: SWD_REST where the run has ended. Makes no clock after one that fails: the run then ends SWD_LOST.
  */
 struct swd_cue line_run(struct swd_run *run, const struct swd_access *accesses, size_t count,
                         struct swd_outcome *answers);
 
 /*
- * Does what a cue says, and gives the reply to it. Sets `failed`, and makes no further clock, if one fails.
+ * The same, and says where the line failed.
  */
-uint64_t line_reply(bool *failed, const struct swd_cue *cue);
+struct swd_cue line_try(struct swd_run *run, const struct swd_access *accesses, size_t count,
+                        struct swd_outcome *answers, struct line_failure *failure);
 
 /*
- * Ends a data phase in which the line failed, after so many of the 33 bits of SWD_GIVE, so that the target drops it.
- * The clock that failed may have been made or not. Gives whether the line didn't fail again.
+ * Does what a cue says, and gives the reply to it, which doesn't count if the line fails inside. Makes no further clock
+ * then.
  */
-bool line_drop(uint64_t bits, uint32_t made);
+uint64_t line_reply(struct line_failure *failure, const struct swd_cue *cue);
+
+/*
+ * Leaves the cue inside which the line failed, before the lead of a run that swd_run_again made: has the target drop the
+ * data phase, and releases the line up to the end of an acknowledgement. Gives whether the line didn't fail again; else
+ * it is to be called again.
+ */
+bool line_leave(struct line_failure *failure);
 
 /*
  * Opens a target, and writes and reads back `count` words from `addr`, by a run that was made. Gives whether all were

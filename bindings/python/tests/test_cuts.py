@@ -47,6 +47,20 @@ class RemoteBitbang(unittest.TestCase):
                         bench = here
         self.assertGreater(tried * STEP, 10_000)
 
+    def test_a_line_that_keeps_late_replies(self):
+        """The line takes a reply of a call that failed for that of the next clock: that has to show."""
+        program, shown = self.program.replace("if self.owes and not self.is_closed:", "if False:"), 0
+        self.assertNotEqual(program, self.program)
+        for at in range(0, 300, 7):
+            bench = Bench(program)
+            accesses = bench.list()
+            act = lambda bench=bench, accesses=accesses: bench.session.run(accesses)
+            try:
+                self.cut(bench, accesses, act, (at, "Ctrl-C after"), "read")
+            except AssertionError:
+                shown += 1
+        self.assertGreater(shown, 10)
+
     def cut(self, bench, accesses, act, failure, then):
         """Makes an act whose line fails. Whether the line is usable again."""
         bench.memory.log.clear()

@@ -37,6 +37,8 @@ struct Cable {
     target: Rc<RefCell<Target<PlainMemory>>>,
     clocks: Rc<Cell<usize>>,
     fails: Rc<Cell<Option<(usize, Kind)>>>,
+    /// The level in the last clock that was made.
+    last: Rc<Cell<bool>>,
     /// In how many clocks the target drove another level than the host.
     contended: Rc<Cell<usize>>,
 }
@@ -44,7 +46,7 @@ struct Cable {
 impl Cable {
     fn new() -> Cable {
         let target = Rc::new(RefCell::new(Target::new(PlainMemory::new(BASE, 16, 1 << 20))));
-        Cable { target, clocks: Rc::default(), fails: Rc::default(), contended: Rc::default() }
+        Cable { target, clocks: Rc::default(), fails: Rc::default(), last: Rc::default(), contended: Rc::default() }
     }
 
     /// Has the clock fail that comes after so many more.
@@ -73,6 +75,7 @@ impl Cable {
             Some(Kind::After) | None => {}
         }
         let level = self.target.borrow_mut().cycle(drive);
+        self.last.set(level);
         if drive.is_some_and(|bit| bit != level) {
             self.contended.set(self.contended.get() + 1);
         }
@@ -201,6 +204,56 @@ fn cut(accesses: &[Access], blocks: bool, failure: (usize, Kind), then: &str, to
     }
     assert_eq!(foreign(&seen.memory().log, accesses), [], "{told}");
     assert_eq!(seen.contended.get(), 0, "{told}");
+}
+
+/// A line that takes the level of a clock that failed for that of the next one.
+struct Owing {
+    line: Cable,
+    owed: Option<bool>,
+}
+
+impl Line for Owing {
+    type Error = Unplugged;
+
+    fn drive(&mut self, bit: bool) -> Result<(), Unplugged> {
+        self.line.drive(bit)
+    }
+
+    fn release(&mut self) -> Result<(), Unplugged> {
+        self.line.release()
+    }
+
+    fn sample(&mut self) -> Result<bool, Unplugged> {
+        let last = self.line.last.clone();
+        let level = self.line.sample();
+        match (level, self.owed) {
+            (Err(error), _) => {
+                self.owed = Some(last.get());
+                Err(error)
+            }
+            (Ok(level), Some(owed)) => {
+                self.owed = Some(level);
+                Ok(owed)
+            }
+            (level, None) => level,
+        }
+    }
+}
+
+// It doesn't read what is there, or ends early, behind each failure of a clock that was sampled.
+#[test]
+fn a_line_that_keeps_late_levels_is_found_out() {
+    let shown = (0..46 * POLL).filter(|at| {
+        let cable = Cable::new();
+        let mut line = Owing { line: cable.clone(), owed: None };
+        let mut session = Session::new(&mut line, 8);
+        session.open().unwrap();
+        cable.set(7);
+        cable.fail(*at, Kind::After);
+        assert!(matches!(session.read(BASE), Err(Error::Line { .. })), "{at}");
+        session.read(BASE) != Ok(7)
+    });
+    assert!(shown.count() > 30);
 }
 
 // No read returns the word of the one before. Once the target is there again, each returns the word that it has.

@@ -1,4 +1,5 @@
 pub mod Cues
+pub mod Gives
 pub mod Accesses
 pub mod Runs
 pub mod Items

@@ -1,6 +1,6 @@
 -- What the calls of a run leave in the caller's memory.
 use Rattle.std.specs.Prelude.{ℕ, ◌≡◌, ◌+◌, ◌<◌, ◌==◌, if◌then◌else◌, List, [], ◌∷◌, length, map, slice_set}
-use Rattle.std.specs.Prelude.{option_map}
+use Rattle.std.specs.Prelude.{None, option_map}
 use Rattle.swd_port.specs.declared.access.Access.{Access}
 use Rattle.swd_port.specs.declared.access.Answer.{Answer}
 use Rattle.swd_port.specs.declared.cue.Cue.{Cue}
@@ -75,6 +75,12 @@ pub data CApiRunRefusal (fields : RunFields) (list : List SwdAccess) (reply room
       → SteppedRefusalReason run (c_api_accesses list) reply why
       → CApiRunRefusal fields list reply room (c_api_refusal_for why)
   no_room : room < length list → CApiRunRefusal fields list reply room (c_api_refusal_with 6 0)
+
+-- the line can't fail inside a cue: the fields are those of no run, or the run has none
+pub data CApiFailRefusal (fields : RunFields) : SwdCue → Type 0 where
+  fails_no_run : CApiHasNoRun fields → CApiFailRefusal fields c_api_refusal
+  has_no_cue : (run : Run) → stepped_fields run ≡ fields → stepped_run_cue run ≡ None
+      → CApiFailRefusal fields (c_api_refusal_with 1 0)
 
 -- the list alone is why the call is refused, whatever the run and the reply
 pub data CApiListRefusal (list : List SwdAccess) : SwdCue → Type 0 where

@@ -23,8 +23,8 @@ pub struct SwdCue {
     pub zeros: u32,
     /// For kind 1: for how many of the first ones to release the line.
     pub undriven: u32,
-    /// For kind 0: the outcome. For kind 255 of `swd_run_next` and `swd_run_opened`: the reason, and the index of the
-    /// access.
+    /// For kind 0: the outcome. For kind 255 of `swd_run_next`, `swd_run_opened` and `swd_run_fail`: the reason, and
+    /// the index of the access.
     pub outcome: OutcomeFields,
     /// The kind.
     pub kind: u8,

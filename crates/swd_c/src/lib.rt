@@ -9,6 +9,7 @@ mod access;
 mod check;
 mod cue;
 mod decoder;
+mod give;
 mod item;
 mod layout;
 mod nowhere;
@@ -19,6 +20,7 @@ pub use access::SwdAccess;
 pub use check::{SwdVerdict, swd_check_new, swd_check_verdict, swd_check_watch};
 pub use cue::SwdCue;
 pub use decoder::{swd_decoder_due, swd_decoder_last, swd_decoder_new, swd_decoder_take};
+pub use give::swd_give_rest;
 pub use item::SwdItem;
 pub use layout::{
     SwdCheckLayout, SwdLayout, SwdRunLayout, swd_check_layout, swd_layout, swd_run_layout,
@@ -26,7 +28,8 @@ pub use layout::{
 };
 pub use nowhere::Nowhere;
 pub use run::{
-    swd_run_again, swd_run_blocks, swd_run_cue, swd_run_new, swd_run_next, swd_run_opened,
+    swd_run_again, swd_run_blocks, swd_run_cue, swd_run_fail, swd_run_new, swd_run_next,
+    swd_run_opened,
 };
 pub use target::{
     SwdTransfer, swd_target_cycle, swd_target_hold, swd_target_new, swd_target_settle,

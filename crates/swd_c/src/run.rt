@@ -6,19 +6,24 @@ ghost use Rattle.swd_host.specs.declared.outcome.Outcome.TheVariants.{Answered};
 ghost use Rattle.swd_host.specs.declared.task.Bursts.TheVariants.{Reads, Writes};
 ghost use Rattle.swd_host.specs.Engines.{EngineHasCue, engine_bursts};
 ghost use Rattle.swd_steps.specs.declared.run.Run.{Run as RunType};
+ghost use Rattle.swd_steps.specs.Failing.{SteppedFails};
 ghost use Rattle.swd_steps.specs.Fields.{stepped_fields};
 ghost use Rattle.swd_steps.specs.Runs.{SteppedRan, stepped_again, stepped_anew, stepped_answers, stepped_may_resume};
 ghost use Rattle.swd_steps.specs.Runs.{stepped_opened, stepped_run_cue};
 ghost use Rattle.swd_c.specs.Cues.{c_api_refusal};
 ghost use Rattle.swd_c.specs.Runs.{CApiHasNoRun, CApiHasRun, CApiRefusalIndexIsSmall, CApiRunStoresAnswers};
-ghost use Rattle.swd_c.specs.Runs.{CApiRunRefusal, c_api_accesses, c_api_refusal_for, c_api_refusal_with};
-ghost use Rattle.swd_c.specs.Runs.{CApiListRefusal, c_api_bursts, c_api_run_cue, c_api_stored_answers};
+ghost use Rattle.swd_c.specs.Runs.{CApiFailRefusal, CApiRunRefusal, c_api_accesses, c_api_refusal_for};
+ghost use Rattle.swd_c.specs.Runs.{CApiListRefusal, c_api_bursts, c_api_refusal_with, c_api_run_cue};
+ghost use Rattle.swd_c.specs.Runs.{c_api_stored_answers};
 
 use crate::access::{SwdAccess, access_at};
 use crate::cue::SwdCue;
 use swd_host::{Bursts, Outcome, OutcomeFields};
 use swd_port::Access;
 use swd_steps::{Accesses, Answers, Refusal, Run, RunFields};
+
+// The reason of a refusal: the run has ended.
+const ENDED: u8 = 1;
 
 // The reason of a refusal by this crate: there isn't room for all answers.
 const NO_ROOM: u8 = 6;
@@ -170,6 +175,29 @@ pub extern "C" fn swd_run_next(
     }
 }
 
+/// Ends the run as lost, since the line failed inside the cue, and returns the outcome. The answers so far stand. A
+/// request counts as sent, since the target may have seen it.
+///
+/// Refuses the call, and leaves the fields unchanged, only if they are those of no run, or the run has ended.
+#[unsafe(no_mangle)]
+pub extern "C" fn swd_run_fail(run: &mut RunFields) -> SwdCue
+    ensures fails { (before : RunType) → stepped_fields before ≡ run.old → result.kind ≢ 255
+        → EngineHasCue (λ cue. CApiHasRun run.new (λ now. SteppedFails cue before now
+        × (result ≡ c_api_run_cue now)))
+        (stepped_run_cue before) }
+    ensures refused { result.kind ≡ 255 → CApiFailRefusal run.old result }
+    ensures same { result.kind ≡ 255 → run.new ≡ run.old }
+{
+    let Some(before) = run.run() else {
+        return SwdCue::refusal();
+    };
+    let Some(now) = before.failed() else {
+        return SwdCue::refused(ENDED, 0);
+    };
+    *run = now.fields();
+    SwdCue::of_run(&now)
+}
+
 // Stores the answers that came, from this index on.
 fn store(answers: &mut [OutcomeFields], first: usize, came: Answers)
     requires { first + length (stepped_answers came) ≤ length answers.old }
@@ -212,7 +240,7 @@ impl SwdCue {
         ensures { result ≡ c_api_refusal_for refusal }
     {
         match refusal {
-            Refusal::Ended => SwdCue::refused(1, 0),
+            Refusal::Ended => SwdCue::refused(ENDED, 0),
             Refusal::Reply => SwdCue::refused(2, 0),
             Refusal::TooMany => SwdCue::refused(3, 0),
             Refusal::Unaligned { index } => SwdCue::refused(4, index as u32),

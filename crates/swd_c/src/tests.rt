@@ -3,6 +3,7 @@ mod checks;
 mod cues;
 mod driver;
 mod expect;
+mod failing;
 mod items;
 mod refusals;
 mod rows;

@@ -1,7 +1,9 @@
 //! What the exports refuse, with the caller's memory unchanged.
 use super::driver::{ASK, NO_RUN, REFUSED, plain, read, write};
 use super::expect::{expect_eq, expect_eq_at};
-use crate::{SwdAccess, SwdCue, swd_run_again, swd_run_cue, swd_run_new, swd_run_next};
+use crate::{
+    SwdAccess, SwdCue, swd_run_again, swd_run_cue, swd_run_fail, swd_run_new, swd_run_next,
+};
 use std::process::Abort;
 use swd_host::OutcomeFields;
 use swd_steps::RunFields;
@@ -12,6 +14,7 @@ fn is_refused<R: Abort>(rt: &R, fields: RunFields) {
     let mut now = fields;
     let cue = swd_run_next(&mut now, [].as_slice(), [].as_mut_slice(), 0);
     expect_eq(rt, &cue, &SwdCue::refusal());
+    expect_eq(rt, &swd_run_fail(&mut now), &SwdCue::refusal());
     assert!(rt; !swd_run_again(&mut now, 8));
     expect_eq(rt, &now, &fields);
 }

@@ -1,0 +1,358 @@
+/*
+ * A session whose line fails at each of its clocks in turn: inside a list, a poll, a block of reads and a load of words.
+ * What the run says is compared with the log of the target's transfers. Then the run is continued, or given up, or the
+ * target is opened anew, and words are polled.
+ *
+ *	cuts [STEP [WRONG]]
+ *
+ * One of STEP clocks is tried. WRONG has the line or its caller do something wrong, which has to be noticed: `ones`
+ * doesn't say that it failed, and gives 1 from then on; `bits` drives what is left of the data phase; `owed` takes the
+ * level of the clock that failed for that of the next one.
+ */
+#include <stdio.h>
+#include <stdlib.h>
+#include <string.h>
+#include "board.h"
+#include "line.h"
+
+enum { MOST_ACCESSES = 6, MOST_WRITES = 64, TRIES = 8, POLLS = 3 };
+
+/*
+ * How the line fails: the clock isn't made; it is made; it is made, and its level comes late; the line fails again while
+ * its cue is left; no later clock works.
+ */
+enum kind { BEFORE, AFTER, LATE, TWICE, GONE, KINDS };
+static const char *const kind_names[] = { "before a clock", "after it", "its level late", "twice", "for good" };
+
+enum then { RESUME, GIVE_UP, OPEN, THENS };
+static const char *const then_names[] = { "resumed", "given up", "opened anew" };
+
+enum wrong { RIGHT, ONES, BITS, OWED };
+
+struct list {
+	const char *name;
+	struct swd_access accesses[MOST_ACCESSES];
+	size_t count;
+	uint8_t is_block;
+};
+
+/* What a run says, and how often each write was made before it and in it. */
+struct outcome {
+	struct swd_run run;
+	struct swd_outcome answers[MOST_ACCESSES];
+	struct line_failure failure;
+};
+
+static struct board board;
+static struct swd_transfer writes[MOST_WRITES];
+static size_t written;
+static enum wrong wrong;
+
+/* The line: how many clocks work before one fails, and how; whether one has failed, and a level that wasn't taken. */
+static unsigned long left;
+static enum kind kind;
+static bool has_failed;
+static int owed;
+
+static int clock_board(int drive)
+{
+	unsigned long before = board.transfers;
+	int bit = board_clock(&board, drive);
+	if (board.transfers != before && board.last.kind == SWD_WRITE && written < MOST_WRITES)
+		writes[written++] = board.last;
+	return bit;
+}
+
+/* What the caller sees of a clock that fails. */
+static int fail(int drive)
+{
+	int bit = 1;
+	has_failed = true;
+	if (kind == AFTER || kind == LATE || (kind == TWICE && board.target.cycles % 2 == 1))
+		bit = clock_board(drive);
+	if (kind == LATE && drive == RELEASED)
+		owed = bit;
+	return wrong == ONES ? 1 : LINE_FAILED;
+}
+
+int line_clock(int drive)
+{
+	int bit, stale = owed;
+	if (has_failed && (kind == GONE || wrong == ONES))
+		return wrong == ONES ? 1 : LINE_FAILED;
+	if (left-- == 0)
+		return fail(drive);
+	bit = clock_board(drive);
+	if (wrong != OWED) {
+		/* The level of a clock that failed is dropped. */
+		owed = -1;
+	} else if (drive == RELEASED && stale >= 0) {
+		owed = bit;
+		return stale;
+	}
+	return bit;
+}
+
+static void work(unsigned long clocks, enum kind then)
+{
+	left = clocks;
+	kind = then;
+	has_failed = false;
+}
+
+/* A new board behind a line that works, with another word at each place, and a target that was opened. */
+static bool open_board(void)
+{
+	struct swd_run run;
+	size_t place;
+	board_new(&board);
+	for (place = 0; place < MOST_ACCESSES; place++)
+		board.words[place] = 0x80000000u + (uint32_t)place;
+	written = 0;
+	owed = -1;
+	work((unsigned long)-1, BEFORE);
+	swd_run_new(&run, TRIES);
+	return line_run(&run, NULL, 0, NULL).outcome.kind == SWD_ALL;
+}
+
+/* Does a list over the open target. */
+static void act(const struct list *list, struct outcome *outcome)
+{
+	struct swd_cue cue = swd_run_opened(&outcome->run, list->accesses, list->count, list->is_block, TRIES);
+	memset(outcome->answers, 0, sizeof outcome->answers);
+	memset(&outcome->failure, 0, sizeof outcome->failure);
+	if (cue.kind != SWD_REFUSED)
+		line_try(&outcome->run, list->accesses, list->count, outcome->answers, &outcome->failure);
+}
+
+/* How often an access is among the writes that the target made. */
+static size_t times_of(const struct swd_access *access)
+{
+	size_t i, times = 0;
+	for (i = 0; i < written; i++)
+		times += writes[i].addr == access->addr && writes[i].word == access->word;
+	return times;
+}
+
+/* Says whether a write was made that no access is. */
+static bool has_foreign(const struct list *list)
+{
+	size_t i, j;
+	for (i = 0; i < written; i++) {
+		for (j = 0; j < list->count; j++) {
+			const struct swd_access *access = &list->accesses[j];
+			if (access->write && access->addr == writes[i].addr && access->word == writes[i].word)
+				break;
+		}
+		if (j == list->count)
+			return true;
+	}
+	return false;
+}
+
+/* The word that a read of a list gives: that of the last write before it to its address, or the one at first. */
+static uint32_t word_of(const struct list *list, size_t index)
+{
+	uint32_t addr = list->accesses[index].addr;
+	while (index-- > 0) {
+		if (list->accesses[index].write && list->accesses[index].addr == addr)
+			return list->accesses[index].word;
+	}
+	return 0x80000000u + (addr - BOARD_BASE) / 4;
+}
+
+/*
+ * What is false in what a run says, NULL if nothing is. `begun` is how many accesses were in flight in a run before,
+ * which may have been made once more.
+ */
+static const char *falsehood(const struct list *list, const struct outcome *outcome, size_t from, size_t begun)
+{
+	size_t i, answered = outcome->run.answered;
+	for (i = 0; i < list->count; i++) {
+		const struct swd_access *access = &list->accesses[i];
+		const struct swd_outcome *answer = &outcome->answers[i];
+		size_t times = times_of(access), more = i >= from && i < from + begun;
+		if (i >= answered && answer->kind != 0)
+			return "an answer that there isn't";
+		if (i < answered && answer->kind != (access->write ? SWD_WRITTEN : SWD_VALUE))
+			return "another answer";
+		if (i < answered && !access->write && answer->word != word_of(list, i))
+			return "a word that nobody read";
+		if (access->write && i < answered && (times < 1 || times > 1 + more))
+			return "a write that wasn't made once";
+		if (access->write && i >= answered && times > (i < answered + outcome->run.begun) + more)
+			return "a write that wasn't begun";
+	}
+	return has_foreign(list) ? "a word that nobody wrote" : NULL;
+}
+
+/* Leaves the cue as docs/C.md doesn't say: what is left of the data phase, and four clocks. */
+static void leave_by_bits(const struct line_failure *failure)
+{
+	uint32_t i;
+	for (i = failure->failed > 0 ? failure->made : 33; i < 33; i++)
+		line_clock((int)(failure->bits >> i & 1));
+	for (i = 0; i < 4; i++)
+		line_clock(RELEASED);
+}
+
+/* The clock of the rest that decides the parity, which may not fail, too: -1 if there is none. */
+static long deciding(const struct line_failure *failure)
+{
+	if (failure->failed == 0)
+		return -1;
+	return failure->made < 32 ? 31 - (long)failure->made : 0;
+}
+
+/* Leaves the cue inside which the line failed. It fails once more behind so many clocks, if it does so twice. */
+static bool leave(struct line_failure *failure, unsigned long again)
+{
+	enum kind how = kind;
+	work((unsigned long)-1, BEFORE);
+	if (wrong == BITS) {
+		leave_by_bits(failure);
+		return true;
+	}
+	if (how == TWICE && (long)again != deciding(failure))
+		work(again, how);
+	while (!line_leave(failure)) {
+		if (left != (unsigned long)-1)
+			return false;
+	}
+	work((unsigned long)-1, BEFORE);
+	return true;
+}
+
+/* Brings the target to rest, and opens it: continues a run without accesses, whose line failed. */
+static bool settle(void)
+{
+	struct swd_run run;
+	swd_run_new(&run, TRIES);
+	return swd_run_fail(&run).kind == SWD_REST && swd_run_again(&run, TRIES)
+	       && line_run(&run, NULL, 0, NULL).outcome.kind == SWD_ALL;
+}
+
+/* Whether each word that is polled is the one on the board. */
+static bool is_polled(void)
+{
+	static const struct list poll = { "a poll", { { 0, 0, 0 } }, 1, 0 };
+	struct outcome outcome;
+	struct list list = poll;
+	uint32_t place;
+	for (place = 0; place < POLLS; place++) {
+		list.accesses[0].addr = BOARD_BASE + 8 * place;
+		act(&list, &outcome);
+		if (outcome.run.end.kind != SWD_ALL || outcome.answers[0].word != board.words[2 * place])
+			return false;
+	}
+	return true;
+}
+
+/* Goes on after a line that failed. Says what is wrong, NULL if nothing is. */
+static const char *go_on(const struct list *list, struct outcome *outcome, enum then then, unsigned long at)
+{
+	size_t from = outcome->run.answered, begun = outcome->run.begun;
+	const char *what;
+	if (!leave(&outcome->failure, at % 37))
+		return "a cue that isn't left";
+	if (then == RESUME) {
+		if (!swd_run_again(&outcome->run, TRIES))
+			return "a run that isn't continued";
+		line_run(&outcome->run, list->accesses, list->count, outcome->answers);
+		if (outcome->run.end.kind != SWD_ALL)
+			return "a run that isn't continued to its end";
+		what = falsehood(list, outcome, from, begun);
+	} else {
+		if (!settle() || (then == OPEN && !settle()))
+			return "a target that isn't at rest";
+		what = falsehood(list, outcome, from, begun);
+	}
+	if (!what && !is_polled())
+		what = "a poll that isn't true";
+	return !what && has_foreign(list) ? "a word that nobody wrote, later" : what;
+}
+
+/* Fails the line at this clock of a list. Says what is wrong. */
+static const char *cut(const struct list *list, unsigned long at, enum kind how, enum then then)
+{
+	struct outcome outcome;
+	const char *what;
+	uint64_t cycles;
+	if (!open_board())
+		return "a target that isn't opened";
+	work(at, how);
+	act(list, &outcome);
+	what = falsehood(list, &outcome, 0, 0);
+	if (what || wrong == ONES)
+		return what;
+	if (outcome.run.end.kind != SWD_LOST)
+		return "a run that isn't lost";
+	if (how != GONE)
+		return go_on(list, &outcome, then, at);
+	cycles = board.target.cycles;
+	if (line_leave(&outcome.failure) || settle() || board.target.cycles != cycles)
+		return "a clock behind one that failed";
+	return NULL;
+}
+
+/* Fails the line at each clock of a list, in each way. Gives how many cases were wrong, and adds up all of them. */
+static unsigned long cut_each(const struct list *list, unsigned long step, unsigned long *tried)
+{
+	struct outcome whole;
+	unsigned long clocks, at, failed = 0;
+	int how, then;
+	if (!open_board())
+		return 1;
+	clocks = (unsigned long)board.target.cycles;
+	act(list, &whole);
+	if (whole.run.end.kind != SWD_ALL || falsehood(list, &whole, 0, 0))
+		return 1;
+	clocks = (unsigned long)board.target.cycles - clocks;
+	for (at = 0; at < clocks; at += step) {
+		for (how = 0; how < KINDS; how++) {
+			for (then = 0; then < (how == GONE ? 1 : THENS); then++) {
+				const char *what = cut(list, at, (enum kind)how, (enum then)then);
+				++*tried;
+				if (what && failed++ == 0)
+					printf("%s, clock %lu, failed %s, %s: %s\n", list->name, at, kind_names[how], then_names[then], what);
+			}
+		}
+	}
+	return failed;
+}
+
+static void add(struct list *list, uint32_t place, uint32_t word, uint8_t write)
+{
+	struct swd_access *access = &list->accesses[list->count++];
+	access->addr = BOARD_BASE + 4 * place;
+	access->word = word;
+	access->write = write;
+}
+
+int main(int count, char **words)
+{
+	static const char *const wrongs[] = { "right", "ones", "bits", "owed" };
+	struct list lists[] = { { "a list", { { 0, 0, 0 } }, 0, 0 },
+	                        { "a poll", { { 0, 0, 0 } }, 0, 0 },
+	                        { "a block", { { 0, 0, 0 } }, 0, 1 },
+	                        { "a load", { { 0, 0, 0 } }, 0, 0 } };
+	unsigned long step = count > 1 ? strtoul(words[1], NULL, 10) : 1, tried = 0, failed = 0;
+	uint32_t i;
+	for (i = RIGHT; count > 2 && i <= OWED; i++) {
+		if (strcmp(words[2], wrongs[i]) == 0)
+			wrong = (enum wrong)i;
+	}
+	add(&lists[0], 0, 0x00001001, 1);
+	add(&lists[0], 1, 0, 0);
+	add(&lists[0], 2, 0x7fffffff, 1);
+	add(&lists[0], 0, 0, 0);
+	add(&lists[1], 0, 0, 0);
+	for (i = 0; i < MOST_ACCESSES; i++) {
+		add(&lists[2], i, 0, 0);
+		add(&lists[3], i, 0x00002001 + i, 1);
+	}
+	for (i = 0; i < sizeof lists / sizeof *lists; i++)
+		failed += cut_each(&lists[i], step > 0 ? step : 1, &tried);
+	printf("a line cut at %lu places: %lu wrong\n", tried, failed);
+	return failed == 0 ? 0 : 1;
+}
