@@ -368,7 +368,7 @@ class Random(unittest.TestCase):
                 self.assertEqual(levels.levels, line.levels)
                 self.assertEqual(target.contended, 0)
                 ends[reports[-1].ended] += 1
-                sure_of(self, session.accesses, reports[0], self.first(session), session.room, session.WORDS)
+                sure_of(self, session.accesses, reports[0], self.first(session, bursts), session.room, session.WORDS)
                 self.assert_resumed(session, reports[-1], memory)
                 for report, opening in zip(reports, itertools.chain([10], itertools.repeat(15))):
                     self.assertLessEqual(
@@ -378,10 +378,10 @@ class Random(unittest.TestCase):
         if COUNT >= 100:
             self.assertTrue(all(ends[end] for end in (End.ALL, End.LOST, End.TRIES)), ends)
 
-    def first(self, session):
+    def first(self, session, bursts):
         """The memory after the run alone."""
         resumes, session.resumes = session.resumes, 0
-        _, memory, _, _ = session.over(PlainTarget)
+        _, memory, _, _ = session.over(PlainTarget, bursts)
         session.resumes = resumes
         return memory
 
