@@ -181,15 +181,17 @@ void swd_run_new(struct swd_run *run, uint32_t tries);
 
 /*
  * Makes the same run for a block of reads at consecutive addresses: the request for the next word returns the word
- * before it, so that a word takes one request. A run of swd_run_new has bursts of writes: the request of the next write,
- * to the next word's address in the same kilobyte, confirms the one before.
+ * before it, so that a word takes one request. Each write is confirmed by a read of RDBUFF. A run of swd_run_new has bursts
+ * of writes: the request of the next write, to the next word's address in the same kilobyte, confirms the one before. A
+ * debug port with a write buffer may discard a write that was confirmed so, and `answers` may then be wrong: make this run
+ * unless you know that the port has none (docs/C.md, 'Bursts').
  */
 void swd_run_blocks(struct swd_run *run, uint32_t tries);
 
 /*
  * Makes a run over a target that is open already, and returns its first cue, as swd_run_cue does. It sends no opening: a
- * list of one read costs three requests. `blocks` isn't 0 for a block of reads, as of swd_run_blocks. Pass the same list to
- * swd_run_next.
+ * list of one read costs three requests. `blocks` isn't 0 for bursts of reads, as of swd_run_blocks, and 0 for bursts of
+ * writes. Pass the same list to swd_run_next.
  *
  * A target is open after a run, of whatever kind, that ended SWD_ALL, as long as nothing else drives the line and the
  * target isn't reset. The library can't check that. If it doesn't hold, the answers and the end of this run, and of

@@ -57,9 +57,13 @@ class _Driver:
     # Whether a run begins with an opening of its own, although the target is open.
     _opens_each = True
 
-    def __init__(self, line: AnyLine, tries: int = 8, *, library: LibraryOrPath = None) -> None:
+    def __init__(
+        self, line: AnyLine, tries: int = 8, *, bursts: bool = False, library: LibraryOrPath = None,
+    ) -> None:
         self._wire = Wire(line)
         self.tries = tries
+        # Whether writes are confirmed by the next one, in place of by RDBUFF.
+        self.bursts = bursts
         self._library = library
         library_functions(library)
         # How the last run over this line ended, if there was one. The target is open after End.ALL.
@@ -102,7 +106,7 @@ class _Driver:
     def run_block(
         self, addr: int, count: int, *, check: bool = True, bus_errors: bool = False, on_answer: OnAnswer = None,
     ) -> Report:
-        """Reads `count` words at `addr`, `addr + 4` and so on, at one request per word in place of two. `words()` of
+        """Reads `count` words at `addr`, `addr + 4` and so on, at one request per word, also with `bursts`. `words()` of
         the report has them, unless one was a bus error.
 
         Raises what `block` and `run` raise. `resume` continues it with the list `block(addr, count)`."""
@@ -118,7 +122,7 @@ class _Driver:
 
         An access that was in flight may be done again. Raises `NotResumable` if the report ended otherwise, is of another
         list, or has more answers than there are accesses, and what `run` raises."""
-        run = Run.resumed(accesses, report, self._tries, library=self._library)
+        run = Run.resumed(accesses, report, self._tries, bursts=self.bursts, library=self._library)
         return self._performed(run, on_answer, _checking(check, bus_errors))
 
     def identify(self) -> Identification:
@@ -181,7 +185,7 @@ class _Driver:
         if self._last is not None and self._last is not End.ALL:
             self._settle(checked)
         opened = not self._opens_each and self._last is not None
-        return Run.of_checked(checked, self._tries, of_block, opened, self._library)
+        return Run.of_checked(checked, self._tries, of_block or not self.bursts, opened, self._library)
 
     def _settle(self, accesses: Tuple[Access, ...]) -> None:
         """Brings a target to rest, and opens it, before a run of these accesses. What is raised has the report of that
@@ -261,7 +265,11 @@ class Host(_Driver):
     functions, `(drive, sample)`: then `sample` is also called to release the line, and its result is ignored.
 
     `tries` is the number of events that the opening, and each access, may meet: a WAIT, a read word with wrong parity,
-    or corrupted write data. At one more the run ends with `End.TRIES`."""
+    or corrupted write data. At one more the run ends with `End.TRIES`.
+
+    Each write is confirmed by a read of RDBUFF, and reads at consecutive addresses go in bursts, at one request each. With
+    `bursts` writes at consecutive addresses go in bursts, too fast for some ports: a debug port with a write buffer may
+    discard a write whose confirmation was the next one, and the report may be wrong."""
 
 
 class Session(_Driver):
@@ -272,7 +280,7 @@ class Session(_Driver):
             session.until(0x40001000, 1, 1)
             print(session.read(0x20000000))
 
-    A read that is polled costs three requests. `line` and `tries` are as of `Host`.
+    A read that is polled costs three requests. `line`, `tries` and `bursts` are as of `Host`.
 
     **Between two lists nothing else may drive the line, nor may the target be reset**: the reports may be wrong then.
     `close()` after such an event, and the next call opens the target again. So does the next call after one that ended

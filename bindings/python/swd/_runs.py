@@ -33,7 +33,11 @@ class Run:
             cue = run.cue()
         report = run.report().check()
 
-    `block` is for reads at consecutive addresses: the request for the next word returns the word before it.
+    Reads at consecutive addresses go in bursts: the request for the next word returns the word before it. Each write is
+    confirmed by a read of RDBUFF. With `bursts` writes at consecutive addresses go in bursts in place of reads: the
+    request for the next word confirms the word before it. That is fewer requests, but a debug port with a write buffer
+    may discard a write that was confirmed so: the report may then be wrong. `block` says that it is a block of reads:
+    then these go in bursts also with `bursts`.
 
     `opened` is for a target that is open already, as a run leaves it that ended with `End.ALL`: no opening is sent.
     From the end of that run on, nothing else may have driven the line or reset the target. Otherwise the report may be
@@ -43,15 +47,16 @@ class Run:
 
     def __init__(
         self, accesses: Iterable[Access], tries: int = 8, *, block: bool = False, opened: bool = False,
-        library: LibraryOrPath = None,
+        bursts: bool = False, library: LibraryOrPath = None,
     ) -> None:
+        block = block or not bursts
         self._begin(listed_accesses(accesses), number("tries", tries, 0xFFFF_FFFF), block, opened, library)
 
     @classmethod
     def of_checked(
         cls, accesses: Tuple[Access, ...], tries: int, block: bool, opened: bool, library: LibraryOrPath,
     ) -> "Run":
-        """Makes the same run from accesses and tries that were checked."""
+        """Makes the same run from accesses and tries that were checked. `block` is False for bursts of writes."""
         run = cls.__new__(cls)
         run._begin(accesses, tries, block, opened, library)
         return run
@@ -90,7 +95,8 @@ class Run:
 
     @classmethod
     def resumed(
-        cls, accesses: Iterable[Access], report: Report, tries: int = 8, *, library: LibraryOrPath = None,
+        cls, accesses: Iterable[Access], report: Report, tries: int = 8, *, bursts: bool = False,
+        library: LibraryOrPath = None,
     ) -> "Run":
         """Makes the run that continues after a run of these accesses with this report, which ended with `End.LOST` or
         `End.TRIES`, from the first access on that wasn't answered. An access in flight may be done again. If that run
@@ -100,7 +106,7 @@ class Run:
 
         Raises `NotResumable` if the report ended otherwise, is of another list, or has more answers than there are
         accesses."""
-        run = cls(accesses, tries, library=library)
+        run = cls(accesses, tries, bursts=bursts, library=library)
         if report.ended not in (End.LOST, End.TRIES):
             raise NotResumable(f"report ended with '{report.ended}': only 'lost' and 'tries' can be resumed")
         # A report that was made without its list, as of answers that were kept, is taken for one of these accesses.

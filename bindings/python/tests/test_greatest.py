@@ -7,8 +7,8 @@ from swd import End, Read, Value, Write, Written
 from test_swd import BASE, library_target, plan_of
 
 MOST = 65_536
-# The requests of a list of writes at consecutive addresses: the opening, DRW for each, and in each kilobyte TAR before its
-# first word and RDBUFF after its last one.
+# The requests of a list of writes in bursts: the opening, DRW for each, and in each kilobyte TAR before its first word and
+# RDBUFF after its last one.
 REQUESTS = 9 + MOST + 2 * 256
 
 
@@ -63,7 +63,7 @@ class Status:
 class Greatest(unittest.TestCase):
     def test_a_list_and_a_block(self):
         line, _ = line_to(MOST)
-        host = swd.Host(line)
+        host = swd.Host(line, bursts=True)
         report = host.run(writes())
         self.assertEqual((report.ended, report.requests), (End.ALL, REQUESTS))
         self.assertEqual(report.answers, (Written(),) * MOST)
@@ -72,7 +72,7 @@ class Greatest(unittest.TestCase):
     def test_a_list_that_is_resumed_at_its_last_access(self):
         """The acknowledgement of the request that confirms the last write is lost."""
         line, memory = line_to(MOST, {REQUESTS: "mute 0"})
-        host = swd.Host(line)
+        host = swd.Host(line, bursts=True)
         lost = host.run(writes(), check=False)
         self.assertEqual((lost.ended, len(lost.answers), lost.begun), (End.LOST, MOST - 1, 1))
         resumed = host.resume(writes(), lost)

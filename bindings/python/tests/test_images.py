@@ -210,15 +210,17 @@ class Damages(unittest.TestCase):
         self.assertEqual(pickle.loads(pickle.dumps(stop)).done, stop.done)
 
     def test_a_lost_acknowledgement(self):
-        """Nine requests of the opening, and three for each of two partial words: TAR, DRW and RDBUFF. Then TAR, four
-        words and RDBUFF."""
+        """Nine requests of the opening, and three for each of two partial words: TAR, DRW and RDBUFF. Then TAR, and four
+        words, with RDBUFF behind each, or behind the last of a burst."""
         content, data = bytes(range(0x80, 0x98)), bytes(range(1, 15))
         # The request, and how many bytes are written then for certain: the request behind a write confirms it.
-        for request, done in ((11, 0), (14, 0), (17, 0), (18, 0), (19, 3), (20, 7), (21, 11)):
-            with self.subTest(request):
+        each = (11, 0), (14, 0), (17, 0), (18, 0), (19, 3), (20, 3), (21, 7), (22, 7), (23, 11), (24, 11)
+        burst = (11, 0), (14, 0), (17, 0), (18, 0), (19, 3), (20, 7), (21, 11)
+        for bursts, (request, done) in [(False, row) for row in each] + [(True, row) for row in burst]:
+            with self.subTest(request, bursts=bursts):
                 memory = memory_of(content)
                 line = Damaged(library_target(memory), plan_of({request: "deaf"}))
-                with swd.Session(line) as session:
+                with swd.Session(line, bursts=bursts) as session:
                     with self.assertRaises(swd.ImageStopped) as caught:
                         session.load(BASE + 1, data)
                     stop = caught.exception

@@ -61,18 +61,20 @@ class WithoutIo(unittest.TestCase):
         self.assertEqual(swd.Run([], opened=True).cue(), swd.Lead(0, 0, False, 8))
 
     def test_exchanges(self):
-        """A word costs a probe one exchange if written, and in a block two."""
-        line, _ = damaged(words=256)
-        probe = Sequenced(line)
-        with swd.Session(swd.Sequences(probe)) as session:
-            for count in (1, 200):
-                before = probe.exchanges
-                session.run([Write(BASE + 4 * index, index) for index in range(count)])
-                self.assertEqual(probe.exchanges - before, count + 3)
-                before = probe.exchanges
-                self.assertEqual(session.run_block(BASE, count).words(), list(range(count)))
-                self.assertEqual(probe.exchanges - before, 2 * count + 3)
-            self.assertEqual(probe.queue, [])
+        """A word costs a probe three exchanges if written, in a burst one, and in a block two: a request costs one, and
+        so does the data phase of a read."""
+        for bursts, each, once in ((False, 3, 1), (True, 1, 3)):
+            line, _ = damaged(words=256)
+            probe = Sequenced(line)
+            with swd.Session(swd.Sequences(probe), bursts=bursts) as session:
+                for count in (1, 200):
+                    before = probe.exchanges
+                    session.run([Write(BASE + 4 * index, index) for index in range(count)])
+                    self.assertEqual(probe.exchanges - before, each * count + once)
+                    before = probe.exchanges
+                    self.assertEqual(session.run_block(BASE, count).words(), list(range(count)))
+                    self.assertEqual(probe.exchanges - before, 2 * count + 3)
+                self.assertEqual(probe.queue, [])
         plainly, _ = damaged(words=256)
         swd.Session(plainly).run(LIST)
         sequenced, _ = damaged(words=256)

@@ -59,7 +59,7 @@ ROWS = [
     ("across a kilobyte", {}, 8, 512, 16, [Write(BASE + 0x3FC, 0x11111111), Write(BASE + 0x400, 0x22222222)],
      [Written(), Written()], 0, 15, "all", [("w", BASE + 0x3FC, 0x11111111), ("w", BASE + 0x400, 0x22222222)]),
     ("a log that is full", {}, 8, 16, 2, [Write(BASE, 1), Write(BASE + 4, 2), Write(BASE + 8, 3)],
-     [Written(), Written(), BusFault()], 0, 17, "all", [("w", BASE, 1), ("w", BASE + 4, 2)]),
+     [Written(), Written(), BusFault()], 0, 19, "all", [("w", BASE, 1), ("w", BASE + 4, 2)]),
     ("three waits", {12: "wait", 13: "wait", 14: "wait"}, 3, 16, 16, [Read(BASE)], [Value(0)], 0, 15, "all",
      [("r", BASE, 0)]),
     ("past the tries", {12: "wait", 13: "wait", 14: "wait"}, 2, 16, 16, [Read(BASE)], [], 1, 14, "tries",
@@ -78,7 +78,7 @@ ROWS = [
     ("the confirmation's acknowledgement is lost", {12: "deaf"}, 8, 16, 16, [Write(BASE, WORD)], [], 1, 12, "lost",
      [("w", BASE, WORD)]),
     ("a block", {}, 8, 16, 16, 4, [Value(0)] * 4, 0, 15, "all", [("r", BASE + 4 * i, 0) for i in range(4)]),
-    ("the same reads one by one", {}, 8, 16, 16, reads(BASE, 4), [Value(0)] * 4, 0, 18, "all",
+    ("the same reads as a list", {}, 8, 16, 16, reads(BASE, 4), [Value(0)] * 4, 0, 15, "all",
      [("r", BASE + 4 * i, 0) for i in range(4)]),
 ]
 
@@ -96,6 +96,44 @@ class Rows(unittest.TestCase):
                 report = run(*([BASE, accesses] if isinstance(accesses, int) else [accesses]), check=False)
                 self.assertEqual(report, swd.Report(tuple(answers), begun, requests, End(ended)))
                 self.assertEqual(memory.log, log)
+
+    def test_bursts(self):
+        """Nine requests of the opening, TAR and DRW, and RDBUFF behind each access, or at the end of a burst. A hundred
+        words lie in one kilobyte."""
+        writes = [Write(access.addr, 1) for access in reads(BASE, 100)]
+        apart = [Write(BASE + 8 * index, 1) for index in range(100)]
+        for bursts, accesses, requests in (
+            (False, writes, 9 + 1 + 2 * 100), (True, writes, 9 + 1 + 100 + 1),
+            (False, reads(BASE, 100), 9 + 1 + 100 + 1), (True, reads(BASE, 100), 9 + 1 + 2 * 100),
+            (False, apart, 9 + 3 * 100), (True, apart, 9 + 3 * 100),
+        ):
+            with self.subTest(bursts=bursts, first=accesses[0], second=accesses[1]):
+                line = library_target(PlainMemory(BASE, 256, 400))
+                host = swd.Host(line, bursts=bursts)
+                self.assertEqual(host.run(accesses).requests, requests)
+                self.assertEqual(host.run_block(BASE, 100).requests, 9 + 1 + 100 + 1)
+                session = swd.Session(line, bursts=bursts)
+                session.open()
+                self.assertEqual(session.run(accesses).requests, requests - 9)
+                run = swd.Run(accesses, bursts=bursts)
+                self.drive(run, line)
+                self.assertEqual(run.report().check().requests, requests)
+
+    def drive(self, run, line):
+        """Carries out a run over a line of clocks."""
+        cue = run.cue()
+        while cue is not None:
+            reply = 0
+            for sequence in cue.sequences():
+                for place in range(sequence.count):
+                    if isinstance(sequence, swd.Drive):
+                        line.drive(sequence.bits >> place & 1)
+                    elif isinstance(sequence, swd.Sample):
+                        reply |= line.sample() << place
+                    else:
+                        line.release()
+            run.next(reply)
+            cue = run.cue()
 
     def test_runs_one_after_the_other(self):
         """Over one target: words that one run writes are read by the next ones, one by one and as a block."""
@@ -290,12 +328,12 @@ class Session:
             lines.append(f"{'w' if word else 'r'} {access.addr:08x}{word}")
         return lines
 
-    def over(self, make):
+    def over(self, make, bursts=False):
         """The reports over a target of this kind, its memory, its line and itself."""
         memory = PlainMemory(BASE, self.WORDS, self.room)
         target = make(memory)
         line = Damaged(target, self.plan)
-        return self.run(swd.Host(line, self.tries)), memory, line, target
+        return self.run(swd.Host(line, self.tries, bursts=bursts)), memory, line, target
 
 
 def sure_of(test, accesses, report, memory, room, words):
@@ -322,15 +360,15 @@ class Random(unittest.TestCase):
         ends = {end: 0 for end in End}
         for seed in range(SEED, SEED + COUNT):
             with self.subTest(seed=seed):
-                session = Session(seed)
-                reports, memory, line, target = session.over(PlainTarget)
-                again, logged, levels, _ = session.over(library_target)
+                session, bursts = Session(seed), seed % 2 == 0
+                reports, memory, line, target = session.over(PlainTarget, bursts)
+                again, logged, levels, _ = session.over(library_target, bursts)
                 self.assertEqual(again, reports)
                 self.assertEqual(logged.log, memory.log)
                 self.assertEqual(levels.levels, line.levels)
                 self.assertEqual(target.contended, 0)
                 ends[reports[-1].ended] += 1
-                sure_of(self, session.accesses, reports[0], self.first(session), session.room, session.WORDS)
+                sure_of(self, session.accesses, reports[0], self.first(session, bursts), session.room, session.WORDS)
                 self.assert_resumed(session, reports[-1], memory)
                 for report, opening in zip(reports, itertools.chain([10], itertools.repeat(15))):
                     self.assertLessEqual(
@@ -340,10 +378,10 @@ class Random(unittest.TestCase):
         if COUNT >= 100:
             self.assertTrue(all(ends[end] for end in (End.ALL, End.LOST, End.TRIES)), ends)
 
-    def first(self, session):
+    def first(self, session, bursts):
         """The memory after the run alone."""
         resumes, session.resumes = session.resumes, 0
-        _, memory, _, _ = session.over(PlainTarget)
+        _, memory, _, _ = session.over(PlainTarget, bursts)
         session.resumes = resumes
         return memory
 
@@ -357,12 +395,13 @@ class Random(unittest.TestCase):
 
     @unittest.skipUnless(PROGRAM, "SWD names no program")
     def test_against_the_program(self):
-        """The report is the program's; and where the run wasn't resumed, each clock is that of its trace."""
+        """The report is that of the program, whose runs have bursts of writes; and where the run wasn't resumed, each
+        clock is that of its trace."""
         with tempfile.TemporaryDirectory() as folder:
             for seed in range(SEED, SEED + COUNT):
                 with self.subTest(seed=seed):
                     session = Session(seed)
-                    reports, _, line, _ = session.over(library_target)
+                    reports, _, line, _ = session.over(library_target, True)
                     for name, lines in (("script", session.script()), ("plan", session.plan)):
                         with open(os.path.join(folder, name), "w", encoding="ascii") as written:
                             written.write("".join(f"{line}\n" for line in lines))

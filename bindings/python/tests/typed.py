@@ -42,7 +42,7 @@ def told(index: int, answer: swd.Answer) -> None:
 
 
 def use() -> List[int]:
-    with swd.Session(swd.Sequences(Probe()), tries=8) as session:
+    with swd.Session(swd.Sequences(Probe()), tries=8, bursts=True) as session:
         identification: swd.Identification = session.identify()
         print(identification.word, identification)
         opening: swd.Opening = session.opening

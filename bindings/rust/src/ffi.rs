@@ -230,19 +230,13 @@ pub(crate) fn stored(slots: &mut [crate::Slot]) -> &mut [Outcome] {
 }
 
 impl Run {
-    pub fn new(tries: u32) -> Run {
+    /// Makes a run at its beginning, for bursts of reads, or else of writes.
+    pub fn beginning(blocks: bool, tries: u32) -> Run {
         check();
         let mut run = Run::default();
+        let begins = if blocks { swd_run_blocks } else { swd_run_new };
         // SAFETY: the pointer is of a whole struct that nobody else has.
-        unsafe { swd_run_new(&mut run, tries) };
-        run
-    }
-
-    pub fn blocks(tries: u32) -> Run {
-        check();
-        let mut run = Run::default();
-        // SAFETY: the pointer is of a whole struct that nobody else has.
-        unsafe { swd_run_blocks(&mut run, tries) };
+        unsafe { begins(&mut run, tries) };
         run
     }
 

@@ -27,6 +27,8 @@ enum Standing {
 struct Driver {
     tries: u32,
     bus_errors: bool,
+    /// Whether writes go in bursts, in place of reads.
+    bursts: bool,
     standing: Standing,
     /// Whether a run begins with an opening of its own, although the target is open.
     opens_each: bool,
@@ -41,7 +43,8 @@ struct Driver {
 impl Driver {
     fn new(tries: u32, opens_each: bool) -> Driver {
         let standing = Standing::Fresh;
-        Driver { tries, bus_errors: false, standing, opens_each, inside: true, cut: None, opening: Opening::default() }
+        let opening = Opening::default();
+        Driver { tries, bus_errors: false, bursts: false, standing, opens_each, inside: true, cut: None, opening }
     }
 
     fn run<L: Line>(
@@ -57,12 +60,9 @@ impl Driver {
         if self.standing == Standing::Astray {
             self.settle(line).map_err(Error::before_run)?;
         }
+        let blocks = blocks || !self.bursts;
         let mut run = if self.opens_each || self.standing == Standing::Fresh {
-            if blocks {
-                ffi::Run::blocks(self.tries)
-            } else {
-                ffi::Run::new(self.tries)
-            }
+            ffi::Run::beginning(blocks, self.tries)
         } else {
             ffi::Run::opened(listed(accesses), blocks, self.tries).0
         };
@@ -87,7 +87,7 @@ impl Driver {
             return Err(Refused::OtherReport { accesses: count, answered }.into());
         }
         slots[answered..].fill(Slot::EMPTY);
-        let mut run = again(answered, self.tries);
+        let mut run = again(answered, !self.bursts, self.tries);
         let report = self
             .leave(line, &run)
             .and_then(|()| self.conduct(line, &mut run, accesses, slots))
@@ -105,8 +105,9 @@ impl Driver {
 
     /// Brings a target to rest, and opens it: continues the last run over no access.
     fn settle<L: Line>(&mut self, line: &mut L) -> Result<(), Error<L::Error>> {
-        self.leave(line, &again(0, self.tries))?;
-        self.conduct(line, &mut again(0, self.tries), &[], &mut []).map(|_| ())
+        let mut run = again(0, !self.bursts, self.tries);
+        self.leave(line, &run)?;
+        self.conduct(line, &mut run, &[], &mut []).map(|_| ())
     }
 
     fn identify<L: Line>(&mut self, line: &mut L) -> Result<Identification, Error<L::Error>> {
@@ -115,7 +116,7 @@ impl Driver {
         if self.standing == Standing::Astray {
             self.settle(line)?;
         } else {
-            self.conduct(line, &mut ffi::Run::new(self.tries), &[], &mut [])?;
+            self.conduct(line, &mut ffi::Run::beginning(!self.bursts, self.tries), &[], &mut [])?;
         }
         Ok(self.opening.dpidr.expect("an opening that succeeds has read DPIDR"))
     }
@@ -192,8 +193,8 @@ impl Driver {
 
 /// The run that continues after so many answers. The library continues a struct that ended early, with this number of
 /// answers: here one that saw no acknowledgement, for which nothing is sent.
-fn again(answered: usize, tries: u32) -> ffi::Run {
-    let mut run = ffi::Run::new(tries);
+fn again(answered: usize, blocks: bool, tries: u32) -> ffi::Run {
+    let mut run = ffi::Run::beginning(blocks, tries);
     let mut cue = run.cue();
     while cue.kind != REST {
         cue = run.next(&[], &mut [], silence(&cue));
@@ -236,6 +237,16 @@ impl<L: Line> Host<L> {
     #[must_use]
     pub fn bus_errors(mut self, allowed: bool) -> Host<L> {
         self.driver.bus_errors = allowed;
+        self
+    }
+
+    /// Whether writes at consecutive addresses go in bursts, in which the request of the next write confirms the one
+    /// before: a word takes one request in place of two. A debug port with a write buffer may discard a write that was
+    /// confirmed so, and the report may be wrong. Without that each write is confirmed by a read of RDBUFF, and reads at
+    /// consecutive addresses go in bursts.
+    #[must_use]
+    pub fn bursts(mut self, allowed: bool) -> Host<L> {
+        self.driver.bursts = allowed;
         self
     }
 
@@ -282,8 +293,8 @@ impl<L: Line> Host<L> {
         self.driver.opening
     }
 
-    /// Performs reads at consecutive addresses, as [`block`](crate::block) gives them, at one request per further word
-    /// in place of two.
+    /// Performs reads at consecutive addresses, as [`block`](crate::block) gives them, at one request per further word,
+    /// also with [`bursts`](Host::bursts).
     ///
     /// # Errors
     ///
@@ -335,6 +346,13 @@ impl<'l, L: Line> Session<'l, L> {
     #[must_use]
     pub fn bus_errors(mut self, allowed: bool) -> Session<'l, L> {
         self.driver.bus_errors = allowed;
+        self
+    }
+
+    /// As [`Host::bursts`].
+    #[must_use]
+    pub fn bursts(mut self, allowed: bool) -> Session<'l, L> {
+        self.driver.bursts = allowed;
         self
     }
 

@@ -7,8 +7,8 @@ use std::cell::Cell;
 use std::convert::Infallible;
 use swd::{block, Access, Answer, Broken, End, Error, Host, Line, Session, Slot, Target, MOST_ACCESSES};
 
-/// The requests of a list of writes at consecutive addresses: the opening, DRW for each, and in each kilobyte TAR before
-/// its first word and RDBUFF after its last one.
+/// The requests of a list of writes in bursts: the opening, DRW for each, and in each kilobyte TAR before its first word
+/// and RDBUFF after its last one.
 const REQUESTS: usize = 9 + MOST_ACCESSES + 2 * 256;
 
 fn line_with(marks: &[(usize, Mark)]) -> Damaged {
@@ -26,7 +26,7 @@ fn words() -> Vec<Answer> {
 
 #[test]
 fn a_list_and_a_block() {
-    let mut host = Host::new(line_with(&[]), 8);
+    let mut host = Host::new(line_with(&[]), 8).bursts(true);
     let mut slots = vec![Slot::EMPTY; MOST_ACCESSES];
     let report = host.run(&writes(), &mut slots).unwrap();
     assert_eq!(report.requests, REQUESTS as u64);
@@ -39,7 +39,7 @@ fn a_list_and_a_block() {
 // The acknowledgement of the request that confirms the last write is lost.
 #[test]
 fn a_list_that_is_resumed_at_its_last_access() {
-    let mut host = Host::new(line_with(&[(REQUESTS, Mark::Mute(0))]), 8);
+    let mut host = Host::new(line_with(&[(REQUESTS, Mark::Mute(0))]), 8).bursts(true);
     let mut slots = vec![Slot::EMPTY; MOST_ACCESSES];
     let Err(Error::Stopped(lost)) = host.run(&writes(), &mut slots) else {
         panic!("the run didn't stop");

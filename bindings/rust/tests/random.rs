@@ -79,8 +79,8 @@ impl Session {
     }
 
     /// The reports of the run and of each time that it was resumed, the slots, and the line.
-    fn run(&self, resumes: usize) -> (Vec<Report>, Vec<Slot>, Damaged) {
-        let mut host = Host::new(Damaged::new(self.memory(), self.plan.clone()), self.tries);
+    fn run(&self, resumes: usize, bursts: bool) -> (Vec<Report>, Vec<Slot>, Damaged) {
+        let mut host = Host::new(Damaged::new(self.memory(), self.plan.clone()), self.tries).bursts(bursts);
         let mut slots = vec![Slot::EMPTY; self.accesses.len()];
         let first =
             if self.block { host.run_block(&self.accesses, &mut slots) } else { host.run(&self.accesses, &mut slots) };
@@ -130,14 +130,14 @@ fn count() -> u64 {
 fn lists_against_a_plain_memory() {
     let mut ends = [0; 3];
     for seed in 1..=count() {
-        let session = Session::new(seed);
-        let (reports, answers, line) = session.run(0);
+        let (session, bursts) = (Session::new(seed), seed % 2 == 0);
+        let (reports, answers, line) = session.run(0, bursts);
         let first = &reports[0];
         common::is_sure(&session.accesses, &answers, first, line.memory(), session.memory());
         let most = u64::from(5 * session.tries);
         let accesses = session.accesses.len() as u64;
         assert!(first.requests <= 10 + most + (6 + most) * accesses, "list {seed}");
-        let (reports, answers, line) = session.run(session.resumes);
+        let (reports, answers, line) = session.run(session.resumes, bursts);
         let last = reports[reports.len() - 1];
         let mut model = session.memory();
         let (done, _) = session.accesses.split_at(last.answered);
@@ -156,7 +156,8 @@ fn lists_against_a_plain_memory() {
     assert!(count() < 100 || ends.iter().all(|ended| *ended > 0), "{ends:?}");
 }
 
-// The report is the program's; and where the run wasn't resumed, each clock is that of its trace.
+// The report is that of the program, whose runs have bursts of writes; and where the run wasn't resumed, each clock is
+// that of its trace.
 #[test]
 fn lists_against_the_program() {
     let Some(program) = std::env::var_os("SWD") else {
@@ -167,7 +168,7 @@ fn lists_against_the_program() {
     let (script, plan, trace) = (folder.join("script"), folder.join("plan"), folder.join("trace"));
     for seed in 1..=count() {
         let session = Session::new(seed);
-        let (reports, answers, line) = session.run(session.resumes);
+        let (reports, answers, line) = session.run(session.resumes, true);
         fs::write(&script, session.script()).unwrap();
         fs::write(&plan, session.plan.iter().map(|mark| format!("{mark}\n")).collect::<String>()).unwrap();
         let output = Command::new(&program)
@@ -202,7 +203,7 @@ fn traces() -> Vec<Vec<bool>> {
     let mut random = Random::new(1);
     let mut traces = Vec::new();
     for seed in 1..=20 {
-        let (_, _, line) = Session::new(seed).run(3);
+        let (_, _, line) = Session::new(seed).run(3, true);
         let cut = random.below(line.levels.len() as u32) as usize;
         traces.push(line.levels[..cut].to_vec());
         traces.push(line.levels);

@@ -4,7 +4,7 @@ mod common;
 
 use common::{answers, plan_of, report_of, Call, Damaged, Mark, PlainMemory, Transfer, Unplugged, BASE, WORD};
 use std::convert::Infallible;
-use swd::{block, Access, Answer, End, Error, Host, Line, Refused, Report, Slot, Target};
+use swd::{block, Access, Answer, End, Error, Host, Line, Refused, Report, Session, Slot, Target};
 
 use Answer::{BusFault, Value, Written};
 
@@ -83,11 +83,11 @@ fn undisturbed() -> Vec<Row> {
                 "a log that is full",
                 &three,
                 &[Written, Written, BusFault],
-                17,
+                19,
                 &[Transfer::Write(BASE, 1), Transfer::Write(BASE + 4, 2)],
             )
         },
-        row("reads one by one", &reads(4), &[Value(0); 4], 18, &zeros_read(4)),
+        row("reads in a row", &reads(4), &[Value(0); 4], 15, &zeros_read(4)),
     ]
 }
 
@@ -154,6 +154,34 @@ fn a_block_takes_one_request_a_word() {
     assert_eq!(report, Ok(Report { answered: 4, begun: 0, requests: 15, ended: End::All }));
     assert_eq!(answers(&slots), [Value(0); 4]);
     assert_eq!(host.line().memory().log, zeros_read(4));
+}
+
+// Nine requests of the opening, TAR and DRW, and RDBUFF behind each access, or at the end of a burst. A hundred words lie
+// in one kilobyte.
+#[test]
+fn bursts_are_of_reads_or_of_writes() {
+    let writes = (0..100).map(|index| write(BASE + 4 * index, 1)).collect::<Vec<_>>();
+    let apart = (0..100).map(|index| write(BASE + 8 * index, 1)).collect::<Vec<_>>();
+    let reads = block(BASE, 100).collect::<Vec<_>>();
+    let each = 9 + 1 + 2 * 100;
+    let burst = 9 + 1 + 100 + 1;
+    for (bursts, accesses, requests) in [
+        (false, &writes, each),
+        (true, &writes, burst),
+        (false, &reads, burst),
+        (true, &reads, each),
+        (false, &apart, 9 + 3 * 100),
+        (true, &apart, 9 + 3 * 100),
+    ] {
+        let mut line = Damaged::new(PlainMemory::new(BASE, 256, 300), Vec::new());
+        let mut slots = [Slot::EMPTY; 100];
+        let mut host = Host::new(&mut line, 8).bursts(bursts);
+        assert_eq!(host.run(accesses, &mut slots).unwrap().requests, requests, "{bursts}");
+        assert_eq!(host.run_block(&reads, &mut slots).unwrap().requests, burst, "{bursts}");
+        let mut session = Session::new(&mut line, 8).bursts(bursts);
+        session.open().unwrap();
+        assert_eq!(session.run(accesses, &mut slots).unwrap().requests, requests - 9, "{bursts}");
+    }
 }
 
 // Over one target: words that one run writes are read by the next ones, one by one and as a block.

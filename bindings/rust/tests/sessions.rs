@@ -726,22 +726,25 @@ fn a_data_phase_that_was_made_whole() {
     }
 }
 
-// A written word costs one exchange, and a word of a block two. The clocks are those of a line without sequences.
+// A request costs one exchange, and so does the data phase of a read: a written word costs three, and one in a burst.
+// TAR costs one, and RDBUFF behind a burst two. The clocks are those of a line without sequences.
 #[test]
 fn exchanges_of_a_probe() {
-    let mut opened = Probe { line: line_with(&[]), queue: Vec::new(), exchanges: 0 };
-    Session::new(&mut opened, 8).open().unwrap();
-    let mut probe = Probe { line: line_with(&[]), queue: Vec::new(), exchanges: 0 };
-    let mut session = Session::new(&mut probe, 8);
-    session.open().unwrap();
-    let mut slots = [Slot::EMPTY; 12];
-    let writes = (0..12).map(|index| Access::write(BASE + 4 * index, index)).collect::<Vec<_>>();
-    session.run(&writes, &mut slots).unwrap();
-    assert_eq!(probe.exchanges, opened.exchanges + 12 + 3);
-    assert!(probe.queue.is_empty());
-    let mut line = line_with(&[]);
-    let mut session = Session::new(&mut line, 8);
-    session.open().unwrap();
-    session.run(&writes, &mut slots).unwrap();
-    assert!(probe.line.calls == line.calls);
+    for (bursts, exchanges) in [(false, 3 * 12 + 1), (true, 12 + 3)] {
+        let mut opened = Probe { line: line_with(&[]), queue: Vec::new(), exchanges: 0 };
+        Session::new(&mut opened, 8).open().unwrap();
+        let mut probe = Probe { line: line_with(&[]), queue: Vec::new(), exchanges: 0 };
+        let mut session = Session::new(&mut probe, 8).bursts(bursts);
+        session.open().unwrap();
+        let mut slots = [Slot::EMPTY; 12];
+        let writes = (0..12).map(|index| Access::write(BASE + 4 * index, index)).collect::<Vec<_>>();
+        session.run(&writes, &mut slots).unwrap();
+        assert_eq!(probe.exchanges, opened.exchanges + exchanges);
+        assert!(probe.queue.is_empty());
+        let mut line = line_with(&[]);
+        let mut session = Session::new(&mut line, 8).bursts(bursts);
+        session.open().unwrap();
+        session.run(&writes, &mut slots).unwrap();
+        assert!(probe.line.calls == line.calls);
+    }
 }
