@@ -207,8 +207,8 @@ struct swd_cue swd_run_opened(struct swd_run *run, const struct swd_access *acce
 /*
  * Makes the run that continues after one that ended SWD_LOST or SWD_TRIES_OUT, over the same target and the same list,
  * with the first access that isn't answered. `answered` goes on from there; `requests` and `begun` are those of the new
- * run alone, whose opening may take five requests more. An access that was in flight may take effect again. After
- * swd_run_blocks, the rest of the block is read one by one.
+ * run alone, whose opening may take five requests more. An access that was in flight may take effect again. It has
+ * bursts of writes if the run before it had, and no bursts of reads: the rest of a block is read one by one.
  *
  * If the line failed inside a cue (swd_run_fail), the target may be at a turnaround or inside an acknowledgement, and
  * then drives for up to four clocks more than the lead of the new run releases: release the line for four clocks before
