@@ -40,12 +40,7 @@ pub(crate) fn check_read<
     };
     let reading = reading_of(check);
     match check_to(reading, Check::new(options(check), plain), input, output) {
-        Ok(checked) => {
-            if let Checked::Crowded { place: 0 } = &checked {
-                let _ = writeln!(console.errors, "swd: {NOT_BEGUN}");
-            }
-            checked_status(&checked)
-        }
+        Ok(checked) => told_status(console.errors, &checked),
         Err(fault) => trace_status(console.errors, Err(fault), reading, name, input, output),
     }
 }
@@ -95,6 +90,16 @@ pub(crate) fn plain_memory<A: Allocator + Copy>(
         plain.add(region.base, region.words)?;
     }
     Ok(plain)
+}
+
+// Prints that nothing was checked, where that is so, and returns the status of a verdict.
+fn told_status<E: Write>(errors: &mut E, checked: &Checked) -> u8
+    ensures { result ≡ status_of (Ok checked.now) }
+{
+    if let Checked::Crowded { place: 0 } = checked {
+        let _ = writeln!(errors, "swd: {NOT_BEGUN}");
+    }
+    checked_status(checked)
 }
 
 /// Returns the status of a verdict.

@@ -23,7 +23,7 @@ returns-in-Ok-check_to g c =
           c.reading_of-reading.ensures
           (check_writes_said (CheckSaysBehind c.new.result) (CheckSays i) (λ items checked h. h i [] holds)
           c.reading_of-reading.result (Ok c.in-Ok-check_to.checked) text left old new c.in-Ok-check_to.ensures),
-      c.checked_status.ensures,
+      c.told_status.ensures,
     )
 
 pub returns-in-Err : goal.returns-in-Err
