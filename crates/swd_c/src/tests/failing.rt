@@ -158,7 +158,7 @@ fn is_dropped<R: Abort>(rt: &R, bits: u64, made: u32, failed: u32) {
     let left = 33_u32.saturating_sub(made);
     expect_eq_at(rt, &made, &(rest >> left), &0);
     let level = bits >> made.min(63) & 1 == 1;
-    for again in 0..failed.min(left - 1) + 1 {
+    for again in 0..failed.min(left.saturating_sub(1)) + 1 {
         let levels = level && again % 2 == 1;
         let odd = is_odd(bits, made) ^ levels ^ is_odd(rest, left - again);
         expect_at(rt, &made, odd);
