@@ -33,7 +33,7 @@ fn fields_of_no_run_are_refused(rt: HostRuntime) {
     fields.engine.state.job.place = 1;
     is_refused(&rt, fields);
     let mut fields = new_run();
-    fields.engine.bursts = 3;
+    fields.engine.bursts = 4;
     is_refused(&rt, fields);
     let mut fields = new_run();
     fields.engine.ahead = 4;
