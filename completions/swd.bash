@@ -35,7 +35,7 @@ _swd() {
         words='--help -h'
         ;;
     run)
-        words='--plan --tries --resume --trace --accesses --strict --remote --report --progress --check --help -h'
+        words='--plan --tries --resume --trace --accesses --strict --remote --report --progress --check --bursts --help -h'
         ;;
     target)
         words='--memory --base --plan --log --trace --idr --help -h'
@@ -53,7 +53,7 @@ _swd() {
         words='--remote --plain --hole --clean --help -h'
         ;;
     load)
-        words='--format --tries --resume --report --progress --remote --check --memory --base --plan --help -h'
+        words='--format --tries --resume --report --progress --remote --check --memory --base --plan --bursts --help -h'
         formats='bin hex srec elf'
         ;;
     verify)

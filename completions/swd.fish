@@ -39,6 +39,7 @@ complete -c swd -n '__fish_seen_subcommand_from run' -l remote -d 'The target is
 complete -c swd -n '__fish_seen_subcommand_from run' -l report -r -F -d 'With --remote: write the report to FILE, - is stderr'
 complete -c swd -n '__fish_seen_subcommand_from run' -l progress -d 'Print progress to stderr, at most once a second'
 complete -c swd -n '__fish_seen_subcommand_from run' -l check -d 'With --remote: check the session as swd check --rest'
+complete -c swd -n '__fish_seen_subcommand_from run' -l bursts -d 'With --remote: send writes next to each other in bursts'
 complete -c swd -n '__fish_seen_subcommand_from run' -s h -l help -d 'Print help'
 complete -c swd -n '__fish_seen_subcommand_from target' -F
 complete -c swd -n '__fish_seen_subcommand_from target' -l memory -r -F -d 'In place of SCRIPT: FILE has the memory (overwrites it)'
@@ -82,6 +83,7 @@ complete -c swd -n '__fish_seen_subcommand_from load' -l check -d 'With --remote
 complete -c swd -n '__fish_seen_subcommand_from load' -l memory -r -F -d 'The target is simulated; FILE has its memory'
 complete -c swd -n '__fish_seen_subcommand_from load' -l base -x -d 'With --memory: its address, hexadecimal; else 20000000'
 complete -c swd -n '__fish_seen_subcommand_from load' -l plan -r -F -d 'Inject faults by the plan in FILE'
+complete -c swd -n '__fish_seen_subcommand_from load' -l bursts -d 'With --remote: send writes next to each other in bursts'
 complete -c swd -n '__fish_seen_subcommand_from load' -s h -l help -d 'Print help'
 complete -c swd -n '__fish_seen_subcommand_from verify' -F
 complete -c swd -n '__fish_seen_subcommand_from verify' -l format -x -a 'bin hex srec elf' -d 'bin, hex, srec or elf; by FILE itself without it'
