@@ -548,9 +548,9 @@ fn is_unsent<R: Abort>(rt: &R, alloc: Global, words: &[&str], input: &[u8], stat
     for (fails, line) in SENT {
         for room in ROOMS {
             let cut = run_short(alloc, words, input, *room, *fails);
-            expect_eq_at(rt, &words, &cut.errors.taken(), line);
-            expect_eq_at(rt, &words, &cut.status, &status);
-            expect_eq_at(rt, &words, &cut.output.taken.len(), room);
+            expect_eq_at(rt, room, &cut.errors.taken(), line);
+            expect_eq_at(rt, room, &cut.status, &status);
+            expect_eq_at(rt, room, &cut.output.taken.len(), room);
         }
     }
 }
