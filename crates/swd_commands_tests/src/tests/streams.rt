@@ -543,14 +543,20 @@ const CONNECTED: &[(&[&str], &[u8], u8)] = &[
     ),
 ];
 
+// Whether a connection ended with this line and status, and its output took so many characters.
+fn is_cut_off<R: Abort>(rt: &R, cut: Ended<Short>, room: usize, line: &[u8], status: u8) {
+    let said = cut.errors.taken();
+    expect_eq_at(rt, &room, &said, &line);
+    expect_eq_at(rt, &room, &cut.status, &status);
+    expect_eq_at(rt, &room, &cut.output.taken.len(), &room);
+}
+
 // Tries a connection whose output fails, for each reason, after each number of characters.
 fn is_unsent<R: Abort>(rt: &R, alloc: Global, words: &[&str], input: &[u8], status: u8) {
     for (fails, line) in SENT {
         for room in ROOMS {
             let cut = run_short(alloc, words, input, *room, *fails);
-            expect_eq_at(rt, room, &cut.errors.taken(), line);
-            expect_eq_at(rt, room, &cut.status, &status);
-            expect_eq_at(rt, room, &cut.output.taken.len(), room);
+            is_cut_off(rt, cut, *room, line, status);
         }
     }
 }
