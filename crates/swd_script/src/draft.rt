@@ -1,5 +1,5 @@
 //! What the lines of a script have said so far.
-ghost use Rattle.std.specs.Prelude.{◌≡◌, ◌+◌, ◌∷◌, [], length, nat_le, ok_or};
+ghost use Rattle.std.specs.Prelude.{◌≡◌, ◌+◌, ◌∷◌, [], length, nat_le};
 ghost use Rattle.std.specs.Prelude.{Ok, Err, OnOk, IfErr, IfOk, option_copied};
 ghost use Rattle.swd_script.specs.Scripts.{are_script_words, script_until_can_match};
 
@@ -123,34 +123,41 @@ impl<A: Allocator + Copy> Draft<A> {
             (script_command_added line (script_draft_sayings self.old) command)) }
     {
         match command {
-            Command::Memory { base, words } => self.set_memory(number(base)?, number(words)?),
-            Command::Room { count } => self.set_room(number(count)?),
-            Command::Read { addr } => {
-                let addr = number(addr)?;
-                self.add(addr, Access::Read(addr))
-            }
-            Command::Write { addr, value } => {
-                let addr = number(addr)?;
-                self.add(addr, Access::Write(addr, number(value)?))
-            }
-            Command::ReadMany { addr, count } => self.add_reads(number(addr)?, number(count)?),
-            Command::Block { addr, count } => self.add_block(number(addr)?, number(count)?),
-            Command::Verify { addr, value } => {
-                let addr = number(addr)?;
-                self.add_verified(line, addr, number(value)?)
-            }
+            Command::Memory {
+                base: Some(base),
+                words: Some(words),
+            } => self.set_memory(base, words),
+            Command::Room { count: Some(count) } => self.set_room(count),
+            Command::Read { addr: Some(addr) } => self.add(addr, Access::Read(addr)),
+            Command::Write {
+                addr: Some(addr),
+                value: Some(value),
+            } => self.add(addr, Access::Write(addr, value)),
+            Command::ReadMany {
+                addr: Some(addr),
+                count: Some(count),
+            } => self.add_reads(addr, count),
+            Command::Block {
+                addr: Some(addr),
+                count: Some(count),
+            } => self.add_block(addr, count),
+            Command::Verify {
+                addr: Some(addr),
+                value: Some(value),
+            } => self.add_verified(line, addr, value),
             Command::Until {
+                addr: Some(addr),
+                mask: Some(mask),
+                value: Some(value),
+                most: Some(most),
+            } => self.add_until(Until {
                 addr,
                 mask,
                 value,
                 most,
-            } => self.add_until(Until {
-                addr: number(addr)?,
-                mask: number(mask)?,
-                value: number(value)?,
-                most: number(most)?,
             }),
             Command::Next => self.end_batch(),
+            _ => Err(LineFault::Number),
         }
     }
 
@@ -341,12 +348,6 @@ impl<A: Allocator + Copy> Draft<A> {
             batches,
         })
     }
-}
-
-fn number(reading: Option<u32>) -> Result<u32, LineFault>
-    ensures { result ≡ ok_or reading LineFault.Number }
-{
-    reading.ok_or(LineFault::Number)
 }
 
 // Returns whether `count` words from an address on are at least one, at multiples of 4, and end within 32

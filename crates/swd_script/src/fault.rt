@@ -29,7 +29,7 @@ pub enum ScriptFault {
 }
 
 /// The error of a line.
-#[derive(Clone, Copy, Debug, PartialEq, Eq)]
+#[derive(Clone, Copy)]
 pub enum LineFault {
     Word,
     Number,
