@@ -22,11 +22,12 @@ ghost use Rattle.swd_host.specs.Tracks.{EngineCallKeeps, engine_state_after_ack}
 use crate::outcome::{End, Outcome};
 use crate::request::{HostStep, Job};
 use crate::task::{Bursts, Task, address_of};
+use std::fmt::{self, Debug, Formatter};
 use swd_bits::{Ack, Request, data_bits, word_of};
 use swd_port::{Access, Answer, Cue};
 
 /// The phase of a request.
-#[derive(Clone, Copy, Debug, PartialEq, Eq)]
+#[derive(Clone, Copy, PartialEq, Eq)]
 pub(crate) enum Phase {
     /// It has to be sent.
     Ask,
@@ -39,7 +40,7 @@ pub(crate) enum Phase {
 }
 
 /// The state of the next access of a block of reads, where an engine rests.
-#[derive(Clone, Copy, Debug, PartialEq, Eq)]
+#[derive(Clone, Copy, PartialEq, Eq)]
 pub(crate) enum Ahead {
     /// Its DRW read wasn't sent.
     Unsent,
@@ -50,7 +51,7 @@ pub(crate) enum Ahead {
 }
 
 /// The state of an engine.
-#[derive(Clone, Copy, Debug, PartialEq, Eq)]
+#[derive(Clone, Copy, PartialEq, Eq)]
 pub(crate) enum State {
     /// The line reset has to be sent.
     Leading,
@@ -81,7 +82,7 @@ pub(crate) enum State {
 /// ```
 ///
 /// Release the line in the undriven cycles of a lead: the target may be driving it there.
-#[derive(Clone, Copy, Debug, PartialEq, Eq)]
+#[derive(Clone, Copy, PartialEq, Eq)]
 pub struct Engine {
     pub(crate) state: State,
     // The current access, or the last one; unused in the opening.
@@ -100,6 +101,17 @@ pub struct Engine {
     // A transfer that an earlier run left pending may still turn out to be a bus error. Clearing its flag once is no
     // event.
     pub(crate) stray: bool,
+}
+
+/// Writes what an engine shows: its number of requests, its cue, and its outcome. [`Engine::fields`] has the rest.
+impl Debug for Engine {
+    fn fmt<W: fmt::Write>(&self, f: &mut Formatter<W>) -> fmt::Result {
+        f.debug_struct("Engine")
+            .field("requests", &self.requests)
+            .field("cue", &self.cue())
+            .field("finished", &self.finished())
+            .finish_non_exhaustive()
+    }
 }
 
 impl Engine {

@@ -6,7 +6,7 @@ use bitflags::Flags as _;
 use swd_port::{Abort, Csw, CtrlStat};
 
 /// The sticky flags of CTRL/STAT that a host may find set.
-#[derive(Clone, Copy, Debug, PartialEq, Eq)]
+#[derive(Clone, Copy, PartialEq, Eq)]
 pub struct Flags {
     /// STICKYERR: a transfer was a bus error.
     pub error: bool,

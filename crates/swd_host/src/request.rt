@@ -43,7 +43,7 @@ fn power_up() -> u32
 }
 
 /// A place in one of the two sequences of a host: the opening, and an access.
-#[derive(Clone, Copy, Debug, PartialEq, Eq)]
+#[derive(Clone, Copy, PartialEq, Eq)]
 pub(crate) enum HostStep {
     /// DPIDR is read: it wakes the target.
     Identify,
@@ -74,7 +74,7 @@ pub(crate) enum HostStep {
 }
 
 /// A request that the engine sends, with its reason.
-#[derive(Clone, Copy, Debug, PartialEq, Eq)]
+#[derive(Clone, Copy, PartialEq, Eq)]
 pub(crate) enum Job {
     /// The request at a place.
     At(HostStep),

@@ -33,7 +33,7 @@ impl Bursts {
 }
 
 /// The current access, with the request that confirms it.
-#[derive(Clone, Copy, Debug, PartialEq, Eq)]
+#[derive(Clone, Copy, PartialEq, Eq)]
 pub(crate) enum Task {
     /// A read at this address: RDBUFF confirms it, and returns its word.
     Read(u32),

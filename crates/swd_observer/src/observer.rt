@@ -45,7 +45,7 @@ pub struct SentWrite {
 }
 
 /// A transfer that a DRW access started, at TAR. It may still meet a bus error.
-#[derive(Clone, Copy, Debug, PartialEq, Eq)]
+#[derive(Clone, Copy, Debug)]
 pub struct StartedTransfer {
     pub read: bool,
     /// The word of a write, if it is known.
@@ -55,7 +55,7 @@ pub struct StartedTransfer {
 }
 
 /// The place that holds the word of a completed read.
-#[derive(Clone, Copy, Debug, PartialEq, Eq)]
+#[derive(Clone, Copy, Debug)]
 pub enum Standing {
     /// The read buffer, which the next AP read or RDBUFF read returns.
     Buffer,
@@ -64,7 +64,7 @@ pub enum Standing {
 }
 
 /// A read that took effect, whose word wasn't seen yet.
-#[derive(Clone, Copy, Debug, PartialEq, Eq)]
+#[derive(Clone, Copy, Debug)]
 pub struct Older {
     /// The number of bits before its request.
     pub place: u64,
@@ -90,7 +90,7 @@ pub struct Older {
 ///
 /// An access by the data register of another access port, or by a banked data register (IHI 0031, MEM-AP, BD0
 /// to BD3), is reported as `May`, without address and word.
-#[derive(Clone, Copy, Debug, PartialEq, Eq)]
+#[derive(Clone, Copy, Debug)]
 pub struct Observer {
     pub select: Option<Select>,
     /// Whether TAR increments after a transfer. It is known if CSW is known, its Size is word, and AddrInc is

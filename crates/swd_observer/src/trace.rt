@@ -26,7 +26,7 @@ pub struct ShownItem {
 /// assert_eq!(rt; shown.gap, Some(0));
 /// assert!(rt; shown.tells.before.is_none());
 /// ```
-#[derive(Clone, Copy, Debug, PartialEq, Eq)]
+#[derive(Clone, Copy, Debug)]
 pub struct TraceObserver {
     pub observer: Observer,
     /// The number of bits before the next item, at most 2^64 - 1.

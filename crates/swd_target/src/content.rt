@@ -2,7 +2,7 @@
 ghost use Rattle.std.specs.Prelude.{◌<◌, ◌^◌};
 
 /// The word that a register contains. Where the port model has the register unknown, this word stands for its value.
-#[derive(Clone, Copy, Debug, PartialEq, Eq)]
+#[derive(Clone, Copy)]
 pub(crate) struct Content {
     pub(crate) word: u32,
     pub(crate) known: bool,

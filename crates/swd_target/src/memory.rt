@@ -7,6 +7,7 @@ ghost use Rattle.swd_target.specs.MemoryWords.{target_zero_memory, target_window
 use crate::window::Window;
 use crate::words::OwnWords;
 use std::alloc::{Allocator, Global};
+use std::fmt::{self, Debug, Formatter};
 use std::marker::Model;
 use swd_port::{Access, Answer, Transfer};
 use thiserror::Error;
@@ -29,7 +30,7 @@ pub enum MakeFault {
 }
 
 // Where the words are.
-#[derive(Debug, Drop)]
+#[derive(Drop)]
 pub(crate) enum Storage<A: Allocator> {
     // In this memory.
     Here(OwnWords<A>),
@@ -39,9 +40,18 @@ pub(crate) enum Storage<A: Allocator> {
 
 /// Words at addresses, and a log of the transfers that succeeded, the oldest first. Contracts see both as a
 /// `PlainMemory`.
-#[derive(Debug, Drop)]
+#[derive(Drop)]
 pub struct Memory<A: Allocator = Global> {
     kept: Storage<A>,
+}
+
+/// Writes the log. [`Memory::word`] has the words.
+impl<A: Allocator> Debug for Memory<A> {
+    fn fmt<W: fmt::Write>(&self, f: &mut Formatter<W>) -> fmt::Result {
+        f.debug_struct("Memory")
+            .field("log", &self.log())
+            .finish_non_exhaustive()
+    }
 }
 
 impl<A: Allocator> Model for Memory<A> {

@@ -25,6 +25,7 @@ use crate::memory::Memory;
 use crate::quirks::Quirks;
 use bitflags::Flags;
 use std::alloc::Allocator;
+use std::fmt::{self, Debug, Formatter};
 use swd_bits::{Reg4, Request};
 use swd_port::{Abort, Access, Csw, CtrlStat, Drw, PowerUp, Register, Reply, Reset, Select};
 
@@ -36,7 +37,7 @@ const NO_ROM_TABLE: u32 = 0xffff_ffff;
 
 /// A debug port and its access port with a [`Device`] behind it, behind any wire. Its quirks make the choices that the
 /// standard leaves to a target. A register that the port model has unknown keeps a word.
-#[derive(Debug, Drop)]
+#[derive(Drop)]
 pub struct Target<D> {
     pub(crate) quirks: Quirks,
     pub(crate) reset: Reset,
@@ -55,6 +56,17 @@ pub struct Target<D> {
     pub(crate) last_returned: Content,
     pub(crate) pending: Option<Drw>,
     pub(crate) device: D,
+}
+
+/// Writes the state as integers, which [`Target::fields`] returns, with IDR and the device.
+impl<D: Debug> Debug for Target<D> {
+    fn fmt<W: fmt::Write>(&self, f: &mut Formatter<W>) -> fmt::Result {
+        f.debug_struct("Target")
+            .field("fields", &self.fields())
+            .field("idr", &self.quirks.idr)
+            .field("device", &self.device)
+            .finish()
+    }
 }
 
 impl<D: Device> Target<D> {

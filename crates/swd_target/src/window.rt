@@ -9,7 +9,7 @@ use swd_port::{Access, Answer, Transfer};
 
 /// The word at one address, if any, and the one transfer that succeeded there, if any. Contracts see it as a
 /// `PlainMemory`.
-#[derive(Debug, Drop)]
+#[derive(Drop)]
 pub(crate) struct Window {
     addr: u32,
     word: Option<u32>,

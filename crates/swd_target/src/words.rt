@@ -11,7 +11,7 @@ use swd_port::{Access, Answer, Transfer};
 
 /// Words at addresses, and a log of the transfers that succeeded, the oldest first. Contracts see both as a
 /// `PlainMemory`.
-#[derive(Debug, Drop)]
+#[derive(Drop)]
 pub(crate) struct OwnWords<A: Allocator> {
     base: u32,
     words: Vec<u32, A>,

@@ -7,7 +7,7 @@ use crate::item::Item;
 use swd_bits::{SWITCH, SWITCH_BITS, TxBits};
 
 /// The remaining bits of an item: a run of equal bits, and others after it.
-#[derive(Clone, Copy, Debug, PartialEq, Eq)]
+#[derive(Clone, Copy, Debug)]
 pub(crate) struct ItemBits {
     // a run of `run` bits that equal `one`
     pub(crate) one: bool,

@@ -11,7 +11,7 @@ use crate::item_bits::ItemBits;
 
 /// The bytes of an item's trace text: a character `0` or `1` for each bit in time order, turnarounds as 1,
 /// and then a line feed.
-#[derive(Clone, Copy, Debug, PartialEq, Eq)]
+#[derive(Clone, Copy, Debug)]
 pub struct ItemBytes {
     left: ItemBits,
     // whether the line feed remains

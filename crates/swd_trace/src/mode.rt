@@ -1,7 +1,7 @@
 //! The mode in which the next bits of a trace are read.
 
 /// What the bits so far imply for the next ones.
-#[derive(Clone, Copy, Debug, PartialEq, Eq)]
+#[derive(Clone, Copy, Debug)]
 pub enum Mode {
     /// Idle cycles or a transaction may follow.
     Synced,
