@@ -6,8 +6,10 @@ ghost use Rattle.swd_target.specs.Simulations.{simulation_made_with};
 ghost use Rattle.swd_clocked.specs.Frames.{frame_bits, frame_place, frame_limit, idle_frame, cycles_counted};
 ghost use Rattle.swd_clocked.specs.Frames.{contended_cycle, reply_cycle_bit, unswitched_frame};
 
+use crate::fields::FrameFields;
 use crate::frame::Frame;
 use std::alloc::Allocator;
+use std::fmt::{self, Debug, Formatter};
 use swd_bits::{Request, SWITCH};
 use swd_port::{AfterAck, Count, Register, Reply};
 use swd_target::port::Target;
@@ -26,7 +28,7 @@ use swd_target::{Device, Memory, Quirks};
 /// target.cycle(Some(false));
 /// // then DPIDR's request, bit by bit, and the acknowledgement with None
 /// ```
-#[derive(Debug, Drop)]
+#[derive(Drop)]
 pub struct Clocked<D> {
     pub(crate) target: Target<D>,
     pub(crate) frame: Frame,
@@ -37,6 +39,18 @@ pub struct Clocked<D> {
     ghost bits: { frame_bits frame < 2 ^ 33 },
     ghost place: { frame_place frame < frame_limit frame },
     ghost counts: { cycles < 2 ^ 64 },
+}
+
+/// Writes the target, and the state of its wire as integers, which [`Clocked::fields`] returns.
+impl<D: Debug> Debug for Clocked<D> {
+    fn fmt<W: fmt::Write>(&self, f: &mut Formatter<W>) -> fmt::Result {
+        f.debug_struct("Clocked")
+            .field("target", &self.target)
+            .field("frame", &FrameFields::of(self.frame))
+            .field("waits", &self.waits)
+            .field("cycles", &self.cycles)
+            .finish()
+    }
 }
 
 impl<D: Device> Clocked<D> {

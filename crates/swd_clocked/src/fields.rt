@@ -190,7 +190,7 @@ impl FrameFields {
         }
     }
 
-    fn of(frame: Frame) -> FrameFields
+    pub(crate) fn of(frame: Frame) -> FrameFields
         ensures { result ≡ frame_fields frame }
     {
         match frame {

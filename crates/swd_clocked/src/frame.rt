@@ -5,7 +5,7 @@ ghost use Rattle.swd_port.specs.Moving.{port_bits_driven};
 use swd_port::{AfterAck, Count, Register, Reply};
 
 /// The meaning of the next cycles. Shift registers are preset with ones, as an undriven line reads.
-#[derive(Clone, Copy, Debug, PartialEq, Eq)]
+#[derive(Clone, Copy)]
 pub(crate) enum Frame {
     /// The bits of a request: the shift register, and how many bits it has. Before the first bit a zero is idle.
     Asks {
