@@ -82,12 +82,18 @@ impl Files for Disk<'_> {
             return Ok(opened);
         }
         if let Some(beside) = self.beside(name, &opened.file.file)? {
+            let refused = beside.refuse_place(self.rt, &opened.file.file.metadata()?);
+            beside.tell_others(self.rt);
             beside.remove(self.rt);
+            refused?;
         }
         Ok(opened)
     }
 
     fn lock(&self, name: &str, file: &DiskFile) -> io::Result<()> {
+        if !file.file.metadata()?.is_file() {
+            return Ok(());
+        }
         // Where the file system has no locks, the file is replaced without one.
         if let Err(TryLockError::WouldBlock) = file.file.try_lock() {
             return Err(io::Error::new(ErrorKind::ResourceBusy, "it is in use by another session"));
@@ -110,13 +116,10 @@ impl Files for Disk<'_> {
             return end_here(&mut file.file);
         };
         beside.file.sync_all()?;
-        let place = fs::metadata(self.rt, beside.place.as_str())?;
-        if identity_of(&place) != identity_of(&file.file.metadata()?) {
-            return Err(replaced());
-        }
-        fs::rename(self.rt, beside.name.as_str(), beside.place.as_str())?;
+        let taken = self.take_place(beside, &file.file);
+        // What can't take the place stays where it is: it holds what a session left.
         file.beside = None;
-        Ok(())
+        taken
     }
 
     fn give_up(&self, name: &str, file: &mut DiskFile) {
@@ -189,18 +192,26 @@ impl Disk<'_> {
         }
     }
 
-    // Creates a file that is to take the place of this one. Returns `None` where it is overwritten in place, since it
-    // isn't regular or the name is another's.
+    // Creates a file that is to take the place of this one. Returns `None` for one that is overwritten in place, since it
+    // isn't regular.
     fn beside(&self, name: &str, file: &File) -> io::Result<Option<Beside>> {
         let like = file.metadata()?;
-        if !like.is_file() {
-            return Ok(None);
+        if like.is_file() {
+            Ok(Some(Beside::new(self.rt, name, &like)?))
+        } else {
+            Ok(None)
         }
-        match fs::metadata(self.rt, name) {
-            Ok(named) if identity_of(&named) == identity_of(&like) => {
-                Ok(Some(Beside::new(self.rt, name, &like)?))
-            }
-            _ => Ok(None),
+    }
+
+    // Renames a file to the place of this one, if that is still its own. An error says where the file is then.
+    fn take_place(&self, beside: &Beside, file: &File) -> io::Result<()> {
+        match fs::metadata(self.rt, beside.place.as_str()) {
+            Ok(place) if identity_of(&place) == identity_of(&file.metadata()?) => {}
+            _ => return Err(beside.kept(self.rt, "it is another file now")),
+        }
+        match fs::rename(self.rt, beside.name.as_str(), beside.place.as_str()) {
+            Ok(()) => Ok(()),
+            Err(_) => Err(beside.kept(self.rt, "it can't be replaced")),
         }
     }
 

@@ -323,9 +323,7 @@ impl InUse {
         let opened = open_as(name, role, files)?;
         self.refuse_write(role, opened.identity)?;
         refuse_written_stream(role, opened.identity, input, output)?;
-        if let WriteRole::Memory = role {
-            files.lock(name, &opened.file)?;
-        }
+        files.lock(name, &opened.file)?;
         Ok(opened)
     }
 

@@ -54,20 +54,21 @@ pub trait Files {
     fn cut_off(&self, file: &Self::Made) -> io::Result<()>;
 
     /// Opens a file whose contents are to be replaced as a whole, or creates an empty one. Fails where its folder lets
-    /// no file be created beside it.
+    /// no file be created beside it, or nothing take its place.
     fn open_to_replace(&self, name: &str) -> io::Result<Opened<Self::Made>>
         ensures { IfOk result (makes self.now name.now) };
 
-    /// Locks a file that `open_to_replace` opened, until it is dropped. Fails if another process has locked it, and if
-    /// the name is another file's by now.
+    /// Locks a file that is open for writing until it is dropped, if it is regular. Fails if another process has locked
+    /// it, and if the name is another file's by now.
     fn lock(&self, name: &str, file: &Self::Made) -> io::Result<()>;
 
     /// Begins to replace the contents of such a file by what is written next. If it is regular, that goes to a new file
-    /// beside it, with its mode. Any other file, and one that has lost its name, is overwritten in place.
+    /// beside it, with its mode. Any other file is overwritten in place.
     fn begin_replacing(&self, name: &str, file: &mut Self::Made) -> io::Result<()>
         ensures { Self.Made.Write.contents file.new ≡ Self.Made.Write.contents file.old };
 
-    /// Gives what was written the name of the file, once it is on the disk.
+    /// Gives what was written the name of the file, once it is on the disk. Fails if the name is another file's by now,
+    /// or can't be given: then both files stay, and the error says where what was written is.
     fn finish_replacing(&self, file: &mut Self::Made) -> io::Result<()>
         ensures { Self.Made.Write.contents file.new ≡ Self.Made.Write.contents file.old };
 

@@ -34,6 +34,7 @@ fn number_of(name: &str) -> u64 {
         "locked" => 5,
         "broken" => 6,
         "calls" => 8,
+        "stuck" => 9,
         _ => 7,
     }
 }
@@ -66,7 +67,7 @@ impl<'a> Files for Desk<'a> {
 
     fn open(&self, name: &str) -> io::Result<Opened<Source>> {
         match name {
-            "ram" | "full" | "locked" | "moved" | "used" => {
+            "ram" | "full" | "locked" | "moved" | "stuck" | "used" => {
                 Ok(file(name, Source::Text(self.texts.ram), 0))
             }
             "image" => Ok(file(name, Source::Text(self.texts.image), 0)),
@@ -83,6 +84,7 @@ impl<'a> Files for Desk<'a> {
                 self.written
             },
             is_full: name == "full",
+            is_stuck: name == "stuck",
             beside: None,
         };
         match name {
@@ -126,8 +128,7 @@ impl<'a> Files for Desk<'a> {
     }
 
     fn finish_replacing(&self, file: &mut Pen<'a>) -> io::Result<()> {
-        file.replace();
-        Ok(())
+        file.replace()
     }
 
     fn give_up(&self, _name: &str, file: &mut Pen<'a>) {
@@ -265,6 +266,17 @@ const REFUSED: &[(&[&str], &[u8], usize)] = &[
         b"swd: write failed: full: no storage space\n",
         1,
     ),
+    // So is a file whose place can't be taken.
+    (
+        &["swd", "load", "20000000", "image", "--memory", "stuck"],
+        b"swd: write failed: stuck: resource busy\n",
+        1,
+    ),
+    (
+        &["swd", "dump", "20000000", "4", "stuck", "--memory", "ram"],
+        b"swd: write failed: stuck: resource busy\n",
+        1,
+    ),
     (
         &["swd", "target", "--memory", "locked"],
         b"swd: cannot open locked: permission denied\n",
@@ -300,6 +312,12 @@ fn a_file_that_fails_changes_nothing(rt: HostRuntime) {
     }
 }
 
+// What becomes of a memory whose file can't be written, or can't be replaced.
+const UNWRITTEN: &[(&str, &[u8])] = &[
+    ("full", b"swd: write failed: full: no storage space\n"),
+    ("stuck", b"swd: write failed: stuck: resource busy\n"),
+];
+
 const SESSIONS: &[&[u8]] = &[b"Q", b"x"];
 
 // A served memory that can't be written back takes one line, also where the session failed. Its file is as it was,
@@ -307,13 +325,14 @@ const SESSIONS: &[&[u8]] = &[b"Q", b"x"];
 #[test]
 fn a_memory_that_cannot_be_written_takes_one_line(rt: HostRuntime) {
     for session in SESSIONS {
-        let mut input = *session;
-        let words = &["swd", "target", "--memory", "full"];
-        let ran = run_over(rt.alloc(), words, &FOUR, &mut input, &Still);
-        let line = b"swd: write failed: full: no storage space\n".as_slice();
-        expect_eq_at(&rt, session, &ran.errors.as_slice(), &line);
-        expect_eq_at(&rt, session, &ran.written.text(), &b"".as_slice());
-        expect_eq_at(&rt, session, &ran.status, &2);
+        for (name, line) in UNWRITTEN {
+            let mut input = *session;
+            let words = &["swd", "target", "--memory", *name];
+            let ran = run_over(rt.alloc(), words, &FOUR, &mut input, &Still);
+            expect_eq_at(&rt, session, &ran.errors.as_slice(), line);
+            expect_eq_at(&rt, session, &ran.written.text(), &b"".as_slice());
+            expect_eq_at(&rt, session, &ran.status, &2);
+        }
     }
 }
 

@@ -22,11 +22,12 @@ impl Page {
     }
 }
 
-/// A file that is open for writing. A full one takes three bytes.
+/// A file that is open for writing. A full one takes three bytes, and nothing takes the place of a stuck one.
 #[derive(Drop)]
 pub(super) struct Pen<'a> {
     pub(super) page: &'a Cell<Page>,
     pub(super) is_full: bool,
+    pub(super) is_stuck: bool,
     /// What is to replace it.
     pub(super) beside: Option<Page>,
 }
@@ -64,10 +65,14 @@ impl Write for Pen<'_> {
 
 impl Pen<'_> {
     /// Gives what is to replace the file its name.
-    pub(super) fn replace(&mut self) {
+    pub(super) fn replace(&mut self) -> io::Result<()> {
+        if self.is_stuck {
+            return Err(io::Error::from(ErrorKind::ResourceBusy));
+        }
         if let Some(page) = self.beside.take() {
             self.page.set(page);
         }
+        Ok(())
     }
 }
 
