@@ -378,7 +378,12 @@ module _ (i : ℕ) (list : List Access) (o e : Engine) (answers : List Answer) (
           },
         );
         least = λ all. omega (arith, sent_least i o e r.sent);
-        most = omega (arith, r.most, r.fewest, ready.paid);
+        most = omega (
+          arith,
+          r.most,
+          event_requests_sum o.bursts (r.met - s.tally.disturbed) 0 (u.tally.disturbed - s.tally.disturbed)
+              (omega (arith, r.fewest, ready.paid, counts)),
+        );
       }
 
   -- the result of a list whose accesses are all answered, after the idle cycles that follow them

@@ -27,5 +27,5 @@ returns-in-Status-clause-early c base start t h =
     let e = c.args.self.now in
     let told = opening_status_read c.in-Status.place c.args.word _ _ start t
     (subst (λ j. ResumedOpeningReadWord j c.args.word (base.disturbed + e.events) e.stray start t) c.in-Status.is h) in
-    c.status.ensures.early base start t (subst (λ x. ResumeReadFlags x t.target) (sym c.flags_of-in-Status.ensures)
+    c.status.ensures.early base start t (subst (λ x. ResumeReadFlags x t.target) (sym c.flags_of.ensures)
     told.0) told.1
