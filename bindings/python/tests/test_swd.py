@@ -370,11 +370,9 @@ class Random(unittest.TestCase):
                 ends[reports[-1].ended] += 1
                 sure_of(self, session.accesses, reports[0], self.first(session, bursts), session.room, session.WORDS)
                 self.assert_resumed(session, reports[-1], memory)
+                events = (5 if bursts else 6) * session.tries
                 for report, opening in zip(reports, itertools.chain([10], itertools.repeat(15))):
-                    self.assertLessEqual(
-                        report.requests,
-                        opening + 5 * session.tries + (6 + 5 * session.tries) * len(session.accesses),
-                    )
+                    self.assertLessEqual(report.requests, opening + events + (6 + events) * len(session.accesses))
         if COUNT >= 100:
             self.assertTrue(all(ends[end] for end in (End.ALL, End.LOST, End.TRIES)), ends)
 

@@ -1,4 +1,5 @@
 -- What the engine keeps by itself along a list, whatever came back.
+use Rattle.swd_host.proofs.Words.{event_requests, engine_open_requests, engine_begun}
 use Rattle.swd_host.proofs.Words.{◌≡◌, ◌≢◌, ◌+◌, ◌*◌, ◌^◌, ◌<◌, ◌≤◌, ℕ, Bool, true, false, refl, sym, ap, arith, ◌∙◌}
 use Rattle.swd_host.proofs.Words.{subst, List, [], ◌∷◌, ◌++◌, length, get_or, length-append, Option, Some, None}
 use Rattle.swd_host.proofs.Words.{if◌then◌else◌, Access, Answer, Due, Nothing, Port, End, All, Answered, Stopped, Ahead}
@@ -15,6 +16,7 @@ use Rattle.swd_host.proofs.Lists.{burst_follower_continues}
 use Rattle.swd_host.specs.Turns.{EngineContinuesBurst}
 use Rattle.swd_host.proofs.Starts.{engine_ahead_burst, same_access, burst_continues, start_left, start_begun, task_most}
 use Rattle.swd_host.proofs.Ends.{engine_stop_begun}
+use Rattle.swd_host.proofs.Openings.{new_open}
 
 -- BEFORE THE FIRST ACCESS
 pub opened_engine_stays : (list : List Access) (o : Engine) (s : Port) → EngineHasOpened o → s.link.due ≡ Nothing
@@ -70,8 +72,21 @@ module _ (i : ℕ) (list : List Access) (o e g f : Engine) (answers : List Answe
       (burst_follower_continues list i (get_or list i d) (if engine_next_failed e then None else following) on_it
       (follower_here next))
 
-  access_spends : f.requests ≤ o.requests + (i + 1) * (6 + 5 * o.tries)
-  access_spends = grind (arith, more_spent, start_left)
+  -- the most requests of the access
+  pub started_left : engine_open_requests g ≤ event_requests o.bursts * o.tries + 6
+  started_left = subst (λ n. engine_open_requests g ≤ n + 6)
+      (ap (λ b. event_requests b * e.tries) stays.bursts ∙ ap (λ n. event_requests o.bursts * n) stays.tried)
+      (start_left (get_or list i d) following e g starts)
+
+  access_spends : f.requests ≤ o.requests + (i + 1) * (6 + event_requests o.bursts * o.tries)
+  access_spends = omega (
+    arith,
+    works.spends,
+    started_left,
+    starts.requests,
+    stays.spent,
+    more_spent i (6 + event_requests o.bursts * o.tries) o.requests,
+  )
 
   -- no more accesses are in flight than the kind of burst allows
   pub few_here : f.begun ≤ bursts_limit o.bursts
@@ -125,23 +140,38 @@ module _ (kind : Bursts) (again : Bool) (tries : ℕ) (e f : Engine) (small : tr
   -- if the opening stopped, its report, without answers, has what every report has whatever the target answers
   pub opening_closes : (end : End) (due : Due) → f.state ≡ Resting (Stopped end)
       → EngineDueAt f.state f.stray f.task due
-      → Closes (engine_stray_left again) (bursts_limit kind) list tries (engine_report [] f end) due
-  opening_closes end due at fits = grind arith
+      → Closes (engine_stray_left again) kind list tries (engine_report [] f end) due
+  opening_closes end due at fits = grind (arith, new_open kind again tries e new)
 
   -- so has the report of an opening and of the list done after it
   pub list_closes : (g : Engine) (end : End) (due : Due) (before after : List Answer)
       → (p : EnginePerforms list f g before after end due)
-      → Closes (engine_stray_left again) (bursts_limit kind) list tries (engine_report p.answers g end) due
-  list_closes g end due before after p = grind arith
+      → Closes (engine_stray_left again) kind list tries (engine_report p.answers g end) due
+  list_closes g end due before after p =
+      let same : event_requests f.bursts * f.tries ≡ event_requests kind * tries =
+      ap (λ b. event_requests b * f.tries) (works.bursts ∙ new.bursts)
+      ∙ ap (λ n. event_requests kind * n) (works.tries ∙ new.tries) in
+      let spends : g.requests ≤ f.requests
+      + min (length list) (length p.answers + 1) * (6 + event_requests kind * tries) =
+      subst (λ n. g.requests ≤ f.requests + min (length list) (length p.answers + 1) * (6 + n)) same p.spends in
+      record {
+        number = p.number;
+        whole = p.whole;
+        begun = subst (λ n. engine_begun g ≤ n) (ap bursts_limit (works.bursts ∙ new.bursts)) p.begun;
+        due = p.due;
+        spends = omega (arith, spends, works.spends, new.requests, new_open kind again tries e new);
+      }
 
 -- by what the engine was made for
 pub new_engine_closes : (kind : Bursts) (again : Bool) (spare tries : ℕ) (list : List Access) (e : Engine)
     (told : HostReport) (due : Due) → EngineIsNew kind again tries e
-    → Closes spare (bursts_limit e.bursts) list e.tries told due → Closes spare (bursts_limit kind) list tries told due
-new_engine_closes kind again spare tries list e told due new h = grind arith
+    → Closes spare e.bursts list e.tries told due → Closes spare kind list tries told due
+new_engine_closes kind again spare tries list e told due new h =
+    subst (λ k. Closes spare k list tries told due) new.bursts
+    (subst (λ n. Closes spare e.bursts list n told due) new.tries h)
 
 -- an equal report has what every report has
-pub engine_closes_equal : (spare limit : ℕ) (list : List Access) (tries : ℕ) (x y : HostReport) (due : Due) → y ≡ x
-    → Closes spare limit list tries x due → Closes spare limit list tries y due
-engine_closes_equal spare limit list tries x y due is h =
-    subst (λ told. Closes spare limit list tries told due) (sym is) h
+pub engine_closes_equal : (spare : ℕ) (kind : Bursts) (list : List Access) (tries : ℕ) (x y : HostReport) (due : Due)
+    → y ≡ x → Closes spare kind list tries x due → Closes spare kind list tries y due
+engine_closes_equal spare kind list tries x y due is h =
+    subst (λ told. Closes spare kind list tries told due) (sym is) h

@@ -4,7 +4,7 @@ use Rattle.swd_host.proofs.Words.{◌≡◌, ◌+◌, ◌-◌, ◌<◌, ◌≤�
 use Rattle.swd_host.proofs.Words.{length, take, drop, zero, suc, length-append, ◌==◌, Bool, true, false, max, ◌≢◌}
 use Rattle.swd_host.proofs.Words.{Access, Bus, Port, MayBecome, End, All, Lost, HostEndsAt, HostKnowsTarget}
 use Rattle.swd_host.proofs.Words.{IsAtRest, HostReport, Fits, FitsAt, memory_after, resume_repeats_of}
-use Rattle.swd_host.proofs.Words.{ResumePlacesBelow, Again, LogHasRoomForResume}
+use Rattle.swd_host.proofs.Words.{ResumePlacesBelow, Again, LogHasRoomForResume, Bursts, bursts_limit}
 use Rattle.std.proofs.lemmas.Bool.{eqb-true}
 use Rattle.std.proofs.lemmas.List.{append_assoc}
 use Rattle.swd_port.specs.declared.access.Access.TheVariants.{Read}
@@ -29,28 +29,28 @@ resume_target_known TriesOut tries s t e = e.2
 resume_target_known (WrongId word) tries s t e = absurd e
 resume_target_known Confused tries s t e = absurd e
 
-module _ (limit : ℕ) (list : List Access) (s : Port) (rest : IsAtRest s) where
-  known : (calls : List HostReport) (told : HostReport) (t : Port) → ResumedCalls limit list s calls told t
+module _ (kind : Bursts) (list : List Access) (s : Port) (rest : IsAtRest s) where
+  known : (calls : List HostReport) (told : HostReport) (t : Port) → ResumedCalls kind list s calls told t
       → HostKnowsTarget t.target
   known calls told t (ran {told = a} {t = u} tries runs) = resume_target_known a.ended tries s u (runs rest).ends
-  known calls told t (resumed {calls = before} {earlier = e} {told = a} {t = u} {u = v} went tries kept over) =
+  known calls told t (resumed {calls = before} {earlier = e} {told = a} {t = u} {u = v} went next tries kept over) =
       resume_target_known a.ended tries u v (over (known before e u went)).ends
 
   -- over a target at rest a call and the calls of `resume` after it are a chain over memories, from the target's to
   -- each that the last port may become
-  pub chained : (calls : List HostReport) (told : HostReport) (t : Port) → ResumedCalls limit list s calls told t
-      → (now : Bus) → MayBecome t now → ResumeChain limit list s.target.memory calls told now
+  pub chained : (calls : List HostReport) (told : HostReport) (t : Port) → ResumedCalls kind list s calls told t
+      → (now : Bus) → MayBecome t now → ResumeChain (bursts_limit kind) list s.target.memory calls told now
   chained calls told t (ran {told = a} {t = u} tries runs) now (c, i, is) =
-      first (subst (Fits limit list s.target.memory a) (sym is) ((runs rest).later c))
-  chained calls told t (resumed {calls = before} {earlier = e} {told = a} {t = u} {u = v} went tries kept over) now may
-      =
+      first (subst (Fits (bursts_limit kind) list s.target.memory a) (sym is) ((runs rest).later c))
+  chained calls told t (resumed {calls = before} {earlier = e} {told = a} {t = u} {u = v} went next tries kept over) now
+      may =
       let fits = over (known before e u went) in
       let from = fits.goes now may in
       again (chained before e u went from.before from.comes) fits.own kept fits.begun from.fits
 
--- the same for every list, limit and target at rest
+-- the same for every list, kind of bursts and target at rest
 pub resume_calls_chained : ResumedCallsAreChained
-resume_calls_chained limit list s calls told t rest went now may = chained limit list s rest calls told t went now may
+resume_calls_chained kind list s calls told t rest went now may = chained kind list s rest calls told t went now may
 
 -- PLACES
 take_one : (i n : ℕ) (list : List Access) → take 1 (drop i list) ++ take n (drop (suc i) list)

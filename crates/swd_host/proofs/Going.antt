@@ -1,4 +1,5 @@
 -- Calls one after the other: what the engine and the port keep over each, they keep over all.
+use Rattle.swd_host.proofs.Words.{event_requests}
 use Rattle.swd_host.proofs.Words.{◌≡◌, ◌+◌, ◌-◌, ◌*◌, ◌≤◌, true, false, refl, sym, ap, arith, ◌∙◌, is_some, Port}
 use Rattle.swd_host.proofs.Words.{Engine, engine_is_resting, engine_outcome_at, engine_open_requests}
 use Rattle.swd_host.proofs.Words.{EngineGoesWithPort, EngineIsCountable}
@@ -40,7 +41,8 @@ engine_goes_trans e f g s t u on a b =
       later = host_later_trans s t u a.later b.later;
       asked = λ few. omega (arith, a.asked few, b.asked (countable few));
       lost_early = λ going base start h opening is. (
-          let early : g.requests + 1 + 5 * (g.tries - g.events) ≤ f.requests + engine_open_requests f =
+          let early : g.requests + 1 + event_requests g.bursts * (g.tries - g.events)
+          ≤ f.requests + engine_open_requests f =
           b.lost_early on base start (a.resumes base start h) (a.works.part true opening) is in
           omega (arith, a.works.spends));
     }

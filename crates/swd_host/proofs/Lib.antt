@@ -17,6 +17,7 @@ mod Working
 mod Turning
 mod Turned
 mod StepLemmas
+pub mod EventRequests
 mod Going
 mod Lists
 mod Repeats

@@ -1,4 +1,6 @@
 -- From a list done over an open target to its report, which counts this list alone.
+use Rattle.swd_host.proofs.EventRequests.{event_requests_most}
+use Rattle.swd_host.proofs.Words.{event_requests, ◌-◌}
 use Rattle.swd_host.proofs.Words.{◌≡◌, ◌+◌, ◌*◌, ◌^◌, ◌<◌, ◌≤◌, ℕ, refl, sym, ap, subst, arith, ◌∙◌, List, []}
 use Rattle.swd_host.proofs.Words.{◌++◌, length, drop, Access, Answer, Bus, Due, Port, End, Engine, Bursts}
 use Rattle.swd_host.proofs.Words.{bursts_limit, AreHostAccesses, HostReport, FitsFrom, HostEndsAt, HostIsOpen}
@@ -27,9 +29,12 @@ module _ (kind : Bursts) (tries : ℕ) (list : List Access) (o f : Engine) (befo
   limit : bursts_limit o.bursts ≡ bursts_limit kind
   limit = ap bursts_limit opened.bursts
 
+  same_events : event_requests o.bursts * o.tries ≡ event_requests kind * tries
+  same_events = ap (λ b. event_requests b * o.tries) opened.bursts ∙ ap (λ n. event_requests kind * n) opened.tries
+
   -- WHATEVER CAME BACK
   raw_closes : (due : Due) → (p : EnginePerforms list o f before after end due)
-      → ListCloses (bursts_limit kind) list tries (engine_report p.answers f end) due
+      → ListCloses kind list tries (engine_report p.answers f end) due
   raw_closes due p = record {
     number = p.number;
     whole = p.whole;
@@ -37,26 +42,26 @@ module _ (kind : Bursts) (tries : ℕ) (list : List Access) (o f : Engine) (befo
     due = p.due;
     spends = omega (
       arith,
-      subst (λ n. f.requests ≤ o.requests + min (length list) (length p.answers + 1) * (6 + 5 * n)) opened.tries
-          p.spends,
+      subst (λ n. f.requests ≤ o.requests + min (length list) (length p.answers + 1) * (6 + n)) same_events p.spends,
       opened.requests,
     );
   }
 
   -- what the report of the list states
   pub list_report_closes : (due : Due) → EnginePerforms list o f before after end due
-      → ListCloses (bursts_limit kind) list tries told due
-  list_report_closes due p = subst (λ x. ListCloses (bursts_limit kind) list tries x due)
+      → ListCloses kind list tries told due
+  list_report_closes due p = subst (λ x. ListCloses kind list tries x due)
       (sym (is ∙ ap (λ l. engine_report l f end) (added_are before after p.answers p.added))) (raw_closes due p)
 
   -- the count doesn't reach its greatest value
   list_requests_small : (due : Due) → length list ≤ 65536 → tries < 2 ^ 32
-      → ListCloses (bursts_limit kind) list tries told due → told.requests < 18446744073709551615
+      → ListCloses kind list tries told due → told.requests < 18446744073709551615
   list_requests_small due short small h =
       let n : ℕ = min (length list) (length told.answers + 1) in
       let most : n ≤ 65536 = omega arith in
-      let product : n * (6 + 5 * tries) ≤ 65536 * (6 + 5 * tries) = mul-le-mul_right (6 + 5 * tries) most in
-      omega (arith, h.spends)
+      let product : n * (6 + event_requests kind * tries) ≤ 65536 * (6 + event_requests kind * tries) =
+      mul-le-mul_right (6 + event_requests kind * tries) most in
+      omega (arith, h.spends, event_requests_most kind tries)
 
   -- before the first call of this list nothing was sent for it
   none_counted : EngineCountsCalls list [] o []
@@ -83,7 +88,7 @@ module _ (kind : Bursts) (tries : ℕ) (list : List Access) (o f : Engine) (befo
 
   -- the report of the list has what was sent for it
   pub list_report_sent : (due : Due) → length list ≤ 65536 → tries < 2 ^ 32
-      → ListCloses (bursts_limit kind) list tries told due → (made : List Call)
+      → ListCloses kind list tries told due → (made : List Call)
       → EngineListCalls list o f before after end made → HostReportsCalls list told made
   list_report_sent due short small closes made h =
       engine_report_matches list h.answers f end told made
@@ -121,7 +126,7 @@ module _ (kind : Bursts) (tries : ℕ) (list : List Access) (o f : Engine) (befo
       (fits_from_fewer o.requests 0 (bursts_limit o.bursts) list m (engine_report answers f end) now (omega arith) h)
 
   raw_runs : (s t : Port) → AreHostAccesses list → (does : EngineDoes list o f before after end s t) → HostIsOpen s
-      → RunFitsFrom 0 (bursts_limit kind) list tries s.target.memory (engine_report does.answers f end) s t
+      → RunFitsFrom 0 kind list tries s.target.memory (engine_report does.answers f end) s t
   raw_runs s t ok does is_open =
       let m : Bus = s.target.memory in
       let over : EngineDoesOver list m o f does.answers end s t = does.over m (list_target s is_open) ok in
@@ -134,13 +139,18 @@ module _ (kind : Bursts) (tries : ℕ) (list : List Access) (o f : Engine) (befo
         stops_only = stops_only end tries s t ends;
         counted = omega (arith, does.asked, opened.requests);
         least = λ whole. omega (arith, over.least whole, opened.requests);
-        most = omega (arith, over.most, opened.requests);
+        most = omega (
+          arith,
+          subst (λ b. f.requests ≤ o.requests + 6 * length list
+              + event_requests b * (t.tally.disturbed - s.tally.disturbed)) opened.bursts over.most,
+          opened.requests,
+        );
       }
 
   -- the theorem of a list over an open target
   pub list_runs_within : (s t : Port) → AreHostAccesses list → EngineDoes list o f before after end s t
-      → ListsWithin (bursts_limit kind) list tries told s t
+      → ListsWithin kind list tries told s t
   list_runs_within s t ok does is_open =
-      subst (λ x. RunFitsFrom 0 (bursts_limit kind) list tries s.target.memory x s t)
+      subst (λ x. RunFitsFrom 0 kind list tries s.target.memory x s t)
       (sym (is ∙ ap (λ l. engine_report l f end) (added_are before after does.answers does.added)))
       (raw_runs s t ok does is_open)

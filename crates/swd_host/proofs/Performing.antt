@@ -1,4 +1,5 @@
 -- From what holds between two accesses to what doing the whole list comes to.
+use Rattle.swd_host.proofs.Words.{event_requests}
 use Rattle.swd_host.proofs.Words.{◌≡◌, ◌≢◌, ◌+◌, ◌-◌, ◌*◌, ◌%◌, ◌^◌, ◌<◌, ◌≤◌, ℕ, Bool, true, false, refl, sym, ap}
 use Rattle.swd_host.proofs.Words.{subst, inl, inr, arith, ◌∙◌, List, [], ◌∷◌, ◌++◌, length, take, get_or, Option, Some}
 use Rattle.swd_host.proofs.Words.{None, if◌then◌else◌, ◌&&◌, not, bit, Access, Answer, Bus, bus_answer}
@@ -23,10 +24,12 @@ use Rattle.swd_host.specs.Turns.{EnginePortLater}
 use Rattle.swd_host.proofs.Going.{host_later_trans}
 use Rattle.swd_host.proofs.Fitting.{IsLeftByEngine, engine_none_in_flight, engine_fits_by}
 use Rattle.swd_host.proofs.Lists.{host_list_memory_next, host_list_answers_next, host_list_access_valid}
-use Rattle.swd_host.proofs.Starts.{IsEngineStart, IsEngineAnswered, single_task_not_ahead, start_follows, start_left}
+use Rattle.swd_host.proofs.Starts.{IsEngineStart, IsEngineAnswered, single_task_not_ahead, start_follows}
 use Rattle.swd_host.proofs.Starts.{start_least, start_begun, first_start, answered_start, block_task_is_burst}
 use Rattle.swd_host.proofs.Starts.{burst_next_read}
+use Rattle.swd_host.proofs.EventRequests.{event_requests_most, event_requests_sum, event_requests_met}
 use Rattle.swd_host.proofs.Alone.{opened_engine_stays, access_here, chain_here, few_here, last_task_not_burst}
+use Rattle.swd_host.proofs.Alone.{started_left}
 use Rattle.swd_host.proofs.Ends.{EngineAnswers, EngineStops, engine_outcome_answers, engine_stop_memory}
 use Rattle.swd_host.proofs.Ends.{engine_stopped_state, host_memory_completed, engine_stop_begun}
 
@@ -84,8 +87,8 @@ module _ (i : ℕ) (list : List Access) (o e g f : Engine) (answers : List Answe
       (host_list_access_valid list i d l ok) (λ burst. (stands.stays.chain burst).1 d) r.ready)
 
   -- HOW MANY REQUESTS
-  left_here : engine_open_requests g ≤ 5 * o.tries + 6
-  left_here = omega (arith, start_left (get_or list i d) following e g starts, stands.stays.tried)
+  left_here : engine_open_requests g ≤ event_requests o.bursts * o.tries + 6
+  left_here = started_left i list o e g f answers t u d following stands.stays starts goes.works
 
   -- the count of requests stays below 2 ^ 64
   countable : g.requests + engine_open_requests g < 2 ^ 64
@@ -94,14 +97,27 @@ module _ (i : ℕ) (list : List Access) (o e g f : Engine) (answers : List Answe
     left_here,
     starts.requests,
     stands.stays.spent,
-    mul-le-mul_right (6 + 5 * o.tries) few,
+    mul-le-mul_right (6 + event_requests o.bursts * o.tries) few,
+    event_requests_most o.bursts o.tries,
     opened.most,
     opened.tries,
   )
 
+  events_here : event_requests f.bursts * (f.tries - f.events) ≡ event_requests o.bursts * (o.tries - f.events)
+  events_here =
+      ap (λ b. event_requests b * (f.tries - f.events))
+      (goes.works.bursts ∙ (starts.bursts ∙ stands.stays.bursts))
+      ∙ ap (λ n. event_requests o.bursts * (n - f.events)) tries_here
+
   -- how many requests an access takes at most
-  spent : f.requests + 5 * (o.tries - f.events) ≤ e.requests + 5 * o.tries + 6
-  spent = omega (arith, goes.works.spends, left_here, starts.requests, tries_here)
+  spent : f.requests + event_requests o.bursts * (o.tries - f.events)
+      ≤ e.requests + event_requests o.bursts * o.tries + 6
+  spent = omega (arith, goes.works.spends, left_here, starts.requests, events_here)
+
+  -- the requests that it sent, by the events that it met
+  met_here : f.requests ≤ event_requests o.bursts * f.events + (e.requests + 6)
+  met_here =
+      event_requests_met o.bursts o.tries f.events f.requests (e.requests + 6) (omega (arith, spent))
 
   asked_here : u.tally.asked + o.requests ≡ s.tally.asked + f.requests
   asked_here = omega (arith, goes.asked countable, starts.requests, stands.asked)
@@ -221,8 +237,20 @@ module _ (i : ℕ) (list : List Access) (o e g f : Engine) (answers : List Answe
             (subst (λ x. EngineDueAt x f.stray f.task u.link.due) at due));
         least = λ whole. absurd (stop.never whole);
         most = elim stop.paid [
-          | inl p ↦ omega (arith, p.1, spent, tries_here, r.most, r.fewest)
-          | inr p ↦ omega (arith, p, spent, tries_here, r.most, r.fewest)
+          | inl p ↦ omega (
+            arith,
+            met_here,
+            r.most,
+            event_requests_sum o.bursts f.events (r.met - s.tally.disturbed)
+                (u.tally.disturbed - s.tally.disturbed) (omega (arith, p.1, r.fewest)),
+          )
+          | inr p ↦ omega (
+            arith,
+            spent,
+            r.most,
+            event_requests_sum o.bursts o.tries (r.met - s.tally.disturbed)
+                (u.tally.disturbed - s.tally.disturbed) (omega (arith, p, tries_here, r.fewest)),
+          )
         ];
       }
 
@@ -268,7 +296,13 @@ module _ (i : ℕ) (list : List Access) (o e g f : Engine) (answers : List Answe
             ∙ (ap (λ y. answers_of (take i list) m ++ y ∷ []) (sym told) ∙ sym (host_list_answers_next list i d m l)));
         begun = x.begun;
         sent = answered_sent m answer finished r;
-        most = omega (arith, spent, tries_here, r.most, r.fewest);
+        most = omega (
+          arith,
+          met_here,
+          r.most,
+          event_requests_sum o.bursts f.events (r.met - s.tally.disturbed)
+              (r.met + f.events - s.tally.disturbed) (omega (arith, r.fewest)),
+        );
       }
 
   -- once the access at i is answered, what is known after i answers holds after i + 1
@@ -344,7 +378,12 @@ module _ (i : ℕ) (list : List Access) (o e : Engine) (answers : List Answer) (
           },
         );
         least = λ all. omega (arith, sent_least i o e r.sent);
-        most = omega (arith, r.most, r.fewest, ready.paid);
+        most = omega (
+          arith,
+          r.most,
+          event_requests_sum o.bursts (r.met - s.tally.disturbed) 0 (u.tally.disturbed - s.tally.disturbed)
+              (omega (arith, r.fewest, ready.paid, counts)),
+        );
       }
 
   -- the result of a list whose accesses are all answered, after the idle cycles that follow them

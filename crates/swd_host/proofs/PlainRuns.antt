@@ -1,6 +1,6 @@
 -- The theorem of a run where the bus is a plain memory. For the law `plain_runs`.
 use Rattle.swd_host.proofs.Words.{◌≡◌, ◌+◌, refl, sym, ap, ◌∙◌, List, [], ◌∷◌, take, Access, memory_after}
-use Rattle.swd_host.proofs.Words.{answers_of}
+use Rattle.swd_host.proofs.Words.{answers_of, bursts_limit}
 use Rattle.swd_port.specs.PlainMemory.{PlainMemory, plain_answer, plain_after}
 use Rattle.swd_port.specs.Bus.{bus_of, plain_of, plain_after_all, bus_after}
 use Rattle.swd_port.proofs.PlainLaws.{bus_of_after, bus_of_answer}
@@ -40,7 +40,7 @@ host_fits_over_plain limit list b told now plain (k, fit) =
 
 -- the same of a run over a target at rest
 pub host_runs_over_plain : RunsOverPlain
-host_runs_over_plain limit list tries told s t rest plain runs = record {
-  now = host_fits_over_plain limit list s.target.memory told t.target.memory plain (runs rest).now;
-  later = λ c. host_fits_over_plain limit list s.target.memory told _ plain ((runs rest).later c);
+host_runs_over_plain kind list tries told s t rest plain runs = record {
+  now = host_fits_over_plain (bursts_limit kind) list s.target.memory told t.target.memory plain (runs rest).now;
+  later = λ c. host_fits_over_plain (bursts_limit kind) list s.target.memory told _ plain ((runs rest).later c);
 }

@@ -1,4 +1,5 @@
 -- From the opening after a lost acknowledgement, and the list done after it, to the new report.
+use Rattle.swd_host.proofs.Words.{event_requests, engine_left_in}
 use Rattle.swd_host.proofs.Words.{◌≡◌, ◌+◌, ◌-◌, ◌*◌, ◌%◌, ◌^◌, ◌<◌, ◌≤◌, ℕ, true, refl, sym, ap, subst, inl, inr}
 use Rattle.swd_host.proofs.Words.{arith, ◌∙◌, List, [], ◌∷◌, ◌++◌, length, take, length-append, suc, drop, Access}
 use Rattle.swd_host.proofs.Words.{Answer, Bus, Due, Port, End, Lost, Opened, Stopped, Resting, Engine}
@@ -15,6 +16,7 @@ use Rattle.swd_host.proofs.Opened.{OpeningEnds, OpeningSucceeds, opening_counts_
 use Rattle.swd_host.proofs.Opened.{opening_stop_memory, opening_success_memory}
 use Rattle.swd_host.proofs.Openings.{engine_ends_since, opening_spends, opening_asked, opening_unbegun, opening_lost}
 use Rattle.swd_host.proofs.Openings.{opened_sent}
+use Rattle.swd_host.proofs.EventRequests.{event_requests_sum, event_requests_met, event_requests_beyond}
 use Rattle.swd_host.proofs.Fitting.{fits_from_fewer}
 use Rattle.swd_host.proofs.GoingOn.{resumed_rest_length}
 
@@ -65,14 +67,26 @@ module _ (kind : Bursts) (list : List Access) (tries : ℕ) (earlier : HostRepor
     stop_none : resume_added earlier (resume_report raw earlier) ≡ []
     stop_none = ap (drop (length earlier.answers)) kept ∙ drop-length earlier.answers
 
-    stop_most : f.requests ≤ 14 + 6 * length list + 5 * (t.tally.disturbed - s.tally.disturbed)
+    stop_most : f.requests ≤ 14 + 6 * length list
+        + event_requests (resumed_bursts kind) * (t.tally.disturbed - s.tally.disturbed)
     stop_most = elim stop.paid [
       | inl p ↦
           (let lost : f.state ≡ Resting (Stopped Lost) = at ∙ ap (λ x. Resting (Stopped x)) p.0 in
           let few = opening_lost (resumed_bursts kind) true tries e f s t small new goes (opening_counts_at s) s first
           lost in
-          omega (arith, few, p.1))
-      | inr p ↦ omega (arith, p, opening_spends (resumed_bursts kind) true tries e f s t small new goes, same_tries)
+          omega (
+            arith,
+            p.1,
+            event_requests_met (resumed_bursts kind) tries f.events f.requests 14 (omega (arith, few)),
+            event_requests_sum (resumed_bursts kind) f.events 0 (t.tally.disturbed - s.tally.disturbed)
+                (omega (arith, p.1)),
+          ))
+      | inr p ↦ omega (
+        arith,
+        opening_spends (resumed_bursts kind) true tries e f s t small new goes,
+        event_requests_beyond (resumed_bursts kind) tries (t.tally.disturbed - s.tally.disturbed)
+            (omega (arith, p, same_tries)),
+      )
     ]
 
     -- nothing of the list was done
@@ -92,7 +106,7 @@ module _ (kind : Bursts) (list : List Access) (tries : ℕ) (earlier : HostRepor
     )
 
     -- the theorem of `resume` for a call whose opening stopped, so that it did no access
-    pub resume_stops : ResumeFits list tries earlier (resume_report raw earlier) s t
+    pub resume_stops : ResumeFits kind list tries earlier (resume_report raw earlier) s t
     resume_stops = record {
       own = raw.begun;
       begun = refl;
@@ -132,6 +146,9 @@ module _ (kind : Bursts) (list : List Access) (tries : ℕ) (earlier : HostRepor
         (fits_from_fewer f.requests 9 (bursts_limit f.bursts) rest opened.memory (engine_report does.answers last end)
         done.settled (opened_sent (resumed_bursts kind) true tries e f s t small new goes at) done.later)
 
+    left_opened : engine_left_in (resumed_bursts kind) f.state ≡ 1
+    left_opened = ap (engine_left_in (resumed_bursts kind)) at
+
     done_ends : HostEndsAt end tries s u
     done_ends = grind (arith, done, engine_ends_since, same_tries)
 
@@ -145,11 +162,27 @@ module _ (kind : Bursts) (list : List Access) (tries : ℕ) (earlier : HostRepor
         (sym (is ∙ done.becomes c))
         (subst (λ xs. Fits 1 rest opened.memory (engine_report xs last end) done.settled) (sym done_added) later)
 
-    done_most : last.requests ≤ 14 + 6 * length list + 5 * (u.tally.disturbed - s.tally.disturbed)
-    done_most = grind (arith, done, long, opening_spends)
+    done_most : last.requests ≤ 14 + 6 * length list
+        + event_requests (resumed_bursts kind) * (u.tally.disturbed - s.tally.disturbed)
+    done_most =
+        let spends = opening_spends (resumed_bursts kind) true tries e f s t small new goes in
+        let paid = opened.paid in
+        let disturbed = does.later.disturbed in
+        let most : last.requests ≤ f.requests + 6 * length rest
+        + event_requests (resumed_bursts kind) * (u.tally.disturbed - t.tally.disturbed) =
+        subst (λ b. last.requests ≤ f.requests + 6 * length rest
+        + event_requests b * (u.tally.disturbed - t.tally.disturbed)) (goes.works.bursts ∙ new.bursts) done.most in
+        omega (
+          arith,
+          most,
+          long,
+          event_requests_met (resumed_bursts kind) tries f.events f.requests 14 (omega (arith, spends, left_opened)),
+          event_requests_sum (resumed_bursts kind) f.events (u.tally.disturbed - t.tally.disturbed)
+              (u.tally.disturbed - s.tally.disturbed) (omega arith),
+        )
 
     -- the theorem of `resume` for a call whose opening succeeded, with the result of the rest of the list
-    pub resume_performs : ResumeFits list tries earlier (resume_report told earlier) s u
+    pub resume_performs : ResumeFits kind list tries earlier (resume_report told earlier) s u
     resume_performs = record {
       own = told.begun;
       begun = refl;
@@ -163,17 +196,18 @@ module _ (kind : Bursts) (list : List Access) (tries : ℕ) (earlier : HostRepor
     }
 
 -- the theorem of `resume` holds of an equal report
-pub resumed_equal_report : (list : List Access) (tries : ℕ) (earlier x y : HostReport) (s t : Port) → y ≡ x
-    → ResumeFits list tries earlier x s t → ResumeFits list tries earlier y s t
-resumed_equal_report list tries earlier x y s t is h = subst (λ told. ResumeFits list tries earlier told s t) (sym is) h
+pub resumed_equal_report : (kind : Bursts) (list : List Access) (tries : ℕ) (earlier x y : HostReport) (s t : Port)
+    → y ≡ x → ResumeFits kind list tries earlier x s t → ResumeFits kind list tries earlier y s t
+resumed_equal_report kind list tries earlier x y s t is h =
+    subst (λ told. ResumeFits kind list tries earlier told s t) (sym is) h
 
 -- WHATEVER CAME BACK
 pub resumed_continues : (kind : Bursts) (list : List Access) (tries : ℕ) (raw earlier report : HostReport)
     (part : List Answer) (due : Due)
     → length earlier.answers ≤ length list → report ≡ resume_report raw earlier → raw.answers ≡ earlier.answers ++ part
-    → Closes 5 (bursts_limit (resumed_bursts kind)) (drop (length earlier.answers) list) tries
+    → Closes 5 (resumed_bursts kind) (drop (length earlier.answers) list) tries
     (record raw { answers = part }) due
-    → ResumeCloses list tries earlier report due
+    → ResumeCloses kind list tries earlier report due
 resumed_continues kind list tries raw earlier report part due reported is added h =
     let rest : List Access = drop (length earlier.answers) list in
     let new : resume_added earlier raw ≡ part =
@@ -181,13 +215,12 @@ resumed_continues kind list tries raw earlier report part due reported is added 
     let long = resumed_rest_length (length earlier.answers) list reported in
     let many = ap length added ∙ length-append earlier.answers part in
     let number = h.number in
-    subst (λ x. ResumeCloses list tries earlier x due) (sym is) (record {
+    subst (λ x. ResumeCloses kind list tries earlier x due) (sym is) (record {
       own = raw.begun;
       kept = added ∙ ap (λ l. earlier.answers ++ l) (sym new);
       number = omega (arith, long, many, number);
       begun = refl;
-      closes = subst (λ xs. Closes 5 1 rest tries (record raw { answers = xs }) due) (sym new)
-          (subst (λ n. Closes 5 n rest tries (record raw { answers = part }) due) (resumed_limit kind) h);
+      closes = subst (λ xs. Closes 5 (resumed_bursts kind) rest tries (record raw { answers = xs }) due) (sym new) h;
     })
 
 -- the accesses from here on, as a slice

@@ -7,7 +7,7 @@ use Rattle.swd_host.proofs.Words.{Check, Clear, LastStatus, Resend, Status, Writ
 use Rattle.swd_host.proofs.Words.{engine_word_for, engine_job_starts, engine_confirmed, engine_is_ahead_at}
 use Rattle.swd_host.proofs.Words.{engine_job_is_of, host_flags_in, engine_state_after_ack, not, task_is_read}
 use Rattle.swd_host.proofs.Words.{task_is_block, access_of_task, Access, Answer, Request, ◌&&◌, ◌||◌, Engine}
-use Rattle.swd_host.proofs.Words.{engine_state_is_of}
+use Rattle.swd_host.proofs.Words.{engine_state_is_of, Bursts}
 use Rattle.std.proofs.Math.Bool.{and-false}
 use Rattle.swd_port.specs.declared.access.Access.TheVariants.{Read, Write}
 use Rattle.swd_port.specs.declared.access.Answer.TheVariants.{Written, Value, BusFault}
@@ -21,8 +21,9 @@ use Rattle.swd_port.specs.Registers.{ctrl_stat_holds}
 use Rattle.swd_host.specs.declared.engine.Phase.TheVariants.{Faulted}
 use Rattle.swd_host.specs.declared.task.Task.TheVariants.{Read as TaskRead, BurstRead, Write as TaskWrite, BurstWrite}
 use Rattle.swd_host.specs.declared.engine.Phase.{Phase}
+use Rattle.swd_host.specs.declared.task.Bursts.TheVariants.{Never}
 use Rattle.swd_host.specs.Engines.{engine_cue_at, engine_data_cue}
-use Rattle.swd_host.specs.Requests.{engine_register_for, engine_request_for}
+use Rattle.swd_host.specs.Requests.{engine_register_for, engine_request_for, engine_repeat_place}
 use Rattle.swd_host.specs.Turns.{engine_begun_left}
 use Rattle.swd_host.specs.Sent.{HostSent, HostSince, HostListHasAccess, IsHostDataPhase, HostSawNoRefusal}
 use Rattle.swd_host.specs.Sent.{host_asks_drw, host_asks_result, host_awaits_drw, host_register_gives_word}
@@ -33,7 +34,7 @@ use Rattle.swd_host.specs.Stages.{EngineBetween, EngineAwaitsData, EngineAccessE
 use Rattle.swd_host.specs.Stages.{engine_ahead_stage, engine_next_is_sent}
 use Rattle.swd_host.specs.Steps.{engine_is_stopped, EngineGoesTo, engine_confused, engine_after_write}
 use Rattle.swd_host.specs.Steps.{engine_after_fault, engine_after_read, engine_ahead_to, EngineRestsWith}
-use Rattle.swd_host.specs.Steps.{engine_after_status, engine_after_clearing, engine_repeat_place}
+use Rattle.swd_host.specs.Steps.{engine_after_status, engine_after_clearing}
 use Rattle.swd_host.proofs.SendingStages.{IsTaskInList, engine_call_not_drw, engine_okay_or_not, engine_stage_fault}
 use Rattle.swd_host.proofs.SendingStages.{engine_refused_settled, engine_led_or_stopped}
 
@@ -431,87 +432,87 @@ module _ (list : List Access) (answers : List Answer) where
         (sent_as h.sent h.sure 1 1 h.since h.since _ h.at.0 h.at.1 refl (plain_other _ refl refl h.is));
   }
 
-  taken_confirm : (task : Task) (aims : Bool) (b v : ℕ) (word : Option ℕ) (ahead : Ahead) (earlier : List Call)
-      (x : State)
+  taken_confirm : (task : Task) (aims : Bool) (kind : Bursts) (b v : ℕ) (word : Option ℕ) (ahead : Ahead)
+      (earlier : List Call) (x : State)
       → IsTaskInList list answers task → engine_is_ahead_at (At Confirm) Data task ≡ false
       → engine_job_starts (At Confirm) task ≤ b
       → data_phase_word v ≡ word → EngineStood list answers b (engine_data_stage (At Confirm) task)
       (host_okay (engine_register_for (At Confirm) task) ∷ earlier)
-      → EngineGoesTo (engine_after_read (At Confirm) word task aims) x
+      → EngineGoesTo (engine_after_read (At Confirm) word task aims kind) x
       → EngineRestsWith (engine_ahead_to (At Confirm) task) x ahead
       → EngineKnowsAt list answers x task (engine_begun_left x task b) ahead
       (record { cue = Take; seen = v } ∷ host_okay (engine_register_for (At Confirm) task) ∷ earlier)
-  taken_confirm (TaskWrite at w) aims b v None ahead earlier x here apart begun is h goes rests =
+  taken_confirm (TaskWrite at w) aims kind b v None ahead earlier x here apart begun is h goes rests =
       goes_answered x Written (TaskWrite at w) b Unsent ahead _ _ goes rests (λ k. absurd (cc)) refl
       (stood_other b _ _ _ refl refl h) (was_written at w v b earlier here.has h)
-  taken_confirm (TaskWrite at w) aims b v (Some word) ahead earlier x here apart begun is h goes rests =
+  taken_confirm (TaskWrite at w) aims kind b v (Some word) ahead earlier x here apart begun is h goes rests =
       goes_answered x Written (TaskWrite at w) b Unsent ahead _ _ goes rests (λ k. absurd (cc)) refl
       (stood_other b _ _ _ refl refl h) (was_written at w v b earlier here.has h)
-  taken_confirm (BurstWrite at w) aims b v word ahead earlier x here apart begun is h goes rests = absurd (cc)
-  taken_confirm (TaskRead at) aims b v None ahead earlier x here apart begun is h goes rests =
+  taken_confirm (BurstWrite at w) aims kind b v word ahead earlier x here apart begun is h goes rests = absurd (cc)
+  taken_confirm (TaskRead at) aims kind b v None ahead earlier x here apart begun is h goes rests =
       goes_job x (Resend Confirm) (TaskRead at) b ahead _ goes
       (again_between (Resend Confirm) (TaskRead at) b _ _ _ (λ s c f i. (i.0, i.1, refl, i.2)) refl
       (stood_other b _ _ _ refl refl h))
-  taken_confirm (TaskRead at) aims b v (Some word) ahead earlier x here apart begun is h goes rests =
+  taken_confirm (TaskRead at) aims kind b v (Some word) ahead earlier x here apart begun is h goes rests =
       let taken : EngineStood list answers b (λ s c f. (s ≡ 1) × (c ≡ 1) × (f ≡ Quiet))
       (record { cue = Take; seen = v } ∷ host_okay RdbuffRead ∷ earlier) = stood_other b _ _ _ refl refl h in
       goes_answered x (Value word) (TaskRead at) b Unsent ahead _ _ goes rests (λ k. absurd (cc)) refl taken
       (weaker _ 1 _ (engine_ahead_stage Unsent) _ (λ s c f i. (i.0, i.1))
       (given_word at word 0 v b RdbuffRead earlier _ here.has refl is (omega arith) taken taken.at.0 taken.at.1))
-  taken_confirm (BurstRead at) aims b v None ahead earlier x here apart begun is h goes rests =
+  taken_confirm (BurstRead at) aims kind b v None ahead earlier x here apart begun is h goes rests =
       goes_job x (Resend Confirm) (BurstRead at) b ahead _ goes
       (again_between (Resend Confirm) (BurstRead at) b _ _ _ (λ s c f i. (i.0, i.1, refl, i.2)) refl
       (block_sent at b v earlier here begun h))
-  taken_confirm (BurstRead at) aims b v (Some word) ahead earlier x here apart begun is h goes rests =
+  taken_confirm (BurstRead at) aims kind b v (Some word) ahead earlier x here apart begun is h goes rests =
       let taken : EngineStood list answers b (λ s c f. (s ≡ 2) × (c ≡ 1) × (f ≡ Quiet))
       (record { cue = Take; seen = v } ∷ host_okay DrwRead ∷ earlier) = block_sent at b v earlier here begun h in
       goes_answered x (Value word) (BurstRead at) b NextSent ahead _ _ goes rests (λ k. refl) refl taken
       (weaker _ 1 _ (engine_ahead_stage NextSent) _ (λ s c f i. (i.0, i.1, i.2 ∙ taken.at.2))
       (given_word at word 1 v b DrwRead earlier _ here.has refl is (omega arith) taken taken.at.0 taken.at.1))
 
-  taken_resend : (task : Task) (aims : Bool) (b v : ℕ) (word : Option ℕ) (ahead : Ahead) (earlier : List Call)
-      (x : State)
+  taken_resend : (task : Task) (aims : Bool) (kind : Bursts) (b v : ℕ) (word : Option ℕ) (ahead : Ahead)
+      (earlier : List Call) (x : State)
       → IsTaskInList list answers task → data_phase_word v ≡ word
       → EngineStood list answers b (engine_stage (Resend Confirm) task) (host_okay ResendRead ∷ earlier)
-      → EngineGoesTo (engine_after_read (Resend Confirm) word task aims) x
+      → EngineGoesTo (engine_after_read (Resend Confirm) word task aims kind) x
       → EngineRestsWith (engine_ahead_to (Resend Confirm) task) x ahead
       → EngineKnowsAt list answers x task (engine_begun_left x task b) ahead
       (record { cue = Take; seen = v } ∷ host_okay ResendRead ∷ earlier)
-  taken_resend task aims b v None ahead earlier x here is h goes rests =
+  taken_resend task aims kind b v None ahead earlier x here is h goes rests =
       goes_job x (Resend Confirm) task b ahead _ goes
       (again_between (Resend Confirm) task b _ _ _ (λ s c f i. i) refl (stood_other b _ _ _ refl refl h))
-  taken_resend (TaskRead at) aims b v (Some word) ahead earlier x here is h goes rests =
+  taken_resend (TaskRead at) aims kind b v (Some word) ahead earlier x here is h goes rests =
       let taken : EngineStood list answers b (engine_stage (Resend Confirm) (TaskRead at))
       (record { cue = Take; seen = v } ∷ host_okay ResendRead ∷ earlier) = stood_other b _ _ _ refl refl h in
       goes_answered x (Value word) (TaskRead at) b Unsent ahead _ _ goes rests (λ k. absurd (cc)) refl taken
       (weaker _ 1 _ (engine_ahead_stage Unsent) _ (λ s c f i. (i.0, i.1))
       (given_word at word 0 v b ResendRead earlier _ here.has refl is (omega arith) taken taken.at.0 taken.at.1))
-  taken_resend (BurstRead at) aims b v (Some word) ahead earlier x here is h goes rests =
+  taken_resend (BurstRead at) aims kind b v (Some word) ahead earlier x here is h goes rests =
       let taken : EngineStood list answers b (engine_stage (Resend Confirm) (BurstRead at))
       (record { cue = Take; seen = v } ∷ host_okay ResendRead ∷ earlier) = stood_other b _ _ _ refl refl h in
       goes_answered x (Value word) (BurstRead at) b NextSent ahead _ _ goes rests (λ k. refl) refl taken
       (weaker _ 1 _ (engine_ahead_stage NextSent) _ (λ s c f i. (i.0, i.1, i.2 ∙ taken.at.3))
       (given_word at word 1 v b ResendRead earlier _ here.has refl is (omega arith) taken taken.at.0 taken.at.1))
-  taken_resend task aims b v (Some word) ahead earlier x here is h goes rests = absurd (let k = h.at.2 in cc)
+  taken_resend task aims kind b v (Some word) ahead earlier x here is h goes rests = absurd (let k = h.at.2 in cc)
 
-  taken_behind : (task : Task) (aims : Bool) (b v : ℕ) (word : Option ℕ) (ahead : Ahead) (earlier : List Call)
-      (x : State)
+  taken_behind : (task : Task) (aims : Bool) (kind : Bursts) (b v : ℕ) (word : Option ℕ) (ahead : Ahead)
+      (earlier : List Call) (x : State)
       → IsTaskInList list answers task → data_phase_word v ≡ word
       → EngineStood list answers b (engine_stage (Resend Behind) task) (host_okay ResendRead ∷ earlier)
-      → EngineGoesTo (engine_after_read (Resend Behind) word task aims) x
+      → EngineGoesTo (engine_after_read (Resend Behind) word task aims kind) x
       → EngineRestsWith (engine_ahead_to (Resend Behind) task) x ahead
       → EngineKnowsAt list answers x task (engine_begun_left x task b) ahead
       (record { cue = Take; seen = v } ∷ host_okay ResendRead ∷ earlier)
-  taken_behind task aims b v None ahead earlier x here is h goes rests =
+  taken_behind task aims kind b v None ahead earlier x here is h goes rests =
       goes_job x (Resend Behind) task b ahead _ goes
       (again_between (Resend Behind) task b _ _ _ (λ s c f i. i) refl (stood_other b _ _ _ refl refl h))
-  taken_behind (BurstRead at) aims b v (Some word) ahead earlier x here is h goes rests =
+  taken_behind (BurstRead at) aims kind b v (Some word) ahead earlier x here is h goes rests =
       let taken : EngineStood list answers b (engine_stage (Resend Behind) (BurstRead at))
       (record { cue = Take; seen = v } ∷ host_okay ResendRead ∷ earlier) = stood_other b _ _ _ refl refl h in
       goes_answered x (Value word) (BurstRead at) b NextFailed ahead _ _ goes rests (λ k. refl) refl taken
       (weaker _ 1 _ (engine_ahead_stage NextFailed) _ (λ s c f i. (i.0, i.1, i.2 ∙ taken.at.2))
       (given_word at word 1 v b ResendRead earlier _ here.has refl is (omega arith) taken taken.at.0 taken.at.1))
-  taken_behind task aims b v (Some word) ahead earlier x here is h goes rests = absurd (let k = h.at.3 in cc)
+  taken_behind task aims kind b v (Some word) ahead earlier x here is h goes rests = absurd (let k = h.at.3 in cc)
 
   -- CTRL/STAT was read with STICKYERR
   flagged_stood : (b v word : ℕ) (S R : ℕ → ℕ → HostSince → Type 0) (earlier : List Call)
@@ -569,46 +570,52 @@ module _ (list : List Access) (answers : List Answer) where
             (λ s c f i. (i.0, i.1, record { refused = tt; error = λ e. refl; write = λ e. absurd (cc) })) h;
       })
 
-  taken_status : (p : HostStep) (task : Task) (aims : Bool) (b v : ℕ) (word : Option ℕ) (ahead : Ahead)
+  taken_status : (p : HostStep) (task : Task) (aims : Bool) (kind : Bursts) (b v : ℕ) (word : Option ℕ) (ahead : Ahead)
       (earlier : List Call) (x : State) → engine_job_is_of false (Status p) ≡ true → data_phase_word v ≡ word
       → EngineStood list answers b (engine_stage (Status p) task) (host_okay CtrlStatRead ∷ earlier)
-      → EngineGoesTo (engine_after_read (Status p) word task aims) x
+      → EngineGoesTo (engine_after_read (Status p) word task aims kind) x
       → EngineKnowsAt list answers x task (engine_begun_left x task b) ahead
       (record { cue = Take; seen = v } ∷ host_okay CtrlStatRead ∷ earlier)
-  taken_status p task aims b v None ahead earlier x on is h goes =
+  taken_status p task aims kind b v None ahead earlier x on is h goes =
       goes_job x (Status p) task b ahead _ goes
       (again_between (Status p) task b _ _ _ (λ s c f i. i) refl (stood_other b _ _ _ refl refl h))
-  taken_status Confirm task aims b v (Some word) ahead earlier x on is h goes =
+  taken_status Confirm task aims kind b v (Some word) ahead earlier x on is h goes =
       status_confirm task b v word (ctrl_stat_holds 0x20 word) (ctrl_stat_holds 0x80 word)
       (task_is_read task) ahead earlier x refl refl is h goes
-  taken_status Behind task aims b v (Some word) ahead earlier x on is h goes =
+  taken_status Behind task aims kind b v (Some word) ahead earlier x on is h goes =
       status_behind task b v word (ctrl_stat_holds 0x20 word) (ctrl_stat_holds 0x80 word) ahead earlier x refl is h goes
-  taken_status WriteTar task aims b v (Some word) ahead earlier x on is h goes =
+  taken_status WriteTar task aims kind b v (Some word) ahead earlier x on is h goes =
       goes_job x (Clear WriteTar (host_flags_in word)) task b ahead _ goes
       (again_between (Clear WriteTar (host_flags_in word)) task b _ _ _ (λ s c f i. i)
       refl (stood_other b _ _ _ refl refl h))
-  taken_status Transfer task aims b v (Some word) ahead earlier x on is h goes =
+  taken_status Transfer task aims kind b v (Some word) ahead earlier x on is h goes =
       goes_job x (Clear Transfer (host_flags_in word)) task b ahead _ goes
       (again_between (Clear Transfer (host_flags_in word)) task b _ _ _ (λ s c f i. i) refl
       (stood_other b _ _ _ refl refl h))
-  taken_status p task aims b v word ahead earlier x on is h goes = absurd (cc)
+  taken_status p task aims kind b v word ahead earlier x on is h goes = absurd (cc)
+
+  -- the DRW request of the access was sent at most once, and FAULT came for its data
+  refused_once : (task : Task) (damaged : Bool) (s c : ℕ) (f : HostSince)
+      → engine_stage (Check Confirm (record { error = false; damaged = damaged })) task s c f
+      → (s ≤ 1) × (c ≡ 0) × HostSawNoRefusal s f
+  refused_once task damaged s c f i = (omega (arith, i.0), i.1, engine_refused_settled s f i.2.refused)
 
   -- the flags after ABORT: whether they are clear, and whether a bus error was owed
-  checked_confirm : (task : Task) (aims : Bool) (b v : ℕ) (left owes damaged : Bool) (ahead : Ahead)
+  checked_confirm : (task : Task) (aims : Bool) (kind : Bursts) (b v : ℕ) (left owes damaged : Bool) (ahead : Ahead)
       (earlier : List Call) (x : State) → IsTaskInList list answers task
       → EngineStood list answers b (engine_stage (Check Confirm (record { error = owes; damaged = damaged })) task)
       (host_okay CtrlStatRead ∷ earlier)
       → EngineGoesTo (if left then Doing (Clear Confirm (record { error = owes; damaged = true })) Ask else
       if owes then engine_after_clearing Confirm else Doing
-      (At (engine_repeat_place Confirm (engine_confirmed Confirm task aims))) Ask) x
+      (At (engine_repeat_place Confirm task aims kind)) Ask) x
       → EngineRestsWith Unsent x ahead → EngineKnowsAt list answers x task (engine_begun_left x task b) ahead
       (record { cue = Take; seen = v } ∷ host_okay CtrlStatRead ∷ earlier)
-  checked_confirm task aims b v true owes damaged ahead earlier x here h goes rests =
+  checked_confirm task aims kind b v true owes damaged ahead earlier x here h goes rests =
       goes_job x (Clear Confirm (record { error = owes; damaged = true })) task b ahead _ goes
       (again_between (Clear Confirm (record { error = owes; damaged = true })) task b _ _ _
       (λ s c f i. (i.0, i.1, record { refused = i.2.refused; error = i.2.error; write = i.2.write })) refl
       (stood_other b _ _ _ refl refl h))
-  checked_confirm task aims b v false true damaged ahead earlier x here h goes rests =
+  checked_confirm task aims kind b v false true damaged ahead earlier x here h goes rests =
       goes_answered x BusFault task b Unsent ahead _ _ goes rests (λ k. absurd (cc)) refl
       (stood_other b _ _ _ refl refl h)
       (record {
@@ -621,35 +628,37 @@ module _ (list : List Access) (answers : List Answer) where
             (sent_as h.sent h.sure 1 0 h.since Fails _ h.at.0 h.at.1 (h.at.2.error refl)
             (plain_other _ refl refl h.is));
       })
-  checked_confirm (TaskRead at) aims b v false false damaged ahead earlier x here h goes rests =
+  checked_confirm (TaskRead at) aims kind b v false false damaged ahead earlier x here h goes rests =
       absurd (let reads : true ≡ false = h.at.2.write refl in cc)
-  checked_confirm (BurstRead at) aims b v false false damaged ahead earlier x here h goes rests =
+  checked_confirm (BurstRead at) aims kind b v false false damaged ahead earlier x here h goes rests =
       absurd (let reads : true ≡ false = h.at.2.write refl in cc)
-  checked_confirm task aims b v false false damaged ahead earlier x here h goes rests =
-      let once : (s c : ℕ) (f : HostSince)
-      → engine_stage (Check Confirm (record { error = false; damaged = damaged })) task s c f
-      → (s ≤ 1) × (c ≡ 0) × HostSawNoRefusal s f =
-      λ s c f i. (omega (arith, i.0), i.1, engine_refused_settled s f i.2.refused) in
+  checked_confirm task true Never b v false false damaged ahead earlier x here h goes rests =
+      goes_job x (At WriteTar) task b ahead _ goes
+      (again_between (At WriteTar) task b _ _ _ (refused_once task damaged) refl (stood_other b _ _ _ refl refl h))
+  checked_confirm task false Never b v false false damaged ahead earlier x here h goes rests =
       goes_job x (At Transfer) task b ahead _ goes
-      (again_between (At Transfer) task b _ _ _ once refl (stood_other b _ _ _ refl refl h))
+      (again_between (At Transfer) task b _ _ _ (refused_once task damaged) refl (stood_other b _ _ _ refl refl h))
+  checked_confirm task aims kind b v false false damaged ahead earlier x here h goes rests =
+      goes_job x (At Transfer) task b ahead _ goes
+      (again_between (At Transfer) task b _ _ _ (refused_once task damaged) refl (stood_other b _ _ _ refl refl h))
 
-  checked_behind : (task : Task) (aims : Bool) (b v : ℕ) (left owes damaged : Bool) (ahead : Ahead)
+  checked_behind : (task : Task) (aims : Bool) (kind : Bursts) (b v : ℕ) (left owes damaged : Bool) (ahead : Ahead)
       (earlier : List Call) (x : State) → EngineStood list answers b
       (engine_stage (Check Behind (record { error = owes; damaged = damaged })) task) (host_okay CtrlStatRead ∷ earlier)
       → EngineGoesTo (if left then Doing (Clear Behind (record { error = owes; damaged = true })) Ask else
       if owes then engine_after_clearing Behind else Doing
-      (At (engine_repeat_place Behind (engine_confirmed Behind task aims))) Ask) x
+      (At (engine_repeat_place Behind task aims kind)) Ask) x
       → EngineKnowsAt list answers x task (engine_begun_left x task b) ahead
       (record { cue = Take; seen = v } ∷ host_okay CtrlStatRead ∷ earlier)
-  checked_behind task aims b v true owes damaged ahead earlier x h goes =
+  checked_behind task aims kind b v true owes damaged ahead earlier x h goes =
       goes_job x (Clear Behind (record { error = owes; damaged = true })) task b ahead _ goes
       (again_between (Clear Behind (record { error = owes; damaged = true })) task b _ _ _ (λ s c f i. i) refl
       (stood_other b _ _ _ refl refl h))
-  checked_behind task aims b v false true damaged ahead earlier x h goes =
+  checked_behind task aims kind b v false true damaged ahead earlier x h goes =
       goes_job x (Resend Behind) task b ahead _ goes
       (again_between (Resend Behind) task b _ _ _ (λ s c f i. (i.0, i.1, i.2, i.3)) refl
       (stood_other b _ _ _ refl refl h))
-  checked_behind task aims b v false false damaged ahead earlier x h goes = absurd (let k = h.at.4 in cc)
+  checked_behind task aims kind b v false false damaged ahead earlier x h goes = absurd (let k = h.at.4 in cc)
 
   -- at the other places of an access
   checked_early : (p : HostStep) (task : Task) (aims : Bool) (b v : ℕ) (left owes : Bool) (ahead : Ahead)
@@ -673,94 +682,101 @@ module _ (list : List Access) (answers : List Answer) where
   checked_early p task aims b v false false ahead earlier x y z h i j k goes =
       goes_job x (At z) task b ahead _ goes (again_between (At z) task b _ _ _ j refl (stood_other b _ _ _ refl refl h))
 
-  taken_check : (p : HostStep) (owed : Flags) (task : Task) (aims : Bool) (b v : ℕ) (word : Option ℕ) (ahead : Ahead)
-      (earlier : List Call) (x : State) → IsTaskInList list answers task → engine_job_is_of false (Check p owed) ≡ true
+  taken_check : (p : HostStep) (owed : Flags) (task : Task) (aims : Bool) (kind : Bursts) (b v : ℕ) (word : Option ℕ)
+      (ahead : Ahead) (earlier : List Call) (x : State) → IsTaskInList list answers task
+      → engine_job_is_of false (Check p owed) ≡ true
       → EngineStood list answers b (engine_stage (Check p owed) task) (host_okay CtrlStatRead ∷ earlier)
-      → EngineGoesTo (engine_after_read (Check p owed) word task aims) x → EngineRestsWith Unsent x ahead
+      → EngineGoesTo (engine_after_read (Check p owed) word task aims kind) x → EngineRestsWith Unsent x ahead
       → EngineKnowsAt list answers x task (engine_begun_left x task b) ahead
       (record { cue = Take; seen = v } ∷ host_okay CtrlStatRead ∷ earlier)
-  taken_check p owed task aims b v None ahead earlier x here on h goes rests =
+  taken_check p owed task aims kind b v None ahead earlier x here on h goes rests =
       goes_job x (Check p owed) task b ahead _ goes
       (again_between (Check p owed) task b _ _ _ (λ s c f i. i) refl (stood_other b _ _ _ refl refl h))
-  taken_check Confirm owed task aims b v (Some word) ahead earlier x here on h goes rests =
-      checked_confirm task aims b v (ctrl_stat_holds 0x20 word || ctrl_stat_holds 0x80 word) owed.error owed.damaged
-      ahead earlier x here h goes rests
-  taken_check Behind owed task aims b v (Some word) ahead earlier x here on h goes rests =
-      checked_behind task aims b v (ctrl_stat_holds 0x20 word || ctrl_stat_holds 0x80 word) owed.error owed.damaged
+  taken_check Confirm owed task aims kind b v (Some word) ahead earlier x here on h goes rests =
+      checked_confirm task aims kind b v (ctrl_stat_holds 0x20 word || ctrl_stat_holds 0x80 word) owed.error
+      owed.damaged ahead earlier x here h goes rests
+  taken_check Behind owed task aims kind b v (Some word) ahead earlier x here on h goes rests =
+      checked_behind task aims kind b v (ctrl_stat_holds 0x20 word || ctrl_stat_holds 0x80 word) owed.error owed.damaged
       ahead earlier x h goes
-  taken_check WriteTar owed task aims b v (Some word) ahead earlier x here on h goes rests =
+  taken_check WriteTar owed task aims kind b v (Some word) ahead earlier x here on h goes rests =
       checked_early WriteTar task aims b v (ctrl_stat_holds 0x20 word || ctrl_stat_holds 0x80 word) owed.error ahead
       earlier x WriteTar WriteTar h (λ s c f i. i) (λ s c f i. i) (λ s c f i. i) goes
-  taken_check Transfer owed task true b v (Some word) ahead earlier x here on h goes rests =
+  taken_check Transfer owed task true kind b v (Some word) ahead earlier x here on h goes rests =
       checked_early Transfer task true b v
       (ctrl_stat_holds 0x20 word || ctrl_stat_holds 0x80 word) owed.error ahead earlier x Transfer WriteTar h
       (λ s c f i. i) (λ s c f i. i) (λ s c f i. i) goes
-  taken_check Transfer owed task false b v (Some word) ahead earlier x here on h goes rests =
+  taken_check Transfer owed task false kind b v (Some word) ahead earlier x here on h goes rests =
       checked_early Transfer task false b v (ctrl_stat_holds 0x20 word || ctrl_stat_holds 0x80 word) owed.error ahead
       earlier x Transfer Transfer h (λ s c f i. i) (λ s c f i. i) (λ s c f i. i) goes
-  taken_check p owed task aims b v word ahead earlier x here on h goes rests = absurd (cc)
+  taken_check p owed task aims kind b v word ahead earlier x here on h goes rests = absurd (cc)
 
-  taken_at : (job : Job) (task : Task) (aims : Bool) (b v : ℕ) (word : Option ℕ) (ahead : Ahead) (earlier : List Call)
-      (x : State) → IsTaskInList list answers task → engine_job_is_of false job ≡ true → engine_word_for job task ≡ None
+  taken_at : (job : Job) (task : Task) (aims : Bool) (kind : Bursts) (b v : ℕ) (word : Option ℕ) (ahead : Ahead)
+      (earlier : List Call) (x : State) → IsTaskInList list answers task → engine_job_is_of false job ≡ true
+      → engine_word_for job task ≡ None
       → engine_is_ahead_at job Data task ≡ false → engine_job_starts job task ≤ b → data_phase_word v ≡ word
       → EngineStood list answers b (engine_data_stage job task) (host_okay (engine_register_for job task) ∷ earlier)
-      → EngineGoesTo (engine_after_read job word task aims) x → EngineRestsWith (engine_ahead_to job task) x ahead
+      → EngineGoesTo (engine_after_read job word task aims kind) x → EngineRestsWith (engine_ahead_to job task) x ahead
       → EngineKnowsAt list answers x task (engine_begun_left x task b) ahead
       (record { cue = Take; seen = v } ∷ host_okay (engine_register_for job task) ∷ earlier)
-  taken_at (At WriteTar) task aims b v word ahead earlier x here on reads apart begun is h goes rests = absurd (cc)
-  taken_at (At Transfer) (TaskRead at) aims b v None ahead earlier x here on reads apart begun is h goes rests =
+  taken_at (At WriteTar) task aims kind b v word ahead earlier x here on reads apart begun is h goes rests = absurd (cc)
+  taken_at (At Transfer) (TaskRead at) aims kind b v None ahead earlier x here on reads apart begun is h goes rests =
       goes_job x (At Confirm) (TaskRead at) b ahead _ goes (again_between (At Confirm) (TaskRead at) b _ _ _
       (λ s c f i. i) refl (sent_here b (TaskRead at) earlier _ _ here begun (refl, refl) h))
-  taken_at (At Transfer) (TaskRead at) aims b v (Some word) ahead earlier x here on reads apart begun is h goes rests =
+  taken_at (At Transfer) (TaskRead at) aims kind b v (Some word) ahead earlier x here on reads apart begun is h goes
+      rests =
       goes_job x (At Confirm) (TaskRead at) b ahead _ goes (again_between (At Confirm) (TaskRead at) b _ _ _
       (λ s c f i. i) refl (sent_here b (TaskRead at) earlier _ _ here begun (refl, refl) h))
-  taken_at (At Transfer) (BurstRead at) aims b v None ahead earlier x here on reads apart begun is h goes rests =
+  taken_at (At Transfer) (BurstRead at) aims kind b v None ahead earlier x here on reads apart begun is h goes rests =
       goes_job x (At Confirm) (BurstRead at) b ahead _ goes (again_between (At Confirm) (BurstRead at) b _ _ _
       (λ s c f i. i) refl (sent_here b (BurstRead at) earlier _ _ here begun (refl, refl) h))
-  taken_at (At Transfer) (BurstRead at) aims b v (Some word) ahead earlier x here on reads apart begun is h goes rests =
+  taken_at (At Transfer) (BurstRead at) aims kind b v (Some word) ahead earlier x here on reads apart begun is h goes
+      rests =
       goes_job x (At Confirm) (BurstRead at) b ahead _ goes (again_between (At Confirm) (BurstRead at) b _ _ _
       (λ s c f i. i) refl (sent_here b (BurstRead at) earlier _ _ here begun (refl, refl) h))
-  taken_at (At Transfer) task aims b v word ahead earlier x here on reads apart begun is h goes rests = absurd (cc)
-  taken_at (At Confirm) task aims b v word ahead earlier x here on reads apart begun is h goes rests =
-      taken_confirm task aims b v word ahead earlier x here apart begun is h goes rests
-  taken_at (At Behind) task aims b v word ahead earlier x here on reads apart begun is h goes rests = absurd h.at
-  taken_at (At p) task aims b v word ahead earlier x here on reads apart begun is h goes rests = absurd (cc)
-  taken_at (Resend Confirm) task aims b v word ahead earlier x here on reads apart begun is h goes rests =
-      taken_resend task aims b v word ahead earlier x here is h goes rests
-  taken_at (Resend Behind) task aims b v word ahead earlier x here on reads apart begun is h goes rests =
-      taken_behind task aims b v word ahead earlier x here is h goes rests
-  taken_at (Resend WriteTar) task aims b v None ahead earlier x here on reads apart begun is h goes rests =
+  taken_at (At Transfer) task aims kind b v word ahead earlier x here on reads apart begun is h goes rests = absurd (cc)
+  taken_at (At Confirm) task aims kind b v word ahead earlier x here on reads apart begun is h goes rests =
+      taken_confirm task aims kind b v word ahead earlier x here apart begun is h goes rests
+  taken_at (At Behind) task aims kind b v word ahead earlier x here on reads apart begun is h goes rests = absurd h.at
+  taken_at (At p) task aims kind b v word ahead earlier x here on reads apart begun is h goes rests = absurd (cc)
+  taken_at (Resend Confirm) task aims kind b v word ahead earlier x here on reads apart begun is h goes rests =
+      taken_resend task aims kind b v word ahead earlier x here is h goes rests
+  taken_at (Resend Behind) task aims kind b v word ahead earlier x here on reads apart begun is h goes rests =
+      taken_behind task aims kind b v word ahead earlier x here is h goes rests
+  taken_at (Resend WriteTar) task aims kind b v None ahead earlier x here on reads apart begun is h goes rests =
       goes_job x (Resend WriteTar) task b ahead _ goes
       (again_between (Resend WriteTar) task b _ _ _ (λ s c f i. i) refl (stood_other b _ _ _ refl refl h))
-  taken_at (Resend WriteTar) task aims b v (Some word) ahead earlier x here on reads apart begun is h goes rests =
+  taken_at (Resend WriteTar) task aims kind b v (Some word) ahead earlier x here on reads apart begun is h goes rests =
       goes_stopped x task b ahead _ _ goes (stood_other b _ _ _ refl refl h)
-  taken_at (Resend Transfer) task aims b v None ahead earlier x here on reads apart begun is h goes rests =
+  taken_at (Resend Transfer) task aims kind b v None ahead earlier x here on reads apart begun is h goes rests =
       goes_job x (Resend Transfer) task b ahead _ goes
       (again_between (Resend Transfer) task b _ _ _ (λ s c f i. i) refl (stood_other b _ _ _ refl refl h))
-  taken_at (Resend Transfer) task aims b v (Some word) ahead earlier x here on reads apart begun is h goes rests =
+  taken_at (Resend Transfer) task aims kind b v (Some word) ahead earlier x here on reads apart begun is h goes rests =
       goes_stopped x task b ahead _ _ goes (stood_other b _ _ _ refl refl h)
-  taken_at (Resend p) task aims b v word ahead earlier x here on reads apart begun is h goes rests = absurd (cc)
-  taken_at (Status p) task aims b v word ahead earlier x here on reads apart begun is h goes rests =
-      taken_status p task aims b v word ahead earlier x on is h goes
-  taken_at (Check p owed) task aims b v word ahead earlier x here on reads apart begun is h goes rests =
-      taken_check p owed task aims b v word ahead earlier x here on h goes rests
-  taken_at LastStatus task aims b v None ahead earlier x here on reads apart begun is h goes rests =
+  taken_at (Resend p) task aims kind b v word ahead earlier x here on reads apart begun is h goes rests = absurd (cc)
+  taken_at (Status p) task aims kind b v word ahead earlier x here on reads apart begun is h goes rests =
+      taken_status p task aims kind b v word ahead earlier x on is h goes
+  taken_at (Check p owed) task aims kind b v word ahead earlier x here on reads apart begun is h goes rests =
+      taken_check p owed task aims kind b v word ahead earlier x here on h goes rests
+  taken_at LastStatus task aims kind b v None ahead earlier x here on reads apart begun is h goes rests =
       goes_job x LastStatus task b ahead _ goes
       (again_between LastStatus task b _ _ _ (λ s c f i. tt) refl (stood_other b _ _ _ refl refl h))
-  taken_at LastStatus task aims b v (Some word) ahead earlier x here on reads apart begun is h goes rests =
+  taken_at LastStatus task aims kind b v (Some word) ahead earlier x here on reads apart begun is h goes rests =
       goes_stopped x task b ahead _ _ goes (stood_other b _ _ _ refl refl h)
-  taken_at (Clear p owed) task aims b v word ahead earlier x here on reads apart begun is h goes rests = absurd (cc)
+  taken_at (Clear p owed) task aims kind b v word ahead earlier x here on reads apart begun is h goes rests =
+      absurd (cc)
 
   -- the data phase of a read was taken
-  pub taken_knows : (job : Job) (task : Task) (aims : Bool) (b v : ℕ) (ahead : Ahead) (calls : List Call) (x : State)
+  pub taken_knows : (job : Job) (task : Task) (aims : Bool) (kind : Bursts) (b v : ℕ) (ahead : Ahead)
+      (calls : List Call) (x : State)
       → IsTaskInList list answers task → engine_job_is_of false job ≡ true → engine_word_for job task ≡ None
-      → engine_is_ahead_at job Data task ≡ false → EngineGoesTo (engine_after_read job (data_phase_word v) task aims) x
+      → engine_is_ahead_at job Data task ≡ false
+      → EngineGoesTo (engine_after_read job (data_phase_word v) task aims kind) x
       → EngineRestsWith (engine_ahead_to job task) x ahead → EngineAwaitsData list answers b job task calls
       → EngineKnowsAt list answers x task (engine_begun_left x task b) ahead (record { cue = Take; seen = v } ∷ calls)
-  taken_knows job task aims b v ahead calls x here on reads apart goes rests h =
+  taken_knows job task aims kind b v ahead calls x here on reads apart goes rests h =
       subst (λ l. EngineKnowsAt list answers x task (engine_begun_left x task b) ahead
       (record { cue = Take; seen = v } ∷ l)) (sym h.asked)
-      (taken_at job task aims b v (data_phase_word v) ahead h.earlier x here on reads apart h.begun refl
+      (taken_at job task aims kind b v (data_phase_word v) ahead h.earlier x here on reads apart h.begun refl
       (awaited_head job task b calls apart h) goes rests)
 
   -- ANY CALL

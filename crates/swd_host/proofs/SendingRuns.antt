@@ -1,4 +1,7 @@
 -- What is reported of a list matches what was sent: along the list, and for the whole run.
+use Rattle.swd_host.specs.Tasks.{resumed_bursts}
+use Rattle.swd_host.proofs.EventRequests.{event_requests_most}
+use Rattle.swd_host.proofs.Words.{event_requests}
 use Rattle.swd_host.proofs.Words.{◌≡◌, ◌≢◌, ◌+◌, ◌*◌, ◌^◌, ◌<◌, ◌≤◌, ◌++◌, ◌∷◌, [], ℕ, Bool, true, false, refl, sym, ap}
 use Rattle.swd_host.proofs.Words.{subst, inr, arith, ◌∙◌, List, length, get_or, Option, Some, None, if◌then◌else◌}
 use Rattle.swd_host.proofs.Words.{Access, Answer, Answered, Stopped, Task, Resting, End, All, Engine, Bursts, Port}
@@ -248,14 +251,15 @@ engine_report_matches list answers f end told calls is small h = subst (λ x. Ho
     (subst (λ x. x < 18446744073709551615) (ap (λ (x : HostReport). x.requests) is) small) h)
 
 -- whatever came back, the count doesn't reach its greatest value
-pub engine_requests_small : (spare limit : ℕ) (list : List Access) (tries : ℕ) (told : HostReport) (due : Due)
-    → spare ≤ 5 → length list ≤ 65536 → tries < 2 ^ 32 → Closes spare limit list tries told due
+pub engine_requests_small : (spare : ℕ) (kind : Bursts) (list : List Access) (tries : ℕ) (told : HostReport)
+    (due : Due) → spare ≤ 5 → length list ≤ 65536 → tries < 2 ^ 32 → Closes spare kind list tries told due
     → told.requests < 18446744073709551615
-engine_requests_small spare limit list tries told due few short small h =
+engine_requests_small spare kind list tries told due few short small h =
     let n : ℕ = min (length list) (length told.answers + 1) in
     let most : n ≤ 65536 = omega arith in
-    let product : n * (6 + 5 * tries) ≤ 65536 * (6 + 5 * tries) = mul-le-mul_right (6 + 5 * tries) most in
-    omega (arith, h.spends)
+    let product : n * (6 + event_requests kind * tries) ≤ 65536 * (6 + event_requests kind * tries) =
+    mul-le-mul_right (6 + event_requests kind * tries) most in
+    omega (arith, h.spends, event_requests_most kind tries)
 
 -- GOING ON
 most_after : (end : End) (b k : ℕ) → engine_most_begun_at end b ≤ (if host_end_is_all end then 0 else max b k)
@@ -292,9 +296,10 @@ resumed_report_sent rest earlier raw told answers f end calls is by small h =
     })
 
 -- the same of a call that goes on
-pub resumed_requests_small : (list : List Access) (tries : ℕ) (earlier told : HostReport) (due : Due)
+pub resumed_requests_small : (kind : Bursts) (list : List Access) (tries : ℕ) (earlier told : HostReport) (due : Due)
     → length list ≤ 65536
-    → tries < 2 ^ 32 → ResumeCloses list tries earlier told due → told.requests < 18446744073709551615
-resumed_requests_small list tries earlier told due short small h =
-    engine_requests_small 5 1 (drop (length earlier.answers) list) tries (resume_own_report earlier told h.own) due
-    (omega arith) (omega (arith, length-drop (length earlier.answers) list)) small h.closes
+    → tries < 2 ^ 32 → ResumeCloses kind list tries earlier told due → told.requests < 18446744073709551615
+resumed_requests_small kind list tries earlier told due short small h =
+    engine_requests_small 5 (resumed_bursts kind) (drop (length earlier.answers) list) tries
+    (resume_own_report earlier told h.own) due (omega arith)
+    (omega (arith, length-drop (length earlier.answers) list)) small h.closes

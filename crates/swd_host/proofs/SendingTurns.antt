@@ -62,8 +62,9 @@ module _ (list : List Access) (answers : List Answer) where
       let job : engine_job e.state ≡ p.job = ap engine_job p.at in
       let own : engine_job_is_of false p.job ≡ true = state_job list answers e.state p.job Data p.at on in
       knows_as list answers f e.task _ _ took.lands.task took.lands.begun
-      (taken_knows list answers p.job e.task e.aims e.begun seen f.ahead calls f.state here own p.reads p.ahead_not
-      (subst (λ j. EngineGoesTo (engine_after_read j (data_phase_word seen) e.task e.aims) f.state) job
+      (taken_knows list answers p.job e.task e.aims e.bursts e.begun seen f.ahead calls f.state here own p.reads
+      p.ahead_not
+      (subst (λ j. EngineGoesTo (engine_after_read j (data_phase_word seen) e.task e.aims e.bursts) f.state) job
       (took.goes (ap (engine_job_is_of false) job ∙ own)))
       (subst (λ j. EngineRestsWith (engine_ahead_to j e.task) f.state f.ahead) job took.rests)
       (subst (λ x. EngineKnowsAt list answers x e.task e.begun e.ahead calls) p.at h))

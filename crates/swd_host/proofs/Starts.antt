@@ -1,4 +1,7 @@
 -- An access begins: its task, its first state, and what is known of the port then. For the loops over a list.
+use Rattle.swd_host.proofs.Words.{engine_stray_left}
+use Rattle.swd_host.proofs.EventRequests.{event_requests_fresh}
+use Rattle.swd_host.proofs.Words.{event_requests}
 use Rattle.swd_host.proofs.Words.{◌≡◌, ◌+◌, ◌*◌, ◌%◌, ◌<◌, ◌≤◌, ℕ, Bool, true, false, not, refl, sym, ap, subst, inl}
 use Rattle.swd_host.proofs.Words.{arith, ◌∙◌, Option, Some, None, ◌&&◌, if◌then◌else◌, bit, Access, AccessRead}
 use Rattle.swd_host.proofs.Words.{AccessWrite, BusFault, DrwWrite, Due, Nothing, Bus, plain_address}
@@ -106,8 +109,9 @@ transfers_by (BurstWrite at word) n b k s write begun h = (begun, h)
 transfers_by _ n b k s write begun h = absurd (cc)
 
 -- HOW FAR AN ACCESS IS WHERE IT BEGINS
-first_left : (ahead : Bool) (further : Ahead) (aims : Bool) → engine_left_in (engine_first_state ahead further aims) ≤ 6
-first_left ahead further aims = grind arith
+first_left : (kind : Bursts) (ahead : Bool) (further : Ahead) (aims : Bool)
+    → engine_left_in kind (engine_first_state ahead further aims) ≤ 6
+first_left kind ahead further aims = grind arith
 
 first_least : (ahead : Bool) (further : Ahead) (aims : Bool) → (not ahead && engine_ahead_failed further) ≡ false
     → engine_least_in aims (engine_first_state ahead further aims) ≤ bit aims + 1
@@ -223,9 +227,15 @@ module _ (a : Access) (following : Option Access) (e g : Engine) (starts : Engin
             (sym none) (start_tracks (engine_is_ahead e) e.ahead n g.tries base m s refl refl chain h));
       }
 
-  -- an access that starts sends at most six requests before its outcome, and five more for each of the tries
-  pub start_left : engine_open_requests g ≤ 5 * e.tries + 6
-  start_left = grind (arith, first_left)
+  -- an access that starts sends at most six requests before its outcome, and those of an event for each of the tries
+  pub start_left : engine_open_requests g ≤ event_requests e.bursts * e.tries + 6
+  start_left = omega (
+    arith,
+    event_requests_fresh e.bursts g.bursts e.tries g.tries g.events starts.bursts starts.tries starts.events,
+    ap engine_stray_left starts.stray,
+    ap (engine_left_in g.bursts) starts.state,
+    first_left g.bursts (engine_is_ahead e) e.ahead g.aims,
+  )
 
   -- as an access starts that isn't answered at once, at most DRW's request and TAR's, if it is needed, count as sent
   pub start_least : engine_next_failed e ≡ false → engine_least_in g.aims g.state ≤ bit g.aims + 1

@@ -1,4 +1,5 @@
 -- One call of the wire, as the engine asks for it: what the engine and the port keep.
+use Rattle.swd_host.proofs.Words.{event_requests}
 use Rattle.swd_host.proofs.Words.{◌≡◌, ◌+◌, ◌-◌, ◌*◌, ◌^◌, ◌≤◌, ◌<◌, ℕ, Bool, true, false, refl, sym, ap, subst, inl}
 use Rattle.swd_host.proofs.Words.{inr, arith, ◌∙◌, Some, None, max, Request, Bus, Port, data_phase_number}
 use Rattle.swd_host.proofs.Words.{data_phase_word, PortAsks, PortTakes, PortGives, PortPasses, PortLeads, Lost, Stopped}
@@ -68,7 +69,7 @@ early_at base start e s x at h = subst (λ y. ResumedOpening y (base.disturbed +
     at h
 
 resumed_left : (base : EngineBase) (start : Port) (e : Engine) (s : Port) (job : Job) → e.state ≡ Doing job Ask
-    → engine_job_is_of true job ≡ true → EngineResumes base start e s → 2 ≤ engine_left_for job
+    → engine_job_is_of true job ≡ true → EngineResumes base start e s → 2 ≤ engine_left_for e.bursts job
 resumed_left base start e s job at opening h = grind arith
 
 -- A REQUEST
@@ -87,7 +88,8 @@ engine_ask_goes e f on s t q v cue asks heard =
     engine_one_more_least e.requests in
     let exact : EngineIsCountable e → f.requests ≡ e.requests + 1 =
     λ few. sent ∙ engine_one_more_exact e.requests (omega arith) in
-    let open_here : engine_left_in e.state ≡ engine_left_for a.job = ap engine_left_in a.at in
+    let open_here : engine_left_in e.bursts e.state ≡ engine_left_for e.bursts a.job =
+    ap (engine_left_in e.bursts) a.at in
     let asked : PortAsks s (engine_request_for a.job e.task) v t = subst (λ r. PortAsks s r v t) a.is asks in
     let follows : (base : EngineBase) (m : Bus) → EngineFollowsPort base m e s → EngineFollowsPort base m f t =
     λ base m h. (
@@ -116,10 +118,12 @@ engine_ask_goes e f on s t q v cue asks heard =
       later = record { identification = c.identification; disturbed = c.disturbed_least; lost = c.lost_least };
       asked = λ few. omega (arith, exact few, c.asked);
       lost_early = λ on base start h opening is. (
-          let two : 2 ≤ engine_left_for a.job =
+          let two : 2 ≤ engine_left_for e.bursts a.job =
           resumed_left base start e s a.job a.at (sym (ap (engine_state_is_of true) a.at) ∙ opening) h in
-          let same : 5 * (f.tries - f.events) ≡ 5 * (e.tries - e.events) =
-          ap (λ i. 5 * (i - f.events)) sees.tries ∙ ap (λ i. 5 * (e.tries - i)) sees.events in
+          let same : event_requests f.bursts * (f.tries - f.events) ≡ event_requests e.bursts * (e.tries - e.events) =
+          ap (λ b. event_requests b * (f.tries - f.events)) sees.bursts
+          ∙ (ap (λ i. event_requests e.bursts * (i - f.events)) sees.tries
+          ∙ ap (λ i. event_requests e.bursts * (e.tries - i)) sees.events) in
           omega (arith, sent, more.1, open_here, two, same));
     }
 

@@ -76,6 +76,7 @@ pub use Rattle.swd_host.specs.declared.request.HostStep.TheVariants.{WriteTar, B
 pub use Rattle.swd_host.specs.declared.request.HostStep.TheVariants.{Identify, CheckCtrlStat, Power, Powered, ReadCsw}
 pub use Rattle.swd_host.specs.declared.request.HostStep.TheVariants.{Select, Transfer, WriteAbort}
 pub use Rattle.swd_host.specs.declared.task.Bursts.{Bursts}
+pub use Rattle.swd_host.specs.Tasks.{event_requests}
 pub use Rattle.swd_host.specs.declared.task.Task.{Task}
 pub use Rattle.swd_host.specs.declared.task.Task.TheVariants.{BurstRead, BurstWrite, Read, Write}
 pub use Rattle.swd_port.specs.Answers.{is_exempt_register}

@@ -10,6 +10,8 @@ use Rattle.swd_port.specs.Bus.{Bus}
 use Rattle.swd_port.specs.Port.{Port}
 use Rattle.swd_port.specs.Completion.{MayBecome}
 use Rattle.swd_host.specs.declared.outcome.End.TheVariants.{All}
+use Rattle.swd_host.specs.declared.task.Bursts.{Bursts}
+use Rattle.swd_host.specs.Tasks.{resumed_bursts, event_requests}
 use Rattle.swd_host.specs.Plain.{memory_after, answers_of}
 use Rattle.swd_host.specs.PlainRuns.{IsPlainWithRoom}
 use Rattle.swd_host.specs.Reports.{HostReport, Closes, Fits, HostKnowsTarget, HostEndsAt}
@@ -68,12 +70,14 @@ resume_own_report earlier told own = record told { answers = resume_added earlie
 
 -- What holds of a resumed report whatever the other end did. New answers come after the earlier ones, and `Closes`
 -- holds of them as of a run over the rest of the list, with five more requests.
-pub record ResumeCloses (list : List Access) (tries : ℕ) (earlier told : HostReport) (next : Due) : Type 0 where
+pub record ResumeCloses (kind : Bursts) (list : List Access) (tries : ℕ) (earlier told : HostReport) (next : Due) :
+    Type 0 where
   pub own : ℕ
   pub kept : told.answers ≡ earlier.answers ++ resume_added earlier told
   pub number : length told.answers ≤ length list
   pub begun : told.begun ≡ resume_begun earlier told own
-  pub closes : Closes 5 1 (drop (length earlier.answers) list) tries (resume_own_report earlier told own) next
+  pub closes : Closes 5 (resumed_bursts kind) (drop (length earlier.answers) list) tries
+      (resume_own_report earlier told own) next
 
 -- `HostReportsCalls` for a call that resumed after an earlier report: over the rest of the list, for its new answers
 -- and its own requests.
@@ -91,7 +95,8 @@ pub record ResumeFitsFrom (list : List Access) (earlier told : HostReport) (own 
 
 -- The theorem of `resume`, from the port s and an earlier report to the port t and the new report. It assumes nothing
 -- of how many accesses the earlier report left begun, or of what any call before did.
-pub record ResumeFits (list : List Access) (tries : ℕ) (earlier told : HostReport) (s t : Port) : Type 0 where
+pub record ResumeFits (kind : Bursts) (list : List Access) (tries : ℕ) (earlier told : HostReport) (s t : Port) :
+    Type 0 where
   -- how many accesses that this call started are unanswered
   pub own : ℕ
   pub begun : told.begun ≡ resume_begun earlier told own
@@ -102,8 +107,10 @@ pub record ResumeFits (list : List Access) (tries : ℕ) (earlier told : HostRep
   pub stops_only : t.tally.lost ≡ s.tally.lost → t.tally.disturbed ≤ s.tally.disturbed + tries → told.ended ≡ All
   -- the requests of this call alone
   pub counted : t.tally.asked ≡ s.tally.asked + told.requests
-  pub most : told.requests ≤ 14 + 6 * length list + 5 * (t.tally.disturbed - s.tally.disturbed)
+  pub most : told.requests ≤ 14 + 6 * length list
+      + event_requests (resumed_bursts kind) * (t.tally.disturbed - s.tally.disturbed)
 
 -- the same from every known target, whatever is due, set or pending
-abbrev pub ResumesOver : List Access → ℕ → HostReport → HostReport → Port → Port → Type 0
-ResumesOver list tries earlier told s t = HostKnowsTarget s.target → ResumeFits list tries earlier told s t
+abbrev pub ResumesOver : Bursts → List Access → ℕ → HostReport → HostReport → Port → Port → Type 0
+ResumesOver kind list tries earlier told s t =
+    HostKnowsTarget s.target → ResumeFits kind list tries earlier told s t

@@ -9,21 +9,25 @@ use Rattle.swd_host.specs.declared.outcome.End.TheVariants.{All}
 use Rattle.swd_port.specs.PlainBus.{IsPlain, plain_words_of}
 use Rattle.swd_host.specs.Plain.{memory_after, answers_of}
 use Rattle.swd_host.specs.PlainRuns.{IsPlainWithRoom}
+use Rattle.swd_host.specs.declared.task.Bursts.{Bursts}
+use Rattle.swd_host.specs.Tasks.{bursts_limit}
 use Rattle.swd_host.specs.Reports.{HostReport, Fits, IsAtRest, RunsWithin}
 use Rattle.swd_host.specs.Again.{Again, ResumePlacesBelow, ResumesOver, resume_added, resume_own_report}
 use Rattle.swd_host.specs.Again.{resume_repeats_of}
 use Rattle.swd_host.specs.Resuming.{resume_begun}
 
 -- THE CALLS
--- A run or a block at the port s with at most `limit` begun accesses, and the calls of `resume` after it. The arguments
--- after s are the reports of all calls but the last, the first one first, the last report, and the port at the end.
-pub data ResumedCalls (limit : ℕ) (list : List Access) (s : Port) : List HostReport → HostReport → Port → Type 0 where
-  ran : {told : HostReport} {t : Port} → (tries : ℕ) → RunsWithin limit list tries told s t
-      → ResumedCalls limit list s [] told t
-  resumed : {calls : List HostReport} {earlier told : HostReport} {t u : Port}
-      → ResumedCalls limit list s calls earlier t
-      → (tries : ℕ) → told.answers ≡ earlier.answers ++ resume_added earlier told
-      → ResumesOver list tries earlier told t u → ResumedCalls limit list s (calls ++ earlier ∷ []) told u
+-- A run at the port s with this kind of bursts, and the calls of `resume` after it, each with a kind of its own. The
+-- arguments after s are the reports of all calls but the last, the first one first, the last report, and the port at
+-- the end.
+pub data ResumedCalls (kind : Bursts) (list : List Access) (s : Port) : List HostReport → HostReport → Port → Type 0
+  where
+    ran : {told : HostReport} {t : Port} → (tries : ℕ) → RunsWithin kind list tries told s t
+        → ResumedCalls kind list s [] told t
+    resumed : {calls : List HostReport} {earlier told : HostReport} {t u : Port}
+        → ResumedCalls kind list s calls earlier t
+        → (next : Bursts) (tries : ℕ) → told.answers ≡ earlier.answers ++ resume_added earlier told
+        → ResumesOver next list tries earlier told t u → ResumedCalls kind list s (calls ++ earlier ∷ []) told u
 
 -- WHAT THEY DID
 -- The same calls over memories, from m to `now`. Each call after the first is a run over the rest of the list, from the
@@ -39,9 +43,9 @@ pub data ResumeChain (limit : ℕ) (list : List Access) (m : Bus) : List HostRep
 
 -- over a target at rest, such a chain leads to each memory that the last port may become
 abbrev pub ResumedCallsAreChained : Type 0
-ResumedCallsAreChained = (limit : ℕ) (list : List Access) (s : Port) (calls : List HostReport) (told : HostReport)
-    (t : Port) → IsAtRest s → ResumedCalls limit list s calls told t → (now : Bus) → MayBecome t now
-    → ResumeChain limit list s.target.memory calls told now
+ResumedCallsAreChained = (kind : Bursts) (list : List Access) (s : Port) (calls : List HostReport) (told : HostReport)
+    (t : Port) → IsAtRest s → ResumedCalls kind list s calls told t → (now : Bus) → MayBecome t now
+    → ResumeChain (bursts_limit kind) list s.target.memory calls told now
 
 -- n places, from i on
 abbrev pub resume_places_from : ℕ → ℕ → List ℕ

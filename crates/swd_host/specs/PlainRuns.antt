@@ -11,6 +11,8 @@ use Rattle.swd_port.specs.Completion.{port_completed}
 use Rattle.swd_host.specs.declared.outcome.End.TheVariants.{All}
 use Rattle.swd_port.specs.PlainBus.{IsPlain, plain_logged}
 use Rattle.swd_host.specs.Plain.{memory_after}
+use Rattle.swd_host.specs.declared.task.Bursts.{Bursts}
+use Rattle.swd_host.specs.Tasks.{bursts_limit}
 use Rattle.swd_host.specs.Reports.{HostReport, IsAtRest, RunsWithin, Fits}
 
 -- the answers of a plain memory to a list of accesses, in order
@@ -49,8 +51,8 @@ pub record RunsPlainly (limit : ℕ) (list : List Access) (told : HostReport) (s
   pub later : (c : Choice) → FitsPlainly limit list (plain_of s.target.memory) told (port_completed c t).target.memory
 
 abbrev pub RunsOverPlain : Type 0
-RunsOverPlain = (limit : ℕ) (list : List Access) (tries : ℕ) (told : HostReport) (s t : Port) → IsAtRest s
-    → IsPlain s.target.memory → RunsWithin limit list tries told s t → RunsPlainly limit list told s t
+RunsOverPlain = (kind : Bursts) (list : List Access) (tries : ℕ) (told : HostReport) (s t : Port) → IsAtRest s
+    → IsPlain s.target.memory → RunsWithin kind list tries told s t → RunsPlainly (bursts_limit kind) list told s t
 
 -- the bus is a plain memory, and after this list its log has room for so many more transfers
 pub record IsPlainWithRoom (more : ℕ) (list : List Access) (m : Bus) : Type 0 where

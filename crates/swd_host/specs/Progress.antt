@@ -13,6 +13,8 @@ use Rattle.swd_host.specs.declared.engine.Phase.TheVariants.{Ask}
 use Rattle.swd_host.specs.declared.engine.State.{State}
 use Rattle.swd_host.specs.declared.engine.State.TheVariants.{Leading, Doing, Resting}
 use Rattle.swd_host.specs.declared.engine.Engine.{Engine}
+use Rattle.swd_host.specs.declared.task.Bursts.{Bursts}
+use Rattle.swd_host.specs.Tasks.{event_requests}
 
 -- REQUESTS STILL OPEN: the most before the next outcome, without an event
 abbrev pub engine_left_at_place : HostStep → ℕ
@@ -42,28 +44,31 @@ engine_left_when_cleared Confirm = 0
 engine_left_when_cleared Behind = 2
 engine_left_when_cleared p = engine_left_at_place p
 
-abbrev pub engine_left_for : Job → ℕ
-engine_left_for (At p) = engine_left_at_place p
-engine_left_for (Resend p) = engine_left_at_resend p
-engine_left_for (Status p) = engine_left_at_place p - 1
-engine_left_for LastStatus = 1
-engine_left_for (Clear p owed) = if owed.error then engine_left_when_cleared p + 2 else engine_left_at_place p + 3
-engine_left_for (Check p owed) = if owed.error then engine_left_when_cleared p + 1 else engine_left_at_place p + 2
+abbrev pub engine_left_for : Bursts → Job → ℕ
+engine_left_for kind (At p) = engine_left_at_place p
+engine_left_for kind (Resend p) = engine_left_at_resend p
+engine_left_for kind (Status p) = engine_left_at_place p - 1
+engine_left_for kind LastStatus = 1
+engine_left_for kind (Clear p owed) =
+    if owed.error then engine_left_when_cleared p + 2 else engine_left_at_place p + (event_requests kind - 2)
+engine_left_for kind (Check p owed) =
+    if owed.error then engine_left_when_cleared p + 1 else engine_left_at_place p + (event_requests kind - 3)
 
-abbrev pub engine_left_in : State → ℕ
-engine_left_in Leading = 10
-engine_left_in (Doing job Ask) = engine_left_for job
-engine_left_in (Doing job phase) = engine_left_for job - 1
-engine_left_in (Resting Opened) = 1
-engine_left_in (Resting outcome) = 0
+abbrev pub engine_left_in : Bursts → State → ℕ
+engine_left_in kind Leading = 10
+engine_left_in kind (Doing job Ask) = engine_left_for kind job
+engine_left_in kind (Doing job phase) = engine_left_for kind job - 1
+engine_left_in kind (Resting Opened) = 1
+engine_left_in kind (Resting outcome) = 0
 
 -- the flag of a transfer that was left pending may cost five more
 abbrev pub engine_stray_left : Bool → ℕ
 engine_stray_left stray = if stray then 5 else 0
 
--- the most requests of an engine before its next outcome: each event may cost five more
+-- the most requests of an engine before its next outcome, with those of the events that it may still meet
 abbrev pub engine_open_requests : Engine → ℕ
-engine_open_requests e = 5 * (e.tries - e.events) + engine_stray_left e.stray + engine_left_in e.state
+engine_open_requests e =
+    event_requests e.bursts * (e.tries - e.events) + engine_stray_left e.stray + engine_left_in e.bursts e.state
 
 -- whether a data phase, a turnaround or the lead comes before the next request
 abbrev pub engine_moves_first : State → ℕ

@@ -28,7 +28,7 @@ pub record EngineTookData (bits : ℕ) (e f : Engine) : Type 0 where
   pub early : DataKeepsResumedOpening (data_phase_word bits) e f
   pub meets : EngineMeetsRead (data_phase_word bits) e f
   pub goes : engine_job_is_of false (engine_job e.state) ≡ true
-      → EngineGoesTo (engine_after_read (engine_job e.state) (data_phase_word bits) e.task e.aims) f.state
+      → EngineGoesTo (engine_after_read (engine_job e.state) (data_phase_word bits) e.task e.aims e.bursts) f.state
   pub rests : EngineRestsWith (engine_ahead_to (engine_job e.state) e.task) f.state f.ahead
 
 -- an engine after a lead, the data phase of a write or a turnaround

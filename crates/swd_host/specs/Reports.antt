@@ -18,6 +18,9 @@ use Rattle.swd_host.specs.declared.outcome.Refused.{Refused}
 use Rattle.swd_host.specs.declared.outcome.Refused.TheVariants.{TooMany, Unaligned, Memory}
 use Rattle.swd_host.specs.declared.outcome.End.{End}
 use Rattle.swd_host.specs.declared.outcome.End.TheVariants.{All, Lost, TriesOut}
+use Rattle.swd_host.specs.declared.task.Bursts.{Bursts}
+use Rattle.swd_host.specs.declared.task.Bursts.TheVariants.{Writes}
+use Rattle.swd_host.specs.Tasks.{bursts_limit, event_requests}
 use Rattle.swd_host.specs.Plain.{memory_after, answers_of, AreHostAccesses, host_access_is_aligned}
 use Rattle.swd_port.specs.Registers.{port_select_zero}
 
@@ -85,14 +88,13 @@ abbrev pub host_due_at_end : End → Due
 host_due_at_end Lost = DueLost
 host_due_at_end end = Nothing
 
--- the most requests of n accesses, where each meets at most `tries` events: an access takes six, and an event costs
--- five more
-abbrev pub host_list_requests : ℕ → ℕ → ℕ
-host_list_requests tries n = n * (6 + 5 * tries)
+-- the most requests of n accesses, where each takes six and meets at most `tries` events
+abbrev pub host_list_requests : Bursts → ℕ → ℕ → ℕ
+host_list_requests kind tries n = n * (6 + event_requests kind * tries)
 
 -- the most requests of an opening, which takes ten, and of n accesses
-abbrev pub host_most_requests : ℕ → ℕ → ℕ
-host_most_requests tries n = 10 + 5 * tries + host_list_requests tries n
+abbrev pub host_most_requests : Bursts → ℕ → ℕ → ℕ
+host_most_requests kind tries n = 10 + event_requests kind * tries + host_list_requests kind tries n
 
 -- What holds of a report whatever the other end did. It has no more answers than the list has accesses, and all of them
 -- at `All`. At most `limit` accesses are begun. `next`, what is due on the wire, follows from the end. The number of
@@ -106,13 +108,14 @@ pub record ClosesWithin (most : ℕ → ℕ) (limit : ℕ) (list : List Access) 
     pub spends : told.requests ≤ most (min (length list) (length told.answers + 1))
 
 -- the same for a call that opens the target first, with `spare` more requests
-abbrev pub Closes : ℕ → ℕ → List Access → ℕ → HostReport → Due → Type 0
-Closes spare limit list tries told next =
-    ClosesWithin (λ n. spare + host_most_requests tries n) limit list told next
+abbrev pub Closes : ℕ → Bursts → List Access → ℕ → HostReport → Due → Type 0
+Closes spare kind list tries told next =
+    ClosesWithin (λ n. spare + host_most_requests kind tries n) (bursts_limit kind) list told next
 
 -- the same for a list over an open target
-abbrev pub ListCloses : ℕ → List Access → ℕ → HostReport → Due → Type 0
-ListCloses limit list tries told next = ClosesWithin (host_list_requests tries) limit list told next
+abbrev pub ListCloses : Bursts → List Access → ℕ → HostReport → Due → Type 0
+ListCloses kind list tries told next =
+    ClosesWithin (host_list_requests kind tries) (bursts_limit kind) list told next
 
 -- WHERE WHAT WAS OBSERVED IS CONSISTENT WITH THE MODEL
 
@@ -156,29 +159,31 @@ HostEndsAt end tries s t = ⊥
 -- The theorem of a call over a target with the bus m, which takes `opening` requests at least before its list, and no
 -- more where none is disturbed. The report fits the bus at the end, and the bus once a transfer that is still
 -- pending has taken effect. The call stops early only at a lost acknowledgement or after more than `tries` disturbed
--- requests. At most `limit` unanswered accesses are begun.
-pub record RunFitsFrom (opening limit : ℕ) (list : List Access) (tries : ℕ) (m : Bus) (told : HostReport) (s t : Port)
-    : Type 0 where
-  pub now : FitsFrom opening limit list m told t.target.memory
-  pub later : (c : Choice) → FitsFrom opening limit list m told (port_completed c t).target.memory
+-- requests. The kind of the bursts decides how many unanswered accesses are begun at most, and how many requests a
+-- disturbance takes.
+pub record RunFitsFrom (opening : ℕ) (kind : Bursts) (list : List Access) (tries : ℕ) (m : Bus) (told : HostReport)
+    (s t : Port) : Type 0 where
+  pub now : FitsFrom opening (bursts_limit kind) list m told t.target.memory
+  pub later : (c : Choice) → FitsFrom opening (bursts_limit kind) list m told (port_completed c t).target.memory
   pub ends : HostEndsAt told.ended tries s t
   pub stops_only : t.tally.lost ≡ s.tally.lost → t.tally.disturbed ≤ s.tally.disturbed + tries → told.ended ≡ All
   pub counted : t.tally.asked ≡ s.tally.asked + told.requests
   pub least : told.ended ≡ All → opening + length list ≤ told.requests
-  pub most : told.requests ≤ opening + 6 * length list + 5 * (t.tally.disturbed - s.tally.disturbed)
+  pub most : told.requests ≤ opening + 6 * length list
+      + event_requests kind * (t.tally.disturbed - s.tally.disturbed)
 
 -- the theorem of a run, which opens the target by nine requests
-abbrev pub RunFits : ℕ → List Access → ℕ → Bus → HostReport → Port → Port → Type 0
-RunFits limit list tries m told s t = RunFitsFrom 9 limit list tries m told s t
+abbrev pub RunFits : Bursts → List Access → ℕ → Bus → HostReport → Port → Port → Type 0
+RunFits kind list tries m told s t = RunFitsFrom 9 kind list tries m told s t
 
 -- the same for every target at rest, whatever its memory; a simulated target that was just made is at rest
-abbrev pub RunsWithin : ℕ → List Access → ℕ → HostReport → Port → Port → Type 0
-RunsWithin limit list tries told s t = IsAtRest s → RunFits limit list tries s.target.memory told s t
+abbrev pub RunsWithin : Bursts → List Access → ℕ → HostReport → Port → Port → Type 0
+RunsWithin kind list tries told s t = IsAtRest s → RunFits kind list tries s.target.memory told s t
 
 -- the theorem of a list over an open target: no request comes before it
-abbrev pub ListsWithin : ℕ → List Access → ℕ → HostReport → Port → Port → Type 0
-ListsWithin limit list tries told s t = HostIsOpen s → RunFitsFrom 0 limit list tries s.target.memory told s t
+abbrev pub ListsWithin : Bursts → List Access → ℕ → HostReport → Port → Port → Type 0
+ListsWithin kind list tries told s t = HostIsOpen s → RunFitsFrom 0 kind list tries s.target.memory told s t
 
--- the same for a run, in which at most one unanswered access is begun
+-- the same for a run with bursts of writes, in which at most one unanswered access is begun
 abbrev pub RunsOver : List Access → ℕ → HostReport → Port → Port → Type 0
-RunsOver list tries told s t = RunsWithin 1 list tries told s t
+RunsOver list tries told s t = RunsWithin Writes list tries told s t

@@ -1,5 +1,5 @@
 -- The requests that a host sends: the opening, an access, and what follows an error.
-use Rattle.std.specs.Prelude.{ℕ, Bool, true, false, not, if◌then◌else◌, Option, Some, None, is_some}
+use Rattle.std.specs.Prelude.{ℕ, Bool, true, false, not, if◌then◌else◌, Option, Some, None, is_some, unwrap_or}
 use Rattle.swd_bits.specs.declared.request.Request.{Request}
 use Rattle.swd_port.specs.PlainMemory.{plain_address}
 use Rattle.swd_port.specs.Port.{port_request_for}
@@ -9,6 +9,8 @@ use Rattle.swd_port.specs.declared.register.Register.TheVariants.{SelectWrite, R
 use Rattle.swd_port.specs.declared.register.Register.TheVariants.{CswWrite, TarWrite, DrwRead, DrwWrite}
 use Rattle.swd_host.specs.declared.task.Task.{Task}
 use Rattle.swd_host.specs.declared.task.Task.TheVariants.{Read, BurstRead, Write, BurstWrite}
+use Rattle.swd_host.specs.declared.task.Bursts.{Bursts}
+use Rattle.swd_host.specs.declared.task.Bursts.TheVariants.{Never}
 use Rattle.swd_host.specs.declared.request.HostStep.{HostStep}
 use Rattle.swd_host.specs.declared.request.HostStep.TheVariants.{Identify, WriteAbort, CheckCtrlStat, Select, Power}
 use Rattle.swd_host.specs.declared.request.HostStep.TheVariants.{Powered, Configure, ReadCsw, Configured, WriteTar}
@@ -111,6 +113,18 @@ engine_confirmed ReadCsw task aims = Some Configure
 engine_confirmed Transfer task aims = if aims then Some WriteTar else None
 engine_confirmed Confirm task aims = task_drw_place task
 engine_confirmed p task aims = None
+
+-- where the access's DRW write was corrupted, TAR's write is sent again before it: nothing has confirmed it, and a
+-- debug port with a write buffer may have discarded it (IHI 0031, B4)
+abbrev pub engine_repeats_tar : HostStep → Bool → Bursts → Bool
+engine_repeats_tar Confirm aims Never = aims
+engine_repeats_tar p aims kind = false
+
+-- the place to continue from once WDATAERR is cleared: the write that was corrupted, or TAR's before it; else the place
+-- itself
+abbrev pub engine_repeat_place : HostStep → Task → Bool → Bursts → HostStep
+engine_repeat_place p task aims kind =
+    if engine_repeats_tar p aims kind then WriteTar else unwrap_or (engine_confirmed p task aims) p
 
 -- never answered WAIT or FAULT
 abbrev pub engine_place_is_exempt : HostStep → Bool

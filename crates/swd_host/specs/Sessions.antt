@@ -7,6 +7,7 @@ use Rattle.swd_port.specs.Port.{Port, port_made}
 use Rattle.swd_host.specs.declared.outcome.End.TheVariants.{All}
 use Rattle.swd_host.specs.Plain.{memory_after, answers_of}
 use Rattle.swd_host.specs.declared.outcome.End.{End}
+use Rattle.swd_host.specs.declared.task.Bursts.{Bursts}
 use Rattle.swd_host.specs.Reports.{HostIsOpen, HostReport, IsAtRest, ListsWithin, RunsWithin}
 
 -- a target that was just made is at rest, with its memory, where bit 0 of its identification is 1
@@ -18,7 +19,7 @@ pub record HostFindsMadeAtRest : Type 0 where
 pub data HostSession (s : Port) : List Access → List Answer → Port → Type 0 where
   none : HostSession s [] [] s
   then : {done : List Access} {answers : List Answer} {t u : Port} → HostSession s done answers t
-      → (limit tries : ℕ) (list : List Access) (told : HostReport) → RunsWithin limit list tries told t u
+      → (kind : Bursts) (tries : ℕ) (list : List Access) (told : HostReport) → RunsWithin kind list tries told t u
       → told.ended ≡ All → HostSession s (done ++ list) (answers ++ told.answers) u
 
 -- they are as one list with all accesses over the bus, and the target is at rest again
@@ -37,7 +38,7 @@ HostOpens end s t = IsAtRest s → end ≡ All → HostIsOpen t × (t.target.mem
 pub data HostLists (s : Port) : List Access → List Answer → Port → Type 0 where
   none_yet : HostLists s [] [] s
   and_then : {done : List Access} {answers : List Answer} {t u : Port} → HostLists s done answers t
-      → (limit tries : ℕ) (list : List Access) (told : HostReport) → ListsWithin limit list tries told t u
+      → (kind : Bursts) (tries : ℕ) (list : List Access) (told : HostReport) → ListsWithin kind list tries told t u
       → told.ended ≡ All → HostLists s (done ++ list) (answers ++ told.answers) u
 
 -- they are as one list with all accesses over the bus, and the target is open again

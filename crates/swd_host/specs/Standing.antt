@@ -19,7 +19,7 @@ use Rattle.swd_host.specs.declared.engine.Ahead.TheVariants.{Unsent}
 use Rattle.swd_host.specs.declared.engine.Engine.{Engine}
 use Rattle.swd_host.specs.Addresses.{continues_burst}
 use Rattle.swd_host.specs.Plain.{memory_after, answers_of, AreHostAccesses}
-use Rattle.swd_host.specs.Tasks.{access_of_task, is_burst, bursts_limit}
+use Rattle.swd_host.specs.Tasks.{access_of_task, is_burst, bursts_limit, event_requests}
 use Rattle.swd_host.specs.Engines.{engine_begun, engine_is_ahead, engine_outcome, engine_may_start}
 use Rattle.swd_host.specs.Tracks.{EngineHand, EngineTargetUp, EngineWrites, EngineIsReady, hand_of_engine}
 use Rattle.swd_host.specs.Tracks.{EngineDueFits}
@@ -84,7 +84,7 @@ pub record EngineReachedMemory (i : ℕ) (list : List Access) (m : Bus) (o : Eng
   pub answered : answers ≡ answers_of (take i list) m
   pub begun : is_burst e.task ≡ false → e.begun ≡ 0
   pub sent : EngineHasSentFor i o e
-  pub most : e.requests ≤ o.requests + 6 * i + 5 * (met - s.tally.disturbed)
+  pub most : e.requests ≤ o.requests + 6 * i + event_requests o.bursts * (met - s.tally.disturbed)
 
 -- the list has an access at i, which continues a burst after this one
 abbrev pub BurstContinuesAt : List Access → ℕ → Access → Type 0
@@ -100,7 +100,7 @@ pub record EngineStays (i : ℕ) (list : List Access) (o e : Engine) (answers : 
   pub bursts : e.bursts ≡ o.bursts
   pub number : length answers ≡ i
   pub few : e.begun ≤ bursts_limit o.bursts
-  pub spent : e.requests ≤ o.requests + i * (6 + 5 * o.tries)
+  pub spent : e.requests ≤ o.requests + i * (6 + event_requests o.bursts * o.tries)
 
 -- i accesses are answered, from the engine o and the port s at the end of the opening
 pub record EngineStands (i : ℕ) (list : List Access) (o : Engine) (s : Port) (e : Engine) (answers : List Answer)
@@ -140,7 +140,8 @@ pub record EnginePerforms (list : List Access) (o f : Engine) (before after : Li
   pub whole : end ≡ All → length answers ≡ length list
   pub begun : engine_begun f ≤ bursts_limit o.bursts
   pub due : next ≡ host_due_at_end end
-  pub spends : f.requests ≤ o.requests + min (length list) (length answers + 1) * (6 + 5 * o.tries)
+  pub spends : f.requests ≤ o.requests
+      + min (length list) (length answers + 1) * (6 + event_requests o.bursts * o.tries)
 
 -- The result of a list over this memory.
 pub record EngineDoesOver (list : List Access) (m : Bus) (o f : Engine) (answers : List Answer) (end : End)
@@ -152,7 +153,8 @@ pub record EngineDoesOver (list : List Access) (m : Bus) (o f : Engine) (answers
   pub later : FitsFrom o.requests (bursts_limit o.bursts) list m (engine_report answers f end) settled
   pub ends : HostEndsAt end o.tries s t
   pub least : end ≡ All → o.requests + length list ≤ f.requests
-  pub most : f.requests ≤ o.requests + 6 * length list + 5 * (t.tally.disturbed - s.tally.disturbed)
+  pub most : f.requests ≤ o.requests + 6 * length list
+      + event_requests o.bursts * (t.tally.disturbed - s.tally.disturbed)
 
 -- The result of a list for an engine that opened the target as o. Its answers come after the earlier ones.
 pub record EngineDoes (list : List Access) (o f : Engine) (before after : List Answer) (end : End) (s t : Port)

@@ -14,8 +14,9 @@ use Rattle.swd_host.specs.declared.request.Job.TheVariants.{At, Resend, Status, 
 use Rattle.swd_host.specs.declared.request.HostStep.{HostStep}
 use Rattle.swd_host.specs.declared.request.HostStep.TheVariants.{Identify, Confirm, Behind}
 use Rattle.swd_host.specs.declared.task.Task.{Task}
+use Rattle.swd_host.specs.declared.task.Bursts.{Bursts}
 use Rattle.swd_host.specs.Flags.{host_flags_in}
-use Rattle.swd_host.specs.Requests.{engine_reread_job, engine_confirmed, engine_word_is_ignored, engine_next_place}
+use Rattle.swd_host.specs.Requests.{engine_reread_job, engine_repeat_place, engine_word_is_ignored, engine_next_place}
 use Rattle.swd_host.specs.Tasks.{task_is_block, task_is_read}
 
 abbrev pub engine_is_stopped : State → Bool
@@ -89,30 +90,25 @@ engine_after_clearing Confirm = Resting (Answered BusFault)
 engine_after_clearing Behind = Doing (Resend Behind) Ask
 engine_after_clearing p = Doing (At p) Ask
 
--- the place to repeat from: the write that was corrupted, or the place itself
-abbrev pub engine_repeat_place : HostStep → Option HostStep → HostStep
-engine_repeat_place p (Some write) = write
-engine_repeat_place p None = p
-
 -- after the flags are read that ABORT left
-abbrev pub engine_after_check : HostStep → Flags → Flags → Task → Bool → State
-engine_after_check p owed now task aims =
+abbrev pub engine_after_check : HostStep → Flags → Flags → Task → Bool → Bursts → State
+engine_after_check p owed now task aims kind =
     if now.error || now.damaged then Doing (Clear p (record { error = owed.error; damaged = true })) Ask else
-    if owed.error then engine_after_clearing p else Doing (At (engine_repeat_place p (engine_confirmed p task aims)))
-    Ask
+    if owed.error then engine_after_clearing p else Doing (At (engine_repeat_place p task aims kind)) Ask
 
 -- after the data phase of a read: its word, or `None` after wrong parity
-abbrev pub engine_after_read : Job → Option ℕ → Task → Bool → State
-engine_after_read (At p) None task aims = if engine_word_is_ignored p task then engine_after_ignored_word p else Doing
-    (engine_reread_job p) Ask
-engine_after_read (At p) (Some word) task aims =
+abbrev pub engine_after_read : Job → Option ℕ → Task → Bool → Bursts → State
+engine_after_read (At p) None task aims kind =
+    if engine_word_is_ignored p task then engine_after_ignored_word p else Doing (engine_reread_job p) Ask
+engine_after_read (At p) (Some word) task aims kind =
     if engine_word_is_ignored p task then engine_after_ignored_word p else engine_after_value p word
-engine_after_read (Resend p) (Some word) task aims = engine_after_resend p word
-engine_after_read (Status p) (Some word) task aims = engine_after_status p (host_flags_in word) task
-engine_after_read (Check p owed) (Some word) task aims = engine_after_check p owed (host_flags_in word) task aims
-engine_after_read LastStatus (Some word) task aims = engine_confused
-engine_after_read (Clear p owed) (Some word) task aims = engine_confused
-engine_after_read job None task aims = Doing job Ask
+engine_after_read (Resend p) (Some word) task aims kind = engine_after_resend p word
+engine_after_read (Status p) (Some word) task aims kind = engine_after_status p (host_flags_in word) task
+engine_after_read (Check p owed) (Some word) task aims kind =
+    engine_after_check p owed (host_flags_in word) task aims kind
+engine_after_read LastStatus (Some word) task aims kind = engine_confused
+engine_after_read (Clear p owed) (Some word) task aims kind = engine_confused
+engine_after_read job None task aims kind = Doing job Ask
 
 -- the state of the next access of a block where the engine comes to rest
 abbrev pub engine_ahead_sent : Task → Ahead

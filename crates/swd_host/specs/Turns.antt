@@ -25,7 +25,7 @@ use Rattle.swd_host.specs.declared.engine.State.{State}
 use Rattle.swd_host.specs.declared.engine.State.TheVariants.{Leading, Doing, Resting}
 use Rattle.swd_host.specs.declared.engine.Engine.{Engine}
 use Rattle.swd_host.specs.Addresses.{engine_knows_address, continues_burst}
-use Rattle.swd_host.specs.Tasks.{task_for, access_of_task, is_burst, task_is_block, task_most_begun}
+use Rattle.swd_host.specs.Tasks.{task_for, access_of_task, is_burst, task_is_block, task_most_begun, event_requests}
 use Rattle.swd_host.specs.Engines.{engine_is_ahead, engine_is_resting, engine_job}
 use Rattle.swd_host.specs.Progress.{engine_left_for, engine_left_in, engine_stray_left, engine_least_for}
 use Rattle.swd_host.specs.Progress.{engine_least_in, engine_open_requests, engine_state_is_of, engine_is_quiet}
@@ -113,26 +113,28 @@ pub record EngineLands (open_then sent_then : ℕ) (x : State) (e f : Engine) : 
   pub bursts : f.bursts ≡ e.bursts
   pub begun : f.begun ≡ engine_begun_left f.state e.task e.begun
   pub never : engine_stops_at_all f.state ≡ false
-  pub left : engine_open_requests f ≤ 5 * (e.tries - e.events) + engine_stray_left e.stray + open_then
+  pub left : engine_open_requests f ≤ event_requests e.bursts * (e.tries - e.events) + engine_stray_left e.stray
+      + open_then
   pub least : engine_least_in f.aims f.state ≤ sent_then
   pub part : (opening : Bool) → engine_state_is_of opening x ≡ true → engine_state_is_of opening f.state ≡ true
   pub quiet : engine_is_quiet f.state ≡ true
 
 -- after the data phase or turnaround of a job
 abbrev pub EngineLandsFromJob : Job → Phase → Engine → Engine → Type 0
-EngineLandsFromJob job phase e f = EngineLands (engine_left_for job - 1) (engine_least_for e.aims job + 1)
+EngineLandsFromJob job phase e f = EngineLands (engine_left_for e.bursts job - 1) (engine_least_for e.aims job + 1)
     (Doing job phase) e f
 
--- after an event: this request is sent, which the event's five requests cover
+-- after an event: this request is sent, which the event's requests cover
 abbrev pub EngineLandsAtEvent : Job → Engine → Engine → Type 0
-EngineLandsAtEvent job e f = EngineLands (engine_left_for job - 5) (engine_least_for e.aims job) (Doing job Ask) e f
+EngineLandsAtEvent job e f = EngineLands (engine_left_for e.bursts job - event_requests e.bursts)
+    (engine_least_for e.aims job) (Doing job Ask) e f
 
 -- the access is answered
 abbrev pub EngineLandsAnswered : Engine → Engine → Type 0
 EngineLandsAnswered e f = EngineLands 0 (bit e.aims + 2) (Doing (At Confirm) Data) e f
 
 abbrev pub engine_lands_from : Engine → Engine → Type 0
-engine_lands_from e f = EngineLands (engine_left_in e.state) (engine_least_in e.aims e.state) e.state e f
+engine_lands_from e f = EngineLands (engine_left_in e.bursts e.state) (engine_least_in e.aims e.state) e.state e f
 
 -- WHAT AN ENGINE AND THE PORT AT THE OTHER END KEEP, from one moment to a later one; the count of requests doesn't
 -- saturate
@@ -174,7 +176,8 @@ pub record EngineGoesWithPort (e : Engine) (s : Port) (f : Engine) (t : Port) : 
   -- of the bound unused
   pub lost_early : engine_is_resting e ≡ false → (base : EngineBase) (start : Port) → EngineResumes base start e s
       → engine_state_is_of true e.state ≡ true →
-      f.state ≡ Resting (Stopped Lost) → f.requests + 1 + 5 * (f.tries - f.events) ≤ e.requests + engine_open_requests e
+      f.state ≡ Resting (Stopped Lost)
+      → f.requests + 1 + event_requests f.bursts * (f.tries - f.events) ≤ e.requests + engine_open_requests e
 
 -- an access from its start on
 abbrev pub EngineAccessGoes : Access → Option Access → Engine → Port → Engine → Port → Type 0

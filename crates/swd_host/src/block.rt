@@ -4,6 +4,7 @@ ghost use Rattle.swd_port.specs.declared.wire.Due.TheVariants.{Nothing};
 ghost use Rattle.swd_port.specs.PlainMemory.{plain_reads};
 ghost use Rattle.swd_host.specs.Plain.{AreHostAccesses};
 ghost use Rattle.swd_host.specs.Sent.{HostCalls, HostReportsCalls};
+ghost use Rattle.swd_host.specs.declared.task.Bursts.TheVariants.{Reads};
 ghost use Rattle.swd_host.specs.Reports.{Closes, HostRefusesList, RunsWithin, host_report_of};
 
 use crate::engine::Engine;
@@ -32,9 +33,9 @@ pub fn run_block<W: Wire, A: Allocator + Copy>(
     requires due { (W.port wire.old).link.due ≡ Nothing }
     requires range { addr + 4 * count ≤ 2 ^ 32 }
     ensures closes { IfOk result (λ report.
-        Closes 0 2 (plain_reads addr count) tries (host_report_of report) (W.port wire.new).link.due) }
+        Closes 0 Reads (plain_reads addr count) tries (host_report_of report) (W.port wire.new).link.due) }
     ensures fits { IfOk result (λ report. W.lawful wire.new → W.lawful wire.old
-        × RunsWithin 2 (plain_reads addr count) tries (host_report_of report) (W.port wire.old) (W.port wire.new)) }
+        × RunsWithin Reads (plain_reads addr count) tries (host_report_of report) (W.port wire.old) (W.port wire.new)) }
     ensures accepted { IfOk result (λ report. (count ≤ 65536) × AreHostAccesses (plain_reads addr count)) }
     ensures refused { IfErr result (HostRefusesList (plain_reads addr count)) }
     ensures untouched { IfErr result (λ refused. wire.new ≡ wire.old) }

@@ -14,7 +14,7 @@ ghost use Rattle.swd_host.specs.Replies.{EngineTookReply};
 ghost use Rattle.swd_host.specs.Standing.{EngineIsOpened};
 ghost use Rattle.swd_host.specs.Steps.{EngineGoesTo, EngineRestsWith, engine_ahead_to, engine_after_read};
 ghost use Rattle.swd_host.specs.Steps.{engine_after_cue};
-ghost use Rattle.swd_host.specs.Tasks.{resumed_bursts};
+ghost use Rattle.swd_host.specs.Tasks.{event_requests, resumed_bursts};
 ghost use Rattle.swd_host.specs.Turns.{EngineIsNew, EngineStarts, EngineSeesAck, engine_first_state, engine_lands_from};
 ghost use Rattle.swd_host.specs.Tracks.{EngineDueFits, EngineHasReadData, EngineHasSentCue, EngineHearsAck};
 ghost use Rattle.swd_host.specs.Tracks.{EngineCallKeeps, engine_state_after_ack};
@@ -118,7 +118,7 @@ impl Engine {
     /// Creates an engine at the start of the opening. The opening, and each access, may meet up to `tries` events.
     pub fn new(tries: u32) -> Engine
         ensures new { EngineIsNew Bursts.Writes false tries result }
-        ensures open { engine_open_requests result ≤ 9 + 5 * (tries + 1) }
+        ensures open { engine_open_requests result ≤ 9 + event_requests Bursts.Writes * (tries + 1) }
         ensures fits { (s : Port) → s.link.due ≡ Nothing → EngineDueFits result s }
     {
         Engine {
@@ -140,7 +140,7 @@ impl Engine {
     /// next access returns the word of a read.
     pub fn blocks(tries: u32) -> Engine
         ensures new { EngineIsNew Bursts.Reads false tries result }
-        ensures open { engine_open_requests result ≤ 9 + 5 * (tries + 1) }
+        ensures open { engine_open_requests result ≤ 9 + event_requests Bursts.Reads * (tries + 1) }
         ensures fits { (s : Port) → s.link.due ≡ Nothing → EngineDueFits result s }
     {
         Engine::opening(Bursts::Reads, tries)
@@ -149,7 +149,7 @@ impl Engine {
     /// Creates an engine for bursts of this kind, at the start of the opening.
     pub fn opening(bursts: Bursts, tries: u32) -> Engine
         ensures new { EngineIsNew bursts false tries result }
-        ensures open { engine_open_requests result ≤ 9 + 5 * (tries + 1) }
+        ensures open { engine_open_requests result ≤ 9 + event_requests bursts * (tries + 1) }
         ensures fits { (s : Port) → s.link.due ≡ Nothing → EngineDueFits result s }
     {
         let mut engine = Engine::new(tries);
@@ -161,7 +161,7 @@ impl Engine {
     /// [`resuming`](Engine::resuming) does with `Bursts::Writes`.
     pub fn again(tries: u32) -> Engine
         ensures again { EngineIsNew Bursts.Writes true tries result }
-        ensures open { engine_open_requests result ≤ 9 + 5 * (tries + 2) }
+        ensures open { engine_open_requests result ≤ 9 + event_requests Bursts.Writes * (tries + 2) }
         ensures fits { (s : Port) → EngineDueFits result s }
     {
         Engine::resuming(Bursts::Writes, tries)
@@ -178,7 +178,7 @@ impl Engine {
     /// again.
     pub fn resuming(bursts: Bursts, tries: u32) -> Engine
         ensures again { EngineIsNew (resumed_bursts bursts) true tries result }
-        ensures open { engine_open_requests result ≤ 9 + 5 * (tries + 2) }
+        ensures open { engine_open_requests result ≤ 9 + event_requests (resumed_bursts bursts) * (tries + 2) }
         ensures fits { (s : Port) → EngineDueFits result s }
     {
         let mut engine = Engine::new(tries);
@@ -191,7 +191,8 @@ impl Engine {
     /// bursts.
     pub fn resumed(&self, tries: u32) -> Engine
         ensures again { EngineIsNew (resumed_bursts (engine_bursts self.now)) true tries result }
-        ensures open { engine_open_requests result ≤ 9 + 5 * (tries + 2) }
+        ensures open { engine_open_requests result ≤ 9
+            + event_requests (resumed_bursts (engine_bursts self.now)) * (tries + 2) }
         ensures fits { (s : Port) → EngineDueFits result s }
     {
         Engine::resuming(self.bursts, tries)
@@ -221,7 +222,8 @@ impl Engine {
     pub fn start(&mut self, access: Access, following: Option<Access>)
         requires rests { engine_may_start (engine_outcome self.old) ≡ true }
         ensures starts { EngineStarts access following self.old self.new }
-        ensures open { engine_open_requests self.new ≤ 9 + 5 * (engine_tries self.old + 1) }
+        ensures open { engine_open_requests self.new ≤ 9
+            + event_requests (engine_bursts self.old) * (engine_tries self.old + 1) }
     {
         let given = self.is_ahead();
         let failed = !given && matches!(&self.ahead, Ahead::Failed);
@@ -391,7 +393,7 @@ impl Engine {
         ensures meets { EngineMeetsRead (data_phase_word bits) self.old self.new }
         ensures goes { engine_job_is_of false (engine_job self.old.state) ≡ true
             → EngineGoesTo (engine_after_read (engine_job self.old.state) (data_phase_word bits) self.old.task
-            self.old.aims) self.new.state }
+            self.old.aims self.old.bursts) self.new.state }
         ensures rests { EngineRestsWith (engine_ahead_to (engine_job self.old.state) self.old.task) self.new.state
             self.new.ahead }
     {

@@ -5,7 +5,6 @@ ghost use Rattle.std.specs.Vec.{vec_capacity};
 ghost use Rattle.swd_port.specs.declared.wire.Due.TheVariants.{Nothing};
 ghost use Rattle.swd_port.specs.PlainMemory.{plain_reads};
 ghost use Rattle.swd_host.specs.Plain.{AreHostAccesses};
-ghost use Rattle.swd_host.specs.Tasks.{bursts_limit};
 ghost use Rattle.swd_host.specs.declared.outcome.Refused.TheVariants.{Memory};
 ghost use Rattle.swd_host.specs.Reports.{Closes, HostRefusesList, ListCloses, ListsWithin, RunsOver, host_report_of};
 ghost use Rattle.swd_host.specs.Reports.{host_report_to};
@@ -27,7 +26,7 @@ use swd_port::{Access, Answer, Wire};
 /// Whatever the other end sends, the call ends after at most `10 + 5 * tries` requests.
 pub fn open_target<W: Wire>(wire: &mut W, tries: u32) -> Ending
     requires { (W.port wire.old).link.due ≡ Nothing }
-    ensures closes { Closes 0 1 [] tries (host_report_to [] result) (W.port wire.new).link.due }
+    ensures closes { Closes 0 Bursts.Writes [] tries (host_report_to [] result) (W.port wire.new).link.due }
     ensures fits { W.lawful wire.new → W.lawful wire.old
         × RunsOver [] tries (host_report_to [] result) (W.port wire.old) (W.port wire.new) }
     ensures opens { W.lawful wire.new → HostOpens result.ended (W.port wire.old) (W.port wire.new) }
@@ -58,9 +57,9 @@ pub fn run_open<W: Wire, A: Allocator>(
 ) -> Result<Report<A>, Refused>
     requires { (W.port wire.old).link.due ≡ Nothing }
     ensures closes { IfOk result (λ report.
-        ListCloses 1 accesses.now tries (host_report_of report) (W.port wire.new).link.due) }
+        ListCloses Bursts.Writes accesses.now tries (host_report_of report) (W.port wire.new).link.due) }
     ensures fits { IfOk result (λ report. W.lawful wire.new → W.lawful wire.old
-        × ListsWithin 1 accesses.now tries (host_report_of report) (W.port wire.old) (W.port wire.new)) }
+        × ListsWithin Bursts.Writes accesses.now tries (host_report_of report) (W.port wire.old) (W.port wire.new)) }
     ensures accepted { IfOk result (λ report. (length accesses.now ≤ 65536) × AreHostAccesses accesses.now) }
     ensures refused { IfErr result (HostRefusesList accesses.now) }
     ensures untouched { IfErr result (λ refused. wire.new ≡ wire.old) }
@@ -94,9 +93,10 @@ pub fn run_open_block<W: Wire, A: Allocator + Copy>(
     requires due { (W.port wire.old).link.due ≡ Nothing }
     requires range { addr + 4 * count ≤ 2 ^ 32 }
     ensures closes { IfOk result (λ report.
-        ListCloses 2 (plain_reads addr count) tries (host_report_of report) (W.port wire.new).link.due) }
+        ListCloses Bursts.Reads (plain_reads addr count) tries (host_report_of report) (W.port wire.new).link.due) }
     ensures fits { IfOk result (λ report. W.lawful wire.new → W.lawful wire.old
-        × ListsWithin 2 (plain_reads addr count) tries (host_report_of report) (W.port wire.old) (W.port wire.new)) }
+        × ListsWithin Bursts.Reads (plain_reads addr count) tries (host_report_of report)
+        (W.port wire.old) (W.port wire.new)) }
     ensures accepted { IfOk result (λ report. (count ≤ 65536) × AreHostAccesses (plain_reads addr count)) }
     ensures refused { IfErr result (HostRefusesList (plain_reads addr count)) }
     ensures untouched { IfErr result (λ refused. wire.new ≡ wire.old) }
@@ -136,10 +136,10 @@ pub fn run_open_to<W: Wire, K: AnswerSink>(
     requires due { (W.port wire.old).link.due ≡ Nothing }
     requires room { length (K.taken sink.old) + length accesses.now ≤ K.most sink.old }
     ensures added { K.taken sink.new ≡ K.taken sink.old ++ drop (length (K.taken sink.old)) (K.taken sink.new) }
-    ensures closes { IfOk result (λ ending. ListCloses (bursts_limit bursts) accesses.now tries
+    ensures closes { IfOk result (λ ending. ListCloses bursts accesses.now tries
         (host_report_to (drop (length (K.taken sink.old)) (K.taken sink.new)) ending) (W.port wire.new).link.due) }
     ensures fits { IfOk result (λ ending. W.lawful wire.new → W.lawful wire.old
-        × ListsWithin (bursts_limit bursts) accesses.now tries
+        × ListsWithin bursts accesses.now tries
         (host_report_to (drop (length (K.taken sink.old)) (K.taken sink.new)) ending)
         (W.port wire.old) (W.port wire.new)) }
     ensures accepted { IfOk result (λ ending. (length accesses.now ≤ 65536) × AreHostAccesses accesses.now) }
@@ -170,10 +170,10 @@ pub(crate) fn conduct_open<W: Wire, K: AnswerSink>(
     requires accepted { (length accesses.now ≤ 65536) × AreHostAccesses accesses.now }
     requires room { length (K.taken sink.old) + length accesses.now ≤ K.most sink.old }
     ensures added { K.taken sink.new ≡ K.taken sink.old ++ drop (length (K.taken sink.old)) (K.taken sink.new) }
-    ensures closes { ListCloses (bursts_limit bursts) accesses.now tries
+    ensures closes { ListCloses bursts accesses.now tries
         (host_report_to (drop (length (K.taken sink.old)) (K.taken sink.new)) result) (W.port wire.new).link.due }
     ensures fits { W.lawful wire.new → W.lawful wire.old
-        × ListsWithin (bursts_limit bursts) accesses.now tries
+        × ListsWithin bursts accesses.now tries
         (host_report_to (drop (length (K.taken sink.old)) (K.taken sink.new)) result)
         (W.port wire.old) (W.port wire.new) }
     ensures plan { W.plan wire.new ≡ W.plan wire.old }
@@ -199,10 +199,10 @@ fn report_open<W: Wire, A: Allocator>(
     requires accepted { (length accesses.now ≤ 65536) × AreHostAccesses accesses.now }
     requires none { answers.items ≡ [] }
     requires room { length accesses.now ≤ vec_capacity answers }
-    ensures closes { ListCloses (bursts_limit bursts) accesses.now tries (host_report_of result)
+    ensures closes { ListCloses bursts accesses.now tries (host_report_of result)
         (W.port wire.new).link.due }
     ensures fits { W.lawful wire.new → W.lawful wire.old
-        × ListsWithin (bursts_limit bursts) accesses.now tries (host_report_of result)
+        × ListsWithin bursts accesses.now tries (host_report_of result)
         (W.port wire.old) (W.port wire.new) }
     ensures plan { W.plan wire.new ≡ W.plan wire.old }
     ensures told { HostCalls W.notes (HostReportsCalls accesses.now (host_report_of result)) wire.old wire.new }

@@ -3,6 +3,7 @@ ghost use Rattle.std.specs.Prelude.{◌≡◌, ◌≤◌, [], IfErr, IfOk, lengt
 ghost use Rattle.swd_port.specs.Outside.{wire_calls};
 ghost use Rattle.swd_port.specs.Stories.{port_due_by, port_at, FitsStory};
 ghost use Rattle.swd_host.specs.Plain.{AreHostAccesses};
+ghost use Rattle.swd_host.specs.declared.task.Bursts.TheVariants.{Writes};
 ghost use Rattle.swd_host.specs.Reports.{Closes, HostRefusesList, RunsOver, host_report_of};
 ghost use Rattle.swd_host.specs.Sent.{HostReportsCalls};
 
@@ -29,7 +30,7 @@ pub fn run_over_transport<T: Transport, S: Story, K: Tie, A: Allocator>(
 ) -> Result<Report<A>, Refused>
     requires { wire_calls wire.old ≡ [] }
     ensures closes { IfOk result (λ report.
-        Closes 0 1 accesses.now tries (host_report_of report) (port_due_by (wire_calls wire.new))) }
+        Closes 0 Writes accesses.now tries (host_report_of report) (port_due_by (wire_calls wire.new))) }
     ensures fits { IfOk result (λ report. FitsStory S.at (wire_calls wire.new)
         → RunsOver accesses.now tries (host_report_of report) (port_at S.at []) (port_at S.at (wire_calls wire.new))) }
     ensures told { IfOk result (λ report. HostReportsCalls accesses.now (host_report_of report) (wire_calls wire.new)) }

@@ -1,11 +1,11 @@
 //! The requests that a host sends: the opening, an access, and what follows an error.
 ghost use Rattle.std.specs.Prelude.{◌≡◌};
 ghost use Rattle.swd_host.specs.Requests.{engine_register_at, engine_register_for, engine_request_for, engine_word_for};
-ghost use Rattle.swd_host.specs.Requests.{engine_next_place, engine_confirmed};
+ghost use Rattle.swd_host.specs.Requests.{engine_next_place, engine_confirmed, engine_repeat_place};
 ghost use Rattle.swd_host.specs.Requests.{engine_reread_job, engine_job_is_exempt, engine_job_starts};
 
 use crate::flags::Flags;
-use crate::task::Task;
+use crate::task::{Bursts, Task};
 use swd_bits::Request;
 use swd_port::{Abort, Csw, CtrlStat, Register, Select};
 
@@ -181,6 +181,18 @@ impl HostStep {
                 _ => Some(HostStep::Transfer),
             },
             _ => None,
+        }
+    }
+
+    // Returns the place to continue from once WDATAERR is cleared: the write that the request here confirms; else the
+    // place itself. Where each write is confirmed by itself, TAR is written again before DRW: a debug port with a write
+    // buffer may have discarded TAR's write (IHI 0031, B4).
+    pub(crate) fn repeats(self, task: Task, aims: bool, bursts: Bursts) -> HostStep
+        ensures { result ≡ engine_repeat_place self task aims bursts }
+    {
+        match (self, bursts) {
+            (HostStep::Confirm, Bursts::Never) if aims => HostStep::WriteTar,
+            _ => self.confirms(task, aims).unwrap_or(self),
         }
     }
 }

@@ -41,12 +41,12 @@ pub fn resume<W: Wire, A: Allocator>(
 ) -> Result<Report<A>, Refused>
     requires accepted { (length accesses.now ≤ 65536) × AreHostAccesses accesses.now }
     requires reported { length (host_report_of report.now).answers ≤ length accesses.now }
-    ensures continues { IfOk result (λ told. ResumeCloses accesses.now tries (host_report_of report.now)
+    ensures continues { IfOk result (λ told. ResumeCloses Bursts.Writes accesses.now tries (host_report_of report.now)
         (host_report_of told)
         (W.port wire.new).link.due) }
     ensures fits { IfOk result (λ told. W.lawful wire.new → W.lawful wire.old
-        × ResumesOver accesses.now tries (host_report_of report.now) (host_report_of told) (W.port wire.old)
-        (W.port wire.new)) }
+        × ResumesOver Bursts.Writes accesses.now tries (host_report_of report.now) (host_report_of told)
+        (W.port wire.old) (W.port wire.new)) }
     ensures refused { IfErr result (λ refused. refused ≡ Memory) }
     ensures untouched { IfErr result (λ refused. wire.new ≡ wire.old) }
     ensures plan { W.plan wire.new ≡ W.plan wire.old }
@@ -82,10 +82,10 @@ pub fn resume_to<W: Wire, K: AnswerSink>(
     requires accepted { (length accesses.now ≤ 65536) × AreHostAccesses accesses.now }
     requires reported { length (K.taken sink.old) ≤ length accesses.now }
     requires room { length accesses.now ≤ K.most sink.old }
-    ensures continues { ResumeCloses accesses.now tries (host_report_to (K.taken sink.old) earlier)
+    ensures continues { ResumeCloses bursts accesses.now tries (host_report_to (K.taken sink.old) earlier)
         (host_report_to (K.taken sink.new) result) (W.port wire.new).link.due }
     ensures fits { W.lawful wire.new → W.lawful wire.old
-        × ResumesOver accesses.now tries (host_report_to (K.taken sink.old) earlier)
+        × ResumesOver bursts accesses.now tries (host_report_to (K.taken sink.old) earlier)
         (host_report_to (K.taken sink.new) result)
         (W.port wire.old) (W.port wire.new) }
     ensures keeps { K.keeps sink.old sink.new }

@@ -8,7 +8,6 @@ ghost use Rattle.swd_host.specs.Calls.{EngineTurns, EngineTurnsFrom, host_idle_c
 ghost use Rattle.swd_host.specs.Plain.{AreHostAccesses, HostAccessHasRanges, host_access_is_aligned};
 ghost use Rattle.swd_host.specs.Engines.{engine_outcome, engine_is_resting, engine_may_start, engine_requests};
 ghost use Rattle.swd_host.specs.Progress.{engine_calls_left, engine_open_requests};
-ghost use Rattle.swd_host.specs.Tasks.{bursts_limit};
 ghost use Rattle.swd_host.specs.Tracks.{EngineDueFits};
 ghost use Rattle.swd_host.specs.Turns.{EngineWorks, EngineAccessWorks, EngineGoesWithPort, EngineAccessGoes};
 ghost use Rattle.swd_host.specs.Turns.{EngineContinuesBurst, EngineIsNew, engine_answer_outcome};
@@ -282,7 +281,7 @@ pub fn run<W: Wire, A: Allocator>(
 ) -> Result<Report<A>, Refused>
     requires { (W.port wire.old).link.due ≡ Nothing }
     ensures closes { IfOk result (λ report.
-        Closes 0 1 accesses.now tries (host_report_of report) (W.port wire.new).link.due) }
+        Closes 0 Bursts.Writes accesses.now tries (host_report_of report) (W.port wire.new).link.due) }
     ensures fits { IfOk result (λ report. W.lawful wire.new → W.lawful wire.old
         × RunsOver accesses.now tries (host_report_of report) (W.port wire.old) (W.port wire.new)) }
     ensures accepted { IfOk result (λ report. (length accesses.now ≤ 65536) × AreHostAccesses accesses.now) }
@@ -322,10 +321,10 @@ pub fn run_to<W: Wire, K: AnswerSink>(
     requires due { (W.port wire.old).link.due ≡ Nothing }
     requires none { K.taken sink.old ≡ [] }
     requires room { length accesses.now ≤ K.most sink.old }
-    ensures closes { IfOk result (λ ending. Closes 0 (bursts_limit bursts) accesses.now tries
+    ensures closes { IfOk result (λ ending. Closes 0 bursts accesses.now tries
         (host_report_to (K.taken sink.new) ending) (W.port wire.new).link.due) }
     ensures fits { IfOk result (λ ending. W.lawful wire.new → W.lawful wire.old
-        × RunsWithin (bursts_limit bursts) accesses.now tries (host_report_to (K.taken sink.new) ending)
+        × RunsWithin bursts accesses.now tries (host_report_to (K.taken sink.new) ending)
         (W.port wire.old) (W.port wire.new)) }
     ensures accepted { IfOk result (λ ending. (length accesses.now ≤ 65536) × AreHostAccesses accesses.now) }
     ensures refused { IfErr result (HostRefusesList accesses.now) }
@@ -356,10 +355,10 @@ pub(crate) fn conduct<W: Wire, A: Allocator>(
     requires accepted { (length accesses.now ≤ 65536) × AreHostAccesses accesses.now }
     requires none { answers.items ≡ [] }
     requires room { length accesses.now ≤ vec_capacity answers }
-    ensures closes { Closes 0 (bursts_limit engine.bursts) accesses.now engine.tries (host_report_of result)
+    ensures closes { Closes 0 engine.bursts accesses.now engine.tries (host_report_of result)
         (W.port wire.new).link.due }
     ensures fits { W.lawful wire.new → W.lawful wire.old
-        × RunsWithin (bursts_limit engine.bursts) accesses.now engine.tries (host_report_of result)
+        × RunsWithin engine.bursts accesses.now engine.tries (host_report_of result)
         (W.port wire.old) (W.port wire.new) }
     ensures plan { W.plan wire.new ≡ W.plan wire.old }
     ensures told { HostCalls W.notes (HostReportsCalls accesses.now (host_report_of result)) wire.old wire.new }
@@ -381,11 +380,11 @@ pub(crate) fn conduct_to<W: Wire, K: AnswerSink>(
     requires accepted { (length accesses.now ≤ 65536) × AreHostAccesses accesses.now }
     requires none { K.taken sink.old ≡ [] }
     requires room { length accesses.now ≤ K.most sink.old }
-    ensures closes { Closes 0 (bursts_limit engine.bursts) accesses.now engine.tries
+    ensures closes { Closes 0 engine.bursts accesses.now engine.tries
         (host_report_to (K.taken sink.new) result)
         (W.port wire.new).link.due }
     ensures fits { W.lawful wire.new → W.lawful wire.old
-        × RunsWithin (bursts_limit engine.bursts) accesses.now engine.tries (host_report_to (K.taken sink.new) result)
+        × RunsWithin engine.bursts accesses.now engine.tries (host_report_to (K.taken sink.new) result)
         (W.port wire.old) (W.port wire.new) }
     ensures plan { W.plan wire.new ≡ W.plan wire.old }
     ensures told { HostCalls W.notes (HostReportsCalls accesses.now (host_report_to (K.taken sink.new) result)) wire.old

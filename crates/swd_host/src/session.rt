@@ -3,7 +3,6 @@ ghost use Rattle.std.specs.Prelude.{◌≡◌, ◌≤◌, ◌+◌, ◌*◌, ◌^
 ghost use Rattle.swd_port.specs.declared.wire.Due.TheVariants.{Nothing};
 ghost use Rattle.swd_port.specs.PlainMemory.{plain_reads};
 ghost use Rattle.swd_host.specs.Plain.{AreHostAccesses};
-ghost use Rattle.swd_host.specs.Tasks.{bursts_limit};
 ghost use Rattle.swd_host.specs.Again.{ResumeCloses, ResumesOver, ResumeReportsCalls};
 ghost use Rattle.swd_host.specs.Resuming.{host_end_is_all};
 ghost use Rattle.swd_host.specs.Reports.{Closes, HostRefusesList, ListCloses, ListsWithin, RunsOver, host_report_of};
@@ -70,7 +69,8 @@ impl<'w, W: Wire> Session<'w, W> {
         ensures wire { self.new.wire.ghost_name ≡ self.old.wire.ghost_name }
         ensures tries { self.new.tries ≡ self.old.tries }
         ensures ready { self.new.ready ≡ host_end_is_all result.ended }
-        ensures closes { Closes 0 1 [] self.old.tries (host_report_to [] result) (W.port self.new.wire.now).link.due }
+        ensures closes { Closes 0 Bursts.Writes [] self.old.tries (host_report_to [] result)
+            (W.port self.new.wire.now).link.due }
         ensures fits { W.lawful self.new.wire.now → W.lawful self.old.wire.now
             × RunsOver [] self.old.tries (host_report_to [] result) (W.port self.old.wire.now)
             (W.port self.new.wire.now) }
@@ -97,10 +97,10 @@ impl<'w, W: Wire> Session<'w, W> {
         ensures wire { self.new.wire.ghost_name ≡ self.old.wire.ghost_name }
         ensures tries { self.new.tries ≡ self.old.tries }
         ensures ready { IfOk result (λ report. self.new.ready ≡ host_end_is_all report.ended) }
-        ensures closes { IfOk result (λ report. ListCloses 1 accesses.now self.old.tries (host_report_of report)
-            (W.port self.new.wire.now).link.due) }
+        ensures closes { IfOk result (λ report. ListCloses Bursts.Writes accesses.now self.old.tries
+            (host_report_of report) (W.port self.new.wire.now).link.due) }
         ensures fits { IfOk result (λ report. W.lawful self.new.wire.now → W.lawful self.old.wire.now
-            × ListsWithin 1 accesses.now self.old.tries (host_report_of report)
+            × ListsWithin Bursts.Writes accesses.now self.old.tries (host_report_of report)
             (W.port self.old.wire.now) (W.port self.new.wire.now)) }
         ensures accepted { IfOk result (λ report. (length accesses.now ≤ 65536) × AreHostAccesses accesses.now) }
         ensures refused { IfErr result (HostRefusesList accesses.now) }
@@ -134,11 +134,11 @@ impl<'w, W: Wire> Session<'w, W> {
         ensures tries { self.new.tries ≡ self.old.tries }
         ensures ready { IfOk result (λ ending. self.new.ready ≡ host_end_is_all ending.ended) }
         ensures added { K.taken sink.new ≡ K.taken sink.old ++ drop (length (K.taken sink.old)) (K.taken sink.new) }
-        ensures closes { IfOk result (λ ending. ListCloses (bursts_limit bursts) accesses.now self.old.tries
+        ensures closes { IfOk result (λ ending. ListCloses bursts accesses.now self.old.tries
             (host_report_to (drop (length (K.taken sink.old)) (K.taken sink.new)) ending)
             (W.port self.new.wire.now).link.due) }
         ensures fits { IfOk result (λ ending. W.lawful self.new.wire.now → W.lawful self.old.wire.now
-            × ListsWithin (bursts_limit bursts) accesses.now self.old.tries
+            × ListsWithin bursts accesses.now self.old.tries
             (host_report_to (drop (length (K.taken sink.old)) (K.taken sink.new)) ending)
             (W.port self.old.wire.now) (W.port self.new.wire.now)) }
         ensures accepted { IfOk result (λ ending. (length accesses.now ≤ 65536) × AreHostAccesses accesses.now) }
@@ -175,10 +175,10 @@ impl<'w, W: Wire> Session<'w, W> {
         ensures wire { self.new.wire.ghost_name ≡ self.old.wire.ghost_name }
         ensures tries { self.new.tries ≡ self.old.tries }
         ensures ready { IfOk result (λ report. self.new.ready ≡ host_end_is_all report.ended) }
-        ensures closes { IfOk result (λ report. ListCloses 2 (plain_reads addr count) self.old.tries
+        ensures closes { IfOk result (λ report. ListCloses Bursts.Reads (plain_reads addr count) self.old.tries
             (host_report_of report) (W.port self.new.wire.now).link.due) }
         ensures fits { IfOk result (λ report. W.lawful self.new.wire.now → W.lawful self.old.wire.now
-            × ListsWithin 2 (plain_reads addr count) self.old.tries (host_report_of report)
+            × ListsWithin Bursts.Reads (plain_reads addr count) self.old.tries (host_report_of report)
             (W.port self.old.wire.now) (W.port self.new.wire.now)) }
         ensures accepted { IfOk result (λ report. (count ≤ 65536) × AreHostAccesses (plain_reads addr count)) }
         ensures refused { IfErr result (HostRefusesList (plain_reads addr count)) }
@@ -209,10 +209,10 @@ impl<'w, W: Wire> Session<'w, W> {
         ensures wire { self.new.wire.ghost_name ≡ self.old.wire.ghost_name }
         ensures tries { self.new.tries ≡ self.old.tries }
         ensures ready { IfOk result (λ told. self.new.ready ≡ host_end_is_all told.ended) }
-        ensures continues { IfOk result (λ told. ResumeCloses accesses.now self.old.tries (host_report_of report.now)
-            (host_report_of told) (W.port self.new.wire.now).link.due) }
+        ensures continues { IfOk result (λ told. ResumeCloses Bursts.Writes accesses.now self.old.tries
+            (host_report_of report.now) (host_report_of told) (W.port self.new.wire.now).link.due) }
         ensures fits { IfOk result (λ told. W.lawful self.new.wire.now → W.lawful self.old.wire.now
-            × ResumesOver accesses.now self.old.tries (host_report_of report.now) (host_report_of told)
+            × ResumesOver Bursts.Writes accesses.now self.old.tries (host_report_of report.now) (host_report_of told)
             (W.port self.old.wire.now) (W.port self.new.wire.now)) }
         ensures refused { IfErr result (λ refused. refused ≡ Memory) }
         ensures untouched { IfErr result (λ refused. (self.new.wire.now ≡ self.old.wire.now)

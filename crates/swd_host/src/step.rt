@@ -59,14 +59,15 @@ impl Engine {
         ensures early { FlagsKeepResumedOpening now (ResumedBefore (Job.Check place owed)) self.old self.new }
         ensures lands { EngineLandsFromJob (Job.Check place owed) Phase.Data self.old self.new }
         ensures meets { EngineMeets (engine_clearing_is_damaged owed now) None self.old self.new }
-        ensures goes { EngineGoesTo (engine_after_check place owed now self.old.task self.old.aims) self.new.state }
+        ensures goes { EngineGoesTo (engine_after_check place owed now self.old.task self.old.aims self.old.bursts)
+            self.new.state }
         ensures rests { EngineRestsWith Ahead.Unsent self.new.state self.new.ahead }
     {
         if !now.error && !now.damaged {
             if owed.error {
                 self.finish_clear(place, owed);
             } else {
-                let again = place.confirms(self.task, self.aims).unwrap_or(place);
+                let again = place.repeats(self.task, self.aims, self.bursts);
                 self.state = State::Doing(Job::At(again), Phase::Ask);
             }
         } else if now.damaged && now.error == owed.error {
@@ -174,7 +175,8 @@ impl Engine {
         ensures lands { EngineLandsFromJob job Phase.Data self.old self.new }
         ensures meets { EngineMeets (is_engine_event job None self.old.task self.old.aims self.old.stray) None self.old
             self.new }
-        ensures goes { EngineGoesTo (engine_after_read job None self.old.task self.old.aims) self.new.state }
+        ensures goes { EngineGoesTo (engine_after_read job None self.old.task self.old.aims self.old.bursts)
+            self.new.state }
         ensures rests { EngineRestsWith (engine_ahead_to job self.old.task) self.new.state self.new.ahead }
     {
         match job {
@@ -193,7 +195,8 @@ impl Engine {
         ensures meets { EngineMeets (is_engine_event job (Some word) self.old.task self.old.aims self.old.stray)
             (engine_reads_wrong_id job (Some word)) self.old self.new }
         ensures goes { engine_job_is_of false job ≡ true
-            → EngineGoesTo (engine_after_read job (Some word) self.old.task self.old.aims) self.new.state }
+            → EngineGoesTo (engine_after_read job (Some word) self.old.task self.old.aims self.old.bursts)
+            self.new.state }
         ensures rests { EngineRestsWith (engine_ahead_to job self.old.task) self.new.state self.new.ahead }
     {
         match job {

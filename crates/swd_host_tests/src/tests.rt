@@ -2,6 +2,7 @@
 mod accesses;
 mod blocks;
 mod bursts;
+mod confirmed;
 mod damage;
 mod expect;
 mod late_power;

@@ -15,8 +15,10 @@ use Rattle.swd_port.specs.PlainBus.{IsPlain, plain_words_of}
 use Rattle.swd_host.proofs.ReadChains.{resume_chain_plain}
 use Rattle.swd_host.specs.Reports.{HostReport, IsAtRest}
 use Rattle.swd_script.specs.Scripts.{ScriptListed}
+use Rattle.swd_host.specs.declared.task.Bursts.{Bursts}
+use Rattle.swd_host.specs.Tasks.{bursts_limit}
 use Rattle.swd_run.specs.GoingOn.{ScriptCalls, ran, resumed}
-use Rattle.swd_run.specs.Sessions.{ScriptRun, batch_limit}
+use Rattle.swd_run.specs.Sessions.{ScriptRun, batch_bursts}
 use Rattle.swd_run.specs.declared.going_on.Stop.{Stop}
 use Rattle.swd_run.proofs.WentLemmas.{law_before, rests, tell_of}
 use Rattle.swd_run.specs.declared.limits.Limits.{Limits}
@@ -109,11 +111,11 @@ module _ (want : ℕ → ℕ) (P : ℕ → Type 0) (words : FinMap nat_cmp ℕ) 
 
 -- ---- one call
 
-module _ {W : Type 0} (wire : Ghosts W) (limit : ℕ) (list : List Access)
+module _ {W : Type 0} (wire : Ghosts W) (kind : Bursts) (list : List Access)
     (tries : ℕ) (s : W) where
   -- a run that ended all answered each access
   pub answered_all : (stops : List Stop) (told : HostReport) (t : W)
-      → ScriptCalls wire limit list tries s stops told t
+      → ScriptCalls wire kind list tries s stops told t
       → told.ended ≡ All → length told.answers ≡ length list
   answered_all stops told t (ran same closes over says) all = closes.whole all
   answered_all stops told t (resumed {earlier = e} {told = a} went lost same goes over says) all =
@@ -292,7 +294,7 @@ module _ {W : Type 0} (wire : Ghosts W) (limits : Limits) where
   calls_law s t list answers
       (more {list = xs} {answers = vs} {t = r} {u = v} {batch = batch} {run = run} before call all done) law =
       calls_law s r xs vs before
-      (law_before wire (batch_limit batch) batch.accesses limits.tries r run.stops
+      (law_before wire (batch_bursts limits.bursts batch) batch.accesses limits.tries r run.stops
       run.told v call.goes.went law)
 
   -- a call that failed in a list, after those before it
@@ -320,7 +322,7 @@ module _ {W : Type 0} (wire : Ghosts W) (limits : Limits) where
   calls_rest s t list answers none law rest = rest
   calls_rest s t list answers
       (more {list = xs} {answers = vs} {t = r} {u = v} {batch = batch} {run = run} before call all done) law rest =
-      let n : ℕ = batch_limit batch in
+      let n : Bursts = batch_bursts limits.bursts batch in
       let went = call.goes.went in
       let back : wire.lawful r = law_before wire n batch.accesses limits.tries r
       run.stops run.told v went law in
@@ -342,7 +344,7 @@ module _ {W : Type 0} (wire : Ghosts W) (limits : Limits) where
       leaves t list answers
           (more {list = xs} {answers = vs} {t = r} {u = v} {batch = batch} {run = run} before call all done) i law =
           let words = (plain_words_of (wire.port s).target.memory) in
-          let n : ℕ = batch_limit batch in
+          let n : Bursts = batch_bursts limits.bursts batch in
           let went = call.goes.went in
           let back : wire.lawful r = law_before wire n batch.accesses limits.tries r
           run.stops run.told v went law in
@@ -350,7 +352,7 @@ module _ {W : Type 0} (wire : Ghosts W) (limits : Limits) where
           let turns =
           (tell_of wire n batch.accesses limits.tries r h.at_rest run.stops run.told v
           went law).turns in
-          let kept = chain_keeps want P words n batch.accesses (wire.port r).target.memory turns.calls run.told
+          let kept = chain_keeps want P words (bursts_limit n) batch.accesses (wire.port r).target.memory turns.calls run.told
           turns.memory
           h.plain
           (all_back want P words xs batch.accesses i) h.held turns.chain in
@@ -362,7 +364,7 @@ module _ {W : Type 0} (wire : Ghosts W) (limits : Limits) where
           (turns.left all) kept in
           record {
             plain = subst IsPlain (turns.left all)
-                (resume_chain_plain n batch.accesses (wire.port r).target.memory turns.calls
+                (resume_chain_plain (bursts_limit n) batch.accesses (wire.port r).target.memory turns.calls
                 run.told turns.memory h.plain turns.chain);
             at_rest = rests wire n batch.accesses limits.tries r h.at_rest run.stops
                 run.told v went law all;

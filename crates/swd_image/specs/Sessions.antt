@@ -10,7 +10,7 @@ use Rattle.swd_host.specs.declared.outcome.End.TheVariants.{All}
 use Rattle.swd_script.specs.Scripts.{ScriptListed}
 use Rattle.swd_script.specs.Laws.{IsScriptBatch}
 use Rattle.swd_run.specs.declared.limits.Limits.{Limits}
-use Rattle.swd_run.specs.Sessions.{ScriptRun, RunsBatch, batch_limit}
+use Rattle.swd_run.specs.Sessions.{ScriptRun, RunsBatch, batch_bursts}
 use Rattle.swd_port.specs.declared.wire.Wire.{Ghosts}
 use Rattle.swd_image.specs.declared.fault.ImageFault.{ImageFault}
 use Rattle.swd_image.specs.declared.fault.ImageFault.TheVariants.{Range, Memory, Stopped, Report, BusFault as FaultAt}
@@ -54,7 +54,7 @@ module _ {W : Type 0} (wire : Ghosts W) (limits : Limits) where
   -- which may have been resumed
   pub record Call (batch : ScriptListed) (s : W) (run : ScriptRun) (t : W) : Type 0 where
     pub fits : IsScriptBatch batch
-    pub goes : RunsBatch wire (batch_limit batch) limits batch s run t
+    pub goes : RunsBatch wire (batch_bursts limits.bursts batch) limits batch s run t
 
   -- consecutive calls, each of which ended `All` with each access done: their accesses, and their answers
   pub data Calls (s : W) : List Access → List Answer → W → Type 0 where

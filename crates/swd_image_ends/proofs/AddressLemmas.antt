@@ -17,8 +17,10 @@ use Rattle.swd_host.specs.Plain.{memory_after}
 use Rattle.swd_host.proofs.ReadChains.{resume_chain_plain}
 use Rattle.swd_port.proofs.PlainBusLaws.{is_plain_next, plain_of_next}
 use Rattle.swd_host.specs.Reports.{IsAtRest, HostReport}
+use Rattle.swd_host.specs.declared.task.Bursts.{Bursts}
+use Rattle.swd_host.specs.Tasks.{bursts_limit}
 use Rattle.swd_run.specs.declared.limits.Limits.{Limits}
-use Rattle.swd_run.specs.Sessions.{batch_limit}
+use Rattle.swd_run.specs.Sessions.{batch_bursts}
 use Rattle.swd_run.proofs.WentLemmas.{rests, tell_of}
 use Rattle.swd_image.specs.declared.verifying.ByteDifference.{ByteDifference}
 use Rattle.swd_image.specs.Lists.{image_edge_list, image_load_list}
@@ -98,17 +100,17 @@ module _ {W : Type 0} (wire : Ghosts W) (limits : Limits) (always : (w : W) → 
   same_calls s t list answers rest plain
       (more {list = xs} {answers = vs} {t = r} {u = v} {batch = batch} {run = run} before call all plain_done) =
       let h = same_calls s r xs vs rest plain before in
-      let n : ℕ = batch_limit batch in
+      let n : Bursts = batch_bursts limits.bursts batch in
       let went = call.goes.went in
       let turns =
       (tell_of wire n batch.accesses limits.tries r h.at_rest run.stops run.told v went
       (always v)).turns in
-      let same = same_chain n batch.accesses (wire.port r).target.memory turns.calls run.told turns.memory h.plain
+      let same = same_chain (bursts_limit n) batch.accesses (wire.port r).target.memory turns.calls run.told turns.memory h.plain
       turns.chain in
       record {
         at_rest = rests wire n batch.accesses limits.tries r h.at_rest run.stops run.told
             v went (always v) all;
-        plain = subst IsPlain (turns.left all) (resume_chain_plain n batch.accesses (wire.port r).target.memory
+        plain = subst IsPlain (turns.left all) (resume_chain_plain (bursts_limit n) batch.accesses (wire.port r).target.memory
             turns.calls
             run.told turns.memory h.plain turns.chain);
         addresses = λ q. ap (λ x. is_some (get (plain_words_of x) q)) (sym (turns.left all)) ∙ same q ∙ h.addresses q;

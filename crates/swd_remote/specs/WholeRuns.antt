@@ -7,6 +7,7 @@ use Rattle.swd_port.specs.Stories.{port_due_by, port_at, FitsStory}
 use Rattle.swd_port.specs.Transports.{PortAttempt, PortTransportMade}
 use Rattle.swd_host.specs.declared.outcome.Refused.{Refused}
 use Rattle.swd_host.specs.declared.outcome.Report.{Report}
+use Rattle.swd_host.specs.declared.task.Bursts.TheVariants.{Writes}
 use Rattle.swd_host.specs.Plain.{AreHostAccesses}
 use Rattle.swd_host.specs.Reports.{Closes, HostRefusesList, RunsOver, host_report_of}
 use Rattle.swd_host.specs.Sent.{HostReportsCalls}
@@ -43,7 +44,7 @@ pub record RanOver {A R W : Type 0} (story : ℕ → Port) (accesses : List Acce
     (contents : W → Option (List ℕ)) (sent left : Option (List ℕ)) (result : Result (Report A) Refused)
     (line : RemoteStreams R W) : Type 0 where
   pub calls : List Call
-  pub closes : IfOk result (λ report. Closes 0 1 accesses tries (host_report_of report) (port_due_by calls))
+  pub closes : IfOk result (λ report. Closes 0 Writes accesses tries (host_report_of report) (port_due_by calls))
   pub fits : IfOk result (λ report. FitsStory story calls
       → RunsOver accesses tries (host_report_of report) (port_at story []) (port_at story calls))
   pub told : IfOk result (λ report. HostReportsCalls accesses (host_report_of report) calls)

@@ -22,6 +22,7 @@ use Rattle.swd_recorder.specs.Chains.{Clear}
 use Rattle.swd_recorder.proofs.ChainLemmas.{recorded_chain_reads_back}
 use Rattle.swd_host.specs.Reports.{IsAtRest, HostReport}
 use Rattle.swd_script.specs.Scripts.{ScriptListed, ScriptMeaning}
+use Rattle.swd_host.specs.declared.task.Bursts.{Bursts}
 use Rattle.swd_run.specs.declared.engine.Finished.{Finished}
 use Rattle.swd_run.specs.declared.fault.EngineFault.{EngineFault}
 use Rattle.swd_run.specs.declared.fault.EngineFault.TheVariants.{Memory, Write, WriteAccesses, TraceCut}
@@ -40,7 +41,7 @@ use Rattle.swd_observer.specs.Explained.{ObservedLog}
 use Rattle.swd_observer.specs.Traces.{trace_observer_made, observed_in_trace}
 use Rattle.swd_run.specs.Running.{ScriptRunAnswers, IsPartOfTraceIn, IsTraceIn, IsTraceUpTo, RunsScript, full_room}
 use Rattle.swd_run.specs.Running.{script_bus, with_full_room}
-use Rattle.swd_run.specs.Sessions.{ScriptRun, RunsBatchFrom, IsBatchRefused, RunsBatches, batch_limit, none}
+use Rattle.swd_run.specs.Sessions.{ScriptRun, RunsBatchFrom, IsBatchRefused, RunsBatches, batch_bursts, none}
 use Rattle.swd_run.specs.Sessions.{then, unresumed, unsent}
 use Rattle.swd_run.specs.Unfoldings.{AreBatchesDone, BatchRuns, IsCutShort, Unfolds, batch_again, calls_of, runs_of}
 use Rattle.swd_run.specs.Wires.{run_recorder_wire, run_wire_by, run_wire_seen}
@@ -154,37 +155,37 @@ script_answers_map batches used runs before IsWhole IsPart IsBegun IsWholeToo Is
 
 -- runs over wires are runs over all that the wires are known by
 module _ {W V : Type 0} (by : W → V) (wire : Ghosts V) (limits : Limits) where
-  went_by : {opened : Bool} (limit : ℕ) (list : List Access) (s : W) (stops : List Stop) (told : HostReport) (t : W)
-      → ScriptCallsFrom (run_wire_by by wire) opened limit list limits.tries s stops told t
-      → ScriptCallsFrom wire opened limit list limits.tries (by s) stops told (by t)
-  went_by limit list s stops told t (ran same closes over says) = ran same closes over says
-  went_by limit list s stops told t (resumed {stops = before} {earlier = e} {t = u} went lost same goes over says) =
-      resumed (went_by limit list s before e u went) lost same goes over says
+  went_by : {opened : Bool} (kind : Bursts) (list : List Access) (s : W) (stops : List Stop) (told : HostReport) (t : W)
+      → ScriptCallsFrom (run_wire_by by wire) opened kind list limits.tries s stops told t
+      → ScriptCallsFrom wire opened kind list limits.tries (by s) stops told (by t)
+  went_by kind list s stops told t (ran same closes over says) = ran same closes over says
+  went_by kind list s stops told t (resumed {stops = before} {earlier = e} {t = u} went lost same goes over says) =
+      resumed (went_by kind list s before e u went) lost same goes over says
 
   -- one run is
   pub goes_by : {opened : Bool} (batch : ScriptListed) (s : W) (run : ScriptRun) (t : W)
-      → RunsBatchFrom (run_wire_by by wire) opened (batch_limit batch) limits batch s run t
-      → RunsBatchFrom wire opened (batch_limit batch) limits batch (by s) run (by t)
+      → RunsBatchFrom (run_wire_by by wire) opened (batch_bursts limits.bursts batch) limits batch s run t
+      → RunsBatchFrom wire opened (batch_bursts limits.bursts batch) limits batch (by s) run (by t)
   goes_by batch s run t goes = record {
-    went = went_by (batch_limit batch) batch.accesses s run.stops run.told t goes.went;
+    went = went_by (batch_bursts limits.bursts batch) batch.accesses s run.stops run.told t goes.went;
     few = goes.few;
     lost = goes.lost;
   }
 
   pub runs_by : {opened : Bool} (s : W) (batches : List ScriptListed) (runs : List ScriptRun) (t : W)
-      → RunsBatches (run_wire_by by wire) opened batch_limit limits s batches runs t
-      → RunsBatches wire opened batch_limit limits (by s) batches runs (by t)
+      → RunsBatches (run_wire_by by wire) opened (batch_bursts limits.bursts) limits s batches runs t
+      → RunsBatches wire opened (batch_bursts limits.bursts) limits (by s) batches runs (by t)
   runs_by s batches runs t none = none
   runs_by s batches runs t
       (then {batches = before} {runs = earlier} {t = u} {u = v} {batch = batch} {run = run} prior all goes) =
       then (runs_by s before earlier u prior) all (goes_by batch u run v goes)
 
-  refused_by : {opened : Bool} (limit : ℕ) (batch : ScriptListed) (s t : W)
-      → IsBatchRefused (run_wire_by by wire) opened limit limits batch s t
-      → IsBatchRefused wire opened limit limits batch (by s) (by t)
-  refused_by limit batch s t (unsent same) = unsent (ap by same)
-  refused_by limit batch s t (unresumed {stops = stops} {told = told} went lost few) =
-      unresumed (went_by limit batch.accesses s stops told t went) lost few
+  refused_by : {opened : Bool} (kind : Bursts) (batch : ScriptListed) (s t : W)
+      → IsBatchRefused (run_wire_by by wire) opened kind limits batch s t
+      → IsBatchRefused wire opened kind limits batch (by s) (by t)
+  refused_by kind batch s t (unsent same) = unsent (ap by same)
+  refused_by kind batch s t (unresumed {stops = stops} {told = told} went lost few) =
+      unresumed (went_by kind batch.accesses s stops told t went) lost few
 
   -- what ran of a script over wires is what ran of it over what these are known by
   abbrev pub ran_by : (batches : List ScriptListed) (s t : W)
@@ -204,7 +205,7 @@ module _ {W V : Type 0} (by : W → V) (wire : Ghosts V) (limits : Limits) where
     are = over.are;
     between = by over.between;
     earlier = runs_by s (batch_again batch over.runs) over.runs over.between over.earlier;
-    refused = refused_by (batch_limit batch) batch over.between t over.refused;
+    refused = refused_by (batch_bursts limits.bursts batch) batch over.between t over.refused;
     unsent = λ plain. ap by (over.unsent plain);
   }
 
@@ -351,19 +352,19 @@ batch_answers_recorded {g} noted limits batches s t start end begins fresh ends 
 -- ---- over a target that was just made
 
 law_refused : {W : Type 0} (wire : Ghosts W) {opened : Bool} (limits : Limits) (batch : ScriptListed) (s t : W)
-    → IsBatchRefused wire opened (batch_limit batch) limits batch s t → wire.lawful t → wire.lawful s
+    → IsBatchRefused wire opened (batch_bursts limits.bursts batch) limits batch s t → wire.lawful t → wire.lawful s
 law_refused wire limits batch s t (unsent same) law = subst wire.lawful same law
 law_refused wire limits batch s t (unresumed {stops = stops} {told = told} went lost few) law =
-    law_before wire (batch_limit batch) batch.accesses limits.tries s stops told t went law
+    law_before wire (batch_bursts limits.bursts batch) batch.accesses limits.tries s stops told t went law
 
 law_runs : {W : Type 0} (wire : Ghosts W) {opened : Bool} (limits : Limits) (s t : W) (batches : List ScriptListed)
-    (runs : List ScriptRun) → RunsBatches wire opened batch_limit limits s batches runs t → wire.lawful t
+    (runs : List ScriptRun) → RunsBatches wire opened (batch_bursts limits.bursts) limits s batches runs t → wire.lawful t
     → wire.lawful s
 law_runs wire limits s t batches runs none law = law
 law_runs wire limits s t batches runs
     (then {batches = before} {runs = earlier} {t = u} {u = v} {batch = batch} {run = run} prior all goes) law =
     law_runs wire limits s u before earlier prior
-    (law_before wire (batch_limit batch) batch.accesses limits.tries u run.stops run.told v
+    (law_before wire (batch_bursts limits.bursts batch) batch.accesses limits.tries u run.stops run.told v
     goes.went law)
 
 law_cut : {W : Type 0} (wire : Ghosts W) {opened : Bool} (limits : Limits) (batch : ScriptListed) (s t : W)
@@ -461,7 +462,7 @@ script_run_answers wire limits script marks s t is_made planned none_noted marke
     let lawful : seen.lawful (h.0, t) = law_seen wire noted traced h.0 t law in
     let runs_at = λ (runs : List BatchRuns) (end : List Call × _) (law : seen.lawful end)
     (unfolds : Unfolds (take (length runs) script.batches) runs)
-    (are : RunsBatches seen false batch_limit limits ([], s)
+    (are : RunsBatches seen false (batch_bursts limits.bursts) limits ([], s)
     (calls_of script.batches runs) (runs_of runs) end).
     script_runs seen limits script marks runs ([], s) end begins (plan_seen wire noted traced [] s ∙ planned)
     (λ x same. marks_seen wire noted traced (port_disturbed_among marks) (port_lost_among marks) x.0 x.1
@@ -469,7 +470,7 @@ script_run_answers wire limits script marks s t is_made planned none_noted marke
     law unfolds are in
     let left_seen : (seen.port (h.0, t)).target.memory ≡ memory = memory_seen wire noted traced h.0 t ∙ sym left in
     let whole_calls = λ (over : RanBatches seen limits script.batches ([], s) (h.0, t)).
-    runs_told seen false batch_limit limits ([], s) (calls_of script.batches over.made) (runs_of over.made)
+    runs_told seen false (batch_bursts limits.bursts) limits ([], s) (calls_of script.batches over.made) (runs_of over.made)
     (h.0, t) over.are [] fresh in
     let short_calls = λ (over : RanBatchesShort seen limits script.batches ([], s) (h.0, t)).
     short_told seen limits script.batches ([], s) (h.0, t) over in (

@@ -19,7 +19,7 @@ use Rattle.swd_run.specs.declared.limits.Limits.{Limits}
 use Rattle.swd_run.specs.Engine.{BatchAnswers, IsScriptFinished, RanBatches}
 use Rattle.swd_run.specs.Records.{AreRunFilesLeft, no_run_files}
 use Rattle.swd_run.specs.Reports.{HasReportWritten, batch_report, session_text}
-use Rattle.swd_run.specs.Sessions.{ScriptRun, RunsBatches, batch_limit, script_is_open, none, then}
+use Rattle.swd_run.specs.Sessions.{ScriptRun, RunsBatches, batch_bursts, script_is_open, none, then}
 use Rattle.swd_run.specs.Unfoldings.{AreRunsOfBatch, BatchRuns, IsCutShort, Performs, Unfolds, batch_again, calls_of}
 use Rattle.swd_run.specs.Unfoldings.{ends_until, until_never_came, no_batch, runs_of, one_more as batch_more}
 use Rattle.swd_run.specs.Verified.{verify_difference_in, first_difference, report_has_bus_fault, verify_or_else}
@@ -89,7 +89,7 @@ module _ {W : Type 0} (wire : Ghosts W) (limits : Limits)
       Type 0 where
     pub made : List BatchRuns
     pub unfolds : Unfolds (take i batches) made
-    pub are : RunsBatches wire false batch_limit limits s (calls_of (take i batches) made) (runs_of made) t
+    pub are : RunsBatches wire false (batch_bursts limits.bursts) limits s (calls_of (take i batches) made) (runs_of made) t
     pub is : IsScriptFinished (take i batches) made None finished
     pub gone : HasReportWritten old now (session_text (take i batches) made) written
     pub is_open : opened ≡ script_is_open false (runs_of made)
@@ -132,7 +132,7 @@ module _ {W : Type 0} (wire : Ghosts W) (limits : Limits)
     ran low = record {
       made = so_far.made;
       unfolds = subst (λ n. Unfolds (take n batches) so_far.made) (sym (counted low)) so_far.unfolds;
-      are = subst (λ calls. RunsBatches wire false batch_limit limits s calls (runs_of so_far.made) t)
+      are = subst (λ calls. RunsBatches wire false (batch_bursts limits.bursts) limits s calls (runs_of so_far.made) t)
           (front calls_of unfolded_calls_front low) so_far.are;
     }
 
@@ -184,7 +184,7 @@ module _ {W : Type 0} (wire : Ghosts W) (limits : Limits)
       unfolds_next = subst (λ z. Unfolds z (so_far.made ++ runs ∷ [])) (sym split)
           (batch_more so_far.unfolds (sym so_far.is.never_came ∙ came) performs.are)
 
-      runs_next : RunsBatches wire false batch_limit limits s (calls_of (take (i + 1) batches)
+      runs_next : RunsBatches wire false (batch_bursts limits.bursts) limits s (calls_of (take (i + 1) batches)
           (so_far.made ++ runs ∷ [])) (runs_of (so_far.made ++ runs ∷ [])) u
       runs_next =
           let before = calls_of (take i batches) so_far.made in
@@ -193,12 +193,12 @@ module _ {W : Type 0} (wire : Ghosts W) (limits : Limits)
           let calls : before ++ next ≡ calls_of (take (i + 1) batches) (so_far.made ++ runs ∷ []) =
           sym (unfolded_calls_last (take i batches) so_far.made batch runs as_batches)
           ∙ ap (λ z. calls_of z (so_far.made ++ runs ∷ [])) (sym split) in
-          subst (λ z. RunsBatches wire false batch_limit limits s z (runs_of (so_far.made ++ runs ∷ [])) u)
-          calls (subst (λ z. RunsBatches wire false batch_limit limits s (before ++ next) z u)
+          subst (λ z. RunsBatches wire false (batch_bursts limits.bursts) limits s z (runs_of (so_far.made ++ runs ∷ [])) u)
+          calls (subst (λ z. RunsBatches wire false (batch_bursts limits.bursts) limits s (before ++ next) z u)
           (sym (unfolded_runs_last so_far.made runs))
-          (runs_append wire false batch_limit limits s t before (runs_of so_far.made) u next ended
+          (runs_append wire false (batch_bursts limits.bursts) limits s t before (runs_of so_far.made) u next ended
           so_far.are (sym so_far.is.ended ∙ all)
-          (subst (λ o. RunsBatches wire o batch_limit limits t next ended u) so_far.is_open
+          (subst (λ o. RunsBatches wire o (batch_bursts limits.bursts) limits t next ended u) so_far.is_open
           (then performs.earlier (earlier_reads_ended_all batch.until runs.earlier performs.are.earlier)
           performs.last))))
 
@@ -257,7 +257,7 @@ module _ {W : Type 0} (wire : Ghosts W) (limits : Limits)
             record {
               made = made;
               unfolds = subst (λ n. Unfolds (take n batches) made) many unfolds_next;
-              are = subst (λ z. RunsBatches wire false batch_limit limits s z (runs_of made) u) calls
+              are = subst (λ z. RunsBatches wire false (batch_bursts limits.bursts) limits s z (runs_of made) u) calls
                   runs_next;
             },
             inl (

@@ -1,5 +1,5 @@
 -- What a run over a simulated target says in terms of its plan.
-use Rattle.std.proofs.Common.{◌≡◌, ℕ, ◌+◌, ◌%◌, ◌≤◌, Bool, List, refl, ap, arith}
+use Rattle.std.proofs.Common.{◌≡◌, ℕ, ◌+◌, ◌-◌, ◌%◌, ◌≤◌, Bool, List, refl, ap, arith}
 use Rattle.std.specs.Prelude.{◌↔◌}
 use Rattle.swd_trace.specs.declared.item.Item.{Item}
 use Rattle.swd_port.specs.declared.wire.Due.{Due}
@@ -14,7 +14,8 @@ use Rattle.swd_port.specs.Bus.{Bus}
 use Rattle.swd_host.specs.Reports.{HostEndsAt, IsAtRest, HostReport}
 use Rattle.swd_script.specs.Scripts.{ScriptListed}
 use Rattle.swd_run.specs.Running.{IsRunExcused, RunsAs}
-use Rattle.swd_run.specs.Sessions.{batch_limit}
+use Rattle.swd_host.specs.declared.task.Bursts.{Bursts}
+use Rattle.swd_host.proofs.EventRequests.{event_requests_sum}
 use Rattle.swd_run.specs.Starts.{ScriptCallCloses, ScriptCallFits, ScriptStarts}
 use Rattle.swd_run.specs.Engine.{AreRunTraceItems, IsRunTraceOf, IsPartOfRunTrace}
 
@@ -40,13 +41,13 @@ script_target_at_rest m s is_made = record {
 }
 
 -- a run from a target at rest or open, which met at most the marks of a plan
-pub batch_run_under_plan : (opened : Bool) (tries : ℕ) (batch : ScriptListed) (marks : List Mark) (told : HostReport)
+pub batch_run_under_plan : (opened : Bool) (kind : Bursts) (tries : ℕ) (batch : ScriptListed) (marks : List Mark) (told : HostReport)
     (s t : Port) (due : Due) → ScriptStarts opened s → s.tally.lost ≤ port_lost_among marks
     → t.tally.disturbed ≤ port_disturbed_among marks → t.tally.lost ≤ port_lost_among marks
-    → ScriptCallCloses opened (batch_limit batch) batch.accesses tries told due
-    → ScriptCallFits opened (batch_limit batch) batch.accesses tries told s t
-    → RunsAs opened tries batch s.target.memory marks told t.target.memory
-batch_run_under_plan opened tries batch marks told s t due starts r p q closes over =
+    → ScriptCallCloses opened kind batch.accesses tries told due
+    → ScriptCallFits opened kind batch.accesses tries told s t
+    → RunsAs opened kind tries batch s.target.memory marks told t.target.memory
+batch_run_under_plan opened kind tries batch marks told s t due starts r p q closes over =
     let fits = over starts in
     let most = fits.most in
     record {
@@ -54,7 +55,8 @@ batch_run_under_plan opened tries batch marks told s t due starts r p q closes o
       excused = script_run_end_excused told.ended tries marks s t p q fits.ends;
       whole = λ none few. fits.stops_only (omega arith) (omega arith);
       least = fits.least;
-      most = omega arith;
+      most = (let more = event_requests_sum kind (t.tally.disturbed - s.tally.disturbed) 0
+          (port_disturbed_among marks) (omega arith) in omega (arith, most, more));
       spends = closes.spends;
     }
 

@@ -13,10 +13,11 @@ use Rattle.swd_recorder.specs.Steps.{recorded_due_count}
 use Rattle.swd_host.specs.declared.outcome.End.TheVariants.{All, Lost}
 use Rattle.swd_host.specs.Reports.{IsAtRest, host_due_at_end}
 use Rattle.swd_script.specs.Scripts.{ScriptListed, ScriptMeaning}
+use Rattle.swd_host.specs.declared.task.Bursts.{Bursts}
 use Rattle.swd_run.specs.declared.limits.Limits.{Limits}
 use Rattle.swd_run.specs.GoingOn.{script_calls_in_all}
 use Rattle.swd_run.specs.Running.{RunsScript, ScriptSession, script_bus, none as no_run, then as then_run}
-use Rattle.swd_run.specs.Sessions.{batch_limit, ScriptRun, RunsBatchFrom, RunsBatches, script_ended, none, then}
+use Rattle.swd_run.specs.Sessions.{batch_bursts, ScriptRun, RunsBatchFrom, RunsBatches, script_ended, none, then}
 use Rattle.swd_run.specs.Sessions.{script_is_open, script_requests}
 use Rattle.swd_run.specs.Starts.{ScriptStarts}
 use Rattle.swd_run.specs.Unfoldings.{BatchRuns, Unfolds, calls_of, runs_of}
@@ -80,10 +81,10 @@ batch_map_drop_next f xs i d low =
 module _ {W : Type 0} (wire : Ghosts W) (limits : Limits) (s : W) where
   -- nothing is due after a run that ended `All`
   pub due_then : {opened : Bool} (batch : ScriptListed) (run : ScriptRun) (t u : W) → run.told.ended ≡ All
-      → RunsBatchFrom wire opened (batch_limit batch) limits batch t run u
+      → RunsBatchFrom wire opened (batch_bursts limits.bursts batch) limits batch t run u
       → (wire.port u).link.due ≡ Nothing
   due_then batch run t u all goes =
-      due_after wire (batch_limit batch) batch.accesses limits.tries t run.stops run.told u goes.went
+      due_after wire (batch_bursts limits.bursts batch) batch.accesses limits.tries t run.stops run.told u goes.went
       ∙ ap host_due_at_end all
 
   -- from a target at rest
@@ -97,7 +98,7 @@ module _ {W : Type 0} (wire : Ghosts W) (limits : Limits) (s : W) where
 
     -- after runs of a script that leave a lawful wire, all of this holds
     pub ends : (batches : List ScriptListed) (runs : List ScriptRun) (t : W)
-        → RunsBatches wire false batch_limit limits s batches runs t → wire.lawful t → Ends runs t
+        → RunsBatches wire false (batch_bursts limits.bursts) limits s batches runs t → wire.lawful t → Ends runs t
     ends batches runs t none law = record {
       law = law;
       open_for = λ all. rest;
@@ -112,7 +113,7 @@ module _ {W : Type 0} (wire : Ghosts W) (limits : Limits) (s : W) where
         apart due e d = cc
     ends batches runs t (then {batches = before} {runs = earlier} {t = u} {u = v} {batch = batch} {run = run}
         runs_before all goes) law =
-        let n : ℕ = batch_limit batch in
+        let n : Bursts = batch_bursts limits.bursts batch in
         let back : wire.lawful u = law_before wire n batch.accesses limits.tries u run.stops run.told v goes.went law in
         let h : Ends earlier u = ends before earlier u runs_before back in
         let r : ScriptStarts (script_is_open false earlier) (wire.port u) = h.open_for all in
@@ -133,7 +134,7 @@ module _ {W : Type 0} (wire : Ghosts W) (limits : Limits) (s : W) where
     -- over a lawful wire, from a target at rest and a count of 0, the requests counted are those of the runs; no
     -- transaction is incomplete, and a line reset is due exactly if the runs ended `Lost`
     pub recorded : (batches : List ScriptListed) (runs : List ScriptRun) (t : W) → (wire.port s).tally.asked ≡ 0
-        → RunsBatches wire false batch_limit limits s batches runs t → wire.lawful t
+        → RunsBatches wire false (batch_bursts limits.bursts) limits s batches runs t → wire.lawful t
         → IsRunTraceRecorded (script_requests runs) (script_ended runs) (wire.port t)
     recorded batches runs t no_request all law =
         let h : Ends runs t = ends batches runs t all law in
@@ -146,13 +147,13 @@ module _ {W : Type 0} (wire : Ghosts W) (limits : Limits) (s : W) where
         → ((wire.port w).tally.disturbed ≤ port_disturbed_among marks)
         × ((wire.port w).tally.lost ≤ port_lost_among marks)) where
       pub sessions : (batches : List ScriptListed) (runs : List ScriptRun) (t : W)
-          → RunsBatches wire false batch_limit limits s batches runs t → wire.lawful t
+          → RunsBatches wire false (batch_bursts limits.bursts) limits s batches runs t → wire.lawful t
           → (wire.plan t ≡ marks) × ScriptSession limits marks (wire.port s).target.memory batches runs
           (wire.port t).target.memory
       sessions batches runs t none law = (planned, no_run)
       sessions batches runs t (then {batches = before} {runs = earlier} {t = u} {u = v} {batch = batch} {run = run}
           runs_before all goes) law =
-          let n : ℕ = batch_limit batch in
+          let n : Bursts = batch_bursts limits.bursts batch in
           let back : wire.lawful u = law_before wire n batch.accesses limits.tries u run.stops run.told v goes.went
           law in
           let (same, session) = sessions before earlier u runs_before back in
@@ -180,7 +181,7 @@ module _ {W : Type 0} (wire : Ghosts W) (limits : Limits)
     (marked : (w : W) → wire.plan w ≡ marks
     → ((wire.port w).tally.disturbed ≤ port_disturbed_among marks) × ((wire.port w).tally.lost ≤ port_lost_among marks))
     (law : wire.lawful t) (unfolds : Unfolds (take (length made) script.batches) made)
-    (all : RunsBatches wire false batch_limit limits s (calls_of script.batches made) (runs_of made) t)
+    (all : RunsBatches wire false (batch_bursts limits.bursts) limits s (calls_of script.batches made) (runs_of made) t)
   where
     -- over a lawful wire the runs of a script's first batches are those from its initial memory, and leave the target's
     -- memory

@@ -7,12 +7,13 @@ use Rattle.swd_host.specs.Again.{ResumeReportsCalls}
 use Rattle.swd_host.specs.Reports.{HostReport}
 use Rattle.swd_host.specs.Sent.{HostCalls}
 use Rattle.swd_script.specs.Scripts.{ScriptListed}
+use Rattle.swd_host.specs.declared.task.Bursts.{Bursts}
 use Rattle.swd_run.specs.declared.limits.Limits.{Limits}
 use Rattle.swd_run.specs.Engine.{RanBatchesShort}
 use Rattle.swd_run.specs.declared.going_on.Stop.{Stop}
 use Rattle.swd_run.specs.GoingOn.{ScriptCallsFrom, ScriptReportsCalls, ran, resumed, script_stop_of}
 use Rattle.swd_run.specs.GoingOn.{told_again, told_once}
-use Rattle.swd_run.specs.Sessions.{IsBatchRefused, RunsBatches, ScriptRun, ScriptRunsReportCalls, batch_limit}
+use Rattle.swd_run.specs.Sessions.{IsBatchRefused, RunsBatches, ScriptRun, ScriptRunsReportCalls, batch_bursts}
 use Rattle.swd_run.specs.Sessions.{no_run}
 use Rattle.swd_run.specs.Sessions.{none, one_run, then, unresumed, unsent}
 use Rattle.swd_run.specs.Unfoldings.{batch_again, calls_of, first_batch_again, runs_of}
@@ -30,10 +31,10 @@ told_after notes P Q R u v w joins h i calls noted =
       joins first.0 second.0 first.2 second.2,
     )
 
-module _ {W : Type 0} (wire : Ghosts W) {opened : Bool} (limit : ℕ) (list : List Access) (tries : ℕ) (s : W) where
+module _ {W : Type 0} (wire : Ghosts W) {opened : Bool} (kind : Bursts) (list : List Access) (tries : ℕ) (s : W) where
   -- those of a run and of the calls that resumed it are those that their reports tell
   pub went_told : (stops : List Stop) (told : HostReport) (t : W)
-      → ScriptCallsFrom wire opened limit list tries s stops told t
+      → ScriptCallsFrom wire opened kind list tries s stops told t
       → HostCalls wire.notes (ScriptReportsCalls list stops told) s t
   went_told stops told t (ran {told = a} {t = u} same closes over says) =
       λ calls noted. (let made = says calls noted in (made.0, made.1, told_once made.2))
@@ -66,7 +67,7 @@ module _ {W : Type 0} (wire : Ghosts W) (opened : Bool) (limits : Limits) (batch
 
   refused_told : (t : W)
       → HostCalls wire.notes (ScriptRunsReportCalls (batches ++ batch_again batch runs) (earlier ++ runs)) s u
-      → IsBatchRefused wire opened (batch_limit batch) limits batch u t → Further t
+      → IsBatchRefused wire opened (batch_bursts limits.bursts batch) limits batch u t → Further t
   refused_told t before (unsent same) = (
     runs,
     subst (HostCalls wire.notes (ScriptRunsReportCalls (batches ++ batch_again batch runs) (earlier ++ runs)) s)
@@ -89,7 +90,7 @@ module _ {W : Type 0} (wire : Ghosts W) (opened : Bool) (limits : Limits) (batch
             batches_are
             (subst (λ (l : List ScriptRun). ScriptRunsReportCalls ((batches ++ batch_again batch runs) ++ batch ∷ []) l
             (next ++ first)) runs_are (one_run batch run is more))) before
-            (went_told wire (batch_limit batch) batch.accesses limits.tries u stops told t went),
+            (went_told wire (batch_bursts limits.bursts batch) batch.accesses limits.tries u stops told t went),
       )
 
 -- where memory ran out, the calls so far are those that the reports of the runs so far tell
@@ -102,10 +103,10 @@ short_told wire limits batches s t over =
     let made = over.before.made in
     let cut = over.refused in
     let calls : List ScriptListed = calls_of batches made in
-    let whole = runs_append wire false batch_limit limits s over.between calls (runs_of made) cut.between
+    let whole = runs_append wire false (batch_bursts limits.bursts) limits s over.between calls (runs_of made) cut.between
     (batch_again over.batch cut.runs) cut.runs over.before.are over.all cut.earlier in
     let further = refused_told wire _ limits over.batch calls (runs_of made) cut.runs s cut.between t
-    (runs_told wire false batch_limit limits s (calls ++ batch_again over.batch cut.runs)
+    (runs_told wire false (batch_bursts limits.bursts) limits s (calls ++ batch_again over.batch cut.runs)
     (runs_of made ++ cut.runs) cut.between whole) cut.refused in (
       further.0,
       subst (λ (l : List ScriptListed). HostCalls wire.notes (ScriptRunsReportCalls (calls

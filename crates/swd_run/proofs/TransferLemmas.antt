@@ -21,8 +21,9 @@ use Rattle.swd_host.specs.Plain.{answers_of, memory_after}
 use Rattle.swd_host.specs.Reports.{HostEndsAt, IsAtRest, RunFitsFrom, HostReport}
 use Rattle.swd_host.specs.Sessions.{HostSession, none as no_call, then as one_call}
 use Rattle.swd_script.specs.Scripts.{ScriptListed}
+use Rattle.swd_host.specs.declared.task.Bursts.{Bursts}
 use Rattle.swd_run.specs.declared.limits.Limits.{Limits}
-use Rattle.swd_run.specs.Sessions.{ScriptRun, RunsBatches, batch_limit, script_is_open, none as no_run}
+use Rattle.swd_run.specs.Sessions.{ScriptRun, RunsBatches, batch_bursts, script_is_open, none as no_run}
 use Rattle.swd_run.specs.Sessions.{then as one_run}
 use Rattle.swd_run.specs.Starts.{ScriptStarts, script_opening_requests}
 use Rattle.swd_run.specs.Transfers.{AreReportAccessesKnown, AreReportTransfers, AreWholeRuns, ReportKnownIsExact}
@@ -53,8 +54,8 @@ logged_after (a ∷ list) m =
 
 -- ---- a call that ended whole
 
-module _ (opening limit tries : ℕ) (list : List Access) (told : HostReport) (s t : Port)
-    (fits : RunFitsFrom opening limit list tries s.target.memory told s t) (all : told.ended ≡ All) where
+module _ (opening : ℕ) (kind : Bursts) (tries : ℕ) (list : List Access) (told : HostReport) (s t : Port)
+    (fits : RunFitsFrom opening kind list tries s.target.memory told s t) (all : told.ended ≡ All) where
   whole_list : take fits.now.0 list ≡ list
   whole_list = ap (λ n. take n list) (fits.now.1.all all) ∙ take_all (length list) list (omega arith)
 
@@ -108,15 +109,15 @@ nothing_logged s = record { same = refl; log = sym (append-nil s.target.memory.l
 
 -- and those of a further list that ended whole
 logged_more : (s : Port) (before : List Access) (old : List Answer) (u v : Port) → HasLogged s before old u
-    → (opening limit tries : ℕ) (more : List Access) (told : HostReport)
-    → RunFitsFrom opening limit more tries u.target.memory told u v → told.ended ≡ All
+    → (opening : ℕ) (kind : Bursts) (tries : ℕ) (more : List Access) (told : HostReport)
+    → RunFitsFrom opening kind more tries u.target.memory told u v → told.ended ≡ All
     → HasLogged s (before ++ more) (old ++ told.answers) v
-logged_more s before old u v h opening limit tries more told fits all = record {
+logged_more s before old u v h opening kind tries more told fits all = record {
   same = (let a = length-append before more in let b = length-append old told.answers in
-      let c = h.same in let count = answered_all opening limit tries more told u v fits all in
+      let c = h.same in let count = answered_all opening kind tries more told u v fits all in
       omega (arith, a, b, c, count));
   log = joined s.target.memory.log u.target.memory.log v.target.memory.log (report_transfers_by before old)
-      (report_transfers_by more told.answers) h.log (logged_call opening limit tries more told u v fits all)
+      (report_transfers_by more told.answers) h.log (logged_call opening kind tries more told u v fits all)
       ∙ ap (λ l. s.target.memory.log ++ l) (sym (transfers_more before old more told.answers h.same));
 }
 
@@ -128,12 +129,12 @@ session_logged : (s : Port) (list : List Access) (answers : List Answer) (t : Po
     → HostSession s list answers t → SessionLogged s list answers t
 session_logged s list answers t rest no_call = record { rests = rest; logged = nothing_logged s }
 session_logged s list answers t rest
-    (one_call {done = before} {answers = old} {t = u} {u = v} prior limit tries more told runs all) =
+    (one_call {done = before} {answers = old} {t = u} {u = v} prior kind tries more told runs all) =
     let h : SessionLogged s before old u = session_logged s before old u rest prior in
     let fits = runs h.rests in
     record {
-      rests = rests_whole 9 limit tries more told u v fits all;
-      logged = logged_more s before old u v h.logged 9 limit tries more told fits all;
+      rests = rests_whole 9 kind tries more told u v fits all;
+      logged = logged_more s before old u v h.logged 9 kind tries more told fits all;
     }
 
 -- what explains the log since then explains these transfers
@@ -180,12 +181,12 @@ module _ {W : Type 0} (wire : Ghosts W) (limits : Limits) (s : W)
     (rest : IsAtRest (wire.port s)) where
   -- calls that each ended `All`, none resumed, logged the transfers of their answers
   calls_logged : (batches : List ScriptListed) (runs : List ScriptRun) (t : W)
-      → RunsBatches wire false batch_limit limits s batches runs t → wire.lawful t → AreWholeRuns runs
+      → RunsBatches wire false (batch_bursts limits.bursts) limits s batches runs t → wire.lawful t → AreWholeRuns runs
       → HasLogged (wire.port s) (report_accesses_in batches) (report_answers_in runs) (wire.port t)
   calls_logged batches runs t no_run law whole = nothing_logged (wire.port s)
   calls_logged batches runs t (one_run {batches = before} {runs = earlier} {t = u} {u = v} {batch = batch} {run = run}
       prior all goes) law whole =
-      let n : ℕ = batch_limit batch in
+      let n : Bursts = batch_bursts limits.bursts batch in
       let (early, unstopped, ended) = whole_last earlier run whole in
       let back : wire.lawful u = law_before wire n batch.accesses limits.tries u run.stops run.told v goes.went law in
       let starts : ScriptStarts (script_is_open false earlier) (wire.port u) =
@@ -202,7 +203,7 @@ module _ {W : Type 0} (wire : Ghosts W) (limits : Limits) (s : W)
 
   -- what explains the log explains the transfers that their reports state
   pub reported : (batches : List ScriptListed) (runs : List ScriptRun) (t : W) (told : List Shown)
-      → RunsBatches wire false batch_limit limits s batches runs t → wire.lawful t → AreWholeRuns runs
+      → RunsBatches wire false (batch_bursts limits.bursts) limits s batches runs t → wire.lawful t → AreWholeRuns runs
       → Accounted (wire.port s).target.memory.log told (wire.port t)
       → ObservedLog told (report_transfers_in batches runs)
   reported batches runs t told all law whole accounted =

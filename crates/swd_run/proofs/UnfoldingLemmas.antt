@@ -15,7 +15,7 @@ use Rattle.swd_script.specs.Scripts.{ScriptListed}
 use Rattle.swd_script.specs.Laws.{IsScriptBatch, IsScriptUntil}
 use Rattle.swd_run.specs.declared.limits.Limits.{Limits}
 use Rattle.swd_run.specs.declared.verified.Difference.{Difference}
-use Rattle.swd_run.specs.Sessions.{ScriptRun, RunsBatchFrom, IsBatchRefused, RunsBatches, script_ended, batch_limit}
+use Rattle.swd_run.specs.Sessions.{ScriptRun, RunsBatchFrom, IsBatchRefused, RunsBatches, script_ended, batch_bursts}
 use Rattle.swd_run.specs.Sessions.{script_is_open, none, then}
 use Rattle.swd_run.specs.Verified.{verify_difference_in, first_difference, report_has_bus_fault, runs_met_bus_fault}
 use Rattle.swd_run.specs.Verified.{verify_or_else}
@@ -344,7 +344,7 @@ module _ {W : Type 0} (wire : Ghosts W) (opened : Bool)
     (limits : Limits) (batch : ScriptListed) (s : W) where
   -- the only run of a batch without `until`
   pub performed_once : (last : ScriptRun) (t : W) → batch.until ≡ None
-      → RunsBatchFrom wire opened (batch_limit batch) limits batch s last t
+      → RunsBatchFrom wire opened (batch_bursts limits.bursts batch) limits batch s last t
       → (runs : BatchRuns) × (runs.last ≡ last) × (batch_reads_of runs ≡ 1)
       × Performs wire opened limits batch s runs t
   performed_once last t plain goes = (
@@ -364,7 +364,7 @@ module _ {W : Type 0} (wire : Ghosts W) (opened : Bool)
 
   -- memory was refused for the first run
   pub cut_first : IsScriptBatch batch → (t : W)
-      → IsBatchRefused wire opened (batch_limit batch) limits batch s t
+      → IsBatchRefused wire opened (batch_bursts limits.bursts batch) limits batch s t
       → (batch.until ≡ None → t ≡ s)
       → IsCutShort wire opened limits batch s t
   cut_first is t refused unsent = record {
@@ -387,13 +387,13 @@ module _ {W : Type 0} (wire : Ghosts W) (opened : Bool)
       pub many : length earlier + 1 ≡ n
       pub asked : list_all (λ run. asks_again until run) earlier ≡ true
       pub between : W
-      pub runs : RunsBatches wire opened batch_limit limits s (batch_again batch earlier) earlier between
-      pub goes : RunsBatchFrom wire (script_is_open opened earlier) (batch_limit batch) limits batch
+      pub runs : RunsBatches wire opened (batch_bursts limits.bursts) limits s (batch_again batch earlier) earlier between
+      pub goes : RunsBatchFrom wire (script_is_open opened earlier) (batch_bursts limits.bursts batch) limits batch
           between last t
 
     -- a first read of an `until`, before which there is none
     pub asking_first : (last : ScriptRun) (t : W)
-        → RunsBatchFrom wire opened (batch_limit batch) limits batch s last t → Asking 1 last t
+        → RunsBatchFrom wire opened (batch_bursts limits.bursts batch) limits batch s last t → Asking 1 last t
     asking_first last t goes = record {
       earlier = [];
       many = refl;
@@ -405,16 +405,16 @@ module _ {W : Type 0} (wire : Ghosts W) (opened : Bool)
 
     module _ (n : ℕ) (last : ScriptRun) (t : W) (asking : Asking n last t) where
       -- the runs so far, and the last one among them
-      runs_more : RunsBatches wire opened batch_limit limits s
+      runs_more : RunsBatches wire opened (batch_bursts limits.bursts) limits s
           (batch_again batch (asking.earlier ++ last ∷ [])) (asking.earlier ++ last ∷ []) t
       runs_more =
-          subst (λ z. RunsBatches wire opened batch_limit limits s z (asking.earlier ++ last ∷ []) t)
+          subst (λ z. RunsBatches wire opened (batch_bursts limits.bursts) limits s z (asking.earlier ++ last ∷ []) t)
           (sym (batch_again_append batch asking.earlier last))
           (then asking.runs (until_rereads_ended_all until asking.earlier asking.asked) asking.goes)
 
       -- one read more of an `until`, after one that asked for another
       pub asking_more : asks_again until last ≡ true → (next : ScriptRun) (u : W)
-          → RunsBatchFrom wire true (batch_limit batch) limits batch t next u
+          → RunsBatchFrom wire true (batch_bursts limits.bursts batch) limits batch t next u
           → Asking (n + 1) next u
       asking_more again_asked next u goes =
           let many = asking.many in
@@ -425,7 +425,7 @@ module _ {W : Type 0} (wire : Ghosts W) (opened : Bool)
             asked = until_rereads_append until asking.earlier last asking.asked again_asked;
             between = t;
             runs = runs_more;
-            goes = subst (λ o. RunsBatchFrom wire o (batch_limit batch) limits batch t next u)
+            goes = subst (λ o. RunsBatchFrom wire o (batch_bursts limits.bursts batch) limits batch t next u)
                 (sym (script_open_last opened asking.earlier last)) goes;
           }
 
@@ -456,7 +456,7 @@ module _ {W : Type 0} (wire : Ghosts W) (opened : Bool)
 
         -- memory was refused for the next one
         pub cut_later : asks_again until last ≡ true → n < until.most → (u : W)
-            → IsBatchRefused wire true (batch_limit batch) limits batch t u
+            → IsBatchRefused wire true (batch_bursts limits.bursts batch) limits batch t u
             → IsCutShort wire opened limits batch s u
         cut_later again_asked low u refused =
             let many = asking.many in
@@ -470,7 +470,7 @@ module _ {W : Type 0} (wire : Ghosts W) (opened : Bool)
               are = subst (λ x. AreEarlierReads x more) (sym waits) are;
               between = t;
               earlier = runs_more;
-              refused = subst (λ o. IsBatchRefused wire o (batch_limit batch) limits batch t u)
+              refused = subst (λ o. IsBatchRefused wire o (batch_bursts limits.bursts batch) limits batch t u)
                   (sym (script_open_last opened asking.earlier last)) refused;
               unsent = λ plain. absurd (until_is_not_none (sym waits ∙ plain));
             }

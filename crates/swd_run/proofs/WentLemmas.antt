@@ -21,6 +21,9 @@ use Rattle.swd_host.specs.Plain.{answers_of}
 use Rattle.swd_host.specs.PlainRuns.{IsPlainWithRoom}
 use Rattle.swd_host.specs.Reports.{HostReport, HostEndsAt, HostIsOpen, host_due_at_end, FitsFrom, Fits, IsAtRest}
 use Rattle.swd_host.specs.Reports.{HostKnowsTarget, host_most_requests}
+use Rattle.swd_host.specs.declared.task.Bursts.{Bursts}
+use Rattle.swd_host.specs.Tasks.{bursts_limit, event_requests, resumed_bursts}
+use Rattle.swd_host.proofs.EventRequests.{event_requests_sum}
 use Rattle.swd_host.specs.Again.{Again, ResumeCloses, ResumeFits, resume_added, resume_own_report}
 use Rattle.swd_host.specs.Resuming.{host_end_is_all, resume_begun}
 use Rattle.swd_host.specs.Chains.{ResumeChain, AreBlockReads, first as first_call, again as next_call}
@@ -32,10 +35,11 @@ use Rattle.swd_run.specs.declared.going_on.Stop.{Stop}
 use Rattle.swd_run.specs.declared.limits.Limits.{Limits}
 use Rattle.swd_run.specs.GoingOn.{ScriptCallsFrom, ran, resumed, script_stop_of, script_stops_of}
 use Rattle.swd_run.specs.GoingOn.{script_requests_before, script_chain_calls, script_chain_last, script_most_resumed}
+use Rattle.swd_run.specs.GoingOn.{script_resumed_bursts}
 use Rattle.swd_run.specs.GoingOn.{IsScriptCall, AreScriptCalls, script_answered_first, script_begun_first}
 use Rattle.swd_run.specs.GoingOn.{ScriptCallsInTurn, ScriptCallsAgain, ScriptCallsOfReads, ScriptCallsReport}
 use Rattle.swd_run.specs.Running.{IsRunExcused, RunsOn}
-use Rattle.swd_run.specs.Sessions.{batch_limit, ScriptRun, RunsBatchFrom}
+use Rattle.swd_run.specs.Sessions.{batch_bursts, ScriptRun, RunsBatchFrom}
 use Rattle.swd_run.specs.Starts.{ScriptCallCloses, ScriptCallFits, ScriptStarts, script_most_requests}
 use Rattle.swd_run.specs.Starts.{script_opening_requests}
 use Rattle.swd_run.proofs.RunLemmas.{script_run_end_due, script_run_end_excused, batch_run_under_plan}
@@ -81,12 +85,13 @@ open_first (WrongId word) begun answered never = omega arith
 open_first Confused begun answered never = omega arith
 
 -- a run
-call_ran : (opened : Bool) (limit tries : ℕ) (list : List Access) (m : Bus) (told : HostReport) (now : Bus) (due : _)
-    → ScriptCallCloses opened limit list tries told due
-    → FitsFrom (script_opening_requests opened) limit list m told now
-    → IsScriptCall (script_opening_requests opened) (script_most_requests opened tries) limit (length list) 0 0
+call_ran : (opened : Bool) (kind : Bursts) (tries : ℕ) (list : List Access) (m : Bus) (told : HostReport) (now : Bus) (due : _)
+    → ScriptCallCloses opened kind list tries told due
+    → FitsFrom (script_opening_requests opened) (bursts_limit kind) list m told now
+    → IsScriptCall (script_opening_requests opened) (script_most_requests opened kind tries) (bursts_limit kind)
+    (length list) 0 0
     (length told.answers) told.begun told.requests told.ended
-call_ran opened limit tries list m told now due closes (k, fit) =
+call_ran opened kind tries list m told now due closes (k, fit) =
     let many : length told.answers ≡ k =
     ap length fit.answers ∙ script_calls_answer_count (take k list) m ∙ length-take-le k list fit.reported in
     record {
@@ -97,7 +102,7 @@ call_ran opened limit tries list m told now due closes (k, fit) =
       few = closes.begun;
       unanswered = open_first told.ended told.begun (length told.answers) (λ some. (fit.begun some).1);
       begins = λ some. let h = (fit.begun some).2 in omega (arith, h, many);
-      spends = spends_first (script_most_requests opened tries) (length list) (length told.answers) told.requests
+      spends = spends_first (script_most_requests opened kind tries) (length list) (length told.answers) told.requests
           closes.spends;
     }
 
@@ -116,11 +121,12 @@ is_any : IsPortChoice any
 is_any = record { address = omega arith; filler = omega arith; others = omega arith; elsewhere = omega arith }
 
 -- going on
-call_resumed : (tries : ℕ) (list : List Access) (earlier told : HostReport) (due : _) (s t : Port)
-    → ResumeCloses list tries earlier told due → ResumeFits list tries earlier told s t
-    → IsScriptCall 9 (script_most_resumed tries) 1 (length list) (length earlier.answers) earlier.begun
+call_resumed : (kind : Bursts) (tries : ℕ) (list : List Access) (earlier told : HostReport) (due : _) (s t : Port)
+    → ResumeCloses (script_resumed_bursts kind) list tries earlier told due
+    → ResumeFits (script_resumed_bursts kind) list tries earlier told s t
+    → IsScriptCall 9 (script_most_resumed kind tries) 1 (length list) (length earlier.answers) earlier.begun
     (length told.answers) told.begun told.requests told.ended
-call_resumed tries list earlier told due s t goes fits =
+call_resumed kind tries list earlier told due s t goes fits =
     let added : List Answer = resume_added earlier told in
     let many : length told.answers ≡ length earlier.answers + length added =
     ap length goes.kept ∙ length-append earlier.answers added in
@@ -141,26 +147,26 @@ call_resumed tries list earlier told due s t goes fits =
       few = fit.few;
       unanswered = fits.begun;
       begins = λ some. let h = (fit.begun some).2 in omega (arith, h, told_many, new);
-      spends = subst (λ x. told.requests ≤ 5 + host_most_requests tries
+      spends = subst (λ x. told.requests ≤ 5 + host_most_requests (resumed_bursts (script_resumed_bursts kind)) tries
           (min x (length told.answers - length earlier.answers + 1))) rest
-          (subst (λ y. told.requests ≤ 5 + host_most_requests tries
+          (subst (λ y. told.requests ≤ 5 + host_most_requests (resumed_bursts (script_resumed_bursts kind)) tries
           (min (length (drop (length earlier.answers) list)) (y + 1))) new goes.closes.spends);
     }
 
-calls_more : (opening : ℕ) (most : ℕ → ℕ) (limit tries n from left : ℕ) (stops : List Stop)
+calls_more : (opening : ℕ) (most : ℕ → ℕ) (limit : ℕ) (again : ℕ → ℕ) (n from left : ℕ) (stops : List Stop)
     (earlier told : HostReport) → earlier.ended ≡ Lost
-    → AreScriptCalls opening most limit tries n from left stops earlier
-    → IsScriptCall 9 (script_most_resumed tries) 1 n (length earlier.answers) earlier.begun (length told.answers)
+    → AreScriptCalls opening most limit again n from left stops earlier
+    → IsScriptCall 9 again 1 n (length earlier.answers) earlier.begun (length told.answers)
     told.begun told.requests told.ended
-    → AreScriptCalls opening most limit tries n from left (stops ++ script_stop_of earlier ∷ []) told
-calls_more opening most limit tries n from left [] earlier told lost calls call = (
+    → AreScriptCalls opening most limit again n from left (stops ++ script_stop_of earlier ∷ []) told
+calls_more opening most limit again n from left [] earlier told lost calls call = (
   subst (λ x. IsScriptCall opening most limit n from left (length earlier.answers) earlier.begun earlier.requests x)
       lost calls,
   call,
 )
-calls_more opening most limit tries n from left (stop ∷ stops) earlier told lost calls call = (
+calls_more opening most limit again n from left (stop ∷ stops) earlier told lost calls call = (
   calls.0,
-  calls_more 9 (script_most_resumed tries) 1 tries n stop.answered stop.begun stops earlier told lost calls.1 call,
+  calls_more 9 again 1 again n stop.answered stop.begun stops earlier told lost calls.1 call,
 )
 
 answered_same : (stops : List Stop) (earlier told : HostReport)
@@ -168,32 +174,38 @@ answered_same : (stops : List Stop) (earlier told : HostReport)
 answered_same [] earlier told = refl
 answered_same (stop ∷ stops) earlier told = refl
 
+-- the requests of the disturbances since a moment, by a bound of all
+pub events_within : (kind : Bursts) (later earlier d : ℕ) → later ≤ d
+    → event_requests kind * (later - earlier) ≤ event_requests kind * d
+events_within kind later earlier d few =
+    let h = event_requests_sum kind (later - earlier) 0 d (omega (arith, few)) in omega (arith, h)
+
 most_more : (base q r k x : ℕ) → q ≤ base + k * x → r ≤ x → q + r ≤ base + (k + 1) * x
 most_more base q r k x h l = omega (arith, h, l)
 
 -- ---- all calls
 
 -- whatever came back
-module _ {W : Type 0} (wire : Ghosts W) {opened : Bool} (limit : ℕ)
+module _ {W : Type 0} (wire : Ghosts W) {opened : Bool} (kind : Bursts)
     (list : List Access) (tries : ℕ) (s : W)
   where
     -- what is due after a run is what its end says
     pub due_after : (stops : List Stop) (told : HostReport) (t : W)
-        → ScriptCallsFrom wire opened limit list tries s stops told t
+        → ScriptCallsFrom wire opened kind list tries s stops told t
         → (wire.port t).link.due ≡ host_due_at_end told.ended
     due_after stops told t (ran same closes over says) = closes.due
     due_after stops told t (resumed went lost same goes over says) = goes.closes.due
 
     -- so it was lawful from the start
     pub law_before : (stops : List Stop) (told : HostReport) (t : W)
-        → ScriptCallsFrom wire opened limit list tries s stops told t → wire.lawful t → wire.lawful s
+        → ScriptCallsFrom wire opened kind list tries s stops told t → wire.lawful t → wire.lawful s
     law_before stops told t (ran same closes over says) law = (over law).0
     law_before stops told t (resumed {stops = before} {earlier = e} {t = u} went lost same goes over says) law =
         law_before before e u went (over law).0
 
     -- a run and its resumed calls don't change the plan
     pub plan_kept : (stops : List Stop) (told : HostReport) (t : W)
-        → ScriptCallsFrom wire opened limit list tries s stops told t → wire.plan t ≡ wire.plan s
+        → ScriptCallsFrom wire opened kind list tries s stops told t → wire.plan t ≡ wire.plan s
     plan_kept stops told t (ran same closes over says) = same
     plan_kept stops told t (resumed went lost same goes over says) = same
 
@@ -365,9 +377,9 @@ reads_in_turn opened limit list m stops told after h some reads =
       words = λ plain all. ap plain_words_of (sym (h.left all)) ∙ r.words plain;
     }
 
-module _ {W : Type 0} (wire : Ghosts W) {opened : Bool} (limit : ℕ)
+module _ {W : Type 0} (wire : Ghosts W) {opened : Bool} (kind : Bursts)
     (list : List Access) (tries : ℕ) (s : W) (starts : ScriptStarts opened (wire.port s)) where
-  known : (stops : List Stop) (told : HostReport) (t : W) → ScriptCallsFrom wire opened limit list tries s stops told t
+  known : (stops : List Stop) (told : HostReport) (t : W) → ScriptCallsFrom wire opened kind list tries s stops told t
       → wire.lawful t → HostKnowsTarget (wire.port t).target
   known stops told t (ran {told = a} {t = u} same closes over says) law =
       resume_target_known a.ended tries (wire.port s) (wire.port u) ((over law).1 starts).ends
@@ -378,7 +390,7 @@ module _ {W : Type 0} (wire : Ghosts W) {opened : Bool} (limit : ℕ)
 
   -- over a lawful wire, from a target at rest, the count of requests grows by the requests of all calls
   pub asked : (stops : List Stop) (told : HostReport) (t : W)
-      → ScriptCallsFrom wire opened limit list tries s stops told t → wire.lawful t
+      → ScriptCallsFrom wire opened kind list tries s stops told t → wire.lawful t
       → (wire.port t).tally.asked ≡ (wire.port s).tally.asked + (script_requests_before stops + told.requests)
   asked stops told t (ran {told = a} {t = u} same closes over says) law = let h = ((over law).1 starts).counted in omega
       (arith, h)
@@ -392,7 +404,7 @@ module _ {W : Type 0} (wire : Ghosts W) {opened : Bool} (limit : ℕ)
   -- over a lawful wire, from a target at rest, no transaction is incomplete after all calls, and a line reset is due
   -- exactly if the last one ended `Lost`
   pub ending : (stops : List Stop) (told : HostReport) (t : W)
-      → ScriptCallsFrom wire opened limit list tries s stops told t → wire.lawful t
+      → ScriptCallsFrom wire opened kind list tries s stops told t → wire.lawful t
       → (recorded_due_count (wire.port t).link.due ≡ 0) × (((wire.port t).link.due ≡ DueLost) ↔ (told.ended ≡ Lost))
   ending stops told t (ran {told = a} {t = u} same closes over says) law = script_run_end_due a.ended tries
       (wire.port s) (wire.port u)
@@ -403,7 +415,7 @@ module _ {W : Type 0} (wire : Ghosts W) {opened : Bool} (limit : ℕ)
       ((over law).1 (known before e u went (over law).0)).ends
 
   lost_more : (stops : List Stop) (told : HostReport) (t : W)
-      → ScriptCallsFrom wire opened limit list tries s stops told t → wire.lawful t → told.ended ≡ Lost
+      → ScriptCallsFrom wire opened kind list tries s stops told t → wire.lawful t → told.ended ≡ Lost
       → (wire.port s).tally.lost + length stops < (wire.port t).tally.lost
   lost_more stops told t (ran {told = a} {t = u} same closes over says) law is =
       let h = lost_at a.ended tries (wire.port s) (wire.port u) is ((over law).1 starts).ends in omega (arith, h)
@@ -416,22 +428,21 @@ module _ {W : Type 0} (wire : Ghosts W) {opened : Bool} (limit : ℕ)
       let l = one_more before (script_stop_of e) in
       omega (arith, h, g, l)
 
-  calls : (stops : List Stop) (told : HostReport) (t : W) → ScriptCallsFrom wire opened limit list tries s stops told t
-      → wire.lawful t → AreScriptCalls (script_opening_requests opened) (script_most_requests opened tries) limit tries
-      (length list) 0 0 stops told
+  calls : (stops : List Stop) (told : HostReport) (t : W) → ScriptCallsFrom wire opened kind list tries s stops told t
+      → wire.lawful t → AreScriptCalls (script_opening_requests opened) (script_most_requests opened kind tries)
+      (bursts_limit kind) (script_most_resumed kind tries) (length list) 0 0 stops told
   calls stops told t (ran {told = a} {t = u} same closes over says) law =
-      call_ran opened limit tries list (wire.port s).target.memory a (wire.port u).target.memory _ closes
+      call_ran opened kind tries list (wire.port s).target.memory a (wire.port u).target.memory _ closes
       ((over law).1 starts).now
   calls stops told t (resumed {stops = before} {earlier = e} {told = a} {t = u} {u = v} went lost same goes over says)
       law =
-      calls_more (script_opening_requests opened) (script_most_requests opened tries) limit tries (length list) 0 0
-      before
-      e a lost (calls before e u went (over law).0)
-      (call_resumed tries list e a _ (wire.port u) (wire.port v) goes
+      calls_more (script_opening_requests opened) (script_most_requests opened kind tries) (bursts_limit kind)
+      (script_most_resumed kind tries) (length list) 0 0 before e a lost (calls before e u went (over law).0)
+      (call_resumed kind tries list e a _ (wire.port u) (wire.port v) goes
       ((over law).1 (known before e u went (over law).0)))
 
   first_within : (stops : List Stop) (told : HostReport) (t : W)
-      → ScriptCallsFrom wire opened limit list tries s stops told t
+      → ScriptCallsFrom wire opened kind list tries s stops told t
       → script_answered_first stops told ≤ length told.answers
   first_within stops told t (ran same closes over says) = omega arith
   first_within stops told t
@@ -442,7 +453,7 @@ module _ {W : Type 0} (wire : Ghosts W) {opened : Bool} (limit : ℕ)
       omega (arith, h, f, l)
 
   first_answers : (stops : List Stop) (told : HostReport) (t : W)
-      → ScriptCallsFrom wire opened limit list tries s stops told t → wire.lawful t
+      → ScriptCallsFrom wire opened kind list tries s stops told t → wire.lawful t
       → take (script_answered_first stops told) told.answers ≡ answers_of (take (script_answered_first stops told) list)
       (wire.port s).target.memory
   first_answers stops told t (ran {told = a} {t = u} same closes over says) law = whole ((over law).1 starts).now
@@ -450,7 +461,7 @@ module _ {W : Type 0} (wire : Ghosts W) {opened : Bool} (limit : ℕ)
       m : Bus
       m = (wire.port s).target.memory
 
-      whole : FitsFrom (script_opening_requests opened) limit list m a (wire.port u).target.memory
+      whole : FitsFrom (script_opening_requests opened) (bursts_limit kind) list m a (wire.port u).target.memory
           → take (length a.answers) a.answers ≡ answers_of (take (length a.answers) list) m
       whole (k, fit) =
           let many : length a.answers ≡ k = ap length fit.answers ∙ script_calls_answer_count (take k list) m
@@ -466,13 +477,13 @@ module _ {W : Type 0} (wire : Ghosts W) {opened : Bool} (limit : ℕ)
       ∙ first_answers before e u went (over law).0 ∙ ap (λ n. answers_of (take n list) m) (sym f)
 
   in_turn : (stops : List Stop) (told : HostReport) (t : W)
-      → ScriptCallsFrom wire opened limit list tries s stops told t → wire.lawful t
-      → InTurn opened limit list (wire.port s).target.memory stops told (wire.port t)
+      → ScriptCallsFrom wire opened kind list tries s stops told t → wire.lawful t
+      → InTurn opened (bursts_limit kind) list (wire.port s).target.memory stops told (wire.port t)
   in_turn stops told t (ran {told = a} {t = u} same closes over says) law = record {
     calls = [];
     are = refl;
-    chained = λ now may. chain_first opened limit list (wire.port s).target.memory a now
-        (subst (FitsFrom (script_opening_requests opened) limit list (wire.port s).target.memory a) (sym may.2)
+    chained = λ now may. chain_first opened (bursts_limit kind) list (wire.port s).target.memory a now
+        (subst (FitsFrom (script_opening_requests opened) (bursts_limit kind) list (wire.port s).target.memory a) (sym may.2)
         (((over law).1 starts).later may.0));
   }
   in_turn stops told t (resumed {stops = before} {earlier = e} {told = a} {t = u} {u = v} went lost same goes over says)
@@ -484,13 +495,13 @@ module _ {W : Type 0} (wire : Ghosts W) {opened : Bool} (limit : ℕ)
         calls = h.calls ++ e ∷ [];
         are = ap (λ l. l ++ script_stop_of e ∷ []) h.are ∙ sym (stops_more h.calls e);
         chained = λ now may. (let from = fits.goes now may in
-            chain_more opened limit list (wire.port s).target.memory h.calls e a from.before now
+            chain_more opened (bursts_limit kind) list (wire.port s).target.memory h.calls e a from.before now
             (h.chained from.before from.comes) fits.own goes.kept fits.begun from.fits);
       }
 
   -- a run that ended all leaves the target open
   pub opens : (stops : List Stop) (told : HostReport) (t : W)
-      → ScriptCallsFrom wire opened limit list tries s stops told t → wire.lawful t
+      → ScriptCallsFrom wire opened kind list tries s stops told t → wire.lawful t
       → told.ended ≡ All → HostIsOpen (wire.port t)
   opens stops told t (ran {told = a} {t = u} same closes over says) law all =
       open_at a.ended tries (wire.port s) (wire.port u) all ((over law).1 starts).ends
@@ -501,38 +512,38 @@ module _ {W : Type 0} (wire : Ghosts W) {opened : Bool} (limit : ℕ)
 
   -- so it is at rest
   pub rests : (stops : List Stop) (told : HostReport) (t : W)
-      → ScriptCallsFrom wire opened limit list tries s stops told t → wire.lawful t
+      → ScriptCallsFrom wire opened kind list tries s stops told t → wire.lawful t
       → told.ended ≡ All → IsAtRest (wire.port t)
   rests stops told t went law all = (opens stops told t went law all).0
 
   told_in_turn : (stops : List Stop) (told : HostReport) (t : W)
-      → ScriptCallsFrom wire opened limit list tries s stops told t
-      → wire.lawful t → ScriptCallsInTurn opened limit stops list (wire.port s).target.memory told
+      → ScriptCallsFrom wire opened kind list tries s stops told t
+      → wire.lawful t → ScriptCallsInTurn opened (bursts_limit kind) stops list (wire.port s).target.memory told
       (wire.port t).target.memory
   told_in_turn stops told t went law =
-      in_turn_at opened limit list (wire.port s).target.memory stops told (wire.port t) told.ended refl
+      in_turn_at opened (bursts_limit kind) list (wire.port s).target.memory stops told (wire.port t) told.ended refl
       (rests stops told t went law) (in_turn stops told t went law)
 
   -- over a lawful wire, from a target at rest, the reports of the calls state what `ScriptCallsReport` says of the
   -- plain memory
   pub tell_of : (stops : List Stop) (told : HostReport) (t : W)
-      → ScriptCallsFrom wire opened limit list tries s stops told t → wire.lawful t
-      → ScriptCallsReport opened limit tries list (wire.port s).target.memory stops told (wire.port t).target.memory
+      → ScriptCallsFrom wire opened kind list tries s stops told t → wire.lawful t
+      → ScriptCallsReport opened kind tries list (wire.port s).target.memory stops told (wire.port t).target.memory
   tell_of stops told t went law = record {
     calls = calls stops told t went law;
     first = first_answers stops told t went law;
     turns = told_in_turn stops told t went law;
-    again = again_in_turn opened limit list (wire.port s).target.memory stops told (wire.port t).target.memory
+    again = again_in_turn opened (bursts_limit kind) list (wire.port s).target.memory stops told (wire.port t).target.memory
         (told_in_turn stops told t went law);
-    reads = reads_in_turn opened limit list (wire.port s).target.memory stops told (wire.port t).target.memory
+    reads = reads_in_turn opened (bursts_limit kind) list (wire.port s).target.memory stops told (wire.port t).target.memory
         (told_in_turn stops told t went law);
   }
 
   -- it was never resumed
   pub alone : (stops : List Stop) (told : HostReport) (t : W)
-      → ScriptCallsFrom wire opened limit list tries s stops told t → wire.lawful t → stops ≡ []
-      → ScriptCallCloses opened limit list tries told (wire.port t).link.due
-      × ScriptCallFits opened limit list tries told (wire.port s) (wire.port t)
+      → ScriptCallsFrom wire opened kind list tries s stops told t → wire.lawful t → stops ≡ []
+      → ScriptCallCloses opened kind list tries told (wire.port t).link.due
+      × ScriptCallFits opened kind list tries told (wire.port s) (wire.port t)
   alone stops told t (ran same closes over says) law none = (closes, (over law).1)
   alone stops told t (resumed {stops = before} {earlier = e} went lost same goes over says) law none =
       let l = one_more before (script_stop_of e) in let z = ap length none in absurd (omega (arith, l, z))
@@ -542,7 +553,7 @@ module _ {W : Type 0} (wire : Ghosts W) {opened : Bool} (limit : ℕ)
       (bounded : (w : W) → wire.plan w ≡ wire.plan s → ((wire.port w).tally.disturbed ≤ port_disturbed_among marks)
       × ((wire.port w).tally.lost ≤ port_lost_among marks)) where
     pub excused_by : (stops : List Stop) (told : HostReport) (t : W)
-        → ScriptCallsFrom wire opened limit list tries s stops told t → wire.lawful t
+        → ScriptCallsFrom wire opened kind list tries s stops told t → wire.lawful t
         → IsRunExcused told.ended tries marks
     excused_by stops told t (ran {told = a} {t = u} same closes over says) law =
         script_run_end_excused a.ended tries marks (wire.port s) (wire.port u) (bounded u same).0 (bounded u same).1
@@ -554,40 +565,50 @@ module _ {W : Type 0} (wire : Ghosts W) {opened : Bool} (limit : ℕ)
         ((over law).1 (known before e u went (over law).0)).ends
 
     pub stops_lost : (stops : List Stop) (told : HostReport) (t : W)
-        → ScriptCallsFrom wire opened limit list tries s stops told t → wire.lawful t
+        → ScriptCallsFrom wire opened kind list tries s stops told t → wire.lawful t
         → length stops ≤ port_lost_among marks
     stops_lost stops told t (ran same closes over says) law = omega arith
     stops_lost stops told t (resumed {stops = before} {earlier = e} {told = a} {t = u} {u = v} went lost same goes over
         says)
         law =
         let h = lost_more before e u went (over law).0 lost in
-        let b = (bounded u (plan_kept wire limit list tries s before e u went)).1 in
+        let b = (bounded u (plan_kept wire kind list tries s before e u went)).1 in
         let l = one_more before (script_stop_of e) in
         omega (arith, h, b, l)
 
     pub last_lost : (stops : List Stop) (told : HostReport) (t : W)
-        → ScriptCallsFrom wire opened limit list tries s stops told t → wire.lawful t
+        → ScriptCallsFrom wire opened kind list tries s stops told t → wire.lawful t
         → told.ended ≡ Lost → length stops < port_lost_among marks
     last_lost stops told t went law is =
         let h = lost_more stops told t went law is in
-        let b = (bounded t (plan_kept wire limit list tries s stops told t went)).1 in
+        let b = (bounded t (plan_kept wire kind list tries s stops told t went)).1 in
         omega (arith, h, b)
 
     pub sends_most : (stops : List Stop) (told : HostReport) (t : W)
-        → ScriptCallsFrom wire opened limit list tries s stops told t → wire.lawful t
+        → ScriptCallsFrom wire opened kind list tries s stops told t → wire.lawful t
         → script_requests_before stops + told.requests ≤ script_opening_requests opened + 6 * length list
-        + 5 * port_disturbed_among marks + length stops * (14 + 6 * length list + 5 * port_disturbed_among marks)
+        + event_requests kind * port_disturbed_among marks
+        + length stops * (14 + 6 * length list
+        + event_requests (resumed_bursts (script_resumed_bursts kind)) * port_disturbed_among marks)
     sends_most stops told t (ran {told = a} {t = u} same closes over says) law =
-        let h = ((over law).1 starts).most in let b = (bounded u same).0 in omega (arith, h, b)
+        let h = ((over law).1 starts).most in
+        let b = (bounded u same).0 in
+        let most = events_within kind (wire.port u).tally.disturbed (wire.port s).tally.disturbed
+        (port_disturbed_among marks) b in
+        omega (arith, h, most)
     sends_most stops told t (resumed {stops = before} {earlier = e} {told = a} {t = u} {u = v} went lost same goes over
         says)
         law =
-        let x : ℕ = 14 + 6 * length list + 5 * port_disturbed_among marks in
-        let base : ℕ = script_opening_requests opened + 6 * length list + 5 * port_disturbed_among marks in
+        let again : Bursts = resumed_bursts (script_resumed_bursts kind) in
+        let x : ℕ = 14 + 6 * length list + event_requests again * port_disturbed_among marks in
+        let base : ℕ = script_opening_requests opened + 6 * length list
+        + event_requests kind * port_disturbed_among marks in
         let h = sends_most before e u went (over law).0 in
         let g = ((over law).1 (known before e u went (over law).0)).most in
         let b = (bounded v same).0 in
-        let few : a.requests ≤ x = omega (arith, g, b) in
+        let most = events_within again (wire.port v).tally.disturbed (wire.port u).tally.disturbed
+        (port_disturbed_among marks) b in
+        let few : a.requests ≤ x = omega (arith, g, most) in
         let r = requests_more before (script_stop_of e) in
         let sum : script_requests_before (before ++ script_stop_of e ∷ []) + a.requests ≤ base
         + (length before + 1) * x =
@@ -612,7 +633,7 @@ whole_by Confused limits marks e last lost few = absurd e
 module _ {W : Type 0} (wire : Ghosts W) (opened : Bool)
     (limits : Limits) (batch : ScriptListed) (marks : List Mark) (run : ScriptRun) (s t : W)
     (starts : ScriptStarts opened (wire.port s)) (law : wire.lawful t)
-    (goes : RunsBatchFrom wire opened (batch_limit batch) limits batch s run t) where
+    (goes : RunsBatchFrom wire opened (batch_bursts limits.bursts batch) limits batch s run t) where
   -- over a lawful wire, from a target at rest and under a plan, a run that may be resumed states what `RunsOn` says
   -- of the plain memory
   pub runs_on : wire.plan s ≡ marks
@@ -623,9 +644,9 @@ module _ {W : Type 0} (wire : Ghosts W) (opened : Bool)
   runs_on planned marked =
       let stops : List Stop = run.stops in
       let told : HostReport = run.told in
-      let n : ℕ = batch_limit batch in
+      let n : Bursts = batch_bursts limits.bursts batch in
       let list : List Access = batch.accesses in
-      let went : ScriptCallsFrom wire opened (batch_limit batch) batch.accesses limits.tries s run.stops run.told t =
+      let went : ScriptCallsFrom wire opened (batch_bursts limits.bursts batch) batch.accesses limits.tries s run.stops run.told t =
       goes.went in
       let bounded : (w : W) → wire.plan w ≡ wire.plan s → ((wire.port w).tally.disturbed ≤ port_disturbed_among marks)
       × ((wire.port w).tally.lost ≤ port_lost_among marks) =
@@ -640,7 +661,7 @@ module _ {W : Type 0} (wire : Ghosts W) (opened : Bool)
       goes.lost is in omega (arith, h, e)) in
       record {
         alone = λ none. (let (closes, over) = alone wire n list limits.tries s starts stops told t went law none in
-            batch_run_under_plan opened limits.tries batch marks told (wire.port s) (wire.port t) _ starts at_start.1
+            batch_run_under_plan opened n limits.tries batch marks told (wire.port s) (wire.port t) _ starts at_start.1
             at_end.0 at_end.1 closes over);
         tells = tell_of wire n list limits.tries s starts stops told t went law;
         few = goes.few;

@@ -27,7 +27,7 @@ use Rattle.swd_run.specs.declared.limits.Limits.{Limits}
 use Rattle.swd_run.specs.Records.{RunAccessesStop, AreRunFilesStarted, AreRunFilesLeft, AreRunFilesWritten, RunFiles}
 use Rattle.swd_run.specs.Records.{IfRunFiles, RunTraceStops, wants_run_files}
 use Rattle.swd_run.specs.Reports.{session_text}
-use Rattle.swd_run.specs.Sessions.{RunsBatches, script_ended, batch_limit, script_is_open, script_requests}
+use Rattle.swd_run.specs.Sessions.{RunsBatches, script_ended, batch_bursts, script_is_open, script_requests}
 use Rattle.swd_run.specs.Transfers.{AreWholeRuns, report_transfers_in}
 use Rattle.swd_run.specs.Unfoldings.{AreBatchesDone, BatchRuns, IsCutShort, Unfolds, calls_of, ends_until, runs_of}
 use Rattle.swd_run.specs.Verified.{first_difference, runs_met_bus_fault}
@@ -43,7 +43,7 @@ pub record RanBatches {W : Type 0} (wire : Ghosts W) (limits : Limits)
     (batches : List ScriptListed) (start end : W) : Type 0 where
   pub made : List BatchRuns
   pub unfolds : Unfolds (take (length made) batches) made
-  pub are : RunsBatches wire false batch_limit limits start (calls_of batches made) (runs_of made)
+  pub are : RunsBatches wire false (batch_bursts limits.bursts) limits start (calls_of batches made) (runs_of made)
       end
 
 -- Such runs, each of which ended `All`, and then one that ran out of memory. It may be a later read of an `until`.

@@ -10,6 +10,9 @@ use Rattle.swd_host.specs.declared.outcome.End.TheVariants.{All, Lost}
 use Rattle.swd_port.specs.PlainBus.{IsPlain, plain_words_of}
 use Rattle.swd_host.specs.Plain.{memory_after, answers_of}
 use Rattle.swd_host.specs.PlainRuns.{IsPlainWithRoom}
+use Rattle.swd_host.specs.declared.task.Bursts.{Bursts}
+use Rattle.swd_host.specs.declared.task.Bursts.TheVariants.{Writes, Reads}
+use Rattle.swd_host.specs.Tasks.{bursts_limit, resumed_bursts}
 use Rattle.swd_host.specs.Reports.{HostReport, host_most_requests}
 use Rattle.swd_host.specs.Again.{Again, ResumeCloses, ResumeReportsCalls, ResumesOver}
 use Rattle.swd_host.specs.Resuming.{host_end_is_all}
@@ -35,28 +38,35 @@ script_requests_before (stop ∷ stops) = stop.requests + script_requests_before
 abbrev pub script_calls_in_all : List Stop → HostReport → HostReport
 script_calls_in_all stops told = record told { requests = script_requests_before stops + told.requests }
 
+-- How a call is resumed: as it was made, but the rest of a block, which has no writes, as a list with bursts of writes.
+abbrev pub script_resumed_bursts : Bursts → Bursts
+script_resumed_bursts Reads = Writes
+script_resumed_bursts kind = kind
+
 -- THE CALLS A call over a wire from s to t, and the calls of `resume` after it, each after a lost acknowledgement.
 -- `opened` says that the target was open at s; else the call opens it. The other arguments are the places where it was
 -- resumed, and the report of the last call. Whatever came back, `ScriptCallCloses` or `ResumeCloses` holds of each
 -- call, and the calls made of the wire meanwhile are those that its report describes. Where the wire is lawful, the
 -- theorem of the host holds too.
-pub data ScriptCallsFrom {W : Type 0} (wire : Ghosts W) (opened : Bool) (limit : ℕ) (list : List Access) (tries : ℕ)
-    (s : W) : List Stop → HostReport → W → Type 0 where
+pub data ScriptCallsFrom {W : Type 0} (wire : Ghosts W) (opened : Bool) (kind : Bursts) (list : List Access)
+    (tries : ℕ) (s : W) : List Stop → HostReport → W → Type 0 where
   ran : {told : HostReport} {t : W} → wire.plan t ≡ wire.plan s
-      → ScriptCallCloses opened limit list tries told (wire.port t).link.due
-      → (wire.lawful t → wire.lawful s × ScriptCallFits opened limit list tries told (wire.port s) (wire.port t))
+      → ScriptCallCloses opened kind list tries told (wire.port t).link.due
+      → (wire.lawful t → wire.lawful s × ScriptCallFits opened kind list tries told (wire.port s) (wire.port t))
       → HostCalls wire.notes (HostReportsCalls list told) s t
-      → ScriptCallsFrom wire opened limit list tries s [] told t
+      → ScriptCallsFrom wire opened kind list tries s [] told t
   resumed : {stops : List Stop} {earlier told : HostReport} {t u : W}
-      → ScriptCallsFrom wire opened limit list tries s stops earlier t
-      → earlier.ended ≡ Lost → wire.plan u ≡ wire.plan s → ResumeCloses list tries earlier told (wire.port u).link.due
-      → (wire.lawful u → wire.lawful t × ResumesOver list tries earlier told (wire.port t) (wire.port u))
+      → ScriptCallsFrom wire opened kind list tries s stops earlier t
+      → earlier.ended ≡ Lost → wire.plan u ≡ wire.plan s
+      → ResumeCloses (script_resumed_bursts kind) list tries earlier told (wire.port u).link.due
+      → (wire.lawful u → wire.lawful t
+      × ResumesOver (script_resumed_bursts kind) list tries earlier told (wire.port t) (wire.port u))
       → HostCalls wire.notes (ResumeReportsCalls list earlier told) t u
-      → ScriptCallsFrom wire opened limit list tries s (stops ++ script_stop_of earlier ∷ []) told u
+      → ScriptCallsFrom wire opened kind list tries s (stops ++ script_stop_of earlier ∷ []) told u
 
 -- the same where the first of them opens the target
-abbrev pub ScriptCalls : {W : Type 0} → Ghosts W → ℕ → List Access → ℕ → W → List Stop → HostReport → W → Type 0
-ScriptCalls wire limit list tries s stops told t = ScriptCallsFrom wire false limit list tries s stops told t
+abbrev pub ScriptCalls : {W : Type 0} → Ghosts W → Bursts → List Access → ℕ → W → List Stop → HostReport → W → Type 0
+ScriptCalls wire kind list tries s stops told t = ScriptCallsFrom wire false kind list tries s stops told t
 
 -- These calls, the last one first, are those of a run over a list and of each `resume` after it, as their reports
 -- describe: the requests that each counts, and the data phases of the accesses that it answers or leaves begun. The
@@ -88,17 +98,17 @@ pub record IsScriptCall (opening : ℕ) (most : ℕ → ℕ) (limit n from left 
   pub spends : requests ≤ most (min (n - from) (answered - from + 1))
 
 -- the most requests of a call that resumes: five more than those of a run
-abbrev pub script_most_resumed : ℕ → ℕ → ℕ
-script_most_resumed tries n = 5 + host_most_requests tries n
+abbrev pub script_most_resumed : Bursts → ℕ → ℕ → ℕ
+script_most_resumed kind tries n = 5 + host_most_requests (resumed_bursts (script_resumed_bursts kind)) tries n
 
 -- The successive calls. Each that resumes opens the target again, and begins at most one access that it doesn't answer.
-abbrev pub AreScriptCalls : (opening : ℕ) → (most : ℕ → ℕ) → (limit tries n from left : ℕ) → List Stop → HostReport
-    → Type 0
-AreScriptCalls opening most limit tries n from left [] told =
+abbrev pub AreScriptCalls : (opening : ℕ) → (most : ℕ → ℕ) → (limit : ℕ) → (again : ℕ → ℕ) → (n from left : ℕ)
+    → List Stop → HostReport → Type 0
+AreScriptCalls opening most limit again n from left [] told =
     IsScriptCall opening most limit n from left (length told.answers) told.begun told.requests told.ended
-AreScriptCalls opening most limit tries n from left (stop ∷ stops) told =
+AreScriptCalls opening most limit again n from left (stop ∷ stops) told =
     IsScriptCall opening most limit n from left stop.answered stop.begun stop.requests Lost
-    × AreScriptCalls 9 (script_most_resumed tries) 1 tries n stop.answered stop.begun stops told
+    × AreScriptCalls 9 again 1 again n stop.answered stop.begun stops told
 
 -- the first call's number of answers, and of accesses begun after these
 abbrev pub script_answered_first : List Stop → HostReport → ℕ
@@ -157,13 +167,13 @@ pub record ScriptCallsOfReads (limit : ℕ) (stops : List Stop) (list : List Acc
 -- What the reports of the calls state about the plain memory. The first call's answers are the plain memory's. So are
 -- all answers of a list of reads, if the log has room for the repeated reads. And so are those of any list of which the
 -- first call left at most one access begun, if the log has room for the repeated accesses.
-pub record ScriptCallsReport (opened : Bool) (limit tries : ℕ) (list : List Access) (m : Bus) (stops : List Stop)
-    (told : HostReport) (after : Bus) : Type 0 where
-  pub calls : AreScriptCalls (script_opening_requests opened) (script_most_requests opened tries) limit tries
-      (length list) 0 0 stops told
+pub record ScriptCallsReport (opened : Bool) (kind : Bursts) (tries : ℕ) (list : List Access) (m : Bus)
+    (stops : List Stop) (told : HostReport) (after : Bus) : Type 0 where
+  pub calls : AreScriptCalls (script_opening_requests opened) (script_most_requests opened kind tries) (bursts_limit kind)
+      (script_most_resumed kind tries) (length list) 0 0 stops told
   pub first : take (script_answered_first stops told) told.answers
       ≡ answers_of (take (script_answered_first stops told) list) m
-  pub turns : ScriptCallsInTurn opened limit stops list m told after
+  pub turns : ScriptCallsInTurn opened (bursts_limit kind) stops list m told after
   pub again : script_begun_first stops told ≤ 1 → IsPlainWithRoom (length stops) list m
       → ScriptCallsAgain stops list m told after
-  pub reads : 1 ≤ limit → AreBlockReads list → ScriptCallsOfReads limit stops list m told after
+  pub reads : 1 ≤ bursts_limit kind → AreBlockReads list → ScriptCallsOfReads (bursts_limit kind) stops list m told after

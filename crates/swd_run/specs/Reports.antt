@@ -17,7 +17,7 @@ use Rattle.swd_script.specs.declared.batch.Until.{Until}
 use Rattle.swd_script.specs.Scripts.{ScriptListed}
 use Rattle.swd_run.specs.declared.going_on.Stop.{Stop}
 use Rattle.swd_run.specs.declared.limits.Limits.{Limits}
-use Rattle.swd_run.specs.Sessions.{ScriptRun, RunsBatchFrom, batch_limit}
+use Rattle.swd_run.specs.Sessions.{ScriptRun, RunsBatchFrom, batch_bursts}
 use Rattle.swd_port.specs.declared.wire.Wire.{Ghosts}
 use Rattle.swd_run.specs.Unfoldings.{BatchRuns, Performs, until_never_came, batch_reads_of}
 
@@ -129,7 +129,7 @@ pub record ReportsBatchRunFrom {W : Type 0} (wire : Ghosts W)
     (told : HostReport) (written : Result ℕ ℕ) : Type 0 where
   pub run : ScriptRun
   pub last : run.told ≡ told
-  pub goes : RunsBatchFrom wire opened (batch_limit batch) limits batch s run t
+  pub goes : RunsBatchFrom wire opened (batch_bursts limits.bursts batch) limits batch s run t
   pub writes : ReportWritesOn written old new (script_run_report batch 1 run)
 
 -- the same for a run that opens the target

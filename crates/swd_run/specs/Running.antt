@@ -17,6 +17,8 @@ use Rattle.swd_port.specs.Bus.{Bus, bus_of}
 use Rattle.swd_target.specs.MemoryWords.{target_zero_memory}
 use Rattle.swd_host.specs.declared.outcome.End.{End}
 use Rattle.swd_host.specs.declared.outcome.End.TheVariants.{All, Lost, TriesOut, WrongId, Confused}
+use Rattle.swd_host.specs.declared.task.Bursts.{Bursts}
+use Rattle.swd_host.specs.Tasks.{bursts_limit, event_requests, resumed_bursts}
 use Rattle.swd_host.specs.Reports.{HostReport, FitsFrom}
 use Rattle.swd_script.specs.Scripts.{ScriptListed, ScriptMeaning, script_of}
 use Rattle.swd_script.specs.Plans.{plan_of}
@@ -30,10 +32,10 @@ use Rattle.swd_run.specs.declared.fault.RunFault.TheVariants.{Texts, Engine}
 use Rattle.swd_run.specs.declared.fault.TextsFault.{TextsFault}
 use Rattle.swd_run.specs.declared.fault.TextsFault.TheVariants.{Script, Plan, Read}
 use Rattle.swd_run.specs.Engine.{Answers, AreItemsOfCalls, AreRunTraceItems, IsPartOfRunTrace, IsRunTraceOf}
-use Rattle.swd_run.specs.GoingOn.{ScriptCallsReport, script_calls_in_all}
+use Rattle.swd_run.specs.GoingOn.{ScriptCallsReport, script_calls_in_all, script_resumed_bursts}
 use Rattle.swd_run.specs.declared.limits.Limits.{Limits}
 use Rattle.swd_run.specs.Records.{AreRunFilesLeft, RunFiles, IsRunFileLeft}
-use Rattle.swd_run.specs.Sessions.{ScriptRun, ScriptRunsReportCalls, script_ended, batch_limit, script_is_open}
+use Rattle.swd_run.specs.Sessions.{ScriptRun, ScriptRunsReportCalls, script_ended, batch_bursts, script_is_open}
 use Rattle.swd_run.specs.Sessions.{script_requests}
 use Rattle.swd_run.specs.Starts.{script_most_requests, script_opening_requests}
 use Rattle.swd_run.specs.Transfers.{AreWholeRuns, report_transfers_in}
@@ -56,17 +58,17 @@ IsRunExcused Confused tries marks = ⊥
 
 -- The result of a run over a memory with the marks of a plan. The report fits the memories before and after it. A run
 -- over a target that is open already (`opened`) has no request of an opening.
-pub record RunsAs (opened : Bool) (tries : ℕ) (batch : ScriptListed) (before : Bus) (marks : List Mark)
+pub record RunsAs (opened : Bool) (kind : Bursts) (tries : ℕ) (batch : ScriptListed) (before : Bus) (marks : List Mark)
     (told : HostReport) (after : Bus)
     : Type 0 where
-  pub fits : FitsFrom (script_opening_requests opened) (batch_limit batch) batch.accesses before told after
+  pub fits : FitsFrom (script_opening_requests opened) (bursts_limit kind) batch.accesses before told after
   pub excused : IsRunExcused told.ended tries marks
   pub whole : port_lost_among marks ≡ 0 → port_disturbed_among marks ≤ tries → told.ended ≡ All
   pub least : told.ended ≡ All → script_opening_requests opened + length batch.accesses ≤ told.requests
   pub most : told.requests ≤ script_opening_requests opened + 6 * length batch.accesses
-      + 5 * port_disturbed_among marks
+      + event_requests kind * port_disturbed_among marks
   -- at most what the tries allow for the opening, for the answered accesses, and for one more
-  pub spends : told.requests ≤ script_most_requests opened tries
+  pub spends : told.requests ≤ script_most_requests opened kind tries
       (min (length batch.accesses) (length told.answers + 1))
 
 -- The result of a run that may be resumed `limits.resumes` times. If it wasn't resumed, `RunsAs` holds of it.
@@ -74,8 +76,8 @@ pub record RunsAs (opened : Bool) (tries : ℕ) (batch : ScriptListed) (before :
 -- request. It ends at a lost acknowledgement only if more than `limits.resumes` marks lose one.
 pub record RunsOn (opened : Bool) (limits : Limits) (batch : ScriptListed) (before : Bus) (marks : List Mark)
     (stops : List Stop) (told : HostReport) (after : Bus) : Type 0 where
-  pub alone : stops ≡ [] → RunsAs opened limits.tries batch before marks told after
-  pub tells : ScriptCallsReport opened (batch_limit batch) limits.tries batch.accesses before stops told after
+  pub alone : stops ≡ [] → RunsAs opened (batch_bursts limits.bursts batch) limits.tries batch before marks told after
+  pub tells : ScriptCallsReport opened (batch_bursts limits.bursts batch) limits.tries batch.accesses before stops told after
   pub few : length stops ≤ limits.resumes
   pub lost : length stops ≤ port_lost_among marks
   pub excused : IsRunExcused told.ended limits.tries marks
@@ -83,8 +85,9 @@ pub record RunsOn (opened : Bool) (limits : Limits) (batch : ScriptListed) (befo
   pub whole : port_lost_among marks ≤ limits.resumes → port_disturbed_among marks ≤ limits.tries → told.ended ≡ All
   -- the requests of all calls
   pub most : (script_calls_in_all stops told).requests ≤ script_opening_requests opened + 6 * length batch.accesses
-      + 5 * port_disturbed_among marks
-      + length stops * (14 + 6 * length batch.accesses + 5 * port_disturbed_among marks)
+      + event_requests (batch_bursts limits.bursts batch) * port_disturbed_among marks
+      + length stops * (14 + 6 * length batch.accesses
+      + event_requests (resumed_bursts (script_resumed_bursts (batch_bursts limits.bursts batch))) * port_disturbed_among marks)
 
 -- The successive runs of a script over the plain memory. `RunsOn` holds of each run, from the memory that the one
 -- before left. The first one opens the target. A later one starts only if the one before ended `All`, and goes over the

@@ -22,10 +22,6 @@ pub record ScriptRun : Type 0 where
 abbrev pub script_run_of : {A : Type 0} → Resumed A → ScriptRun
 script_run_of resumed = record { stops = resumed.stops.items; told = host_report_of resumed.report }
 
--- the most accesses that are begun and not answered: two of a block, else one
-abbrev pub batch_limit : ScriptListed → ℕ
-batch_limit batch = if is_some batch.block then 2 else 1
-
 -- which accesses of a batch are performed in bursts: the reads of a block, else writes where these may be
 abbrev pub batch_bursts : Bool → ScriptListed → Bursts
 batch_bursts bursts batch = if is_some batch.block then Reads else if bursts then Writes else Never
@@ -46,29 +42,29 @@ abbrev pub script_is_open : Bool → List ScriptRun → Bool
 script_is_open opened [] = opened
 script_is_open opened (run ∷ runs) = true
 
--- One run over a wire, resumed at most `limits.resumes` times. At most `limit` accesses are begun and not answered.
--- `opened` says whether the target is open already.
+-- One run over a wire with this kind of bursts, resumed at most `limits.resumes` times. `opened` says whether the
+-- target is open already.
 pub record RunsBatchFrom {W : Type 0} (wire : Ghosts W) (opened : Bool)
-    (limit : ℕ) (limits : Limits) (batch : ScriptListed) (s : W) (run : ScriptRun) (t : W) : Type 0 where
-  pub went : ScriptCallsFrom wire opened limit batch.accesses limits.tries s run.stops run.told t
+    (kind : Bursts) (limits : Limits) (batch : ScriptListed) (s : W) (run : ScriptRun) (t : W) : Type 0 where
+  pub went : ScriptCallsFrom wire opened kind batch.accesses limits.tries s run.stops run.told t
   pub few : length run.stops ≤ limits.resumes
   pub lost : run.told.ended ≡ Lost → length run.stops ≡ limits.resumes
 
 -- the same for a run that opens the target
-abbrev pub RunsBatch : {W : Type 0} → Ghosts W → (limit : ℕ) (limits : Limits)
+abbrev pub RunsBatch : {W : Type 0} → Ghosts W → (kind : Bursts) (limits : Limits)
     → ScriptListed → W → ScriptRun → W → Type 0
-RunsBatch wire limit limits batch s run t =
-    RunsBatchFrom wire false limit limits batch s run t
+RunsBatch wire kind limits batch s run t =
+    RunsBatchFrom wire false kind limits batch s run t
 
 -- Successive runs, from the wire s to the wire t. Each starts only if the one before ended `All`, over the target that
 -- this left open. `opened` says whether the target is open at s; else the first run opens it.
 pub data RunsBatches {W : Type 0} (wire : Ghosts W) (opened : Bool)
-    (most : ScriptListed → ℕ) (limits : Limits) (s : W) : List ScriptListed → List ScriptRun → W → Type 0 where
-  none : RunsBatches wire opened most limits s [] [] s
+    (kind : ScriptListed → Bursts) (limits : Limits) (s : W) : List ScriptListed → List ScriptRun → W → Type 0 where
+  none : RunsBatches wire opened kind limits s [] [] s
   then : {batches : List ScriptListed} {runs : List ScriptRun} {t u : W} {batch : ScriptListed} {run : ScriptRun}
-      → RunsBatches wire opened most limits s batches runs t → script_ended runs ≡ All
-      → RunsBatchFrom wire (script_is_open opened runs) (most batch) limits batch t run u
-      → RunsBatches wire opened most limits s (batches ++ batch ∷ []) (runs ++ run ∷ []) u
+      → RunsBatches wire opened kind limits s batches runs t → script_ended runs ≡ All
+      → RunsBatchFrom wire (script_is_open opened runs) (kind batch) limits batch t run u
+      → RunsBatches wire opened kind limits s (batches ++ batch ∷ []) (runs ++ run ∷ []) u
 
 -- These calls, the last one first, are those that the reports of successive runs describe.
 pub data ScriptRunsReportCalls : List ScriptListed → List ScriptRun → List Call → Type 0 where
@@ -81,9 +77,9 @@ pub data ScriptRunsReportCalls : List ScriptListed → List ScriptRun → List C
 -- A run from the wire s to the wire t that ran out of memory: before its first bit, or when it was to be resumed after
 -- a lost acknowledgement.
 pub data IsBatchRefused {W : Type 0} (wire : Ghosts W) (opened : Bool)
-    (limit : ℕ) (limits : Limits) (batch : ScriptListed) (s t : W) : Type 0 where
-  unsent : t ≡ s → IsBatchRefused wire opened limit limits batch s t
+    (kind : Bursts) (limits : Limits) (batch : ScriptListed) (s t : W) : Type 0 where
+  unsent : t ≡ s → IsBatchRefused wire opened kind limits batch s t
   unresumed : {stops : List Stop} {told : HostReport}
-      → ScriptCallsFrom wire opened limit batch.accesses limits.tries s stops told t
+      → ScriptCallsFrom wire opened kind batch.accesses limits.tries s stops told t
       → told.ended ≡ Lost → length stops < limits.resumes
-      → IsBatchRefused wire opened limit limits batch s t
+      → IsBatchRefused wire opened kind limits batch s t

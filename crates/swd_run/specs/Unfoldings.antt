@@ -12,7 +12,7 @@ use Rattle.swd_host.specs.Resuming.{host_end_is_all}
 use Rattle.swd_script.specs.declared.batch.Until.{Until}
 use Rattle.swd_script.specs.Scripts.{ScriptListed}
 use Rattle.swd_run.specs.declared.limits.Limits.{Limits}
-use Rattle.swd_run.specs.Sessions.{ScriptRun, RunsBatchFrom, IsBatchRefused, RunsBatches, script_ended, batch_limit}
+use Rattle.swd_run.specs.Sessions.{ScriptRun, RunsBatchFrom, IsBatchRefused, RunsBatches, script_ended, batch_bursts}
 use Rattle.swd_run.specs.Sessions.{script_is_open}
 
 -- ONE UNTIL
@@ -113,9 +113,9 @@ module _ {W : Type 0} (wire : Ghosts W) (opened : Bool)
   -- the runs of one batch, from the wire s to the wire t; `opened` says whether the target is open at s
   pub record Performs (s : W) (runs : BatchRuns) (t : W) : Type 0 where
     pub between : W
-    pub earlier : RunsBatches wire opened batch_limit limits s (batch_again batch runs.earlier)
+    pub earlier : RunsBatches wire opened (batch_bursts limits.bursts) limits s (batch_again batch runs.earlier)
         runs.earlier between
-    pub last : RunsBatchFrom wire (script_is_open opened runs.earlier) (batch_limit batch) limits batch between
+    pub last : RunsBatchFrom wire (script_is_open opened runs.earlier) (batch_bursts limits.bursts batch) limits batch between
         runs.last t
     pub are : AreRunsOfBatch batch runs
 
@@ -124,7 +124,7 @@ module _ {W : Type 0} (wire : Ghosts W) (opened : Bool)
     pub runs : List ScriptRun
     pub are : AreEarlierReads batch.until runs
     pub between : W
-    pub earlier : RunsBatches wire opened batch_limit limits s (batch_again batch runs) runs between
-    pub refused : IsBatchRefused wire (script_is_open opened runs) (batch_limit batch) limits batch
+    pub earlier : RunsBatches wire opened (batch_bursts limits.bursts) limits s (batch_again batch runs) runs between
+    pub refused : IsBatchRefused wire (script_is_open opened runs) (batch_bursts limits.bursts batch) limits batch
         between t
     pub unsent : batch.until ≡ None → t ≡ s

@@ -9,7 +9,7 @@ ghost use Rattle.swd_script.specs.Laws.{IsScriptBatch};
 ghost use Rattle.swd_run.specs.declared.going_on.Stop.{Stop as StopType};
 ghost use Rattle.swd_run.specs.Reporting.{Goes};
 ghost use Rattle.swd_run.specs.Reports.{IsBatchReported, ReportsBatchRun, ReportsBatchRunFrom, report_lines_from};
-ghost use Rattle.swd_run.specs.Sessions.{RunsBatchFrom, batch_limit};
+ghost use Rattle.swd_run.specs.Sessions.{RunsBatchFrom, batch_bursts};
 ghost use Rattle.swd_run.specs.Unfoldings.{IsCutShort};
 
 use crate::going_on::make_call_to;
@@ -54,7 +54,7 @@ fn run_reporting<W: Wire, O: Write, A: Allocator, G: Progress>(
     ensures writer { report.new.block.now.writer.ghost_name ≡ report.old.block.now.writer.ghost_name }
     ensures answers { report.new.answers.ghost_name ≡ report.old.answers.ghost_name }
     ensures goes { (stops : List StopType) × Goes O.contents (λ answers. answers.items) report.old stops report.new
-        × RunsBatchFrom W.Wire options.opened (batch_limit (script_batch_listed batch.now))
+        × RunsBatchFrom W.Wire options.opened (batch_bursts options.limits.bursts (script_batch_listed batch.now))
         options.limits (script_batch_listed batch.now) wire.old
         (record { stops = stops; told = host_report_to report.new.answers.now.items result }) wire.new }
     ensures plan { W.plan wire.new ≡ W.plan wire.old }
@@ -80,7 +80,7 @@ fn put_run<W: Wire, O: Write, A: Allocator, G: Progress>(
     requires room { length (script_batch_listed batch.now).accesses ≤ vec_capacity answers.old }
     ensures writer { block.new.writer.ghost_name ≡ block.old.writer.ghost_name }
     ensures goes { (stops : List StopType)
-        × RunsBatchFrom W.Wire options.opened (batch_limit (script_batch_listed batch.now))
+        × RunsBatchFrom W.Wire options.opened (batch_bursts options.limits.bursts (script_batch_listed batch.now))
         options.limits (script_batch_listed batch.now) wire.old
         (record { stops = stops; told = host_report_to answers.new.items result }) wire.new
         × ((start : Option (List ℕ)) → BlockBufferSends O.contents start block.old []

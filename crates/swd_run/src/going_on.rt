@@ -6,10 +6,9 @@ ghost use Rattle.swd_script.specs.Laws.{IsScriptBatch};
 ghost use Rattle.swd_host.specs.Plain.{AreHostAccesses};
 ghost use Rattle.swd_host.specs.Reports.{host_report_to};
 ghost use Rattle.swd_host.specs.Sent.{HostCalls, HostReportsCalls};
-ghost use Rattle.swd_host.specs.Tasks.{bursts_limit};
 ghost use Rattle.swd_run.specs.declared.going_on.Stop.{Stop as StopType};
+ghost use Rattle.swd_run.specs.GoingOn.{script_resumed_bursts};
 ghost use Rattle.swd_run.specs.Sessions.{RunsBatch, RunsBatchFrom, IsBatchRefused, script_run_of, batch_bursts};
-ghost use Rattle.swd_run.specs.Sessions.{batch_limit};
 ghost use Rattle.swd_run.specs.Starts.{ScriptCallCloses, ScriptCallFits};
 
 use crate::limits::Limits;
@@ -43,12 +42,21 @@ pub struct Resumed<A: Allocator> {
 // Returns which accesses of a batch are performed in bursts.
 fn bursts_of<A: Allocator>(batch: &Batch<A>, limits: Limits) -> Bursts
     ensures kind { result ≡ batch_bursts limits.bursts (script_batch_listed batch.now) }
-    ensures limit { bursts_limit result ≡ batch_limit (script_batch_listed batch.now) }
 {
     match batch.block {
         Some(_) => Bursts::Reads,
         None if limits.bursts => Bursts::Writes,
         None => Bursts::Never,
+    }
+}
+
+// Returns how a call of this kind is resumed: the rest of a block has no writes.
+fn resumed_bursts(bursts: Bursts) -> Bursts
+    ensures { result ≡ script_resumed_bursts bursts }
+{
+    match bursts {
+        Bursts::Reads => Bursts::Writes,
+        other => other,
     }
 }
 
@@ -65,11 +73,11 @@ fn begin<W: Wire, K: AnswerSink, A: Allocator>(
     requires room { length (script_batch_listed batch.now).accesses ≤ K.most sink.old }
     ensures accepted { (length (script_batch_listed batch.now).accesses ≤ 65536)
         × AreHostAccesses (script_batch_listed batch.now).accesses }
-    ensures closes { ScriptCallCloses options.opened (batch_limit (script_batch_listed batch.now))
+    ensures closes { ScriptCallCloses options.opened (batch_bursts options.limits.bursts (script_batch_listed batch.now))
         (script_batch_listed batch.now).accesses options.limits.tries (host_report_to (K.taken sink.new) result)
         (W.port wire.new).link.due }
     ensures fits { W.lawful wire.new → W.lawful wire.old
-        × ScriptCallFits options.opened (batch_limit (script_batch_listed batch.now))
+        × ScriptCallFits options.opened (batch_bursts options.limits.bursts (script_batch_listed batch.now))
         (script_batch_listed batch.now).accesses options.limits.tries (host_report_to (K.taken sink.new) result)
         (W.port wire.old) (W.port wire.new) }
     ensures told { HostCalls W.notes (HostReportsCalls (script_batch_listed batch.now).accesses
@@ -104,17 +112,17 @@ pub(crate) fn make_call_to<W: Wire, K: RunSink, A: Allocator>(
     requires none { K.taken sink.old ≡ [] }
     requires room { length (script_batch_listed batch.now).accesses ≤ K.most sink.old }
     ensures goes { IfOk result (λ ending. (stops : List StopType) × K.follows sink.old stops sink.new
-        × RunsBatchFrom W.Wire options.opened (batch_limit (script_batch_listed batch.now))
+        × RunsBatchFrom W.Wire options.opened (batch_bursts options.limits.bursts (script_batch_listed batch.now))
         options.limits (script_batch_listed batch.now) wire.old
         (record { stops = stops; told = host_report_to (K.taken sink.new) ending }) wire.new) }
     ensures refused { OnErr result (IsBatchRefused W.Wire options.opened
-        (batch_limit (script_batch_listed batch.now)) options.limits
+        (batch_bursts options.limits.bursts (script_batch_listed batch.now)) options.limits
         (script_batch_listed batch.now) wire.old wire.new) }
     ensures plan { W.plan wire.new ≡ W.plan wire.old }
 {
     let mut ending = begin(wire, batch, options, sink);
     let accesses = batch.accesses.as_slice();
-    let bursts = bursts_of(batch, options.limits);
+    let bursts = resumed_bursts(bursts_of(batch, options.limits));
     for done in 0..options.limits.resumes {
         let End::Lost = ending.ended else {
             return Ok(ending);
@@ -147,11 +155,11 @@ pub fn run_on_to<W: Wire, K: RunSink, A: Allocator>(
     requires none { K.taken sink.old ≡ [] }
     requires room { length (script_batch_listed batch.now).accesses ≤ K.most sink.old }
     ensures goes { IfOk result (λ ending. (stops : List StopType) × K.follows sink.old stops sink.new
-        × RunsBatch W.Wire (batch_limit (script_batch_listed batch.now)) limits
+        × RunsBatch W.Wire (batch_bursts limits.bursts (script_batch_listed batch.now)) limits
         (script_batch_listed batch.now) wire.old
         (record { stops = stops; told = host_report_to (K.taken sink.new) ending }) wire.new) }
     ensures refused { OnErr result (IsBatchRefused W.Wire false
-        (batch_limit (script_batch_listed batch.now)) limits
+        (batch_bursts limits.bursts (script_batch_listed batch.now)) limits
         (script_batch_listed batch.now) wire.old wire.new) }
     ensures plan { W.plan wire.new ≡ W.plan wire.old }
 {
@@ -172,10 +180,10 @@ pub(crate) fn make_call<W: Wire, A: Allocator + Copy>(
     requires batch { IsScriptBatch (script_batch_listed batch.now) }
     requires due { (W.port wire.old).link.due ≡ Nothing }
     ensures goes { IfSome result (λ resumed. RunsBatchFrom W.Wire options.opened
-        (batch_limit (script_batch_listed batch.now)) options.limits
+        (batch_bursts options.limits.bursts (script_batch_listed batch.now)) options.limits
         (script_batch_listed batch.now) wire.old (script_run_of resumed) wire.new) }
     ensures refused { IfNone result (IsBatchRefused W.Wire options.opened
-        (batch_limit (script_batch_listed batch.now)) options.limits
+        (batch_bursts options.limits.bursts (script_batch_listed batch.now)) options.limits
         (script_batch_listed batch.now) wire.old wire.new) }
     ensures plan { W.plan wire.new ≡ W.plan wire.old }
 {
@@ -208,10 +216,10 @@ pub fn run_on<W: Wire, A: Allocator + Copy>(
     requires batch { IsScriptBatch (script_batch_listed batch.now) }
     requires due { (W.port wire.old).link.due ≡ Nothing }
     ensures goes { IfSome result (λ resumed. RunsBatch W.Wire
-        (batch_limit (script_batch_listed batch.now)) limits
+        (batch_bursts limits.bursts (script_batch_listed batch.now)) limits
         (script_batch_listed batch.now) wire.old (script_run_of resumed) wire.new) }
     ensures refused { IfNone result (IsBatchRefused W.Wire false
-        (batch_limit (script_batch_listed batch.now)) limits
+        (batch_bursts limits.bursts (script_batch_listed batch.now)) limits
         (script_batch_listed batch.now) wire.old wire.new) }
     ensures plan { W.plan wire.new ≡ W.plan wire.old }
 {

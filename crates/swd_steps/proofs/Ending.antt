@@ -1,5 +1,5 @@
 -- How many calls are made for a run at most. For the law `stepped_run_ends`.
-use Rattle.std.proofs.Common.{arith, sym, subst, ◌∙◌, ◌≡◌, ◌+◌, ◌*◌, ◌<◌, ◌≤◌, ℕ, Bool, true, false, inl, inr, List}
+use Rattle.std.proofs.Common.{ap, arith, sym, subst, ◌∙◌, ◌≡◌, ◌+◌, ◌*◌, ◌<◌, ◌≤◌, ℕ, Bool, true, false, inl, inr, List}
 use Rattle.std.proofs.Common.{[], ◌∷◌, ◌++◌, length, length-append}
 use Rattle.std.specs.Prelude.{◌⊎◌, Some, slice_get, drop}
 use Rattle.std.proofs.lemmas.Option.{slice_get_within}
@@ -14,6 +14,7 @@ use Rattle.swd_host.specs.Calls.{EngineTurned, host_idle_call}
 use Rattle.swd_host.specs.Engines.{engine_outcome}
 use Rattle.swd_host.specs.Progress.{engine_calls_left, engine_state_is_of, engine_stray_left}
 use Rattle.swd_host.specs.Standing.{EngineIsOpened}
+use Rattle.swd_host.specs.Tasks.{event_requests}
 use Rattle.swd_host.specs.Turns.{EngineIsNew, EngineStarts}
 use Rattle.swd_host.proofs.Folding.{engine_moves_few, engine_access_not_opened, start_access, start_left}
 use Rattle.swd_host.proofs.Folding.{engine_turn_falls, engine_turn_works}
@@ -28,31 +29,42 @@ use Rattle.swd_steps.proofs.Running.{stepped_few_answers}
 
 -- ALONG A RUN
 abbrev for_opening : SteppedSetup → ℕ
-for_opening how = 2 * (10 + 5 * how.tries + engine_stray_left how.again) + 1
+for_opening how = 2 * (10 + event_requests how.kind * how.tries + engine_stray_left how.again) + 1
 
 abbrev for_access : SteppedSetup → ℕ
-for_access how = 2 * (6 + 5 * how.tries) + 1
+for_access how = 2 * (6 + event_requests how.kind * how.tries) + 1
+
+-- the events that it may meet take as many requests as those of the run
+abbrev HasEventsOf : SteppedSetup → Engine → Type 0
+HasEventsOf how e = event_requests e.bursts * e.tries ≡ event_requests how.kind * how.tries
+
+same_events : (how : SteppedSetup) (e f : Engine) → f.bursts ≡ e.bursts → f.tries ≡ e.tries → HasEventsOf how e
+    → HasEventsOf how f
+same_events how e f kind tries same =
+    ap (λ b. event_requests b * f.tries) kind ∙ (ap (λ n. event_requests e.bursts * n) tries ∙ same)
 
 -- the calls so far, and those that are left of the opening or the access
 abbrev Spends : SteppedSetup → List Access → List Call → Engine → Stage → List Answer → Type 0
-Spends how list calls e Driving answers = (e.tries ≡ how.tries)
+Spends how list calls e Driving answers = HasEventsOf how e
     × (((engine_state_is_of true e.state ≡ true) × (length calls + engine_calls_left e ≤ for_opening how))
     ⊎ ((engine_state_is_of false e.state ≡ true) × (length answers < length list)
     × (length calls + engine_calls_left e ≤ for_opening how + (length answers + 1) * for_access how)))
-Spends how list calls e Between answers = (e.tries ≡ how.tries) × (length answers ≤ length list)
+Spends how list calls e Between answers = HasEventsOf how e × (length answers ≤ length list)
     × (length calls ≤ for_opening how + length answers * for_access how)
 Spends how list calls e (Ended end) answers = length calls ≤ for_opening how + length list * for_access how + 1
 
 new_calls : (kind : Bursts) (again : Bool) (tries : ℕ) (e : Engine) → EngineIsNew kind again tries e
-    → engine_calls_left e ≤ 2 * (10 + 5 * tries + engine_stray_left again) + 1
+    → engine_calls_left e ≤ 2 * (10 + event_requests kind * tries + engine_stray_left again) + 1
 new_calls kind again tries e new = grind arith
 
-begins_tries : (opened : Bool) (how : SteppedSetup) (e : Engine) → SteppedBeginsBy opened how e → e.tries ≡ how.tries
-begins_tries false how e new = new.tries
-begins_tries true how e new = new.tries
+begins_events : (opened : Bool) (how : SteppedSetup) (e : Engine) → SteppedBeginsBy opened how e → HasEventsOf how e
+begins_events false how e new =
+    ap (λ b. event_requests b * e.tries) new.bursts ∙ ap (λ n. event_requests how.kind * n) new.tries
+begins_events true how e new =
+    ap (λ b. event_requests b * e.tries) new.bursts ∙ ap (λ n. event_requests how.kind * n) new.tries
 
 opened_calls : (kind : Bursts) (again : Bool) (tries : ℕ) (e : Engine) → EngineIsOpened kind tries e
-    → engine_calls_left e ≤ 2 * (10 + 5 * tries + engine_stray_left again) + 1
+    → engine_calls_left e ≤ 2 * (10 + event_requests kind * tries + engine_stray_left again) + 1
 opened_calls kind again tries e new = grind arith
 
 begins_calls : (opened : Bool) (how : SteppedSetup) (e : Engine) → SteppedBeginsBy opened how e
@@ -60,19 +72,19 @@ begins_calls : (opened : Bool) (how : SteppedSetup) (e : Engine) → SteppedBegi
 begins_calls false how e new = new_calls how.kind how.again how.tries e new
 begins_calls true how e new = opened_calls how.kind how.again how.tries e new
 
-start_calls : (a : Access) (e g : Engine) (tries : ℕ) → engine_calls_left g ≤ 2 * (6 + 5 * e.tries) + 1
-    → e.tries ≡ tries → engine_calls_left g ≤ 2 * (6 + 5 * tries) + 1
-start_calls a e g tries few same = omega arith
-
 module _ (how : SteppedSetup) (list : List Access) where
+  turned_events : (call : Call) (e f : Engine) → EngineTurned call e f → HasEventsOf how e → HasEventsOf how f
+  turned_events call e f turned same =
+      let works = engine_turn_works call e f turned in same_events how e f works.bursts works.tries same
+
   turned_made : (calls : List Call) (answers : List Answer) (call : Call) (e f : Engine) → EngineTurned call e f
       → Spends how list calls e Driving answers → Spends how list (call ∷ calls) f Driving answers
   turned_made calls answers call e f turned (same, inl h) = (
-    (engine_turn_works call e f turned).tries ∙ same,
+    turned_events call e f turned same,
     inl ((engine_turn_works call e f turned).part true h.0, omega (arith, h.1, engine_turn_falls call e f turned)),
   )
   turned_made calls answers call e f turned (same, inr h) = (
-    (engine_turn_works call e f turned).tries ∙ same,
+    turned_events call e f turned same,
     inr (
       (engine_turn_works call e f turned).part false h.0,
       h.1,
@@ -102,19 +114,18 @@ module _ (how : SteppedSetup) (list : List Access) where
       → slice_get list (length answers) ≡ Some a → EngineStarts a (slice_get list (length answers + 1)) e f
       → Spends how list calls e Between answers → Spends how list calls f Driving answers
   started_made calls answers a e f at starts (same, few, h) = (
-    starts.tries ∙ same,
+    same_events how e f starts.bursts starts.tries same,
     inr (
       start_access a (slice_get list (length answers + 1)) e f starts,
       slice_get_within list (length answers) a at,
       omega (
         arith,
         h,
-        start_calls a e f how.tries
-            (omega (
-              arith,
-              start_left a (slice_get list (length answers + 1)) e f starts,
-              engine_moves_few f.state,
-            )) same,
+        subst (λ n. engine_calls_left f ≤ 2 * (6 + n) + 1) same (omega (
+          arith,
+          start_left a (slice_get list (length answers + 1)) e f starts,
+          engine_moves_few f.state,
+        )),
       ),
     ),
   )
@@ -143,7 +154,7 @@ module _ (how : SteppedSetup) (list : List Access) where
   made : {calls : List Call} {e : Engine} {stage : Stage} {answers : List Answer}
       → SteppedCame how list calls e stage answers → Spends how list calls e stage answers
   made (has_begun e new) = (
-    begins_tries how.opened how e new,
+    begins_events how.opened how e new,
     inl (
       stepped_begins_part how.opened how e new,
       omega (arith, begins_calls how.opened how e new),
@@ -158,7 +169,7 @@ module _ (how : SteppedSetup) (list : List Access) where
 
   any_made : (calls : List Call) (answers : List Answer) (e : Engine) (stage : Stage) → Spends how list calls e stage
       answers
-      → length calls ≤ stepped_most_calls how.again how.tries (length list)
+      → length calls ≤ stepped_most_calls how.again how.kind how.tries (length list)
   any_made calls answers e Driving h = stopped_made calls answers e h
   any_made calls answers e Between h = rested_made calls answers e h
   any_made calls answers e (Ended end) h = h

@@ -18,6 +18,7 @@ use Rattle.swd_host.specs.Again.{ResumeFits, resume_own_report}
 use Rattle.swd_host.specs.Reports.{Fits, FitsFrom, HostIsOpen, HostReport, HostKnowsTarget, IsAtRest, RunFitsFrom}
 use Rattle.swd_host.specs.Reports.{HostLeavesPowered}
 use Rattle.swd_host.specs.Resuming.{resume_report}
+use Rattle.swd_host.specs.declared.task.Bursts.{Bursts}
 use Rattle.swd_host.specs.Tasks.{bursts_limit}
 use Rattle.swd_host.proofs.GoingOn.{resumed_take_length}
 use Rattle.swd_steps.specs.Laws.{stepped_report}
@@ -102,14 +103,16 @@ module _ (story : ℕ → Port) (calls past : List Call) (fits : FitsStory story
   stops_so = ap (due_by (calls ++ past)) (recorded_at_end story (calls ++ past) fits)
 
 -- the accesses of a run, by its theorem over the recorded story
-reached_by_run : (opening limit : ℕ) (list : List Access) (tries : ℕ) (told : HostReport) (before after : List Access)
-    (s t : Port) → RunFitsFrom opening limit list tries (port_recording before s).target.memory told
+reached_by_run : (opening : ℕ) (kind : Bursts) (list : List Access) (tries : ℕ) (told : HostReport)
+    (before after : List Access) (s t : Port)
+    → RunFitsFrom opening kind list tries (port_recording before s).target.memory told
     (port_recording before s) (port_recording after t) → SteppedReachesBus list told before after t
-reached_by_run opening limit list tries told before after s t h = record {
-  now = reached_by_report opening limit list told before after s.target.memory t.target.memory h.now;
-  later = λ c. reached_by_report opening limit list told before (after ++ accesses_once_completed c t.target)
-      s.target.memory (port_completed c t).target.memory
-      (subst (λ x. FitsFrom opening limit list (bus_recording before s.target.memory) told x.target.memory)
+reached_by_run opening kind list tries told before after s t h = record {
+  now = reached_by_report opening (bursts_limit kind) list told before after s.target.memory t.target.memory h.now;
+  later = λ c. reached_by_report opening (bursts_limit kind) list told before
+      (after ++ accesses_once_completed c t.target) s.target.memory (port_completed c t).target.memory
+      (subst
+      (λ x. FitsFrom opening (bursts_limit kind) list (bus_recording before s.target.memory) told x.target.memory)
       (completed_recording after c t) (h.later c));
 }
 
@@ -118,11 +121,11 @@ pub stepped_run_reaches : SteppedRunReaches
 stepped_run_reaches kind tries accesses calls run answers end small ran ended story past clear fits rest =
     let told = stepped_report run answers end in
     let from = begins story calls past fits in
-    reached_by_run 9 (bursts_limit kind) accesses tries told (earlier_accesses story calls past fits)
+    reached_by_run 9 kind accesses tries told (earlier_accesses story calls past fits)
     (all_accesses story calls past fits) (port_at story past) (port_at story (calls ++ past))
-    (subst (λ t. RunFitsFrom 9 (bursts_limit kind) accesses tries from.target.memory told from t)
+    (subst (λ t. RunFitsFrom 9 kind accesses tries from.target.memory told from t)
     (stops_so story calls past fits)
-    (subst (λ s. RunFitsFrom 9 (bursts_limit kind) accesses tries s.target.memory told s
+    (subst (λ s. RunFitsFrom 9 kind accesses tries s.target.memory told s
     (port_at (recorded story calls past fits) (calls ++ past))) (begins_so story calls past fits)
     (stepped_run_fits kind tries accesses calls run answers end small ran ended (recorded story calls past fits) past
     clear (recorded_fits story (calls ++ past) fits)
@@ -134,11 +137,11 @@ pub stepped_open_reaches : SteppedOpenReaches
 stepped_open_reaches kind tries accesses calls run answers end small ran ended story past clear fits open_now =
     let told = stepped_report run answers end in
     let from = begins story calls past fits in
-    reached_by_run 0 (bursts_limit kind) accesses tries told (earlier_accesses story calls past fits)
+    reached_by_run 0 kind accesses tries told (earlier_accesses story calls past fits)
     (all_accesses story calls past fits) (port_at story past) (port_at story (calls ++ past))
-    (subst (λ t. RunFitsFrom 0 (bursts_limit kind) accesses tries from.target.memory told from t)
+    (subst (λ t. RunFitsFrom 0 kind accesses tries from.target.memory told from t)
     (stops_so story calls past fits)
-    (subst (λ s. RunFitsFrom 0 (bursts_limit kind) accesses tries s.target.memory told s
+    (subst (λ s. RunFitsFrom 0 kind accesses tries s.target.memory told s
     (port_at (recorded story calls past fits) (calls ++ past))) (begins_so story calls past fits)
     (stepped_open_fits kind tries accesses calls run answers end small ran ended (recorded story calls past fits) past
     clear (recorded_fits story (calls ++ past) fits)
@@ -155,10 +158,11 @@ stepped_resume_reaches kind tries accesses calls run answers end earlier small r
     let t = port_at story (calls ++ past) in
     let before = earlier_accesses story calls past fits in
     let after = all_accesses story calls past fits in
-    let h : ResumeFits accesses tries earlier told (begins story calls past fits) (stops story calls past fits) =
-    subst (λ t. ResumeFits accesses tries earlier told (begins story calls past fits) t)
+    let h : ResumeFits kind accesses tries earlier told (begins story calls past fits) (stops story calls past fits) =
+    subst (λ t. ResumeFits kind accesses tries earlier told (begins story calls past fits) t)
     (stops_so story calls past fits)
-    (subst (λ s. ResumeFits accesses tries earlier told s (port_at (recorded story calls past fits) (calls ++ past)))
+    (subst (λ s. ResumeFits kind accesses tries earlier told s
+    (port_at (recorded story calls past fits) (calls ++ past)))
     (begins_so story calls past fits)
     (stepped_resume_fits kind tries accesses calls run answers end earlier small ran ended
     (recorded story calls past fits) past (recorded_fits story (calls ++ past) fits)

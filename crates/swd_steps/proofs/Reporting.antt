@@ -20,7 +20,6 @@ use Rattle.swd_host.specs.Reports.{Closes, IsAtRest, HostKnowsTarget, ListCloses
 use Rattle.swd_host.specs.Resuming.{resume_report}
 use Rattle.swd_host.specs.Sent.{HostReportsCalls}
 use Rattle.swd_host.specs.Standing.{EngineDoes, EngineIsOpened, engine_report}
-use Rattle.swd_host.specs.Tasks.{bursts_limit}
 use Rattle.swd_host.specs.Turns.{EngineIsNew, EngineWorks}
 use Rattle.swd_host.specs.Calls.{EngineTurns}
 use Rattle.swd_host.specs.Engines.{engine_is_resting}
@@ -108,29 +107,29 @@ closed_by : (opened : Bool) (how : SteppedSetup) (list : List Access) (calls : L
 closed_by false how list calls e answers end is small short (never_opened h at none) =
     let new : EngineIsNew how.kind how.again how.tries h.first = subst (λ b. SteppedBeginsBy b how h.first) is h.new in
     let due : port_due_by (calls ++ []) ≡ port_due_by calls = ap port_due_by (append-nil calls) in
-    let closes : Closes (engine_stray_left how.again) (bursts_limit how.kind) list how.tries
+    let closes : Closes (engine_stray_left how.again) how.kind list how.tries
     (engine_report answers e end) (port_due_by calls) =
-    subst (λ d. Closes (engine_stray_left how.again) (bursts_limit how.kind) list how.tries
+    subst (λ d. Closes (engine_stray_left how.again) how.kind list how.tries
     (engine_report answers e end) d) due
-    (engine_closes_equal (engine_stray_left how.again) (bursts_limit how.kind) list how.tries (engine_report [] e end)
+    (engine_closes_equal (engine_stray_left how.again) how.kind list how.tries (engine_report [] e end)
     (engine_report answers e end) (port_due_by (calls ++ [])) (ap (λ l. engine_report l e end) none)
     (opening_closes how.kind how.again how.tries h.first e small new h.went.works list end (port_due_by (calls ++ []))
     at h.went.due)) in (
       closes,
       engine_report_matches list [] e end (engine_report answers e end) calls
           (ap (λ l. engine_report l e end) none)
-          (engine_requests_small (engine_stray_left how.again) (bursts_limit how.kind) list how.tries
+          (engine_requests_small (engine_stray_left how.again) how.kind list how.tries
           (engine_report answers e end) (port_due_by calls) (closes_spare how.again) short small closes)
           (opening_stop_sent list how.kind how.again how.tries h.first e end calls new h.went.turns at),
     )
 closed_by false how list calls e answers end is small short (performed o early late parts h at performs does tells) =
     let new : EngineIsNew how.kind how.again how.tries h.first = subst (λ b. SteppedBeginsBy b how h.first) is h.new in
     let due : port_due_by (calls ++ []) ≡ port_due_by calls = ap port_due_by (append-nil calls) in
-    let closes : Closes (engine_stray_left how.again) (bursts_limit how.kind) list how.tries
+    let closes : Closes (engine_stray_left how.again) how.kind list how.tries
     (engine_report answers e end) (port_due_by calls) =
-    subst (λ d. Closes (engine_stray_left how.again) (bursts_limit how.kind) list how.tries
+    subst (λ d. Closes (engine_stray_left how.again) how.kind list how.tries
     (engine_report answers e end) d) due
-    (engine_closes_equal (engine_stray_left how.again) (bursts_limit how.kind) list how.tries
+    (engine_closes_equal (engine_stray_left how.again) how.kind list how.tries
     (engine_report performs.answers e end)
     (engine_report answers e end) (port_due_by (calls ++ [])) (ap (λ l. engine_report l e end) performs.added)
     (list_closes how.kind how.again how.tries h.first o small new h.went.works list e end (port_due_by (calls ++ []))
@@ -139,7 +138,7 @@ closed_by false how list calls e answers end is small short (performed o early l
       subst (λ l. HostReportsCalls list (engine_report answers e end) l) (sym parts)
           (engine_report_matches list tells.answers e end (engine_report answers e end) (late ++ early)
           (ap (λ l. engine_report l e end) tells.added)
-          (engine_requests_small (engine_stray_left how.again) (bursts_limit how.kind) list how.tries
+          (engine_requests_small (engine_stray_left how.again) how.kind list how.tries
           (engine_report answers e end) (port_due_by calls) (closes_spare how.again) short small closes)
           (tells.ends early (opening_counts list how.kind how.again how.tries h.first o early new h.went.turns at))),
     )
@@ -154,8 +153,8 @@ closed_by true how list calls e answers end is small short (performed o early la
     let none : early ≡ [] =
     open_no_calls h.first early o (stepped_opened_rests how.kind how.tries h.first first) h.went.turns in
     let due : port_due_by (calls ++ []) ≡ port_due_by calls = ap port_due_by (append-nil calls) in
-    let closes : ListCloses (bursts_limit how.kind) list how.tries (engine_report answers e end) (port_due_by calls) =
-    subst (λ d. ListCloses (bursts_limit how.kind) list how.tries (engine_report answers e end) d) due
+    let closes : ListCloses how.kind list how.tries (engine_report answers e end) (port_due_by calls) =
+    subst (λ d. ListCloses how.kind list how.tries (engine_report answers e end) d) due
     (list_report_closes how.kind how.tries list o e [] answers end (engine_report answers e end) opened refl
     (port_due_by (calls ++ [])) performs) in (
       closes,
@@ -180,7 +179,7 @@ runs_by : (how : SteppedSetup) (list : List Access) (calls : List Call) (e : Eng
     → AreHostAccesses list
     → SteppedAtEnd story past how list calls e answers end → FitsStory story (calls ++ past)
     → IsAtRest (port_at story past)
-    → RunFits (bursts_limit how.kind) list how.tries (port_at story past).target.memory (engine_report answers e end)
+    → RunFits how.kind list how.tries (port_at story past).target.memory (engine_report answers e end)
     (port_at story past) (port_at story (calls ++ past))
 runs_by how list calls e answers end story past small closed new ok (never_opened h at none) fits rest =
     opening_stops how.kind list how.tries h.first e answers (port_at story past) (port_at story (calls ++ past)) small
@@ -208,7 +207,7 @@ stepped_run_fits kind tries accesses calls run answers end small ran ended story
 opens_by : (kind : Bursts) (tries : ℕ) (list : List Access) (calls : List Call) (e : Engine) (answers : List Answer)
     (end : End) (story : ℕ → Port) (past : List Call) → tries < 2 ^ 32 → AreHostAccesses list
     → SteppedAtEnd story past (stepped_opened kind tries) list calls e answers end → FitsStory story (calls ++ past)
-    → ListsWithin (bursts_limit kind) list tries (engine_report answers e end) (port_at story past)
+    → ListsWithin kind list tries (engine_report answers e end) (port_at story past)
     (port_at story (calls ++ past))
 opens_by kind tries list calls e answers end story past small ok (never_opened h at none) fits =
     absurd (open_goes_on kind tries h.first e end h.new h.went.works at)
@@ -249,7 +248,7 @@ resumes_by : (kind : Bursts) (tries : ℕ) (accesses : List Access) (calls : Lis
     → SteppedAtEnd story past (stepped_again kind (length earlier.answers) tries) (drop (length earlier.answers)
     accesses) calls e answers end
     → FitsStory story (calls ++ past) → HostKnowsTarget (port_at story past).target
-    → ResumeFits accesses tries earlier (resume_report (engine_report (earlier.answers ++ answers) e end) earlier)
+    → ResumeFits kind accesses tries earlier (resume_report (engine_report (earlier.answers ++ answers) e end) earlier)
     (port_at story past) (port_at story (calls ++ past))
 resumes_by kind tries accesses calls e answers end earlier story past small ok reported (never_opened h at none) fits
     known =

@@ -17,7 +17,7 @@ use Rattle.swd_host.specs.Reports.{Closes, ListCloses, ListsWithin, RunsWithin, 
 use Rattle.swd_host.specs.Resuming.{resume_report}
 use Rattle.swd_host.specs.Sent.{HostReportsCalls}
 use Rattle.swd_host.specs.Standing.{engine_report}
-use Rattle.swd_host.specs.Tasks.{bursts_limit}
+use Rattle.swd_host.specs.Tasks.{event_requests}
 use Rattle.swd_steps.specs.declared.fields.RunFields.{RunFields}
 use Rattle.swd_steps.specs.declared.run.Run.{Run}
 use Rattle.swd_steps.specs.declared.run.Stage.TheVariants.{Ended}
@@ -31,8 +31,8 @@ stepped_report run answers end = engine_report answers run.engine end
 -- what a report has whatever came back, by whether the target was open already
 abbrev pub SteppedReportCloses : Bool → SteppedSetup → List Access → HostReport → Due → Type 0
 SteppedReportCloses false how list report due =
-    Closes (engine_stray_left how.again) (bursts_limit how.kind) list how.tries report due
-SteppedReportCloses true how list report due = ListCloses (bursts_limit how.kind) list how.tries report due
+    Closes (engine_stray_left how.again) how.kind list how.tries report due
+SteppedReportCloses true how list report due = ListCloses how.kind list how.tries report due
 
 -- whatever came back: what the report states about the list and about the calls that were made
 pub record SteppedCloses (how : SteppedSetup) (list : List Access) (calls : List Call) (report : HostReport) : Type 0
@@ -46,14 +46,15 @@ SteppedAlwaysCloses = (how : SteppedSetup) (accesses : List Access) (calls : Lis
     → run.stage ≡ Ended end → SteppedCloses how (drop how.from accesses) calls (stepped_report run answers end)
 
 -- the most calls of a run, whatever comes back: a bound for the opening, one for each access, and one more call
-abbrev pub stepped_most_calls : Bool → ℕ → ℕ → ℕ
-stepped_most_calls again tries count =
-    2 * (10 + 5 * tries + engine_stray_left again) + 1 + count * (2 * (6 + 5 * tries) + 1) + 1
+abbrev pub stepped_most_calls : Bool → Bursts → ℕ → ℕ → ℕ
+stepped_most_calls again kind tries count =
+    2 * (10 + event_requests kind * tries + engine_stray_left again) + 1
+    + count * (2 * (6 + event_requests kind * tries) + 1) + 1
 
 abbrev pub SteppedRunEnds : Type 0
 SteppedRunEnds = (how : SteppedSetup) (accesses : List Access) (calls : List Call) (run : Run) (answers : List Answer)
     → SteppedRan how accesses calls run answers
-    → length calls ≤ stepped_most_calls how.again how.tries (length (drop how.from accesses))
+    → length calls ≤ stepped_most_calls how.again how.kind how.tries (length (drop how.from accesses))
 
 -- The report of a new run is that of the theorem, from the port before the run to the port after it. This assumes that
 -- the calls of the wire, those of the run and those before, are consistent with a story.
@@ -63,7 +64,7 @@ SteppedRunFits = (kind : Bursts) (tries : ℕ) (accesses : List Access) (calls :
     → SteppedRan (stepped_anew kind tries) accesses calls run answers
     → run.stage ≡ Ended end → (story : ℕ → Port) (past : List Call) → port_due_by past ≡ Nothing
     → FitsStory story (calls ++ past)
-    → RunsWithin (bursts_limit kind) accesses tries (stepped_report run answers end) (port_at story past)
+    → RunsWithin kind accesses tries (stepped_report run answers end) (port_at story past)
     (port_at story (calls ++ past))
 
 -- The same for a run over a target that is open already.
@@ -73,7 +74,7 @@ SteppedOpenFits = (kind : Bursts) (tries : ℕ) (accesses : List Access) (calls 
     → SteppedRan (stepped_opened kind tries) accesses calls run answers
     → run.stage ≡ Ended end → (story : ℕ → Port) (past : List Call) → port_due_by past ≡ Nothing
     → FitsStory story (calls ++ past)
-    → ListsWithin (bursts_limit kind) accesses tries (stepped_report run answers end) (port_at story past)
+    → ListsWithin kind accesses tries (stepped_report run answers end) (port_at story past)
     (port_at story (calls ++ past))
 
 -- The same for a run that resumes after an earlier report.
@@ -82,8 +83,9 @@ SteppedResumeFits = (kind : Bursts) (tries : ℕ) (accesses : List Access) (call
     (answers : List Answer) (end : End) (earlier : HostReport) → tries < 2 ^ 32
     → SteppedRan (stepped_again kind (length earlier.answers) tries) accesses calls run answers
     → run.stage ≡ Ended end → (story : ℕ → Port) (past : List Call) → FitsStory story (calls ++ past)
-    → ResumesOver accesses tries earlier (resume_report (stepped_report run (earlier.answers ++ answers) end) earlier)
-    (port_at story past) (port_at story (calls ++ past))
+    → ResumesOver kind accesses tries earlier
+    (resume_report (stepped_report run (earlier.answers ++ answers) end) earlier) (port_at story past)
+    (port_at story (calls ++ past))
 
 -- the report in the fields of a run with this end
 abbrev pub stepped_report_in_fields : RunFields → List Answer → End → HostReport

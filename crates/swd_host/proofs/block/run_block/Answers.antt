@@ -1,5 +1,6 @@
 use Rattle.swd_host.proofs.Words.{◌≤◌, ◌∙◌, false, length, subst, sym, AreHostAccesses, Closes, RunsWithin}
 use Rattle.swd_host.proofs.Words.{host_report_of}
+use Rattle.swd_host.specs.declared.task.Bursts.TheVariants.{Reads}
 use Rattle.swd_host.proofs.Blocked.{block_reads_runnable}
 use Rattle.swd_host.proofs.Alone.{new_engine_closes}
 use Rattle.swd_host.proofs.Runs.{new_engine_runs_within}
@@ -23,14 +24,14 @@ pub returns-clause-fits : goal.returns-clause-fits
 returns-clause-fits g c = λ lawful.
     let was = c.conduct.ensures.fits lawful in (
       was.0,
-      subst (λ list. RunsWithin 2 list c.args.tries (host_report_of c.conduct.result) (g.W.Wire.port c.args.wire.now)
-          (g.W.Wire.port c.conduct.new.wire)) (c.deref.ensures.value ∙ c.in-Ok.ensures)
+      subst (λ list. RunsWithin Reads list c.args.tries (host_report_of c.conduct.result)
+          (g.W.Wire.port c.args.wire.now) (g.W.Wire.port c.conduct.new.wire)) (c.deref.ensures.value ∙ c.in-Ok.ensures)
           (new_engine_runs_within _ c.args.tries _ c.blocks-2.result _ _ _ c.blocks-2.ensures.new was.1),
     )
 
 pub returns-clause-closes : goal.returns-clause-closes
 returns-clause-closes g c =
-    subst (λ list. Closes 0 2 list c.args.tries (host_report_of c.conduct.result)
+    subst (λ list. Closes 0 Reads list c.args.tries (host_report_of c.conduct.result)
     (g.W.Wire.port c.conduct.new.wire).link.due) (c.deref.ensures.value ∙ c.in-Ok.ensures)
     (new_engine_closes _ false 0 c.args.tries _ c.blocks-2.result _ _ c.blocks-2.ensures.new c.conduct.ensures.closes)
 

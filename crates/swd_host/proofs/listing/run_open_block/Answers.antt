@@ -1,5 +1,6 @@
 use Rattle.swd_host.proofs.Words.{◌≤◌, ◌∙◌, length, subst, sym, AreHostAccesses, ListCloses, ListsWithin}
 use Rattle.swd_host.proofs.Words.{host_report_of}
+use Rattle.swd_host.specs.declared.task.Bursts.TheVariants.{Reads}
 use Rattle.swd_host.proofs.Blocked.{block_reads_runnable}
 use Rattle.swd_host.specs.Sent.{HostReportsCalls}
 use Rattle.swd_host.proofs.Making.{host_calls_weaken}
@@ -21,14 +22,14 @@ pub returns-clause-fits : goal.returns-clause-fits
 returns-clause-fits g c = λ lawful.
     let was = c.report_open.ensures.fits lawful in (
       was.0,
-      subst (λ list. ListsWithin 2 list c.args.tries (host_report_of c.report_open.result)
+      subst (λ list. ListsWithin Reads list c.args.tries (host_report_of c.report_open.result)
           (g.W.Wire.port c.args.wire.now) (g.W.Wire.port c.report_open.new.wire))
           (c.deref.ensures.value ∙ c.in-Ok.ensures) was.1,
     )
 
 pub returns-clause-closes : goal.returns-clause-closes
 returns-clause-closes g c =
-    subst (λ list. ListCloses 2 list c.args.tries (host_report_of c.report_open.result)
+    subst (λ list. ListCloses Reads list c.args.tries (host_report_of c.report_open.result)
     (g.W.Wire.port c.report_open.new.wire).link.due) (c.deref.ensures.value ∙ c.in-Ok.ensures)
     c.report_open.ensures.closes
 

@@ -58,7 +58,7 @@ returns-in-Err-clause-fits g c = λ lawful.
     let opened = c.open.ensures.goes lawful in (
       opened.0,
       λ known.
-          resumed_equal_report c.args.accesses.now c.args.tries earlier _ _ _ _
+          resumed_equal_report c.args.bursts c.args.accesses.now c.args.tries earlier _ _ _ _
           (c.since.ensures before before (omega arith) ∙ ap (λ x. resume_report x earlier) (c.ending.ensures before))
           (resume_stops c.args.bursts c.args.accesses.now c.args.tries earlier c.resuming-engine.result
           c.open.new.engine before (g.W.Wire.port c.args.wire.now) (g.W.Wire.port c.open.new.wire) c.ranges.tries.fits
@@ -75,7 +75,7 @@ returns-clause-fits g c = λ lawful.
     let opened = c.open.ensures.goes does.0 in (
       opened.0,
       λ known.
-          resumed_equal_report c.args.accesses.now c.args.tries earlier _ _ _ _
+          resumed_equal_report c.args.bursts c.args.accesses.now c.args.tries earlier _ _ _ _
           (c.since-2.ensures before after (omega (arith, c.count.ensures, c.count-answered.ensures))
           ∙ ap (λ x. resume_report x earlier) (c.ending-2.ensures after))
           (resume_performs c.args.bursts c.args.accesses.now c.args.tries earlier c.resuming-engine.result
@@ -99,7 +99,8 @@ returns-in-Err-clause-told g c =
     (host_report_to before c.ending.result) _ [] c.open.new.engine c.in-Err.end calls
     (c.since.ensures before before (omega arith))
     (c.ending.ensures before ∙ ap (λ l. engine_report l c.open.new.engine c.in-Err.end) (sym (append-nil before)))
-    (resumed_requests_small c.args.accesses.now c.args.tries earlier _ _ c.requires.accepted.0 c.ranges.tries.fits
+    (resumed_requests_small c.args.bursts c.args.accesses.now c.args.tries earlier _ _ c.requires.accepted.0
+    c.ranges.tries.fits
     (returns-in-Err-clause-continues g c))
     (opening_stop_sent (drop (length before) c.args.accesses.now) (resumed_bursts c.args.bursts) true c.args.tries
     c.resuming-engine.result c.open.new.engine c.in-Err.end calls c.resuming-engine.ensures.again turns
@@ -126,7 +127,8 @@ returns-clause-told g c =
     c.perform-ended.new.engine c.perform-ended.result (late ++ early)
     (c.since-2.ensures before after (omega (arith, c.count.ensures, c.count-answered.ensures)))
     (c.ending-2.ensures after ∙ ap (λ l. engine_report l c.perform-ended.new.engine c.perform-ended.result) tells.added)
-    (resumed_requests_small c.args.accesses.now c.args.tries earlier _ _ c.requires.accepted.0 c.ranges.tries.fits
+    (resumed_requests_small c.args.bursts c.args.accesses.now c.args.tries earlier _ _ c.requires.accepted.0
+    c.ranges.tries.fits
     (returns-clause-continues g c))
     (tells.ends early (opening_counts rest (resumed_bursts c.args.bursts) true c.args.tries c.resuming-engine.result
     c.open.new.engine early c.resuming-engine.ensures.again turns c.in_default.ensures.finished)))

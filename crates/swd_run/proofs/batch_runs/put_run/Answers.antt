@@ -4,7 +4,7 @@ use Rattle.swd_io.specs.Blocks.{BlockBufferSends}
 use Rattle.swd_script.specs.Readers.{script_batch_listed}
 use Rattle.swd_host.specs.Reports.{host_report_to}
 use Rattle.swd_run.specs.declared.going_on.Stop.{Stop}
-use Rattle.swd_run.specs.Sessions.{RunsBatchFrom, batch_limit}
+use Rattle.swd_run.specs.Sessions.{RunsBatchFrom, batch_bursts}
 use Rattle.swd_run.specs.Reports.{report_lines_from}
 use Rattle.swd_run.proofs.ReportLemmas.{report_lines_empty}
 use Rattle.swd_run.proofs.batch_runs.put_run.Goals as goal
@@ -27,7 +27,7 @@ returns-clause-goes g c =
           (sym (report_lines_empty c.as_slice.result.now c.args.answers.now.items c.requires.none)) h;
     })).sends in
     let done : (x : List Stop) × RunsBatchFrom g.W.Wire c.args.options.opened
-    (batch_limit batch) c.args.options.limits batch c.args.wire.now (record {
+    (batch_bursts c.args.options.limits.bursts batch) c.args.options.limits batch c.args.wire.now (record {
       stops = x;
       told = host_report_to report.answers.now.items
           c.run_reporting.result;

@@ -10,8 +10,8 @@ use Rattle.swd_host.specs.Sent.{HostCalls}
 use Rattle.swd_host.specs.Reports.{host_report_to}
 use Rattle.swd_script.specs.Readers.{script_batch_listed}
 use Rattle.swd_run.specs.declared.going_on.Stop.{Stop}
-use Rattle.swd_run.specs.GoingOn.{ran, resumed, script_stop_of}
-use Rattle.swd_run.specs.Sessions.{unresumed}
+use Rattle.swd_run.specs.GoingOn.{ran, resumed, script_resumed_bursts, script_stop_of}
+use Rattle.swd_run.specs.Sessions.{batch_bursts, unresumed}
 use Rattle.swd_run.proofs.going_on.make_call_to.Goals as goal
 
 -- what holds anyway
@@ -52,6 +52,7 @@ pub loop-done-preserved : goal.loop-done-preserved
 loop-done-preserved g c =
     let batch = script_batch_listed c.args.batch.now in
     let tries = c.args.options.limits.tries in
+    let kind = script_resumed_bursts (batch_bursts c.args.options.limits.bursts batch) in
     let (stops, count, follows, went) = c.loop-done.invariant.went in
     let before = g.K.AnswerSink.taken c.loop-done.sink in
     let earlier = host_report_to before c.loop-done.ending in
@@ -61,9 +62,9 @@ loop-done-preserved g c =
     let list = c.as_slice-accesses.ensures.value in
     let taken = c.in_ok-stop.ensures.taken in
     let ensures = c.resume_to-ending.ensures in
-    let continues : ResumeCloses batch.accesses tries earlier told (g.W.Wire.port end).link.due =
-    subst (λ (l : List Answer). ResumeCloses batch.accesses tries (host_report_to l c.loop-done.ending) told
-    (g.W.Wire.port end).link.due) taken (subst (λ (l : List Access). ResumeCloses l tries
+    let continues : ResumeCloses kind batch.accesses tries earlier told (g.W.Wire.port end).link.due =
+    subst (λ (l : List Answer). ResumeCloses kind batch.accesses tries (host_report_to l c.loop-done.ending) told
+    (g.W.Wire.port end).link.due) taken (subst (λ (l : List Access). ResumeCloses kind l tries
     (host_report_to (g.K.AnswerSink.taken c.stop.new.self) c.loop-done.ending) told (g.W.Wire.port end).link.due) list
     ensures.continues) in
     let plan = ensures.plan ∙ c.loop-done.invariant.plan in
@@ -97,10 +98,10 @@ loop-done-preserved g c =
             follows further),
         resumed went c.in-Lost.is plan continues
             (subst (λ (l : List Answer). g.W.Wire.lawful end → g.W.Wire.lawful start
-            × ResumesOver batch.accesses tries (host_report_to l c.loop-done.ending) told (g.W.Wire.port start)
+            × ResumesOver kind batch.accesses tries (host_report_to l c.loop-done.ending) told (g.W.Wire.port start)
             (g.W.Wire.port end)) taken
             (subst (λ (l : List Access). g.W.Wire.lawful end → g.W.Wire.lawful start
-            × ResumesOver l tries (host_report_to (g.K.AnswerSink.taken c.stop.new.self) c.loop-done.ending) told
+            × ResumesOver kind l tries (host_report_to (g.K.AnswerSink.taken c.stop.new.self) c.loop-done.ending) told
             (g.W.Wire.port start) (g.W.Wire.port end)) list ensures.fits))
             (subst (λ (l : List Answer). HostCalls g.W.Wire.notes (ResumeReportsCalls batch.accesses
             (host_report_to l c.loop-done.ending) told) start end) taken

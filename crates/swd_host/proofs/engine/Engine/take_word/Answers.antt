@@ -1,6 +1,6 @@
 use Rattle.swd_host.proofs.Words.{◌≡◌, ◌+◌, ◌∙◌, Some, ap, sym, subst, At, engine_word_is_ignored, EngineTookForJob}
 use Rattle.swd_host.proofs.Words.{hand_of_engine, ResumedOpeningReadWord, ResumeReadFlags}
-use Rattle.swd_host.proofs.StepLemmas.{opening_abort_check, engine_took_taken}
+use Rattle.swd_host.proofs.StepLemmas.{opening_abort_check, opening_status_read, engine_took_taken}
 use Rattle.swd_host.proofs.engine.Engine.take_word.Goals as goal
 
 pub returns-in-At-2-clause-tracks : goal.returns-in-At-2-clause-tracks
@@ -20,4 +20,12 @@ returns-in-Check-clause-early c base start t h =
     let told = opening_abort_check c.in-Check.place c.in-Check.owed c.args.word _ _ start t
     (subst (λ j. ResumedOpeningReadWord j c.args.word (base.disturbed + e.events) e.stray start t) c.in-Check.is h) in
     c.check.ensures.early base start t (subst (λ x. ResumeReadFlags x t.target) (sym c.flags_of-in-Check.ensures)
+    told.0) told.1
+
+pub returns-in-Status-clause-early : goal.returns-in-Status-clause-early
+returns-in-Status-clause-early c base start t h =
+    let e = c.args.self.now in
+    let told = opening_status_read c.in-Status.place c.args.word _ _ start t
+    (subst (λ j. ResumedOpeningReadWord j c.args.word (base.disturbed + e.events) e.stray start t) c.in-Status.is h) in
+    c.status.ensures.early base start t (subst (λ x. ResumeReadFlags x t.target) (sym c.flags_of.ensures)
     told.0) told.1
