@@ -63,7 +63,7 @@ pub enum Verdict {
 /// unknown, the worlds may be too many
 /// to be held. So the check begins later there: at the first read of CTRL/STAT of a target at rest, and else at the
 /// first OK to a request that can be refused, next to a write of SELECT.
-#[derive(Clone, Debug, Drop)]
+#[derive(Drop)]
 pub struct Checker {
     worlds: Worlds,
     opening: Opening,

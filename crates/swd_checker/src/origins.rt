@@ -16,7 +16,7 @@ pub struct Origin {
 /// For each part of a target's state the item that changed it last, in the world with the fewest damaged or lost
 /// requests. `None`: nothing did since the beginning, or since a gap. This is for messages, and no verdict depends on
 /// it.
-#[derive(Clone, Copy, Debug)]
+#[derive(Clone, Copy)]
 pub struct Origins {
     world: Option<World>,
     pub(crate) reset: Option<Origin>,
