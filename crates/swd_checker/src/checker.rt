@@ -396,6 +396,10 @@ impl Checker {
     /// Returns the world with the fewest damaged or lost requests. After `Breaks` it is one before the item that no run
     /// explains.
     pub(crate) fn likeliest(&self) -> Option<World> {
+        // Mostly there is one.
+        if self.worlds.kept.len() == 1 {
+            return Some(self.worlds.kept[0].world);
+        }
         let fewest = self.worlds.fewest_faults();
         for kept in &self.worlds.kept {
             if kept.faults == fewest {

@@ -62,8 +62,8 @@ impl Origins {
         }
         match (self.world, checker.likeliest()) {
             (Some(before), Some(now)) => {
-                self.note_flags(before, now, origin);
-                self.note_words(before, now, origin);
+                self.note_flags(&before, &now, origin);
+                self.note_words(&before, &now, origin);
                 self.world = Some(now);
             }
             (None, Some(now)) => self.world = Some(now),
@@ -82,7 +82,7 @@ impl Origins {
         }
     }
 
-    fn note_flags(&mut self, before: World, now: World, origin: Origin) {
+    fn note_flags(&mut self, before: &World, now: &World, origin: Origin) {
         if before.sticky_error != now.sticky_error {
             self.sticky_error = Some(origin);
         }
@@ -100,7 +100,7 @@ impl Origins {
         }
     }
 
-    fn note_words(&mut self, before: World, now: World, origin: Origin) {
+    fn note_words(&mut self, before: &World, now: &World, origin: Origin) {
         if before.increments != now.increments {
             self.increments = Some(origin);
         }
