@@ -63,7 +63,7 @@ pub enum Verdict {
 /// unknown, the worlds may be too many
 /// to be held. So the check begins later there: at the first read of CTRL/STAT of a target at rest, and else at the
 /// first OK to a request that can be refused, next to a write of SELECT.
-#[derive(Clone, Debug, Drop)]
+#[derive(Drop)]
 pub struct Checker {
     worlds: Worlds,
     opening: Opening,
@@ -396,6 +396,10 @@ impl Checker {
     /// Returns the world with the fewest damaged or lost requests. After `Breaks` it is one before the item that no run
     /// explains.
     pub(crate) fn likeliest(&self) -> Option<World> {
+        // Mostly there is one.
+        if self.worlds.kept.len() == 1 {
+            return Some(self.worlds.kept[0].world);
+        }
         let fewest = self.worlds.fewest_faults();
         for kept in &self.worlds.kept {
             if kept.faults == fewest {

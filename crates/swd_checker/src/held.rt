@@ -9,7 +9,7 @@ ghost use Rattle.swd_checker.specs.Joining.{HeldCovers};
 use crate::near::{Near, Words};
 
 /// What is known of a word that the target holds.
-#[derive(Clone, Copy, Debug, PartialEq, Eq)]
+#[derive(Clone, Copy, PartialEq, Eq)]
 pub(crate) enum Held {
     /// Nothing: any word, anew at each use.
     Unknown,

@@ -14,7 +14,7 @@ use crate::near::{Near, Words};
 use swd_bits::{Reg4, Request, Tx, TxEnd};
 
 /// What is known of the word that DPIDR returns: it is one and the same at each read, and its bit 0 is 1.
-#[derive(Clone, Copy, Debug)]
+#[derive(Clone, Copy)]
 pub(crate) struct Identification {
     /// One of these words; `None` before the first read.
     pub(crate) word: Option<Near>,

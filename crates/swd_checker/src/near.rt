@@ -15,7 +15,7 @@ const PLACES: u8 = 33;
 const PARITY: u8 = 32;
 
 /// `word` with the bit at one of `places` changed. The set is never empty.
-#[derive(Clone, Copy, Debug, PartialEq, Eq)]
+#[derive(Clone, Copy, PartialEq, Eq)]
 pub(crate) struct Near {
     pub(crate) word: u32,
     /// Bit n says that place n may be the one.

@@ -22,7 +22,7 @@ use swd_bits::{Reg4, Request, Tx, TxEnd};
 use swd_port::Reset;
 
 /// What is known of a target at first.
-#[derive(Clone, Copy, Debug)]
+#[derive(Clone, Copy)]
 pub(crate) enum Opening {
     /// Nothing: any state.
     Anything,

@@ -16,7 +16,7 @@ pub struct Origin {
 /// For each part of a target's state the item that changed it last, in the world with the fewest damaged or lost
 /// requests. `None`: nothing did since the beginning, or since a gap. This is for messages, and no verdict depends on
 /// it.
-#[derive(Clone, Copy, Debug)]
+#[derive(Clone, Copy)]
 pub struct Origins {
     world: Option<World>,
     pub(crate) reset: Option<Origin>,
@@ -62,8 +62,8 @@ impl Origins {
         }
         match (self.world, checker.likeliest()) {
             (Some(before), Some(now)) => {
-                self.note_flags(before, now, origin);
-                self.note_words(before, now, origin);
+                self.note_flags(&before, &now, origin);
+                self.note_words(&before, &now, origin);
                 self.world = Some(now);
             }
             (None, Some(now)) => self.world = Some(now),
@@ -82,7 +82,7 @@ impl Origins {
         }
     }
 
-    fn note_flags(&mut self, before: World, now: World, origin: Origin) {
+    fn note_flags(&mut self, before: &World, now: &World, origin: Origin) {
         if before.sticky_error != now.sticky_error {
             self.sticky_error = Some(origin);
         }
@@ -100,7 +100,7 @@ impl Origins {
         }
     }
 
-    fn note_words(&mut self, before: World, now: World, origin: Origin) {
+    fn note_words(&mut self, before: &World, now: &World, origin: Origin) {
         if before.increments != now.increments {
             self.increments = Some(origin);
         }

@@ -8,7 +8,7 @@ ghost use Rattle.swd_checker.specs.Joining.{AreTarsWhole};
 const KILOBYTE: u32 = 1024;
 
 /// What is known of TAR.
-#[derive(Clone, Copy, Debug, PartialEq, Eq)]
+#[derive(Clone, Copy, PartialEq, Eq)]
 pub(crate) enum Tar {
     /// Nothing: any address, anew at each use.
     Unknown,

@@ -16,7 +16,7 @@ use crate::tar::Tar;
 use swd_port::{Register, Reset};
 
 /// One of the powers that CTRL/STAT requests.
-#[derive(Clone, Copy, Debug, PartialEq, Eq)]
+#[derive(Clone, Copy, PartialEq, Eq)]
 pub(crate) enum Power {
     /// It isn't requested.
     Off,
@@ -29,14 +29,14 @@ pub(crate) enum Power {
 }
 
 /// The direction of a transfer.
-#[derive(Clone, Copy, Debug)]
+#[derive(Clone, Copy)]
 pub(crate) enum Transfer {
     Read,
     Write,
 }
 
 /// States in which a target may be.
-#[derive(Clone, Copy, Debug)]
+#[derive(Clone, Copy)]
 pub(crate) struct World {
     pub(crate) reset: Reset,
     pub(crate) sticky_error: bool,

@@ -18,14 +18,14 @@ use swd_bits::Tx;
 pub(crate) const MOST_WORLDS: usize = 64;
 
 /// A world, and a number of requests: no run that leads to it has fewer damaged or lost ones.
-#[derive(Clone, Copy, Debug)]
+#[derive(Clone, Copy)]
 pub(crate) struct Kept {
     pub(crate) world: World,
     pub(crate) faults: u64,
 }
 
 /// The worlds that the items so far leave.
-#[derive(Clone, Debug, Drop)]
+#[derive(Drop)]
 pub(crate) struct Worlds {
     pub(crate) kept: ArrayVec<Kept, MOST_WORLDS>,
     /// Whether there were more of them than are held.
