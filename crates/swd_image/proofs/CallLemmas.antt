@@ -352,7 +352,8 @@ module _ {W : Type 0} (wire : Ghosts W) (limits : Limits) where
           let turns =
           (tell_of wire n batch.accesses limits.tries r h.at_rest run.stops run.told v
           went law).turns in
-          let kept = chain_keeps want P words (bursts_limit n) batch.accesses (wire.port r).target.memory turns.calls run.told
+          let kept = chain_keeps want P words (bursts_limit n) batch.accesses
+          (wire.port r).target.memory turns.calls run.told
           turns.memory
           h.plain
           (all_back want P words xs batch.accesses i) h.held turns.chain in

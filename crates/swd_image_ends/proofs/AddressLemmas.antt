@@ -110,7 +110,8 @@ module _ {W : Type 0} (wire : Ghosts W) (limits : Limits) (always : (w : W) → 
       record {
         at_rest = rests wire n batch.accesses limits.tries r h.at_rest run.stops run.told
             v went (always v) all;
-        plain = subst IsPlain (turns.left all) (resume_chain_plain (bursts_limit n) batch.accesses (wire.port r).target.memory
+        plain = subst IsPlain (turns.left all) (resume_chain_plain (bursts_limit n) batch.accesses
+            (wire.port r).target.memory
             turns.calls
             run.told turns.memory h.plain turns.chain);
         addresses = λ q. ap (λ x. is_some (get (plain_words_of x) q)) (sym (turns.left all)) ∙ same q ∙ h.addresses q;

@@ -358,7 +358,8 @@ law_refused wire limits batch s t (unresumed {stops = stops} {told = told} went 
     law_before wire (batch_bursts limits.bursts batch) batch.accesses limits.tries s stops told t went law
 
 law_runs : {W : Type 0} (wire : Ghosts W) {opened : Bool} (limits : Limits) (s t : W) (batches : List ScriptListed)
-    (runs : List ScriptRun) → RunsBatches wire opened (batch_bursts limits.bursts) limits s batches runs t → wire.lawful t
+    (runs : List ScriptRun) → RunsBatches wire opened (batch_bursts limits.bursts) limits s batches runs t
+    → wire.lawful t
     → wire.lawful s
 law_runs wire limits s t batches runs none law = law
 law_runs wire limits s t batches runs
@@ -470,7 +471,8 @@ script_run_answers wire limits script marks s t is_made planned none_noted marke
     law unfolds are in
     let left_seen : (seen.port (h.0, t)).target.memory ≡ memory = memory_seen wire noted traced h.0 t ∙ sym left in
     let whole_calls = λ (over : RanBatches seen limits script.batches ([], s) (h.0, t)).
-    runs_told seen false (batch_bursts limits.bursts) limits ([], s) (calls_of script.batches over.made) (runs_of over.made)
+    runs_told seen false (batch_bursts limits.bursts) limits ([], s) (calls_of script.batches over.made)
+        (runs_of over.made)
     (h.0, t) over.are [] fresh in
     let short_calls = λ (over : RanBatchesShort seen limits script.batches ([], s) (h.0, t)).
     short_told seen limits script.batches ([], s) (h.0, t) over in (

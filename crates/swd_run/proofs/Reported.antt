@@ -89,7 +89,8 @@ module _ {W : Type 0} (wire : Ghosts W) (limits : Limits)
       Type 0 where
     pub made : List BatchRuns
     pub unfolds : Unfolds (take i batches) made
-    pub are : RunsBatches wire false (batch_bursts limits.bursts) limits s (calls_of (take i batches) made) (runs_of made) t
+    pub are : RunsBatches wire false (batch_bursts limits.bursts) limits s (calls_of (take i batches) made)
+        (runs_of made) t
     pub is : IsScriptFinished (take i batches) made None finished
     pub gone : HasReportWritten old now (session_text (take i batches) made) written
     pub is_open : opened ≡ script_is_open false (runs_of made)
@@ -193,7 +194,8 @@ module _ {W : Type 0} (wire : Ghosts W) (limits : Limits)
           let calls : before ++ next ≡ calls_of (take (i + 1) batches) (so_far.made ++ runs ∷ []) =
           sym (unfolded_calls_last (take i batches) so_far.made batch runs as_batches)
           ∙ ap (λ z. calls_of z (so_far.made ++ runs ∷ [])) (sym split) in
-          subst (λ z. RunsBatches wire false (batch_bursts limits.bursts) limits s z (runs_of (so_far.made ++ runs ∷ [])) u)
+          subst (λ z. RunsBatches wire false (batch_bursts limits.bursts) limits s z (runs_of
+          (so_far.made ++ runs ∷ [])) u)
           calls (subst (λ z. RunsBatches wire false (batch_bursts limits.bursts) limits s (before ++ next) z u)
           (sym (unfolded_runs_last so_far.made runs))
           (runs_append wire false (batch_bursts limits.bursts) limits s t before (runs_of so_far.made) u next ended

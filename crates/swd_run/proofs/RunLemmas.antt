@@ -41,7 +41,8 @@ script_target_at_rest m s is_made = record {
 }
 
 -- a run from a target at rest or open, which met at most the marks of a plan
-pub batch_run_under_plan : (opened : Bool) (kind : Bursts) (tries : ℕ) (batch : ScriptListed) (marks : List Mark) (told : HostReport)
+pub batch_run_under_plan : (opened : Bool) (kind : Bursts) (tries : ℕ) (batch : ScriptListed) (marks : List Mark)
+    (told : HostReport)
     (s t : Port) (due : Due) → ScriptStarts opened s → s.tally.lost ≤ port_lost_among marks
     → t.tally.disturbed ≤ port_disturbed_among marks → t.tally.lost ≤ port_lost_among marks
     → ScriptCallCloses opened kind batch.accesses tries told due

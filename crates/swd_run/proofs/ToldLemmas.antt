@@ -103,7 +103,8 @@ short_told wire limits batches s t over =
     let made = over.before.made in
     let cut = over.refused in
     let calls : List ScriptListed = calls_of batches made in
-    let whole = runs_append wire false (batch_bursts limits.bursts) limits s over.between calls (runs_of made) cut.between
+    let whole = runs_append wire false (batch_bursts limits.bursts) limits s over.between calls
+    (runs_of made) cut.between
     (batch_again over.batch cut.runs) cut.runs over.before.are over.all cut.earlier in
     let further = refused_told wire _ limits over.batch calls (runs_of made) cut.runs s cut.between t
     (runs_told wire false (batch_bursts limits.bursts) limits s (calls ++ batch_again over.batch cut.runs)

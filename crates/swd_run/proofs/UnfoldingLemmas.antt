@@ -387,7 +387,8 @@ module _ {W : Type 0} (wire : Ghosts W) (opened : Bool)
       pub many : length earlier + 1 ≡ n
       pub asked : list_all (λ run. asks_again until run) earlier ≡ true
       pub between : W
-      pub runs : RunsBatches wire opened (batch_bursts limits.bursts) limits s (batch_again batch earlier) earlier between
+      pub runs : RunsBatches wire opened (batch_bursts limits.bursts) limits s
+          (batch_again batch earlier) earlier between
       pub goes : RunsBatchFrom wire (script_is_open opened earlier) (batch_bursts limits.bursts batch) limits batch
           between last t
 

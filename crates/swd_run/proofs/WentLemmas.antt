@@ -85,7 +85,8 @@ open_first (WrongId word) begun answered never = omega arith
 open_first Confused begun answered never = omega arith
 
 -- a run
-call_ran : (opened : Bool) (kind : Bursts) (tries : ℕ) (list : List Access) (m : Bus) (told : HostReport) (now : Bus) (due : _)
+call_ran : (opened : Bool) (kind : Bursts) (tries : ℕ) (list : List Access) (m : Bus) (told : HostReport) (now : Bus)
+    (due : _)
     → ScriptCallCloses opened kind list tries told due
     → FitsFrom (script_opening_requests opened) (bursts_limit kind) list m told now
     → IsScriptCall (script_opening_requests opened) (script_most_requests opened kind tries) (bursts_limit kind)
@@ -483,7 +484,8 @@ module _ {W : Type 0} (wire : Ghosts W) {opened : Bool} (kind : Bursts)
     calls = [];
     are = refl;
     chained = λ now may. chain_first opened (bursts_limit kind) list (wire.port s).target.memory a now
-        (subst (FitsFrom (script_opening_requests opened) (bursts_limit kind) list (wire.port s).target.memory a) (sym may.2)
+        (subst (FitsFrom (script_opening_requests opened) (bursts_limit kind) list (wire.port s).target.memory a)
+        (sym may.2)
         (((over law).1 starts).later may.0));
   }
   in_turn stops told t (resumed {stops = before} {earlier = e} {told = a} {t = u} {u = v} went lost same goes over says)
@@ -533,9 +535,11 @@ module _ {W : Type 0} (wire : Ghosts W) {opened : Bool} (kind : Bursts)
     calls = calls stops told t went law;
     first = first_answers stops told t went law;
     turns = told_in_turn stops told t went law;
-    again = again_in_turn opened (bursts_limit kind) list (wire.port s).target.memory stops told (wire.port t).target.memory
+    again = again_in_turn opened (bursts_limit kind) list (wire.port s).target.memory stops told
+        (wire.port t).target.memory
         (told_in_turn stops told t went law);
-    reads = reads_in_turn opened (bursts_limit kind) list (wire.port s).target.memory stops told (wire.port t).target.memory
+    reads = reads_in_turn opened (bursts_limit kind) list (wire.port s).target.memory stops told
+        (wire.port t).target.memory
         (told_in_turn stops told t went law);
   }
 

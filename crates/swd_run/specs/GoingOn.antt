@@ -169,11 +169,13 @@ pub record ScriptCallsOfReads (limit : ℕ) (stops : List Stop) (list : List Acc
 -- first call left at most one access begun, if the log has room for the repeated accesses.
 pub record ScriptCallsReport (opened : Bool) (kind : Bursts) (tries : ℕ) (list : List Access) (m : Bus)
     (stops : List Stop) (told : HostReport) (after : Bus) : Type 0 where
-  pub calls : AreScriptCalls (script_opening_requests opened) (script_most_requests opened kind tries) (bursts_limit kind)
+  pub calls : AreScriptCalls (script_opening_requests opened) (script_most_requests opened kind tries)
+      (bursts_limit kind)
       (script_most_resumed kind tries) (length list) 0 0 stops told
   pub first : take (script_answered_first stops told) told.answers
       ≡ answers_of (take (script_answered_first stops told) list) m
   pub turns : ScriptCallsInTurn opened (bursts_limit kind) stops list m told after
   pub again : script_begun_first stops told ≤ 1 → IsPlainWithRoom (length stops) list m
       → ScriptCallsAgain stops list m told after
-  pub reads : 1 ≤ bursts_limit kind → AreBlockReads list → ScriptCallsOfReads (bursts_limit kind) stops list m told after
+  pub reads : 1 ≤ bursts_limit kind → AreBlockReads list
+      → ScriptCallsOfReads (bursts_limit kind) stops list m told after

@@ -87,7 +87,8 @@ pub record RunsOn (opened : Bool) (limits : Limits) (batch : ScriptListed) (befo
   pub most : (script_calls_in_all stops told).requests ≤ script_opening_requests opened + 6 * length batch.accesses
       + event_requests (batch_bursts limits.bursts batch) * port_disturbed_among marks
       + length stops * (14 + 6 * length batch.accesses
-      + event_requests (resumed_bursts (script_resumed_bursts (batch_bursts limits.bursts batch))) * port_disturbed_among marks)
+      + event_requests (resumed_bursts (script_resumed_bursts
+      (batch_bursts limits.bursts batch))) * port_disturbed_among marks)
 
 -- The successive runs of a script over the plain memory. `RunsOn` holds of each run, from the memory that the one
 -- before left. The first one opens the target. A later one starts only if the one before ended `All`, and goes over the

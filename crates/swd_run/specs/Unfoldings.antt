@@ -115,7 +115,8 @@ module _ {W : Type 0} (wire : Ghosts W) (opened : Bool)
     pub between : W
     pub earlier : RunsBatches wire opened (batch_bursts limits.bursts) limits s (batch_again batch runs.earlier)
         runs.earlier between
-    pub last : RunsBatchFrom wire (script_is_open opened runs.earlier) (batch_bursts limits.bursts batch) limits batch between
+    pub last : RunsBatchFrom wire (script_is_open opened runs.earlier)
+        (batch_bursts limits.bursts batch) limits batch between
         runs.last t
     pub are : AreRunsOfBatch batch runs
 
