@@ -122,6 +122,9 @@ pub fn run_open_block<W: Wire, A: Allocator + Copy>(
 ///
 /// The sink may have the answers of earlier lists: those of this one come after them.
 ///
+/// Whatever the other end sends, the call ends after at most as many requests as [`run_open`], with `Bursts::Never`
+/// after at most `6 + 6 * tries` for each access.
+///
 /// # Errors
 ///
 /// Returns `TooMany` for more than 65,536 accesses, and `Unaligned` for the first address that isn't a multiple of 4.

@@ -307,6 +307,9 @@ pub fn run<W: Wire, A: Allocator>(
 /// next acknowledgement were lost. With `Bursts::Reads` it reads as [`run_block`](crate::run_block) does: a report may
 /// have up to two accesses in flight.
 ///
+/// Whatever the other end sends, the run ends after at most as many requests as [`run`], with `Bursts::Never` after at
+/// most `10 + 6 * tries` for the opening and `6 + 6 * tries` for each access.
+///
 /// # Errors
 ///
 /// Returns `TooMany` for more than 65,536 accesses, and `Unaligned` for the first address that isn't a multiple of 4.
