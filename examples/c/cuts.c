@@ -43,8 +43,11 @@ static struct board board;
 static struct swd_transfer writes[MOST_WRITES];
 static size_t written;
 
-/* The line: how many clocks work before one fails, and how; whether one has failed. */
-static unsigned long left;
+/*
+ * The line: how many clocks work before one fails, and how; whether one has failed, how many were asked for since, and in
+ * how many the host drove against the target.
+ */
+static unsigned long left, behind, contended;
 static enum kind kind;
 static bool has_failed;
 
@@ -56,6 +59,7 @@ static int clock_board(int drive)
 {
 	unsigned long before = board.transfers;
 	int bit = board_clock(&board, drive);
+	contended += drive != RELEASED && bit != drive;
 	if (board.transfers != before && board.last.kind == SWD_WRITE && written < MOST_WRITES)
 		writes[written++] = board.last;
 	return bit;
@@ -76,6 +80,7 @@ static int fail(int drive)
 int line_clock(int drive)
 {
 	int bit;
+	behind += has_failed;
 	if (has_failed && kind == GONE)
 		return LINE_FAILED;
 	/* The level of a clock that failed is dropped. */
@@ -96,6 +101,7 @@ static void work(unsigned long clocks, enum kind then)
 	left = clocks;
 	kind = then;
 	has_failed = false;
+	behind = 0;
 }
 
 /* A new board behind a line that works, with another word at each place, and a target that was opened. */
@@ -107,6 +113,7 @@ static bool open_board(void)
 	for (place = 0; place < MOST_ACCESSES; place++)
 		board.words[place] = 0x80000000u + (uint32_t)place;
 	written = come = 0;
+	contended = 0;
 	work((unsigned long)-1, BEFORE);
 	swd_run_new(&run, TRIES);
 	return line_run(&run, NULL, 0, NULL).outcome.kind == SWD_ALL;
@@ -252,6 +259,8 @@ static const char *go_on(const struct list *list, struct outcome *outcome, enum 
 	}
 	if (!what && !is_polled())
 		what = "a poll that isn't true";
+	if (!what && contended > 0)
+		what = "a clock that both ends drive";
 	return !what && has_foreign(list) ? "a word that nobody wrote, later" : what;
 }
 
@@ -287,8 +296,8 @@ static const char *cut(const struct list *list, unsigned long at, enum kind how,
 	work(at, how);
 	act(list, &outcome);
 	what = falsehood(list, &outcome, 0, 0);
-	if (what)
-		return what;
+	if (what || behind > 0)
+		return what ? what : "a clock behind one that failed";
 	if (outcome.run.end.kind != SWD_LOST)
 		return "a run that isn't lost";
 	return how == GONE ? come_back(list, &outcome, then) : go_on(list, &outcome, then, at);
