@@ -308,6 +308,7 @@ static unsigned long cut_each(const struct list *list, unsigned long step, unsig
 {
 	struct outcome whole;
 	unsigned long clocks, at, failed = 0;
+	const char *told = NULL;
 	int how, then;
 	if (!open_board())
 		return 1;
@@ -321,8 +322,10 @@ static unsigned long cut_each(const struct list *list, unsigned long step, unsig
 			for (then = 0; then < THENS; then++) {
 				const char *what = cut(list, at, (enum kind)how, (enum then)then);
 				++*tried;
-				if (what && failed++ == 0)
+				failed += what != NULL;
+				if (what && what != told)
 					printf("%s, clock %lu, failed %s, %s: %s\n", list->name, at, kind_names[how], then_names[then], what);
+				told = what ? what : told;
 			}
 		}
 	}
