@@ -67,6 +67,21 @@ class RemoteBitbang(unittest.TestCase):
                         bench = here
         self.enough(tried, self.CALLS[0])
 
+    def test_a_failure_while_it_catches_up(self):
+        """Ctrl-C comes once more, at each of the calls that drop the replies of the one that it came in before."""
+        bench, accesses = self.bench(), [swd.Read(BASE)]
+        count = self.calls_of(bench, lambda bench: bench.session.read(BASE))
+        for at, more in itertools.product(range(0, count, 11), range(8)):
+            with self.subTest(call=at, more=more):
+                here, bench = bench or self.bench(), None
+                for place in (at, more):
+                    here.cable.fail(place, "Ctrl-C after")
+                    with self.assertRaises((swd.Interrupted, swd.LineFailed)) as caught:
+                        here.session.read(BASE)
+                here.cable.at = None
+                if self.goes_on(here, accesses, caught.exception.report, {}, "read"):
+                    bench = here
+
     def cut(self, bench, accesses, act, failure, then):
         """Makes an act whose line fails. Whether the line is usable again."""
         bench.memory.log.clear()
