@@ -48,7 +48,14 @@ impl Files for Disk<'_> {
     type Made = DiskFile;
 
     fn open(&self, name: &str) -> io::Result<Opened<File>> {
-        identified(fs::open(self.rt, name)?)
+        let file = fs::open(self.rt, name)?;
+        if is_endless(&file.metadata()?) {
+            return Err(io::Error::new(
+                ErrorKind::InvalidInput,
+                "it is a device that never ends; head -c copies a beginning of it",
+            ));
+        }
+        identified(file)
     }
 
     fn open_to_write(&self, name: &str) -> io::Result<Opened<DiskFile>> {
@@ -163,6 +170,15 @@ fn is_terminal(metadata: &Metadata) -> bool {
         5 | 136..=143 => true,
         _ => false,
     }
+}
+
+// Returns whether a file is a device whose bytes never end, by the device numbers of Linux: `/dev/zero`, `/dev/full`,
+// `/dev/random` or `/dev/urandom`. No script, plan, memory, image or trace is one.
+fn is_endless(metadata: &Metadata) -> bool {
+    let device = metadata.rdev();
+    metadata.file_type().is_char_device()
+        && device >> 8 & 0xfff == 1
+        && matches!(device & 0xff, 5 | 7..=9)
 }
 
 impl Disk<'_> {
