@@ -472,7 +472,7 @@ script_run_answers wire limits script marks s t is_made planned none_noted marke
     let left_seen : (seen.port (h.0, t)).target.memory ≡ memory = memory_seen wire noted traced h.0 t ∙ sym left in
     let whole_calls = λ (over : RanBatches seen limits script.batches ([], s) (h.0, t)).
     runs_told seen false (batch_bursts limits.bursts) limits ([], s) (calls_of script.batches over.made)
-        (runs_of over.made)
+    (runs_of over.made)
     (h.0, t) over.are [] fresh in
     let short_calls = λ (over : RanBatchesShort seen limits script.batches ([], s) (h.0, t)).
     short_told seen limits script.batches ([], s) (h.0, t) over in (

@@ -44,7 +44,7 @@ module _ {W : Type 0} (wire : Ghosts W) {opened : Bool} (kind : Bursts) (list : 
       (ScriptReportsCalls list (before ++ script_stop_of e ∷ []) a) s u v
       (λ first next is more. told_again is more) (went_told before e u went) says
 
-module _ {W : Type 0} (wire : Ghosts W) (opened : Bool) (most : ScriptListed → ℕ) (limits : Limits) (s : W) where
+module _ {W : Type 0} (wire : Ghosts W) (opened : Bool) (most : ScriptListed → Bursts) (limits : Limits) (s : W) where
   -- those of successive runs are those that their reports tell
   pub runs_told : (batches : List ScriptListed) (runs : List ScriptRun) (t : W)
       → RunsBatches wire opened most limits s batches runs t

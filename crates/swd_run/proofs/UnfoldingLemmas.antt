@@ -7,6 +7,7 @@ use Rattle.std.proofs.lemmas.List.{append-nil, length-append, map-append}
 use Rattle.swd_port.specs.declared.access.Answer.{Answer}
 use Rattle.swd_port.specs.declared.access.Answer.TheVariants.{Value, Written, BusFault}
 use Rattle.swd_port.specs.declared.wire.Wire.{Ghosts}
+use Rattle.swd_host.specs.declared.task.Bursts.{Bursts}
 use Rattle.swd_host.specs.declared.outcome.End.{End}
 use Rattle.swd_host.specs.declared.outcome.End.TheVariants.{All, Lost, TriesOut, WrongId, Confused}
 use Rattle.swd_host.specs.Resuming.{host_end_is_all}
@@ -99,7 +100,7 @@ script_open_append opened (run ∷ first) [] = refl
 script_open_append opened (run ∷ first) (next ∷ second) = refl
 
 module _ {W : Type 0} (wire : Ghosts W) (opened : Bool)
-    (most : ScriptListed → ℕ) (limits : Limits) where
+    (most : ScriptListed → Bursts) (limits : Limits) where
   -- runs after runs that all ended `All`
   pub runs_append : (s t : W) (xs : List ScriptListed) (first : List ScriptRun) (u : W) (ys : List ScriptListed)
       (second : List ScriptRun)

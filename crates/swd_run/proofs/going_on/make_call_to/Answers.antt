@@ -4,6 +4,7 @@ use Rattle.std.specs.Prelude.{OnErr}
 use Rattle.std.proofs.lemmas.List.{length-append}
 use Rattle.swd_port.specs.declared.access.Access.{Access}
 use Rattle.swd_port.specs.declared.access.Answer.{Answer}
+use Rattle.swd_host.specs.declared.task.Bursts.{Bursts}
 use Rattle.swd_host.specs.Again.{ResumeCloses, ResumeReportsCalls, ResumesOver}
 use Rattle.swd_host.specs.Plain.{AreHostAccesses}
 use Rattle.swd_host.specs.Sent.{HostCalls}
@@ -60,13 +61,17 @@ loop-done-preserved g c =
     let start = c.loop-done.wire in
     let end = c.resume_to-ending.new.wire in
     let list = c.as_slice-accesses.ensures.value in
+    let again : c.resumed_bursts-bursts.result ≡ kind =
+    c.resumed_bursts-bursts.ensures ∙ ap script_resumed_bursts c.bursts_of.ensures.kind in
     let taken = c.in_ok-stop.ensures.taken in
     let ensures = c.resume_to-ending.ensures in
     let continues : ResumeCloses kind batch.accesses tries earlier told (g.W.Wire.port end).link.due =
     subst (λ (l : List Answer). ResumeCloses kind batch.accesses tries (host_report_to l c.loop-done.ending) told
     (g.W.Wire.port end).link.due) taken (subst (λ (l : List Access). ResumeCloses kind l tries
     (host_report_to (g.K.AnswerSink.taken c.stop.new.self) c.loop-done.ending) told (g.W.Wire.port end).link.due) list
-    ensures.continues) in
+    (subst (λ (b : Bursts). ResumeCloses b c.as_slice-accesses.result.now tries
+    (host_report_to (g.K.AnswerSink.taken c.stop.new.self) c.loop-done.ending) told (g.W.Wire.port end).link.due) again
+    ensures.continues)) in
     let plan = ensures.plan ∙ c.loop-done.invariant.plan in
     let stop : Stop = record {
       answered = c.count.result;
@@ -102,7 +107,11 @@ loop-done-preserved g c =
             (g.W.Wire.port end)) taken
             (subst (λ (l : List Access). g.W.Wire.lawful end → g.W.Wire.lawful start
             × ResumesOver kind l tries (host_report_to (g.K.AnswerSink.taken c.stop.new.self) c.loop-done.ending) told
-            (g.W.Wire.port start) (g.W.Wire.port end)) list ensures.fits))
+            (g.W.Wire.port start) (g.W.Wire.port end)) list
+            (subst (λ (b : Bursts). g.W.Wire.lawful end → g.W.Wire.lawful start
+            × ResumesOver b c.as_slice-accesses.result.now tries
+            (host_report_to (g.K.AnswerSink.taken c.stop.new.self) c.loop-done.ending) told
+            (g.W.Wire.port start) (g.W.Wire.port end)) again ensures.fits)))
             (subst (λ (l : List Answer). HostCalls g.W.Wire.notes (ResumeReportsCalls batch.accesses
             (host_report_to l c.loop-done.ending) told) start end) taken
             (subst (λ (l : List Access). HostCalls g.W.Wire.notes (ResumeReportsCalls l
