@@ -9,7 +9,7 @@ use Rattle.swd_words.proofs.conform_words.conform_line.Goals as goal
 
 pub returns : goal.returns
 returns c = record {
-  remote = ap (option_map string_bytes) (sym c.in-Some.is) ∙ c.in_ok-text_in.ensures;
+  remote = ap (option_map string_bytes) (sym c.in-Some.is) ∙ c.in_ok-remote.ensures;
   plain = subst (λ (l : List PlainWords). ArePlainArguments l
       (unwrap_or (all_of (codes "plain") (rows_of (found_of c.args.matches.now))) []))
       (sym c.as_slice.ensures.value ∙ c.in-Some-only_one.ensures) c.in-Ok.ensures;

@@ -5,8 +5,8 @@ use Rattle.clap.proofs.WalkLemmas.{first_value-rows}
 use Rattle.swd_words.specs.Commands.{AreFormatArguments}
 use Rattle.swd_words.proofs.image_words.formats_of.Goals as goal
 
-pub returns-in-Some : goal.returns-in-Some
-returns-in-Some c =
+pub returns-in-Some-formats_in : goal.returns-in-Some-formats_in
+returns-in-Some-formats_in c =
     let formats = c.in-Some-formats_in.formats in
     let word = first_of (codes "format") (rows_of (found_of c.args.matches.now)) in
     subst (λ (file : Option Text). IsSomeAnd file

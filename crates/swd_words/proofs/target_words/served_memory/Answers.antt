@@ -7,14 +7,14 @@ use Rattle.swd_words.proofs.target_words.served_memory.Goals as goal
 
 pub returns-in-Ok : goal.returns-in-Ok
 returns-in-Ok c = (
-  sym (ap (option_map string_bytes) (sym c.in_default-script.is) ∙ c.in_ok-text_in.ensures),
+  sym (ap (option_map string_bytes) (sym c.in_default.is) ∙ c.in_ok-script.ensures),
   c.in-Ok.ensures,
 )
 
 pub returns : goal.returns
 returns c = (
   record {
-    file = ap (option_map string_bytes) (sym c.in-Some.is) ∙ c.in_ok-text_in.ensures;
+    file = ap (option_map string_bytes) (sym c.in-Some.is) ∙ c.in_ok-script.ensures;
     plan = c.in_ok-plan.ensures;
   },
   sym (c.get_str.ensures ∙ first_value-rows (found_of c.args.matches.now) (codes "memory"))

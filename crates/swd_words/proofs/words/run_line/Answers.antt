@@ -5,7 +5,7 @@ use Rattle.swd_words.proofs.words.run_line.Goals as goal
 
 pub returns : goal.returns
 returns c = record {
-  script = ap (option_map string_bytes) (sym c.in-Some.is) ∙ c.in_ok-text_in.ensures;
+  script = ap (option_map string_bytes) (sym c.in-Some-2.is) ∙ c.in_ok-script.ensures;
   plan = c.in_ok-plan.ensures;
   tries = c.in_ok-numbers.ensures.tries;
   resumes = c.in_ok-numbers.ensures.resumes;
