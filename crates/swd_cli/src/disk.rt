@@ -64,7 +64,9 @@ impl Files for Disk<'_> {
         }
         let mut how = OpenOptions::new();
         how.write(true).create(true);
-        made(how.open(self.rt, name)?, false)
+        let file = how.open(self.rt, name)?;
+        self.refuse_errors(&file)?;
+        made(file, false)
     }
 
     fn open_line_in(&self, name: &str) -> io::Result<Opened<File>> {
@@ -195,6 +197,15 @@ impl Disk<'_> {
             ));
         }
         Ok(file)
+    }
+
+    // Refuses a regular file that is standard error, whose lines would overwrite it.
+    fn refuse_errors(&self, file: &File) -> io::Result<()> {
+        let metadata = file.metadata()?;
+        if metadata.is_file() && self.standard_error()? == Some(identity_of(&metadata)) {
+            return Err(io::Error::new(ErrorKind::InvalidInput, "it is standard error"));
+        }
+        Ok(())
     }
 
     // Creates a file, unless one has the name.
