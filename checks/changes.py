@@ -3,8 +3,8 @@ import os
 
 
 class Changes:
-    """Changes to files of a folder: pairs of an old and a new text, the old one standing once in its file; and the test that has
-    to fail with them, where the file names one."""
+    """Changes to files of a folder: pairs of an old and a new text, the old one standing once in its file; and the test
+    that has to fail with them, where the file names one."""
 
     def __init__(self, file):
         self.name = os.path.basename(file).removesuffix(".edit")

@@ -133,8 +133,8 @@ def probe_over(bitbang):
 
 
 class Bench:
-    """A session over the line of README.md, or by sequences, and what is known of the memory behind it. Each written word
-    is another one, so that the memory's log tells how often it was written."""
+    """A session over the line of README.md, or by sequences, and what is known of the memory behind it. Each written
+    word is another one, so that the memory's log tells how often it was written."""
 
     def __init__(self, program, by_sequences=False):
         names = {}
