@@ -3,22 +3,18 @@
 use crate::words::swd_command;
 use std::alloc::Global;
 
-// Returns what `clap` prints for these arguments, if it has anything to print.
-fn printed_text(alloc: Global, words: &[&str]) -> Option<String> {
+// Returns the first line with this start that `clap` prints for these arguments, if there is one.
+fn printed_line(alloc: Global, words: &[&str], start: &str) -> Option<String> {
     let Err(error) = swd_command(alloc).ok()?.try_get_matches_from(words) else {
         return None;
     };
-    format!(in alloc; "{error}").ok()
-}
-
-// Returns the first line with this start that `clap` prints for these arguments, if there is one.
-fn printed_line(alloc: Global, words: &[&str], start: &str) -> Option<String> {
-    let text = printed_text(alloc, words)?;
-    let line = text
-        .as_str()
-        .split('\n')
-        .find(|line| line.starts_with(start))?;
-    String::from_str(alloc, line).ok()
+    let text = format!(in alloc; "{error}").ok()?;
+    for line in text.as_str().split('\n') {
+        if line.starts_with(start) {
+            return String::from_str(alloc, line).ok();
+        }
+    }
+    None
 }
 
 /// Returns the line of a command's arguments, as `Usage: swd one [FILE]`, or `None` when out of memory.
