@@ -4,7 +4,7 @@ use std::alloc::Global;
 use std::process::Abort;
 use std::test::Fail;
 use swd_clocked::ClockedBench;
-use swd_host::run_block;
+use swd_host::{Report, run_block};
 use swd_port::{Answer, Due, Transfer};
 use swd_simulated::{BASE, QUIRKS, RUN, Run, Simulated, WHOLE, Wanted, target_of};
 use swd_target::{Bench, Memory};
@@ -14,6 +14,10 @@ const LONGEST: Run = Run {
     room: 65_536,
     ..RUN
 };
+
+fn reports<R: Abort>(rt: &R, count: u32, report: &Report, wanted: &Wanted) {
+    expect_eq_at(rt, &count, &Wanted::found(report, wanted.log), wanted);
+}
 
 fn comes_out<S: Simulated + Drop, R: Abort>(
     rt: &R,
@@ -26,8 +30,8 @@ fn comes_out<S: Simulated + Drop, R: Abort>(
         panic!(rt; "{count}: no block to read");
     }
     let report = run_block(alloc, &mut target, BASE, count, LONGEST.tries)?;
-    let log = target.memory().log();
-    expect_eq_at(rt, &count, &Wanted::found(&report, log), wanted);
+    reports(rt, count, &report, wanted);
+    expect_eq_at(rt, &count, &target.memory().log(), &wanted.log);
     Ok(())
 }
 

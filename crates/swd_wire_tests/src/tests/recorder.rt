@@ -143,7 +143,7 @@ fn items_go_on_after_a_lost_acknowledgement(rt: HostRuntime) -> Result<(), Fail>
     assert!(rt; take(&mut wire).is_some());
     expect_eq(&rt, &wire.items().len(), &LOST_AND_RESET.len());
     for (item, wanted) in wire.items().iter().zip(LOST_AND_RESET.iter()) {
-        expect_eq(&rt, &item.line().as_str(), wanted);
+        assert!(rt; item.line().as_str() == *wanted, "{wanted}");
     }
     let bench = wire.into_wire();
     assert!(rt; Simulated::memory(&bench).log().is_empty());
