@@ -219,8 +219,8 @@ impl Disk<'_> {
         }
     }
 
-    // Creates a file that is to take the place of this one. Returns `None` for one that is overwritten in place, since it
-    // isn't regular.
+    // Creates a file that is to take the place of this one. Returns `None` for one that is overwritten in place, since
+    // it isn't regular.
     fn beside(&self, name: &str, file: &File) -> io::Result<Option<Beside>> {
         let like = file.metadata()?;
         if like.is_file() {
