@@ -55,7 +55,7 @@ complete -c swd -n '__fish_seen_subcommand_from draw' -l names -d 'Print names o
 complete -c swd -n '__fish_seen_subcommand_from draw' -l resync -d 'Read a capture that begins in mid-session or lost bits'
 complete -c swd -n '__fish_seen_subcommand_from draw' -l overrun -d 'With --resync, WAIT and FAULT have a data phase at first'
 complete -c swd -n '__fish_seen_subcommand_from draw' -s h -l help -d 'Print help'
-complete -c swd -n '__fish_seen_subcommand_from check' -F
+complete -c swd -n '__fish_seen_subcommand_from check; and not string match -q -- "--plain=*" (commandline -poc)[-1]; and not string match -q -- --plain (commandline -poc)[-2]' -F
 complete -c swd -n '__fish_seen_subcommand_from check' -l made -d 'The target begins in its reset state'
 complete -c swd -n '__fish_seen_subcommand_from check' -l rest -d 'It begins at rest: SELECT is 0, nothing is pending'
 complete -c swd -n '__fish_seen_subcommand_from check' -l clean -d 'Nothing is damaged or lost, as in a simulation'

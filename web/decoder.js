@@ -8,6 +8,8 @@ const isAp = request => request >> 1 & 1;
 const isRead = request => request >> 2 & 1;
 const address = request => (request >> 3 & 3) << 2;
 
+const ROOM = 32768;  // for structs in the module's memory
+
 const base64 = text => Uint8Array.from(atob(text), c => c.charCodeAt(0));
 
 // ---- the library -----------------------------------------------------------------------------------------------
@@ -23,6 +25,15 @@ function offsets(bytes, names) {
   return Object.fromEntries(names.map((name, i) => [name, first.get(numbers[i])]));
 }
 
+// Returns where a layout ends: it has the sizes of its structs and its own at its end.
+function layoutEnd(words, start) {
+  let end = start;
+  do
+    end += 8;
+  while (words[end - 8 >> 2] != end - start || words[end - 4 >> 2]);
+  return end;
+}
+
 // Returns the decoder's exports over structs in the module's memory: `main` reads the trace, `probe` answers
 // questions about single items. Both write their item to the same struct, which the getters read.
 async function load() {
@@ -30,16 +41,12 @@ async function load() {
     throw Error(`this browser doesn't run WebAssembly with 64-bit memory: ${reason.message}`);
   });
   const x = instance.exports, start = Number(x.__heap_base.value) + 15 & ~15;
-  if (x.memory.buffer.byteLength < start + 4096)
-    x.memory.grow(1n);
+  if (x.memory.buffer.byteLength < start + ROOM)
+    x.memory.grow(BigInt(Math.ceil(ROOM / 65536)));
   const bytes = new Uint8Array(x.memory.buffer), words = new Uint32Array(x.memory.buffer);
 
-  // The layout ends in the sizes of its structs and its own, which is where it ends.
   x.swd_layout(BigInt(start));
-  let end = start;
-  do
-    end += 8;
-  while (words[end - 8 >> 2] != end - start || words[end - 4 >> 2]);
+  const end = layoutEnd(words, start);
   const [engine, cue, access, decoderSize, itemSize] = [0, 1, 2, 3, 4].map(i => words[end - 64 + 8 * i >> 2]);
   const decoderAt = start + (engine + cue + access + 7 & ~7), itemAt = decoderAt + decoderSize;
   const inDecoder = offsets(bytes.slice(decoderAt, itemAt), ["fed", "run", "bits", "mode", "one", "len"]);
@@ -65,6 +72,8 @@ async function load() {
     bits: () => words.slice(bits, bits + 2),
     item: () => ({ kind: bytes[kind], request: bytes[request], ack: bytes[ack], parityOk: bytes[parity],
       word: words[value] }),
+    // for checker.js: the module's exports, memory and item, and where nothing is
+    exports: x, bytes, words, itemAt: item, inItem, itemSize, free: item + itemSize + 15 & ~15,
   };
 }
 
@@ -269,24 +278,15 @@ async function parse(text, stopped) {
   return { packed, count, bad, bit, slice };
 }
 
-// What a file is that is no trace, by its first bytes, or "".
-function formOf(first) {
-  const end = first.indexOf(10), line = end < 0 ? first : first.subarray(0, end);
-  if (first.subarray(0, 4).join() === "80,75,3,4")
-    return "a sigrok session (.sr)";
-  return first[0] === 36 ? "a VCD file" : line.includes(44) ? "a CSV export" : "";
-}
-
 // Why a text can't be read on, or has no bits, as `swd decode` says it; or "". The character is named in the first
 // bytes.
 function reasonOf(text, { bad, count }) {
   if (bad < 0)
     return count ? "" : "no bits found: a trace has a character 0 or 1 for each bit";
-  const first = text.subarray(0, 256), byte = first[bad], form = formOf(first);
-  const named = byte === undefined ? "" : byte > 32 && byte < 127 ? ` '${String.fromCharCode(byte)}'`
+  const byte = text[bad];
+  const named = bad >= 256 ? "" : byte > 32 && byte < 127 ? ` '${String.fromCharCode(byte)}'`
     : ` ${byte.toString(16).padStart(2, "0")}`;
-  const wanted = form ? `this is ${form}, and docs/CAPTURES.md converts it` : "a trace has 0, 1, blanks and comments";
-  return `trace byte ${bad}: bad character${named}: ${wanted}`;
+  return `trace byte ${bad}: bad character${named}: a trace has 0, 1, blanks and comments`;
 }
 
 const headOf = request => isAp(request) | isRead(request) << 1 | address(request);

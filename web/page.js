@@ -1,13 +1,14 @@
-// What the page shows: the list, the drawing, the search and the options. `web/make` puts it behind decoder.js.
+// What the page shows: the list, the drawing, the search and the options. `web/make` puts it behind checker.js.
 const EXAMPLE = "@EXAMPLE@";  // examples/session.trace, in base64
 
 const ROW = 18, TALLEST = 8e6;  // height of a row, and of what browsers still scroll
 const get = id => document.getElementById(id);
 const list = get("list"), rows = get("rows"), spacer = get("spacer"), wave = get("wave");
-const status = get("status"), save = get("save"), query = get("query");
+const status = get("status"), save = get("save"), query = get("query"), verdict = get("verdict");
 const layouts = new Map();  // the fields of a transaction, by its request and answer
 const isOn = id => get(id).checked && !get(id).disabled;
-// `shown` has the items and the rows of the list: the items, or the accesses. `told` is what was said of them.
+// `file` has a name, its bytes, and of a capture its channels. `shown` has the items, the rows of the list, which are
+// the items or the accesses, and the verdict of a check. `told` is what was said of them.
 let lib, file = null, shown = null, told = null, selected = 0, job = 0, hunt = 0;
 
 // The rows of items, and those of accesses, whose lines begin with their place.
@@ -49,7 +50,7 @@ function drawList() {
     row.setAttribute("aria-selected", i == selected);
     row.setAttribute("aria-posinset", i + 1);
     row.setAttribute("aria-setsize", size);
-    row.className = shown.rows.shade(i, line);
+    row.className = shown.rows.shade(i, line) + (i == shown.broken ? " broken" : "");
     row.dataset.row = i;
     place.textContent = shown.rows.place(i);
     row.append(place, line);
@@ -158,8 +159,10 @@ function drawItems() {
     fields.reduce((at, f) => (f.at = at) + f.length, 0);
     const line = next > i + 1 ? `junk, ${next - i} items` : items.line(i, isOn("names"));
     const clocks = all > 1 ? `clocks ${start} to ${start + all - 1}` : `clock ${start}`;
-    out.push(`<text class="title" x="0" y="${y + 13}">${line}</text><text class="small" x="0" y="${y + 26}">`
-      + `${clocks}${most < all ? `, the first ${most} drawn` : ""}</text>`);
+    const isBroken = shown.verdict && shown.verdict.place >= start && shown.verdict.place < start + all;
+    const end = isBroken ? `: ${shown.verdict.line.replace(/^(\w+) @.*?(: |$)/, "$1$2")}` : "";
+    out.push(`<text class="title${isBroken ? " broken" : ""}" x="0" y="${y + 13}">${line}${end}</text>`
+      + `<text class="small" x="0" y="${y + 26}">${clocks}${most < all ? `, the first ${most} drawn` : ""}</text>`);
     y += 32;
     for (let from = 0; from < most; from += per) {
       const [drawn, bottom] = drawRow(items.capture.bit, start, from, Math.min(most, from + per), fields, y);
@@ -171,26 +174,69 @@ function drawItems() {
   return `<svg width="${width}" height="${y}">${out.join("")}</svg>`;
 }
 
-// Returns the items and the rows of a trace by the options; null as soon as `stopped()`.
+// Returns the text of a trace in a file: its bytes, or the levels of the channels of a capture that are chosen; null as
+// soon as `stopped()`.
+async function textOf(file, stopped) {
+  const form = formOf(file.bytes);
+  if (!form)
+    return file.bytes;
+  const pace = async part => {
+    say(`${file.name}: reading, ${Math.floor(part * 100)} %`);
+    await pause();
+    return stopped();
+  };
+  const channels = file.channels || await CAPTURES[form](file.bytes, pace);
+  if (!channels)
+    return null;
+  if (!file.channels)
+    Object.assign(file, { channels }, chooseChannels(lib, channels));
+  const text = channels.trace(file.clock, file.data);
+  if (!text.length)
+    throw Error(`no rising edge of ${file.clock.name}: is the clock another channel?`);
+  return text;
+}
+
+// Returns the items and the rows of a trace by the options, and the verdict; null as soon as `stopped()`.
 async function read(text, capture, stopped, progress) {
-  const resync = isOn("resync"), reading = resync ? 1 + isOn("overrun") : 0;
+  const resync = isOn("resync"), reading = resync ? 1 + isOn("overrun") : 0, start = get("check").value;
   const printed = form => print(text, reading, form).then(bytes => new Lines(bytes));
   const items = resync ? await itemsPrinted(capture, await printed(0), capture.count, stopped)
     : await decode(lib, capture, stopped, progress);
   if (!items || stopped())
     return null;
   const accesses = isOn("accesses") && await printed(1 + isOn("made"));
-  return { items, rows: accesses ? rowsOfAccesses(items, accesses) : rowsOfItems(items) };
+  const rows = accesses ? rowsOfAccesses(items, accesses) : rowsOfItems(items);
+  const options = { start, clean: isOn("clean"), overrun: resync && isOn("overrun") };
+  const verdict = start && capture.bad < 0 && await judge(lib, items, options, stopped);
+  return verdict === null ? null
+    : { items, rows, verdict, broken: verdict && verdict.place >= 0 ? rows.row(verdict.place) : -1 };
 }
 
-// Decodes the text of a trace, as bytes, and shows it, from the row at bit `place` on.
-async function show(name, text, place = 0) {
-  const mine = ++job, started = performance.now(), stopped = () => mine != job;
+// Offers the channels of a capture, and says which are chosen.
+function showChannels() {
+  const { channels, clock, data } = file;
+  get("channels").hidden = !channels;
+  for (const [id, chosen] of [["clock", clock], ["data", data]])
+    get(id).replaceChildren(...(channels ? channels.list : []).map(channel =>
+      new Option(`${channel.name}, rises ${channel.rises} times`, channel.bit, false, channel == chosen)));
+  get("chosen").textContent = file.by ? `chosen by ${file.by}` : "";
+}
+
+// Shows the verdict of a check.
+function showVerdict() {
+  const { kind, line } = shown && shown.verdict || {};
+  verdict.hidden = !line;
+  verdict.textContent = line ? `Check: ${line}` : "";
+  verdict.className = kind == "breaks" ? "error" : "";
+}
+
+// Reads a file and shows it, from the row at bit `place` on.
+async function show(given, place = 0) {
+  const mine = ++job, started = performance.now(), stopped = () => mine != job, { name } = file = given;
   let error = "";
-  file = { name, text };
   try {
     lib = lib || await load();
-    const capture = await parse(text, stopped);
+    const text = await textOf(file, stopped), capture = text && !stopped() && await parse(text, stopped);
     const found = capture && await read(text, capture, stopped, part => say(`${name}: ${Math.floor(part * 100)} %`));
     if (!found || stopped())
       return;
@@ -203,7 +249,9 @@ async function show(name, text, place = 0) {
     error = reason.message;
   }
   const seconds = (performance.now() - started) / 1000, size = shown ? shown.rows.size : 0;
-  save.hidden = !shown;
+  save.hidden = get("link").hidden = !shown;
+  showChannels();
+  showVerdict();
   spacer.style.height = `${Math.min(size * ROW, TALLEST)}px`;
   list.scrollTop = 0;
   rows.replaceChildren();
@@ -217,7 +265,7 @@ async function show(name, text, place = 0) {
   const fields = () => Array.from({ length: items.size }, (_, i) =>
     fieldsToDraw(i, i + 1).map(({ name, length, value }) => [name, length, value]));
   // For checks/web.
-  globalThis.swd = { error, seconds, fields, size, job: mine, blob: listing,
+  globalThis.swd = { error, seconds, fields, size, job: mine, blob: listing, verdict: shown && shown.verdict,
     line: i => shown.rows.printed(i), place: i => shown.rows.place(i),
     get text() { return shown ? Array.from({ length: size }, (_, i) => shown.rows.printed(i) + "\n").join("") : ""; } };
 }
@@ -285,25 +333,87 @@ query.onkeydown = event => {
 get("next").onclick = () => search(1);
 get("previous").onclick = () => search(-1);
 
+// ---- links -------------------------------------------------------------------------------------------------------
+
+const MOST_IN_LINK = 32768;  // clocks, some 5,500 characters
+const CHECKED = ["names", "resync", "overrun", "accesses", "made", "clean"];
+
+// The part of a link behind '#' that holds the trace, the options and the row: trace=COUNT.BITS, eight bits to a byte,
+// in base64 for URLs.
+function linkOf() {
+  const { capture } = shown.items, bytes = capture.packed.subarray(0, capture.count + 7 >> 3);
+  const bits = btoa(latin1(bytes)).replaceAll("+", "-").replaceAll("/", "_").replaceAll("=", "");
+  const parts = { trace: `${capture.count}.${bits}`, on: CHECKED.filter(isOn).join(), check: get("check").value,
+    at: shown.rows.size ? shown.rows.place(selected) : 0 };
+  return Object.entries(parts).flatMap(([name, value]) => value ? `${name}=${value}` : []).join("&");
+}
+
+get("link").onclick = async () => {
+  if (shown.items.capture.count > MOST_IN_LINK) {
+    say(`a link holds ${MOST_IN_LINK} clocks, and the trace has ${shown.items.capture.count}`, true);
+    return;
+  }
+  history.replaceState(null, "", `#${linkOf()}`);
+  const copied = await navigator.clipboard?.writeText(location.href).then(() => true, () => false);
+  say(`the address of the page holds the trace now${copied ? ", and was copied" : ""}`);
+};
+
+// Shows the trace of the page's address, if that holds one.
+function openLink() {
+  const parts = new URLSearchParams(location.hash.slice(1)), found = /^(\d+)\.([\w-]*)$/.exec(parts.get("trace"));
+  if (!parts.has("trace"))
+    return;
+  const count = found ? Number(found[1]) : 0, bits = found ? found[2].replaceAll("-", "+").replaceAll("_", "/") : "";
+  if (!count || count > MOST_IN_LINK || bits.length != Math.ceil((count + 7 >> 3) * 4 / 3) || bits.length % 4 == 1) {
+    say("the link holds no trace: it may be cut off", true);
+    return;
+  }
+  const bytes = base64(bits), on = (parts.get("on") || "").split(",");
+  for (const id of CHECKED)
+    get(id).checked = on.includes(id);
+  get("check").value = parts.get("check") in STARTS ? parts.get("check") : "";
+  enable();
+  open({ name: "link.trace", bytes: Uint8Array.from({ length: count }, (_, i) => 48 | bytes[i >> 3] >> (i & 7) & 1) },
+    Number(parts.get("at")) || 0);
+}
+
 // ---- files, options and keys -------------------------------------------------------------------------------------
 
-// Shows a trace, and leaves the keyboard at the list.
-async function open(name, text) {
-  await show(name, text);
+// Shows a file, and leaves the keyboard at the list.
+async function open(given, place) {
+  await show(given, place);
   list.focus({ preventScroll: true });
 }
 
-const openFile = async file => open(file.name, new Uint8Array(await file.arrayBuffer()));
+// Enables the options that the others leave a meaning.
+function enable() {
+  get("overrun").disabled = !get("resync").checked;
+  get("made").disabled = !get("accesses").checked;
+  get("clean").disabled = !get("check").value;
+}
+
+const again = () => show(file, shown && shown.rows.size ? shown.rows.place(selected) : 0);
+const openFile = async it => open({ name: it.name, bytes: new Uint8Array(await it.arrayBuffer()) });
 get("file").onchange = () => { if (get("file").files[0]) openFile(get("file").files[0]); };
-get("example").onclick = () => open("session.trace", base64(EXAMPLE));
+get("example").onclick = () => open({ name: "session.trace", bytes: base64(EXAMPLE) });
 get("names").onchange = () => { drawList(); drawWave(); };
-for (const id of ["resync", "overrun", "accesses", "made"])
+for (const id of ["resync", "overrun", "accesses", "made", "check", "clean"])
   get(id).onchange = () => {
-    get("overrun").disabled = !get("resync").checked;
-    get("made").disabled = !get("accesses").checked;
+    enable();
     if (file)
-      show(file.name, file.text, shown && shown.rows.size ? shown.rows.place(selected) : 0);
+      again();
   };
+for (const id of ["clock", "data"])
+  get(id).onchange = () => {
+    file[id] = file.channels.list.find(({ bit }) => bit == get(id).value);
+    file.by = "you";
+    again();
+  };
+verdict.onclick = () => {
+  if (shown.broken >= 0)
+    select(shown.broken);
+  list.focus({ preventScroll: true });
+};
 document.ondragover = event => { event.preventDefault(); document.body.classList.add("over"); };
 document.ondragleave = () => document.body.classList.remove("over");
 document.ondrop = event => {
@@ -330,3 +440,5 @@ list.onkeydown = event => {
   event.preventDefault();
 };
 window.onresize = () => { drawList(); drawWave(); };
+window.onhashchange = openLink;
+openLink();

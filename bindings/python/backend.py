@@ -1,9 +1,9 @@
 """Builds the wheel of the package swd, with the standard library alone, so that `pip install .` needs no network.
 
 The wheel has the shared library in it: the one that SWD_LIBRARY names, or the folder swd has as libswd_c.so, or in a clone
-of the repository the one of `./swd --library`, which is compiled in about a minute where there is none. The environment
-variable SWD_PLATFORM then names its platforms, as linux_x86_64, which is this machine's without it. Of a library that
-isn't proved the version says so: 0.1.0+unproved.
+of the repository the one of `./swd --library`, which is compiled in about a minute where there is none. Its tag is what the
+library says: manylinux of the glibc that it needs, or linux where it needs another library. Of a library that isn't proved
+the version says so: 0.1.0+unproved.
 
 Where SWD_LIBRARY is empty, or the system's loader finds libswd_c.so.0, the wheel has the package alone, which searches the
 library when it is used. The same files give the same bytes.
@@ -15,12 +15,13 @@ import hashlib
 import io
 import os
 import re
+import struct
 import subprocess
 import sys
 import sysconfig
 import tarfile
 import zipfile
-from typing import Any, Dict, Optional
+from typing import Any, Dict, List, Optional
 
 HERE = os.path.dirname(os.path.abspath(__file__))
 Files = Dict[str, bytes]
@@ -111,6 +112,44 @@ def _library() -> Optional[bytes]:
     return None
 
 
+# The processors of ELF files, by e_machine, and the libraries that each glibc has.
+MACHINES = {62: "x86_64", 183: "aarch64"}
+GLIBC = {"libc.so.6", "libm.so.6", "libpthread.so.0", "libdl.so.2", "ld-linux-x86-64.so.2", "ld-linux-aarch64.so.1"}
+# The oldest glibc whose tag pip knows, and what pip called that before.
+OLDEST, OLD_TAG = 17, "manylinux2014"
+
+
+def _needed(library: bytes) -> List[str]:
+    """The libraries that one needs, an ELF file of 64 bits: the entries DT_NEEDED of its dynamic section."""
+    table, = struct.unpack_from("<Q", library, 40)
+    size, count = struct.unpack_from("<HH", library, 58)
+    sections = [struct.unpack_from("<IIQQQQIIQQ", library, table + size * at) for at in range(count)]
+    names = []
+    for kind, start, length, link in [(it[1], it[4], it[5], it[6]) for it in sections]:
+        for place in range(start, start + length, 16) if kind == 6 else ():
+            tag, value = struct.unpack_from("<QQ", library, place)
+            if tag == 1:
+                begin = sections[link][4] + value
+                names.append(library[begin:library.index(b"\0", begin)].decode())
+    return names
+
+
+def _platform(library: bytes) -> str:
+    """The tag of the wheels that a library fits: manylinux of the glibc that it needs. Where it isn't for Linux, or needs
+    another library, that of this machine."""
+    here = re.sub(r"[^A-Za-z0-9]", "_", sysconfig.get_platform())
+    machine = MACHINES.get(struct.unpack_from("<H", library, 18)[0]) if library[:6] == b"\x7fELF\2\1" else None
+    if machine is None:
+        return here
+    others = sorted(set(_needed(library)) - GLIBC)
+    if others:
+        print(f"swd: the wheel is tagged {here}, and not manylinux: its library needs {', '.join(others)}", file=sys.stderr)
+        return here
+    minors = [int(it) for it in re.findall(rb"\0GLIBC_2\.(\d+)", library)]
+    least = max([OLDEST, *minors])
+    return f"manylinux_2_{least}_{machine}" + (f".{OLD_TAG}_{machine}" if least == OLDEST else "")
+
+
 def _record(files: Files, name: str) -> bytes:
     lines = []
     for path, content in sorted(files.items()):
@@ -127,7 +166,7 @@ def build_wheel(
     files = _package()
     if library is not None:
         files["swd/libswd_c.so"] = library
-        platform = os.environ.get("SWD_PLATFORM") or re.sub(r"[^A-Za-z0-9]", "_", sysconfig.get_platform())
+        platform = _platform(library)
         if UNPROVED in library:
             version += MARK
     info = f"swd-{version}.dist-info"

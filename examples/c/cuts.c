@@ -3,11 +3,9 @@
  * What the run says is compared with the log of the target's transfers. Then the run is continued, or given up, or the
  * target is opened anew, and words are polled.
  *
- *	cuts [STEP [WRONG]]
+ *	cuts [STEP]
  *
- * One of STEP clocks is tried. WRONG has the line or its caller do something wrong, which has to be noticed: `ones`
- * doesn't say that it failed, and gives 1 from then on; `bits` drives what is left of the data phase; `owed` takes the
- * level of the clock that failed for that of the next one.
+ * One of STEP clocks is tried. checks/wrong-bodies has lines and callers that do something wrong, which this notices.
  */
 #include <stdio.h>
 #include <stdlib.h>
@@ -15,7 +13,7 @@
 #include "board.h"
 #include "line.h"
 
-enum { MOST_ACCESSES = 6, MOST_WRITES = 64, TRIES = 8, POLLS = 3 };
+enum { MOST_ACCESSES = 6, MOST_WRITES = 64, MOST_LEVELS = 2, TRIES = 8, POLLS = 3 };
 
 /*
  * How the line fails: the clock isn't made; it is made; it is made, and its level comes late; the line fails again while
@@ -26,8 +24,6 @@ static const char *const kind_names[] = { "before a clock", "after it", "its lev
 
 enum then { RESUME, GIVE_UP, OPEN, THENS };
 static const char *const then_names[] = { "resumed", "given up", "opened anew" };
-
-enum wrong { RIGHT, ONES, BITS, OWED };
 
 struct list {
 	const char *name;
@@ -46,18 +42,24 @@ struct outcome {
 static struct board board;
 static struct swd_transfer writes[MOST_WRITES];
 static size_t written;
-static enum wrong wrong;
 
-/* The line: how many clocks work before one fails, and how; whether one has failed, and a level that wasn't taken. */
-static unsigned long left;
+/*
+ * The line: how many clocks work before one fails, and how; whether one has failed, how many were asked for since, and in
+ * how many the host drove against the target.
+ */
+static unsigned long left, behind, contended;
 static enum kind kind;
 static bool has_failed;
-static int owed;
+
+/* The levels that came over the line and weren't taken yet: more than one where that of a clock that failed came late. */
+static int levels[MOST_LEVELS];
+static size_t come;
 
 static int clock_board(int drive)
 {
 	unsigned long before = board.transfers;
 	int bit = board_clock(&board, drive);
+	contended += drive != RELEASED && bit != drive;
 	if (board.transfers != before && board.last.kind == SWD_WRITE && written < MOST_WRITES)
 		writes[written++] = board.last;
 	return bit;
@@ -71,25 +73,26 @@ static int fail(int drive)
 	if (kind == AFTER || kind == LATE || (kind == TWICE && board.target.cycles % 2 == 1))
 		bit = clock_board(drive);
 	if (kind == LATE && drive == RELEASED)
-		owed = bit;
-	return wrong == ONES ? 1 : LINE_FAILED;
+		levels[come++] = bit;
+	return LINE_FAILED;
 }
 
 int line_clock(int drive)
 {
-	int bit, stale = owed;
-	if (has_failed && (kind == GONE || wrong == ONES))
-		return wrong == ONES ? 1 : LINE_FAILED;
+	int bit;
+	behind += has_failed;
+	if (has_failed && kind == GONE)
+		return LINE_FAILED;
+	/* The level of a clock that failed is dropped. */
+	come = 0;
 	if (left-- == 0)
 		return fail(drive);
 	bit = clock_board(drive);
-	if (wrong != OWED) {
-		/* The level of a clock that failed is dropped. */
-		owed = -1;
-	} else if (drive == RELEASED && stale >= 0) {
-		owed = bit;
-		return stale;
-	}
+	if (drive != RELEASED)
+		return bit;
+	levels[come++] = bit;
+	bit = levels[0];
+	levels[0] = levels[--come];
 	return bit;
 }
 
@@ -98,6 +101,7 @@ static void work(unsigned long clocks, enum kind then)
 	left = clocks;
 	kind = then;
 	has_failed = false;
+	behind = 0;
 }
 
 /* A new board behind a line that works, with another word at each place, and a target that was opened. */
@@ -108,8 +112,8 @@ static bool open_board(void)
 	board_new(&board);
 	for (place = 0; place < MOST_ACCESSES; place++)
 		board.words[place] = 0x80000000u + (uint32_t)place;
-	written = 0;
-	owed = -1;
+	written = come = 0;
+	contended = 0;
 	work((unsigned long)-1, BEFORE);
 	swd_run_new(&run, TRIES);
 	return line_run(&run, NULL, 0, NULL).outcome.kind == SWD_ALL;
@@ -186,16 +190,6 @@ static const char *falsehood(const struct list *list, const struct outcome *outc
 	return has_foreign(list) ? "a word that nobody wrote" : NULL;
 }
 
-/* Leaves the cue as docs/C.md doesn't say: what is left of the data phase, and four clocks. */
-static void leave_by_bits(const struct line_failure *failure)
-{
-	uint32_t i;
-	for (i = failure->failed > 0 ? failure->made : 33; i < 33; i++)
-		line_clock((int)(failure->bits >> i & 1));
-	for (i = 0; i < 4; i++)
-		line_clock(RELEASED);
-}
-
 /* The clock of the rest that decides the parity, which may not fail, too: -1 if there is none. */
 static long deciding(const struct line_failure *failure)
 {
@@ -209,10 +203,6 @@ static bool leave(struct line_failure *failure, unsigned long again)
 {
 	enum kind how = kind;
 	work((unsigned long)-1, BEFORE);
-	if (wrong == BITS) {
-		leave_by_bits(failure);
-		return true;
-	}
 	if (how == TWICE && (long)again != deciding(failure))
 		work(again, how);
 	while (!line_leave(failure)) {
@@ -269,7 +259,31 @@ static const char *go_on(const struct list *list, struct outcome *outcome, enum 
 	}
 	if (!what && !is_polled())
 		what = "a poll that isn't true";
+	if (!what && contended > 0)
+		what = "a clock that both ends drive";
 	return !what && has_foreign(list) ? "a word that nobody wrote, later" : what;
+}
+
+/* Goes on over a line that is gone, and then over the line again. Says what is wrong, NULL if nothing is. */
+static const char *come_back(const struct list *list, struct outcome *outcome, enum then then)
+{
+	const struct list poll = { "a poll", { { BOARD_BASE, 0, 0 } }, 1, 0 };
+	bool decides = deciding(&outcome->failure) == 0;
+	uint64_t cycles = board.target.cycles;
+	struct outcome polled;
+	int polls;
+	if (line_leave(&outcome->failure) || settle())
+		return "a line that is gone, and works";
+	for (polls = 0; polls < POLLS; polls++) {
+		act(&poll, &polled);
+		if (polled.run.end.kind != SWD_LOST || polled.run.answered > 0)
+			return "a poll of a line that is gone";
+	}
+	if (board.target.cycles != cycles)
+		return "a clock behind one that failed";
+	work((unsigned long)-1, BEFORE);
+	/* (the line failed twice, the second time where the parity is decided) */
+	return decides ? NULL : go_on(list, outcome, then, 0);
 }
 
 /* Fails the line at this clock of a list. Says what is wrong. */
@@ -277,22 +291,16 @@ static const char *cut(const struct list *list, unsigned long at, enum kind how,
 {
 	struct outcome outcome;
 	const char *what;
-	uint64_t cycles;
 	if (!open_board())
 		return "a target that isn't opened";
 	work(at, how);
 	act(list, &outcome);
 	what = falsehood(list, &outcome, 0, 0);
-	if (what || wrong == ONES)
-		return what;
+	if (what || behind > 0)
+		return what ? what : "a clock behind one that failed";
 	if (outcome.run.end.kind != SWD_LOST)
 		return "a run that isn't lost";
-	if (how != GONE)
-		return go_on(list, &outcome, then, at);
-	cycles = board.target.cycles;
-	if (line_leave(&outcome.failure) || settle() || board.target.cycles != cycles)
-		return "a clock behind one that failed";
-	return NULL;
+	return how == GONE ? come_back(list, &outcome, then) : go_on(list, &outcome, then, at);
 }
 
 /* Fails the line at each clock of a list, in each way. Gives how many cases were wrong, and adds up all of them. */
@@ -300,6 +308,7 @@ static unsigned long cut_each(const struct list *list, unsigned long step, unsig
 {
 	struct outcome whole;
 	unsigned long clocks, at, failed = 0;
+	const char *told = NULL;
 	int how, then;
 	if (!open_board())
 		return 1;
@@ -310,11 +319,13 @@ static unsigned long cut_each(const struct list *list, unsigned long step, unsig
 	clocks = (unsigned long)board.target.cycles - clocks;
 	for (at = 0; at < clocks; at += step) {
 		for (how = 0; how < KINDS; how++) {
-			for (then = 0; then < (how == GONE ? 1 : THENS); then++) {
+			for (then = 0; then < THENS; then++) {
 				const char *what = cut(list, at, (enum kind)how, (enum then)then);
 				++*tried;
-				if (what && failed++ == 0)
+				failed += what != NULL;
+				if (what && what != told)
 					printf("%s, clock %lu, failed %s, %s: %s\n", list->name, at, kind_names[how], then_names[then], what);
+				told = what ? what : told;
 			}
 		}
 	}
@@ -331,17 +342,12 @@ static void add(struct list *list, uint32_t place, uint32_t word, uint8_t write)
 
 int main(int count, char **words)
 {
-	static const char *const wrongs[] = { "right", "ones", "bits", "owed" };
 	struct list lists[] = { { "a list", { { 0, 0, 0 } }, 0, 0 },
 	                        { "a poll", { { 0, 0, 0 } }, 0, 0 },
 	                        { "a block", { { 0, 0, 0 } }, 0, 1 },
 	                        { "a load", { { 0, 0, 0 } }, 0, 0 } };
 	unsigned long step = count > 1 ? strtoul(words[1], NULL, 10) : 1, tried = 0, failed = 0;
 	uint32_t i;
-	for (i = RIGHT; count > 2 && i <= OWED; i++) {
-		if (strcmp(words[2], wrongs[i]) == 0)
-			wrong = (enum wrong)i;
-	}
 	add(&lists[0], 0, 0x00001001, 1);
 	add(&lists[0], 1, 0, 0);
 	add(&lists[0], 2, 0x7fffffff, 1);

@@ -8,8 +8,9 @@
 
 /*
  * One clock of the line. `drive` is the bit that the host drives, or RELEASED. Gives the bit on the line; an
- * undriven one reads 1. Gives LINE_FAILED, or another negative number, if the clock can't be made. Each example has its
- * own.
+ * undriven one reads 1. Gives LINE_FAILED, or another negative number, if the clock can't be made, or its level didn't
+ * come. A level that comes late is dropped before the next clock, or else each later level is that of an earlier clock; a
+ * line that can't do that fails from then on. Each example has its own.
  */
 enum { RELEASED = -1, LINE_FAILED = -1 };
 int line_clock(int drive);

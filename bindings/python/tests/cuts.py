@@ -90,18 +90,62 @@ class Cable:
                 self.target.cycle(number & 1 if self.drives else None)
 
 
-class Bench:
-    """A session over the line of README.md, and what is known of the memory behind it. Each written word is another
-    one, so that the memory's log tells how often it was written."""
+def probe_over(bitbang):
+    """The line of README.md by sequences. They are queued until the next sample, and made as a whole or not at all."""
 
-    def __init__(self, program):
+    class Probe(bitbang):
+        """Drops the replies of a sample that failed, as a line of clocks does."""
+
+        def __init__(self, there, back):
+            super().__init__(there, back)
+            self.queue = b""
+
+        def drive(self, bits, count):
+            self.queue += b"O" + b"".join(b"eg" if bits >> place & 1 else b"df" for place in range(count))
+
+        def release(self, count):
+            self.queue += b"o" + b"df" * count
+
+        def sample(self, count):
+            self.make(b"o" + b"dcf" * count, True)
+            levels = b""
+            while len(levels) < count:
+                reply = self._replies(self.timeout)
+                if not reply:
+                    raise TimeoutError(f"{len(levels)} of {count} replies came")
+                levels += reply
+            self.owes = False
+            return sum((level & 1) << place for place, level in enumerate(levels))
+
+        def flush(self):
+            """Makes what is queued."""
+            self.make(b"", self.owes)
+
+        def make(self, more, owes):
+            """Sends the queue, behind which a reply is owed or isn't."""
+            queued, self.queue = self.queue + more, b""
+            self._catch_up()
+            self.owes = owes
+            self.there.write(queued)
+            self.there.flush()
+
+    return Probe
+
+
+class Bench:
+    """A session over the line of README.md, or by sequences, and what is known of the memory behind it. Each written
+    word is another one, so that the memory's log tells how often it was written."""
+
+    def __init__(self, program, by_sequences=False):
         names = {}
         exec(program, names)  # pylint: disable=exec-used
         self.memory = PlainMemory(BASE, WORDS, 1 << 20)
         self.cable = Cable(PlainTarget(self.memory))
         names.update(os=self.cable, select=self.cable)
         self.closed = names.get("OutOfStep")
-        self.session = swd.Session(names["RemoteBitbang"](self.cable, self.cable))
+        kind = names["RemoteBitbang"]
+        made = (probe_over(kind) if by_sequences else kind)(self.cable, self.cable)
+        self.session = swd.Session(swd.Sequences(made) if by_sequences else made)
         self.fresh = iter(range(0x1001, 1 << 32))
         self.session.read(BASE)
 

@@ -1,22 +1,44 @@
 """Tests of lines that fail at any one of their calls: after that a session reads, resumes and identifies, and what it
-says has to be true of the target's memory. One of CUTS calls is tried: of 60 without it, and with 1 each."""
+says has to be true of the target's memory. Of the calls of a line of clocks one of CUTS is tried: of 17 without it, and
+with 1 each. Of those of a line of sequences each is."""
+import collections
 import itertools
 import os
+import sys
 import unittest
 
 import swd
 from cuts import BASE, Bench, Cable, unsound, writes_of
 from test_swd import program_of_the_page
 
-STEP = int(os.environ.get("CUTS", "60"))
+# How many cases each class tried.
+tried_by = collections.Counter()
+
+
+def tearDownModule():
+    for name, count in tried_by.items():
+        print(f"{name}: a line cut at {count} places", file=sys.stderr)
 
 
 class RemoteBitbang(unittest.TestCase):
     """The line of README.md."""
 
+    BY_SEQUENCES, STEP = False, int(os.environ.get("CUTS", "17"))
+    # How many calls there are at least, in all: of accesses, of a load, of readings.
+    CALLS = 10_000, 8_000, 5_000
+
     @classmethod
     def setUpClass(cls):
         cls.program = program_of_the_page("class RemoteBitbang")
+
+    def bench(self):
+        """A session over a line that works."""
+        return Bench(self.program, self.BY_SEQUENCES)
+
+    def enough(self, tried, calls):
+        """Counts cases, which are those of so many calls at least."""
+        tried_by[type(self).__name__] += tried
+        self.assertGreater(tried * self.STEP, calls)
 
     def calls_of(self, bench, act):
         """How many calls of the line an act is made of."""
@@ -34,32 +56,31 @@ class RemoteBitbang(unittest.TestCase):
         lists = {"a list": Bench.list, "a poll": lambda _: [swd.Read(BASE)], "a block": lambda _: swd.block(BASE, 5)}
         tried = 0
         for name, kind in itertools.product(acts, Cable.KINDS):
-            bench = Bench(self.program)
+            bench = self.bench()
             count = self.calls_of(bench, lambda bench, name=name: acts[name](bench, lists[name](bench)))
-            for at, then in zip(range(0, count, STEP), itertools.cycle(("read", "resume", "identify"))):
+            for at, then in zip(range(0, count, self.STEP), itertools.cycle(("read", "resume", "identify"))):
                 with self.subTest(name, kind=kind, call=at, then=then):
                     tried += 1
-                    if bench is None:
-                        bench = Bench(self.program)
-                    here, bench = bench, None
+                    here, bench = bench or self.bench(), None
                     accesses = lists[name](here)
                     if self.cut(here, accesses, lambda here=here: acts[name](here, accesses), (at, kind), then):
                         bench = here
-        self.assertGreater(tried * STEP, 10_000)
+        self.enough(tried, self.CALLS[0])
 
-    def test_a_line_that_keeps_late_replies(self):
-        """The line takes a reply of a call that failed for that of the next clock: that has to show."""
-        program, shown = self.program.replace("if self.owes and not self.is_closed:", "if False:"), 0
-        self.assertNotEqual(program, self.program)
-        for at in range(0, 300, 7):
-            bench = Bench(program)
-            accesses = bench.list()
-            act = lambda bench=bench, accesses=accesses: bench.session.run(accesses)
-            try:
-                self.cut(bench, accesses, act, (at, "Ctrl-C after"), "read")
-            except AssertionError:
-                shown += 1
-        self.assertGreater(shown, 10)
+    def test_a_failure_while_it_catches_up(self):
+        """Ctrl-C comes once more, at each of the calls that drop the replies of the one that it came in before."""
+        bench, accesses = self.bench(), [swd.Read(BASE)]
+        count = self.calls_of(bench, lambda bench: bench.session.read(BASE))
+        for at, more in itertools.product(range(0, count, 11), range(8)):
+            with self.subTest(call=at, more=more):
+                here, bench = bench or self.bench(), None
+                for place in (at, more):
+                    here.cable.fail(place, "Ctrl-C after")
+                    with self.assertRaises((swd.Interrupted, swd.LineFailed)) as caught:
+                        here.session.read(BASE)
+                here.cable.at = None
+                if self.goes_on(here, accesses, caught.exception.report, {}, "read"):
+                    bench = here
 
     def cut(self, bench, accesses, act, failure, then):
         """Makes an act whose line fails. Whether the line is usable again."""
@@ -120,17 +141,16 @@ class RemoteBitbang(unittest.TestCase):
         """Loads, which are continued where they stopped; and what is read back."""
         tried = 0
         for kind, (begin, size) in itertools.product(Cable.KINDS, ((0, 16), (3, 18))):
-            bench = Bench(self.program)
+            bench = self.bench()
             addr, zeros = BASE + begin, bytes(size)
             count = self.calls_of(bench, lambda bench, addr=addr, zeros=zeros: bench.session.load(addr, zeros))
-            for at in range(0, count, STEP):
+            for at in range(0, count, self.STEP):
                 with self.subTest("a load", kind=kind, call=at, begin=begin):
                     tried += 1
-                    bench = bench or Bench(self.program)
-                    here, bench = bench, None
+                    here, bench = bench or self.bench(), None
                     if self.cut_load(here, BASE + begin, here.words(5)[:size], (at, kind)):
                         bench = here
-        self.assertGreater(tried * STEP, 8_000)
+        self.enough(tried, self.CALLS[1])
 
     def cut_load(self, bench, addr, image, failure):
         """Loads an image over a line that fails, and continues. Whether the line is usable again."""
@@ -167,19 +187,18 @@ class RemoteBitbang(unittest.TestCase):
         calls = {"dump": lambda session, _: session.dump(addr, size),
                  "verify": lambda session, image: session.verify(addr, image)}
         for (name, call), kind in itertools.product(calls.items(), Cable.KINDS):
-            bench = Bench(self.program)
+            bench = self.bench()
             count = self.calls_of(bench, lambda bench: bench.session.dump(addr, size))
-            for at in range(0, count, STEP):
+            for at in range(0, count, self.STEP):
                 with self.subTest(name, kind=kind, call=at):
                     tried += 1
-                    bench = bench or Bench(self.program)
-                    here, bench = bench, None
+                    here, bench = bench or self.bench(), None
                     here.session.load(BASE, here.words(6))
                     image = self.content(here.memory)[3:3 + size]
                     here.cable.fail(at, kind)
                     if self.reads(here, lambda: call(here.session, image), addr, image):
                         bench = here
-        self.assertGreater(tried * STEP, 5000)
+        self.enough(tried, self.CALLS[2])
 
     def reads(self, bench, call, addr, image):
         """Reads over a line that fails, and once more. Whether the line is usable again."""
@@ -200,6 +219,12 @@ class RemoteBitbang(unittest.TestCase):
     @staticmethod
     def content(memory):
         return b"".join(memory.words[addr].to_bytes(4, "little") for addr in sorted(memory.words))
+
+
+class Probe(RemoteBitbang):
+    """The same line by sequences."""
+
+    BY_SEQUENCES, STEP, CALLS = True, 1, (300, 300, 200)
 
 
 if __name__ == "__main__":

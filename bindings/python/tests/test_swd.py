@@ -49,53 +49,84 @@ def reads(addr, count):
     return [Read(addr + 4 * index) for index in range(count)]
 
 
-# name, marks, tries, words, room, accesses or a block's count, answers, begun, requests, end, log
-ROWS = [
-    ("no access", {}, 8, 16, 16, [], [], 0, 9, "all", []),
-    ("a write and a read", {}, 8, 16, 16, [Write(BASE, WORD), Read(BASE)], [Written(), Value(WORD)], 0, 15, "all",
-     [("w", BASE, WORD), ("r", BASE, WORD)]),
-    ("past the end of the memory", {}, 8, 16, 16, [Read(0x30000000), Read(BASE)], [BusFault(), Value(0)], 0, 18, "all",
-     [("r", BASE, 0)]),
-    ("across a kilobyte", {}, 8, 512, 16, [Write(BASE + 0x3FC, 0x11111111), Write(BASE + 0x400, 0x22222222)],
-     [Written(), Written()], 0, 15, "all", [("w", BASE + 0x3FC, 0x11111111), ("w", BASE + 0x400, 0x22222222)]),
-    ("a log that is full", {}, 8, 16, 2, [Write(BASE, 1), Write(BASE + 4, 2), Write(BASE + 8, 3)],
-     [Written(), Written(), BusFault()], 0, 19, "all", [("w", BASE, 1), ("w", BASE + 4, 2)]),
-    ("three waits", {12: "wait", 13: "wait", 14: "wait"}, 3, 16, 16, [Read(BASE)], [Value(0)], 0, 15, "all",
-     [("r", BASE, 0)]),
-    ("past the tries", {12: "wait", 13: "wait", 14: "wait"}, 2, 16, 16, [Read(BASE)], [], 1, 14, "tries",
-     [("r", BASE, 0)]),
-    ("a changed bit of the word", {12: "flip 0"}, 8, 16, 16, [Read(BASE)], [Value(0)], 0, 13, "all", [("r", BASE, 0)]),
-    ("a changed parity bit", {12: "flip 32"}, 8, 16, 16, [Read(BASE)], [Value(0)], 0, 13, "all", [("r", BASE, 0)]),
-    ("a changed bit of a posted read", {11: "flip 0"}, 8, 16, 16, [Read(BASE)], [Value(0)], 0, 12, "all",
-     [("r", BASE, 0)]),
-    ("a changed bit of a write", {11: "flip 17"}, 8, 16, 16, [Write(BASE, WORD)], [Written()], 0, 17, "all",
-     [("w", BASE, WORD)]),
-    ("a changed bit of ABORT, too", {11: "flip 17", 14: "flip 5"}, 8, 16, 16, [Write(BASE, WORD)], [Written()], 0, 19,
-     "all", [("w", BASE, WORD)]),
-    ("a changed bit of the address", {10: "flip 3"}, 8, 16, 16, [Write(BASE + 8, 1)], [Written()], 0, 17, "all",
-     [("w", BASE + 8, 1)]),
-    ("a write's acknowledgement is lost", {11: "mute 0"}, 8, 16, 16, [Write(BASE, WORD)], [], 1, 11, "lost", []),
-    ("the confirmation's acknowledgement is lost", {12: "deaf"}, 8, 16, 16, [Write(BASE, WORD)], [], 1, 12, "lost",
-     [("w", BASE, WORD)]),
-    ("a block", {}, 8, 16, 16, 4, [Value(0)] * 4, 0, 15, "all", [("r", BASE + 4 * i, 0) for i in range(4)]),
-    ("the same reads as a list", {}, 8, 16, 16, reads(BASE, 4), [Value(0)] * 4, 0, 15, "all",
-     [("r", BASE + 4 * i, 0) for i in range(4)]),
-]
+ROWS = os.environ.get("SWD_ROWS", os.path.join(ROOT, "crates", "swd_rows_tests", "data", "rows.txt"))
+RESULTS = ("> ", "= ", "begun ", "end ", "resume ", "log ")
+
+
+class Row:
+    """A paragraph of rows.txt, whose head says what its lines mean."""
+
+    def __init__(self, text):
+        self.name, *self.lines = text.strip("\n").split("\n")
+        self.memory = [int(word) for word in self.said("memory", "16 16").split()]
+        self.tries, self.bursts = int(self.said("tries", "8")), self.said("bursts", "")
+        self.block = self.said("block", "").split()
+        marks = [line.split(" ", 2)[1:] for line in self.lines if line.startswith("mark ")]
+        self.plan = plan_of({int(number): mark for number, mark in marks})
+        self.accesses = [self.access(*line.split()) for line in self.lines if line.startswith(("r ", "w "))]
+
+    def said(self, word, default):
+        return next((line[len(word) + 1:] for line in self.lines if line.startswith(word + " ")), default)
+
+    @staticmethod
+    def access(kind, addr, word=""):
+        return Read(int(addr, 16)) if kind == "r" else Write(int(addr, 16), int(word, 16))
+
+    def is_for(self, bursts):
+        """Whether it holds for a host with bursts of writes, or else of reads."""
+        kind = "reads" if self.block else self.bursts
+        return "late" not in self.lines and kind in ("", "writes" if bursts else "reads")
+
+    def wanted(self):
+        return [line for line in self.lines if line.startswith(RESULTS)]
+
+    def run(self, host):
+        if self.block:
+            return host.run_block(int(self.block[0], 16), int(self.block[1]), check=False)
+        return host.run(self.accesses, check=False)
+
+    def came(self, target, memory, bursts):
+        """What came of it, as a row has it."""
+        line, lines, report = Damaged(target, self.plan), [], None
+        for part in "\n".join(self.lines).split("\nresume "):
+            tries = int(part.split("\n")[0]) if report else self.tries
+            host = swd.Host(line, tries, bursts=bursts)
+            lines += [f"resume {tries}"] * bool(report)
+            report = host.resume(self.accesses, report, check=False) if report else self.run(host)
+            items = [f"> {item}" for item in swd.decode(line.levels)]
+            lines += items[len(items) - part.count("> "):]
+            lines += ["= " + shown(answer) for answer in report.answers]
+            lines += [f"begun {report.begun}"] * (report.begun > 0) + [f"end {report.ended.value} {report.requests}"]
+        return lines + [f"log {kind} {addr:08x} {word:08x}" for kind, addr, word in memory.log]
+
+
+def shown(answer):
+    if isinstance(answer, Value):
+        return f"{answer.word:08x}"
+    return "written" if isinstance(answer, Written) else "busfault"
+
+
+def is_wanted(line, wanted):
+    """Whether a line is the wanted one: ? stands for any word. How many ones of a resumed run's lead are seen depends on
+    what the target still drives."""
+    if wanted == "> reset 100":
+        return line.startswith("> reset ")
+    return line.startswith(wanted[:-1]) if wanted.endswith("?") else line == wanted
 
 
 class Rows(unittest.TestCase):
     """Worked runs, over the library's target and over a plain one."""
 
     def test_rows(self):
-        for row, (target, make) in itertools.product(ROWS, TARGETS.items()):
-            name, marks, tries, words, room, accesses, answers, begun, requests, ended, log = row
-            with self.subTest(name, target=target):
-                memory = PlainMemory(BASE, words, room)
-                host = swd.Host(Damaged(make(memory), plan_of(marks)), tries)
-                run = host.run_block if isinstance(accesses, int) else host.run
-                report = run(*([BASE, accesses] if isinstance(accesses, int) else [accesses]), check=False)
-                self.assertEqual(report, swd.Report(tuple(answers), begun, requests, End(ended)))
-                self.assertEqual(memory.log, log)
+        with open(ROWS, encoding="ascii") as file:
+            rows = [Row(text) for text in file.read().split("\n\n") if not text.startswith("#")]
+        self.assertTrue(rows)
+        for row, (target, make), bursts in itertools.product(rows, TARGETS.items(), (False, True)):
+            with self.subTest(row.name, target=target, bursts=bursts):
+                memory = PlainMemory(BASE, *row.memory)
+                if row.is_for(bursts):
+                    lines, wanted = row.came(make(memory), memory, bursts), row.wanted()
+                    self.assertTrue(len(lines) == len(wanted) and all(map(is_wanted, lines, wanted)), lines)
 
     def test_bursts(self):
         """Nine requests of the opening, TAR and DRW, and RDBUFF behind each access, or at the end of a burst. A hundred
@@ -146,50 +177,16 @@ class Rows(unittest.TestCase):
                 for report in (host.run(reads(BASE, 4)), host.run_block(BASE, 4)):
                     self.assertEqual(report.answers, tuple(map(Value, words)))
 
-    def test_resume(self):
-        """The acknowledgement behind the second write is lost. That write is in the log twice."""
-        accesses = [Write(BASE, WORD), Write(BASE + 16, 1)]
-        for target, make in TARGETS.items():
-            with self.subTest(target):
-                memory = PlainMemory(BASE, 16, 16)
-                host = swd.Host(Damaged(make(memory), plan_of({15: "deaf"})))
-                lost = host.run(accesses, check=False)
-                self.assertEqual(lost, swd.Report((Written(),), 1, 15, End.LOST))
-                whole = host.resume(accesses, lost)
-                self.assertEqual(whole, swd.Report((Written(), Written()), 0, 12, End.ALL))
-                self.assertEqual(memory.log, [("w", BASE, WORD), ("w", BASE + 16, 1), ("w", BASE + 16, 1)])
-
-    def test_resume_past_the_tries(self):
-        """Nine requests of the opening, TAR, DRW and RDBUFF. The read is in the log twice."""
-        for target, make in TARGETS.items():
-            with self.subTest(target):
-                memory = PlainMemory(BASE, 16, 16)
-                host = swd.Host(Damaged(make(memory), plan_of({12: "wait", 13: "wait"})), tries=1)
-                stopped = host.run([Read(BASE)], check=False)
-                self.assertEqual(stopped, swd.Report((), 1, 13, End.TRIES))
-                whole = host.resume([Read(BASE)], stopped)
-                self.assertEqual(whole, swd.Report((Value(0),), 0, 12, End.ALL))
-                self.assertEqual(memory.log, [("r", BASE, 0)] * 2)
-
     def test_resume_that_is_lost(self):
-        """What an earlier call started stays begun until it is answered: here in a resumed opening that is lost, past
-        its tries, or whose line fails."""
+        """What an earlier call started stays begun until it is answered: here in a resumed opening whose line fails."""
         accesses = [Write(BASE, WORD), Write(BASE + 16, 1)]
-        ends = {"deaf": (End.LOST, 1), "flip 0": (End.TRIES, 1), None: (End.LOST, 1)}
-        for mark, (ended, requests) in ends.items():
-            with self.subTest(mark):
-                line = Damaged(PlainTarget(PlainMemory(BASE, 16, 16)), plan_of({15: "deaf", 16: mark or "."}))
-                host = swd.Host(line, tries=0)
-                lost = host.run(accesses, check=False)
-                self.assertEqual(lost, swd.Report((Written(),), 1, 15, End.LOST))
-                if mark is None:
-                    line.cycle = None
-                    with self.assertRaises(swd.LineFailed) as caught:
-                        host.resume(accesses, lost)
-                    report = caught.exception.report
-                else:
-                    report = host.resume(accesses, lost, check=False)
-                self.assertEqual(report, swd.Report((Written(),), 1, requests, ended))
+        line = Damaged(PlainTarget(PlainMemory(BASE, 16, 16)), plan_of({15: "deaf"}))
+        host = swd.Host(line, tries=0)
+        lost = host.run(accesses, check=False)
+        line.cycle = None
+        with self.assertRaises(swd.LineFailed) as caught:
+            host.resume(accesses, lost)
+        self.assertEqual(caught.exception.report, swd.Report((Written(),), 1, 1, End.LOST))
 
     def test_wrong_identification(self):
         """The target's DPIDR is read as 2ba01476: its first bit and the parity bit are changed."""

@@ -187,7 +187,9 @@ pub struct Report {
 
 impl Report {
     pub(crate) fn of(run: &ffi::Run) -> Report {
-        Report { answered: run.answered as usize, begun: run.begun, requests: run.requests, ended: End::of(run.end) }
+        // (a run that goes on, if it is left, is one that saw no acknowledgement)
+        let ended = if run.end.kind == 0 { End::Lost } else { End::of(run.end) };
+        Report { answered: run.answered as usize, begun: run.begun, requests: run.requests, ended }
     }
 
     /// The report, with what an earlier one had in flight and neither answered.

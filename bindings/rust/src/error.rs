@@ -34,6 +34,8 @@ pub enum Refused {
     },
     /// A value that is awaited has bits outside the mask, which would never come.
     OutsideMask,
+    /// The bytes of an image pass the end of the address space.
+    PastEnd,
     /// The line panicked in an earlier call of this host or session; [`Line`](crate::Line) says what to do then.
     Panicked,
 }
@@ -51,6 +53,7 @@ impl fmt::Display for Refused {
                 write!(f, "the report has {answered} answers, where there are {accesses} accesses")
             }
             Refused::OutsideMask => f.write_str("the value has bits outside the mask"),
+            Refused::PastEnd => f.write_str("the bytes pass the end of the address space"),
             Refused::Panicked => f.write_str("the line panicked in an earlier call"),
         }
     }

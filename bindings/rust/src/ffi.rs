@@ -4,8 +4,11 @@
 //! allocates, and a struct has numbers alone. So a call needs nothing but references to whole structs, which Rust
 //! gives. And the library has to be the one that this crate is for: what makes a struct checks that before.
 
+#[macro_use]
 mod library;
+mod checks;
 
+pub(crate) use checks::Check;
 use library::{check, Layout, RunLayout};
 
 #[repr(C)]
@@ -198,6 +201,7 @@ extern "C" {
     fn swd_run_opened(run: *mut Run, accesses: *const Access, count: usize, blocks: u8, tries: u32) -> Cue;
     fn swd_run_again(run: *mut Run, tries: u32) -> bool;
     fn swd_run_cue(run: *const Run) -> Cue;
+    fn swd_run_fail(run: *mut Run) -> Cue;
     fn swd_run_next(
         run: *mut Run,
         accesses: *const Access,
@@ -258,6 +262,12 @@ impl Run {
     pub fn cue(&self) -> Cue {
         // SAFETY: the pointer is of a whole struct that nobody writes meanwhile.
         unsafe { swd_run_cue(self) }
+    }
+
+    /// Ends a run whose line failed inside the cue.
+    pub fn fail(&mut self) {
+        // SAFETY: the pointer is of a whole struct that nobody else has.
+        unsafe { swd_run_fail(self) };
     }
 
     pub fn next(&mut self, accesses: &[Access], answers: &mut [Outcome], reply: u64) -> Cue {

@@ -7,7 +7,7 @@ use crate::{ffi, Access, Answer, End, Error, Identification, Line, Opening, Refu
 
 /// The clocks from a turnaround to the end of an acknowledgement. A run that continues releases the line for the clocks
 /// of a data phase; one that was broken off may be that far before it.
-const REQUEST_REST: u32 = 4;
+pub(crate) const REQUEST_REST: u32 = 4;
 
 /// How a target stands behind the last run over its line.
 #[derive(Clone, Copy, Debug, PartialEq, Eq)]
@@ -204,7 +204,7 @@ fn again(answered: usize, blocks: bool, tries: u32) -> ffi::Run {
     run
 }
 
-fn check(accesses: &[Access], slots: &[Slot]) -> Result<(), Refused> {
+pub(crate) fn check(accesses: &[Access], slots: &[Slot]) -> Result<(), Refused> {
     if accesses.len() > MOST_ACCESSES {
         return Err(Refused::TooMany { accesses: accesses.len() });
     }

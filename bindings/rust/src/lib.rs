@@ -1,5 +1,5 @@
-//! Serial Wire Debug (SWD): a host that reads and writes words of a target, a simulated target, and a decoder of
-//! recorded traces.
+//! Serial Wire Debug (SWD): a host that reads and writes words of a target, a simulated target, a decoder of recorded
+//! traces, and a checker of these.
 //!
 //! The crate is a safe layer over the C library `libswd_c`, which does the protocol and the loop over a list of
 //! accesses, and is proved. Every word that a run reports as written was written exactly once, also where the target
@@ -97,6 +97,7 @@
 extern crate std;
 
 mod access;
+mod checker;
 mod cut;
 mod decoder;
 mod error;
@@ -104,16 +105,21 @@ mod error;
 mod ffi;
 mod host;
 mod identity;
+mod image;
 mod line;
+mod run;
 mod target;
 mod wire;
 
 pub use access::{block, Access, Answer, End, Report, Slot};
+pub use checker::{Checker, NotAnItem, Rule, Shown, Start, Verdict};
 pub use decoder::{decode, Ack, Decoder, Item, Items, Transaction};
 pub use error::{Error, Refused};
 pub use host::{Host, Session};
 pub use identity::{Identification, Opening};
+pub use image::ImageError;
 pub use line::{Broken, Line};
+pub use run::{Run, Step};
 pub use target::{Bus, BusError, Target};
 
 /// What does nothing unless it is used is a warning where it isn't.

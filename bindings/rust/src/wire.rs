@@ -5,18 +5,18 @@ use crate::{ffi, Broken, Identification, Line, Opening};
 
 /// Kinds of cues.
 pub(crate) const REST: u8 = 0;
-const LEAD: u8 = 1;
-const ASK: u8 = 2;
-const TAKE: u8 = 3;
-const GIVE: u8 = 4;
-const PASS: u8 = 5;
+pub(crate) const LEAD: u8 = 1;
+pub(crate) const ASK: u8 = 2;
+pub(crate) const TAKE: u8 = 3;
+pub(crate) const GIVE: u8 = 4;
+pub(crate) const PASS: u8 = 5;
 
 /// The requests that read DPIDR and CTRL/STAT.
 const DPIDR: u8 = 0xa5;
 const CTRL_STAT: u8 = 0x8d;
 
 /// The sixteen bits that switch from JTAG to serial wire.
-const SWITCH_BITS: u64 = 0xe79e;
+pub(crate) const SWITCH_BITS: u64 = 0xe79e;
 
 /// The reply to a cue on a line that nobody drives.
 pub(crate) fn silence(cue: &ffi::Cue) -> u64 {

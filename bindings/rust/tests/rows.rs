@@ -4,6 +4,8 @@ mod common;
 
 use common::{answers, plan_of, report_of, Call, Damaged, Mark, PlainMemory, Transfer, Unplugged, BASE, WORD};
 use std::convert::Infallible;
+use std::num::ParseIntError;
+use std::str::FromStr;
 use swd::{block, Access, Answer, End, Error, Host, Line, Refused, Report, Session, Slot, Target};
 
 use Answer::{BusFault, Value, Written};
@@ -16,144 +18,164 @@ const fn write(addr: u32, word: u32) -> Access {
     Access::write(addr, word)
 }
 
-struct Row {
-    name: &'static str,
-    marks: Vec<(usize, Mark)>,
-    tries: u32,
-    words: u32,
-    room: usize,
-    accesses: Vec<Access>,
-    answers: Vec<Answer>,
-    begun: u8,
-    requests: u64,
-    ended: End,
-    log: Vec<Transfer>,
-}
-
-fn row(name: &'static str, accesses: &[Access], answers: &[Answer], requests: u64, log: &[Transfer]) -> Row {
-    Row {
-        name,
-        marks: Vec::new(),
-        tries: 8,
-        words: 16,
-        room: 16,
-        accesses: accesses.to_vec(),
-        answers: answers.to_vec(),
-        begun: 0,
-        requests,
-        ended: End::All,
-        log: log.to_vec(),
-    }
-}
-
 fn reads(count: u32) -> Vec<Access> {
     (0..count).map(|index| read(BASE + 4 * index)).collect()
 }
 
-fn zeros_read(count: u32) -> Vec<Transfer> {
-    (0..count).map(|index| Transfer::Read(BASE + 4 * index, 0)).collect()
+/// A paragraph of `rows.txt`, whose head says what its lines mean.
+struct Row<'t> {
+    name: &'t str,
+    lines: Vec<&'t str>,
 }
 
-fn undisturbed() -> Vec<Row> {
-    let (low, high) = (BASE + 0x3fc, BASE + 0x400);
-    let three = [write(BASE, 1), write(BASE + 4, 2), write(BASE + 8, 3)];
-    vec![
-        row("no access", &[], &[], 9, &[]),
-        row(
-            "a write and a read",
-            &[write(BASE, WORD), read(BASE)],
-            &[Written, Value(WORD)],
-            15,
-            &[Transfer::Write(BASE, WORD), Transfer::Read(BASE, WORD)],
-        ),
-        row("past the end", &[read(0x3000_0000), read(BASE)], &[BusFault, Value(0)], 18, &zeros_read(1)),
-        Row {
-            words: 512,
-            ..row(
-                "across a kilobyte",
-                &[write(low, 0x1111_1111), write(high, 0x2222_2222)],
-                &[Written, Written],
-                15,
-                &[Transfer::Write(low, 0x1111_1111), Transfer::Write(high, 0x2222_2222)],
-            )
-        },
-        Row {
-            room: 2,
-            ..row(
-                "a log that is full",
-                &three,
-                &[Written, Written, BusFault],
-                19,
-                &[Transfer::Write(BASE, 1), Transfer::Write(BASE + 4, 2)],
-            )
-        },
-        row("reads in a row", &reads(4), &[Value(0); 4], 15, &zeros_read(4)),
-    ]
+fn word(text: &str) -> u32 {
+    u32::from_str_radix(text, 16).unwrap()
 }
 
-fn disturbed() -> Vec<Row> {
-    let waits = vec![(12, Mark::Wait), (13, Mark::Wait), (14, Mark::Wait)];
-    let reads =
-        |name, marks, requests| Row { marks, ..row(name, &[read(BASE)], &[Value(0)], requests, &zeros_read(1)) };
-    let writes = |name, marks, requests| Row {
-        marks,
-        ..row(name, &[write(BASE, WORD)], &[Written], requests, &[Transfer::Write(BASE, WORD)])
-    };
-    vec![
-        Row { tries: 3, ..reads("three waits", waits.clone(), 15) },
-        Row { tries: 2, begun: 1, ended: End::TriesOut, answers: Vec::new(), ..reads("past the tries", waits, 14) },
-        reads("a changed bit of the word", vec![(12, Mark::Flip(0))], 13),
-        reads("a changed parity bit", vec![(12, Mark::Flip(32))], 13),
-        reads("a changed bit of a posted read", vec![(11, Mark::Flip(0))], 12),
-        writes("a changed bit of a write", vec![(11, Mark::Flip(17))], 17),
-        writes("and of ABORT", vec![(11, Mark::Flip(17)), (14, Mark::Flip(5))], 19),
-        writes("a changed bit of the address", vec![(10, Mark::Flip(3))], 17),
-        Row {
-            begun: 1,
-            ended: End::Lost,
-            answers: Vec::new(),
-            log: Vec::new(),
-            ..writes("a write's acknowledgement is lost", vec![(11, Mark::Mute(0))], 11)
-        },
-        Row {
-            begun: 1,
-            ended: End::Lost,
-            answers: Vec::new(),
-            ..writes("the confirmation's acknowledgement is lost", vec![(12, Mark::Deaf)], 12)
-        },
-    ]
+fn number<N: FromStr<Err = ParseIntError>>(text: &str) -> N {
+    text.parse().unwrap()
+}
+
+impl<'t> Row<'t> {
+    fn of(text: &'t str) -> Row<'t> {
+        let mut lines = text.lines();
+        Row { name: lines.next().unwrap(), lines: lines.collect() }
+    }
+
+    /// The words behind the first one of each line that begins with that.
+    fn said(&self, first: &str) -> Vec<Vec<&'t str>> {
+        let words = self.lines.iter().map(|line| line.split(' ').collect::<Vec<_>>());
+        words.filter(|it| it[0] == first).map(|it| it[1..].to_vec()).collect()
+    }
+
+    fn number(&self, first: &str, place: usize, default: u32) -> u32 {
+        self.said(first).first().map_or(default, |it| number(it[place]))
+    }
+
+    fn plan(&self) -> Vec<Mark> {
+        let mark = |words: &[&str]| match *words {
+            [_, "wait"] => Mark::Wait,
+            [_, "deaf"] => Mark::Deaf,
+            [_, "flip", place] => Mark::Flip(number(place)),
+            [_, "mute", place] => Mark::Mute(number(place)),
+            _ => panic!("{words:?}"),
+        };
+        plan_of(&self.said("mark").iter().map(|it| (number(it[0]), mark(it))).collect::<Vec<_>>())
+    }
+
+    fn is_block(&self) -> bool {
+        !self.said("block").is_empty()
+    }
+
+    fn accesses(&self) -> Vec<Access> {
+        if let [words] = self.said("block").as_slice() {
+            return block(word(words[0]), number(words[1])).collect();
+        }
+        let access = |line: &&str| match *line.split(' ').collect::<Vec<_>>() {
+            ["r", addr] => Some(read(word(addr))),
+            ["w", addr, written] => Some(write(word(addr), word(written))),
+            _ => None,
+        };
+        self.lines.iter().filter_map(access).collect()
+    }
+
+    /// Whether it holds for a host with bursts of writes, or else of reads.
+    fn is_for(&self, bursts: bool) -> bool {
+        let kind = if self.is_block() { Some("reads") } else { self.said("bursts").first().map(|it| it[0]) };
+        !self.lines.contains(&"late") && kind.map_or(true, |it| it == if bursts { "writes" } else { "reads" })
+    }
+
+    /// Whether these lines came, with what went over the wire at the end of each run.
+    fn is_wanted(&self, lines: &[String]) -> bool {
+        let kinds = ["> ", "= ", "begun ", "end ", "resume ", "log "];
+        let wanted = self.lines.iter().filter(|line| kinds.iter().any(|kind| line.starts_with(kind)));
+        // How many ones of a resumed run's lead are seen depends on what the target still drives.
+        let is_as_wanted = |line: &String, wanted: &str| match wanted.strip_suffix('?') {
+            Some(head) => line.starts_with(head),
+            None if wanted == "> reset 100" => line.starts_with("> reset "),
+            None => line == wanted,
+        };
+        lines.len() == wanted.clone().count() && lines.iter().zip(wanted).all(|(line, it)| is_as_wanted(line, it))
+    }
+}
+
+/// What a report says, as a row has it. A run that ended early, or met a bus error, is an error that says so.
+fn told<E: std::fmt::Debug>(
+    result: Result<Report, Error<E>>,
+    accesses: &[Access],
+    slots: &[Slot],
+) -> (Report, Vec<String>) {
+    let faulted = slots.iter().position(|slot| slot.answer() == Some(BusFault));
+    match &result {
+        Ok(report) => assert_eq!((report.ended, faulted), (End::All, None)),
+        Err(Error::Stopped(report)) => assert_ne!(report.ended, End::All),
+        Err(Error::BusFault { index, access, report }) => {
+            assert_eq!((report.ended, faulted, *access), (End::All, Some(*index), accesses[*index]));
+        }
+        Err(other) => panic!("{other:?}"),
+    }
+    let report = report_of(result);
+    assert!(slots[report.answered..].iter().all(|slot| slot.answer().is_none()));
+    let mut lines = Vec::new();
+    for answer in answers(&slots[..report.answered]) {
+        lines.push(match answer {
+            Value(word) => format!("= {word:08x}"),
+            Written => "= written".to_string(),
+            BusFault => "= busfault".to_string(),
+        });
+    }
+    lines.extend((report.begun > 0).then(|| format!("begun {}", report.begun)));
+    lines.push(format!("end {} {}", report.ended, report.requests));
+    (report, lines)
+}
+
+/// What came of a row, as it has that.
+fn came(row: &Row, bursts: bool) -> Vec<String> {
+    let memory = PlainMemory::new(BASE, row.number("memory", 0, 16), row.number("memory", 1, 16) as usize);
+    let mut line = Damaged::new(memory, row.plan());
+    let (accesses, mut lines) = (row.accesses(), Vec::new());
+    let mut slots = vec![Slot::EMPTY; accesses.len()];
+    let text = row.lines.join("\n");
+    let mut last: Option<Report> = None;
+    for part in text.split("\nresume ") {
+        let tries = if last.is_some() { number(part.lines().next().unwrap()) } else { row.number("tries", 0, 8) };
+        let mut host = Host::new(&mut line, tries).bursts(bursts);
+        let result = match &last {
+            Some(report) => host.resume(&accesses, &mut slots, report),
+            None if row.is_block() => host.run_block(&accesses, &mut slots),
+            None => host.run(&accesses, &mut slots),
+        };
+        let (report, shown) = told(result, &accesses, &slots);
+        let items = swd::decode(line.levels.iter().copied()).map(|item| format!("> {item}")).collect::<Vec<_>>();
+        let sent = part.lines().filter(|line| line.starts_with("> ")).count();
+        lines.extend(last.map(|_| format!("resume {tries}")));
+        lines.extend_from_slice(&items[items.len() - sent..]);
+        lines.extend(shown);
+        last = Some(report);
+    }
+    for transfer in &line.memory().log {
+        lines.push(match transfer {
+            Transfer::Read(addr, word) => format!("log r {addr:08x} {word:08x}"),
+            Transfer::Write(addr, word) => format!("log w {addr:08x} {word:08x}"),
+        });
+    }
+    lines
 }
 
 #[test]
 fn worked_runs() {
-    for row in undisturbed().into_iter().chain(disturbed()) {
-        let line = Damaged::new(PlainMemory::new(BASE, row.words, row.room), plan_of(&row.marks));
-        let mut host = Host::new(line, row.tries);
-        let mut slots = vec![Slot::EMPTY; row.accesses.len()];
-        let report = host.run(&row.accesses, &mut slots);
-        let wanted = Report { answered: row.answers.len(), begun: row.begun, requests: row.requests, ended: row.ended };
-        let faulted = row.answers.iter().position(|answer| *answer == BusFault);
-        let result = match faulted {
-            _ if row.ended != End::All => Err(Error::Stopped(wanted)),
-            Some(index) => Err(Error::BusFault { index, access: row.accesses[index], report: wanted }),
-            None => Ok(wanted),
-        };
-        assert_eq!(report, result, "{}", row.name);
-        assert_eq!(answers(&slots[..wanted.answered]), row.answers, "{}", row.name);
-        assert!(slots[wanted.answered..].iter().all(|slot| slot.answer().is_none()), "{}", row.name);
-        assert_eq!(host.line().memory().log, row.log, "{}", row.name);
+    let root = concat!(env!("CARGO_MANIFEST_DIR"), "/../../crates/swd_rows_tests/data/rows.txt");
+    let path = std::env::var("SWD_ROWS").unwrap_or(root.to_string());
+    let text = std::fs::read_to_string(path).unwrap();
+    let mut runs = 0;
+    for row in text.split("\n\n").filter(|it| !it.starts_with('#')).map(Row::of) {
+        for bursts in [false, true].into_iter().filter(|it| row.is_for(*it)) {
+            let lines = came(&row, bursts);
+            assert!(row.is_wanted(&lines), "{}, bursts of writes {bursts}, came to {lines:#?}", row.name);
+            runs += 1;
+        }
     }
-}
-
-#[test]
-fn a_block_takes_one_request_a_word() {
-    let mut host = Host::new(Damaged::new(PlainMemory::new(BASE, 16, 16), Vec::new()), 8);
-    let mut slots = [Slot::EMPTY; 4];
-    let accesses = block(BASE, 4).collect::<Vec<_>>();
-    let report = host.run_block(&accesses, &mut slots);
-    assert_eq!(report, Ok(Report { answered: 4, begun: 0, requests: 15, ended: End::All }));
-    assert_eq!(answers(&slots), [Value(0); 4]);
-    assert_eq!(host.line().memory().log, zeros_read(4));
+    assert!(runs > 0);
 }
 
 // Nine requests of the opening, TAR and DRW, and RDBUFF behind each access, or at the end of a burst. A hundred words lie
@@ -199,21 +221,16 @@ fn runs_one_after_the_other() {
     assert_eq!(answers(&slots), words.map(Value));
 }
 
-// The acknowledgement behind the second write is lost. That write is in the log twice.
+// The acknowledgement behind the second write is lost. The target may still drive a data phase: the line is released for
+// 34 clocks.
 #[test]
-fn a_run_is_resumed() {
+fn the_lead_of_a_resumed_run_is_released() {
     let accesses = [write(BASE, WORD), write(BASE + 16, 1)];
     let mut host = Host::new(Damaged::new(PlainMemory::new(BASE, 16, 16), plan_of(&[(15, Mark::Deaf)])), 8);
     let mut slots = [Slot::EMPTY; 2];
     let lost = report_of(host.run(&accesses, &mut slots));
-    assert_eq!(lost, Report { answered: 1, begun: 1, requests: 15, ended: End::Lost });
     let before = host.line().calls.len();
-    let whole = host.resume(&accesses, &mut slots, &lost).unwrap();
-    assert_eq!(whole, Report { answered: 2, begun: 0, requests: 12, ended: End::All });
-    assert_eq!(answers(&slots), [Written, Written]);
-    let again = Transfer::Write(BASE + 16, 1);
-    assert_eq!(host.line().memory().log, [Transfer::Write(BASE, WORD), again, again]);
-    // The target may still drive a data phase: the line is released for 34 clocks.
+    host.resume(&accesses, &mut slots, &lost).unwrap();
     let lead = text(&host.line().calls[before..before + 102]);
     assert_eq!(lead, "-".repeat(34) + &"1".repeat(66) + "00");
 }
@@ -313,36 +330,16 @@ fn words_at_the_end_of_the_address_space() {
     assert_eq!(answers(&slots), [Value(0), Value(0)]);
 }
 
-// Nine requests of the opening, TAR, DRW and RDBUFF. The read is in the log twice.
-#[test]
-fn a_run_past_its_tries_is_resumed() {
-    let plan = plan_of(&[(12, Mark::Wait), (13, Mark::Wait)]);
-    let mut host = Host::new(Damaged::new(PlainMemory::new(BASE, 16, 16), plan), 1);
-    let mut slots = [Slot::EMPTY];
-    let stopped = report_of(host.run(&[read(BASE)], &mut slots));
-    assert_eq!(stopped, Report { answered: 0, begun: 1, requests: 13, ended: End::TriesOut });
-    let whole = host.resume(&[read(BASE)], &mut slots, &stopped);
-    assert_eq!(whole, Ok(Report { answered: 1, begun: 0, requests: 12, ended: End::All }));
-    assert_eq!(answers(&slots), [Value(0)]);
-    assert_eq!(host.line().memory().log, [Transfer::Read(BASE, 0); 2]);
-}
-
-// What an earlier call started stays begun until it is answered: here in a resumed opening that is lost, past its
-// tries, or whose line fails.
+// What an earlier call started stays begun until it is answered: here in a resumed opening whose line fails.
 #[test]
 fn a_resumed_run_is_lost_again() {
     let accesses = [write(BASE, WORD), write(BASE + 16, 1)];
-    for (mark, ended) in [(Mark::Deaf, End::Lost), (Mark::Flip(0), End::TriesOut), (Mark::Clean, End::Lost)] {
-        let plan = plan_of(&[(15, Mark::Deaf), (16, mark)]);
-        let mut host = Host::new(Damaged::new(PlainMemory::new(BASE, 16, 16), plan), 0);
-        let mut slots = [Slot::EMPTY; 2];
-        let lost = report_of(host.run(&accesses, &mut slots));
-        if mark == Mark::Clean {
-            host.line_mut().fails_at = Some(0);
-        }
-        let report = report_of(host.resume(&accesses, &mut slots, &lost));
-        assert_eq!(report, Report { answered: 1, begun: 1, requests: 1, ended }, "{mark}");
-    }
+    let mut host = Host::new(Damaged::new(PlainMemory::new(BASE, 16, 16), plan_of(&[(15, Mark::Deaf)])), 0);
+    let mut slots = [Slot::EMPTY; 2];
+    let lost = report_of(host.run(&accesses, &mut slots));
+    host.line_mut().fails_at = Some(0);
+    let report = report_of(host.resume(&accesses, &mut slots, &lost));
+    assert_eq!(report, Report { answered: 1, begun: 1, requests: 1, ended: End::Lost });
 }
 
 // At each clock in turn. Nothing is called after it, and what the report says is sure.

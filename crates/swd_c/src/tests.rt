@@ -6,6 +6,5 @@ mod expect;
 mod failing;
 mod items;
 mod refusals;
-mod rows;
 mod sessions;
 mod target;

@@ -2,4 +2,3 @@ pub mod WatchLemmas
 pub mod JunkLemmas
 pub mod SaidLemmas
 pub mod TextCheckLemmas
-pub mod ItemLemmas

@@ -1,5 +1,4 @@
 pub mod Lines
-pub mod Calls
 pub mod Watched
 pub mod Checks
 pub mod TextChecks

@@ -80,7 +80,6 @@ pub struct Reason {
 
 impl Checker {
     /// Returns why the last transaction that was watched breaks a rule, if it does.
-    #[inline(always)]
     pub fn reason(&self, tx: &Tx, origins: &Origins) -> Option<Reason>
         ensures breaks { IfSome result (λ _. self.now.broken ≡ None → ⊥) }
         ensures goes_on { result ≡ None → self.now.broken ≡ None }
@@ -88,12 +87,6 @@ impl Checker {
         let Verdict::Breaks { rule, .. } = self.verdict() else {
             return None;
         };
-        Some(self.reason_of(rule, tx, origins))
-    }
-
-    // Returns why a transaction breaks this rule. Few do, so this is outlined from the path of those that break none.
-    #[inline(never)]
-    fn reason_of(&self, rule: Rule, tx: &Tx, origins: &Origins) -> Reason {
         let world = match self.likeliest() {
             Some(world) => world,
             // DPIDR is read before there is a world.
@@ -113,7 +106,7 @@ impl Checker {
             Rule::Identification => (word_identified(self.identified()), Cause::Always),
             Rule::Parity => (Due::RightParity, Cause::Always),
         };
-        Reason { rule, due, cause }
+        Some(Reason { rule, due, cause })
     }
 }
 

@@ -81,7 +81,10 @@ impl Beside {
     /// another user's.
     pub(crate) fn refuse_place(&self, rt: &HostRuntime, like: &Metadata) -> io::Result<()> {
         if is_mounted(rt, self.place.as_str()) {
-            return Err(io::Error::new(ErrorKind::ResourceBusy, "a file is mounted there, which nothing can replace"));
+            return Err(io::Error::new(
+                ErrorKind::ResourceBusy,
+                "a file is mounted there, which nothing can replace",
+            ));
         }
         let own = fs::metadata(rt, "/proc/self")?.uid();
         let folder = fs::metadata(rt, folder_of(self.place.as_str()))?;
@@ -108,7 +111,9 @@ impl Beside {
     pub(crate) fn tell_others(&self, rt: &HostRuntime) {
         if self.others > 0 {
             let place = self.place.as_str();
-            let _ = eprintln!(rt; "swd: {place}.swd-0 is there: a call was ended while it wrote it, or is writing it");
+            let _ = eprintln!(rt;
+                "swd: {place}.swd-0 is there: a call was ended while it wrote it, or is writing it"
+            );
         }
     }
 
@@ -122,7 +127,9 @@ impl Beside {
 // aren't found.
 fn is_mounted(rt: &HostRuntime, place: &str) -> bool {
     match fs::read_to_string(rt, "/proc/self/mountinfo") {
-        Ok(mounts) => mounts.lines().any(|line| line.split(' ').nth(MOUNT_POINT) == Some(place)),
+        Ok(mounts) => mounts
+            .lines()
+            .any(|line| line.split(' ').nth(MOUNT_POINT) == Some(place)),
         Err(_) => false,
     }
 }

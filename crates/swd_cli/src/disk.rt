@@ -48,7 +48,14 @@ impl Files for Disk<'_> {
     type Made = DiskFile;
 
     fn open(&self, name: &str) -> io::Result<Opened<File>> {
-        identified(fs::open(self.rt, name)?)
+        let file = fs::open(self.rt, name)?;
+        if is_endless(&file.metadata()?) {
+            return Err(io::Error::new(
+                ErrorKind::InvalidInput,
+                "it is a device that never ends; head -c copies a beginning of it",
+            ));
+        }
+        identified(file)
     }
 
     fn open_to_write(&self, name: &str) -> io::Result<Opened<DiskFile>> {
@@ -57,7 +64,9 @@ impl Files for Disk<'_> {
         }
         let mut how = OpenOptions::new();
         how.write(true).create(true);
-        made(how.open(self.rt, name)?, false)
+        let file = how.open(self.rt, name)?;
+        self.refuse_errors(&file)?;
+        made(file, false)
     }
 
     fn open_line_in(&self, name: &str) -> io::Result<Opened<File>> {
@@ -165,6 +174,15 @@ fn is_terminal(metadata: &Metadata) -> bool {
     }
 }
 
+// Returns whether a file is a device whose bytes never end, by the device numbers of Linux: `/dev/zero`, `/dev/full`,
+// `/dev/random` or `/dev/urandom`. No script, plan, memory, image or trace is one.
+fn is_endless(metadata: &Metadata) -> bool {
+    let device = metadata.rdev();
+    metadata.file_type().is_char_device()
+        && device >> 8 & 0xfff == 1
+        && matches!(device & 0xff, 5 | 7..=9)
+}
+
 impl Disk<'_> {
     // Opens a file for reading and writing, which has to exist. One that keeps its bytes leads nowhere, and isn't
     // overwritten.
@@ -181,6 +199,15 @@ impl Disk<'_> {
         Ok(file)
     }
 
+    // Refuses a regular file that is standard error, whose lines would overwrite it.
+    fn refuse_errors(&self, file: &File) -> io::Result<()> {
+        let metadata = file.metadata()?;
+        if metadata.is_file() && self.standard_error()? == Some(identity_of(&metadata)) {
+            return Err(io::Error::new(ErrorKind::InvalidInput, "it is standard error"));
+        }
+        Ok(())
+    }
+
     // Creates a file, unless one has the name.
     fn created(&self, name: &str) -> io::Result<Option<File>> {
         let mut how = OpenOptions::new();
@@ -192,8 +219,8 @@ impl Disk<'_> {
         }
     }
 
-    // Creates a file that is to take the place of this one. Returns `None` for one that is overwritten in place, since it
-    // isn't regular.
+    // Creates a file that is to take the place of this one. Returns `None` for one that is overwritten in place, since
+    // it isn't regular.
     fn beside(&self, name: &str, file: &File) -> io::Result<Option<Beside>> {
         let like = file.metadata()?;
         if like.is_file() {

@@ -7,7 +7,7 @@ use Rattle.swd_trace.specs.declared.item.Item.{Item}
 use Rattle.swd_check.specs.declared.check.Check.{Check}
 use Rattle.swd_check.specs.Watched.{CheckHolds, CheckSays, CheckTakes}
 use Rattle.swd_recorder.specs.Items.{recorded_in_hand_by}
-use Rattle.swd_check.specs.Calls.{checked_call_items, checked_items_by}
+use Rattle.swd_recorder.specs.Calls.{recorded_call_items, recorded_calls_items}
 use Rattle.swd_conform.specs.Aims.{ConformStays}
 use Rattle.swd_conform.specs.Calls.{conform_asked, conform_requests_by}
 use Rattle.swd_conform.specs.declared.aim.Bounds.{Bounds}
@@ -35,8 +35,8 @@ module _ {A W : Type 0} (notes : List Call → W → Type 0) where
     calls = e;
     bounds = g;
     takes = λ i seen x.
-        subst (λ (check : Check A). CheckHolds i check (seen ++ checked_items_by t.noted.calls)) (sym f)
-        (subst (λ (calls : List Call). CheckHolds i r.items.check (seen ++ checked_items_by calls)) (sym e) x);
+        subst (λ (check : Check A). CheckHolds i check (seen ++ recorded_calls_items t.noted.calls)) (sym f)
+        (subst (λ (calls : List Call). CheckHolds i r.items.check (seen ++ recorded_calls_items calls)) (sym e) x);
   }
 
   -- calls, and others after them
@@ -55,7 +55,7 @@ module _ {A W : Type 0} (notes : List Call → W → Type 0) where
   pub conform_goes_step : (cue : Cue) (seen : ℕ) (u v : W) (r t : ConformRun A)
       → ((calls : List Call) → notes calls u → notes (record { cue = cue; seen = seen } ∷ calls) v)
       → t.noted.calls ≡ record { cue = cue; seen = seen } ∷ r.noted.calls
-      → CheckTakes (checked_call_items (recorded_in_hand_by r.noted.calls) cue seen) r.items.check t.items.check
+      → CheckTakes (recorded_call_items (recorded_in_hand_by r.noted.calls) cue seen) r.items.check t.items.check
       → t.bounds ≡ r.bounds → ConformGoes notes u r v t
   conform_goes_step cue seen u v r t h e takes same = record {
     made = record { cue = cue; seen = seen } ∷ [];
@@ -63,10 +63,10 @@ module _ {A W : Type 0} (notes : List Call → W → Type 0) where
     calls = e;
     bounds = same;
     takes = λ i before x.
-        let items = checked_items_by r.noted.calls in
-        let more = checked_call_items (recorded_in_hand_by r.noted.calls) cue seen in
+        let items = recorded_calls_items r.noted.calls in
+        let more = recorded_call_items (recorded_in_hand_by r.noted.calls) cue seen in
         subst (λ (l : List Item). CheckHolds i t.items.check l)
-        (append_assoc before items more ∙ ap (λ (l : List Call). before ++ checked_items_by l) (sym e))
+        (append_assoc before items more ∙ ap (λ (l : List Call). before ++ recorded_calls_items l) (sym e))
         (takes i (before ++ items) x);
   }
 
@@ -111,12 +111,12 @@ module _ {A W : Type 0} (notes : List Call → W → Type 0) where
           stays = subst (λ (l : List Call). ∥ ConformStays bounds l ∥₁) all
               (subst (λ (here : Bounds). ∥ ConformStays here t.noted.calls ∥₁) (g.bounds ∙ same) t.stays);
           says = λ i seen x.
-              let first : CheckHolds i r.items.check (seen ++ checked_items_by r.noted.calls) =
-              subst (λ (l : List Call). CheckHolds i r.items.check (seen ++ checked_items_by l)) (sym none)
+              let first : CheckHolds i r.items.check (seen ++ recorded_calls_items r.noted.calls) =
+              subst (λ (l : List Call). CheckHolds i r.items.check (seen ++ recorded_calls_items l)) (sym none)
               (subst (λ (l : List Item). CheckHolds i r.items.check l) (sym (append-nil seen))
               (subst (λ (check : Check A). CheckHolds i check seen) (sym is) x)) in
-              subst (λ (l : List Call). CheckSays i (seen ++ checked_items_by l) told.checked) all
-              (f.says i (seen ++ checked_items_by t.noted.calls) (g.takes i seen first));
+              subst (λ (l : List Call). CheckSays i (seen ++ recorded_calls_items l) told.checked) all
+              (f.says i (seen ++ recorded_calls_items t.noted.calls) (g.takes i seen first));
           requests = f.requests ∙ t.counted ∙ ap conform_requests_by all;
         },
       )

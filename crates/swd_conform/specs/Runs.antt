@@ -4,7 +4,7 @@ use Rattle.swd_port.specs.declared.call.Call.{Call}
 use Rattle.swd_check.specs.declared.check.Check.{Check}
 use Rattle.swd_check.specs.Watched.{CheckIndex, CheckHolds, CheckSays}
 use Rattle.swd_trace.specs.declared.item.Item.{Item}
-use Rattle.swd_check.specs.Calls.{checked_items_by}
+use Rattle.swd_recorder.specs.Calls.{recorded_calls_items}
 use Rattle.swd_conform.specs.Aims.{ConformStays}
 use Rattle.swd_conform.specs.Calls.{conform_requests_by}
 use Rattle.swd_conform.specs.declared.aim.Bounds.{Bounds}
@@ -19,7 +19,7 @@ pub record ConformReports {A : Type 0} (bounds : Bounds) (check : Check A) (told
     : Type 0 where
   pub stays : ∥ ConformStays bounds calls ∥₁
   pub says : (i : CheckIndex) (seen : List Item) → CheckHolds i check seen
-      → CheckSays i (seen ++ checked_items_by calls) told.checked
+      → CheckSays i (seen ++ recorded_calls_items calls) told.checked
   pub requests : told.requests ≡ conform_requests_by calls
 
 -- a run of this plan, with this check, that made no call
@@ -50,9 +50,9 @@ pub record ConformGoes {A W : Type 0} (notes : List Call → W → Type 0) (u : 
   pub noted : (calls : List Call) → notes calls u → notes (made ++ calls) v
   pub calls : now.noted.calls ≡ made ++ run.noted.calls
   pub bounds : now.bounds ≡ run.bounds
-  pub takes : (i : CheckIndex) (seen : List Item) → CheckHolds i run.items.check (seen ++ checked_items_by
+  pub takes : (i : CheckIndex) (seen : List Item) → CheckHolds i run.items.check (seen ++ recorded_calls_items
       run.noted.calls)
-      → CheckHolds i now.items.check (seen ++ checked_items_by now.noted.calls)
+      → CheckHolds i now.items.check (seen ++ recorded_calls_items now.noted.calls)
 
 -- it did so with at most so many requests, and no step of the plan
 pub record ConformMakes {A W : Type 0} (notes : List Call → W → Type 0) (most : ℕ) (u : W) (run : ConformRun A) (v : W)

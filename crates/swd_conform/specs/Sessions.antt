@@ -12,7 +12,7 @@ use Rattle.swd_recorder.specs.Items.{recorded_in_hand_once}
 use Rattle.swd_remote.specs.declared.kept.RemoteStreams.{RemoteStreams}
 use Rattle.swd_remote.specs.WholeRuns.{GoesOver}
 use Rattle.swd_check.specs.declared.checked.Checked.{Checked}
-use Rattle.swd_check.specs.Calls.{checked_call_items}
+use Rattle.swd_recorder.specs.Calls.{recorded_call_items}
 use Rattle.swd_check.specs.Watched.{CheckHolds, CheckSays, checked_rest}
 use Rattle.swd_conform.specs.declared.session.SessionCheck.{SessionCheck}
 
@@ -32,7 +32,7 @@ session_hand_once cue (Some seen) = recorded_in_hand_once cue seen
 -- the items of such a call, with this incomplete transaction
 abbrev pub session_items_of : Option InHand → Cue → Option ℕ → List Item
 session_items_of in_hand cue None = []
-session_items_of in_hand cue (Some seen) = checked_call_items in_hand cue seen
+session_items_of in_hand cue (Some seen) = recorded_call_items in_hand cue seen
 
 -- the incomplete transaction after these calls, the first one first
 abbrev pub session_hand : Option InHand → List PortAttempt → Option InHand

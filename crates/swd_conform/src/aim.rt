@@ -2,7 +2,7 @@
 ghost use Rattle.std.specs.Prelude.{ℕ, ◌≡◌, ◌<◌, ◌^◌, ◌%◌, ◌==◌, ◌&&◌, ◌∷◌, not, Some, false, true, List};
 ghost use Rattle.swd_port.specs.declared.call.Call.{Call as CallType};
 ghost use Rattle.swd_port.specs.declared.cue.Cue.TheVariants.{Ask, Give};
-ghost use Rattle.swd_check.specs.Calls.{IsCheckedCue};
+ghost use Rattle.swd_recorder.specs.Calls.{IsRecordedCue};
 ghost use Rattle.swd_recorder.specs.Items.{recorded_in_hand_by};
 ghost use Rattle.swd_conform.specs.declared.aim.Bounds.{Bounds as BoundsType};
 ghost use Rattle.swd_conform.specs.Aims.{ConformAims, ConformMayTransfer, IsConformAim, is_conform_refusal};
@@ -85,7 +85,7 @@ pub(crate) enum Aim {
 impl Aim {
     /// Returns what is known after a call at which this was seen, with this incomplete transaction before it.
     pub(crate) fn after(self, bounds: &Bounds, held: Option<InHand>, cue: Cue, seen: u64) -> Aim
-        requires { IsCheckedCue cue }
+        requires { IsRecordedCue cue }
         ensures { (calls : List CallType) → held ≡ recorded_in_hand_by calls → IsConformAim bounds.now self calls
             → IsConformAim bounds.now result (record { cue = cue; seen = seen } ∷ calls) }
     {

@@ -2,7 +2,7 @@
 ghost use Rattle.std.specs.Prelude.{◌≡◌, ◌+◌, ◌*◌, ◌≤◌, ◌<◌, ◌^◌, ◌∷◌, true};
 ghost use Rattle.swd_port.specs.Stories.{PortMayStep, IsPortSeen, port_due_once};
 ghost use Rattle.swd_port.specs.declared.wire.Due.TheVariants.{Nothing, Take, Give, Pass};
-ghost use Rattle.swd_check.specs.Calls.{IsCheckedCue, checked_call_items};
+ghost use Rattle.swd_recorder.specs.Calls.{IsRecordedCue, recorded_call_items};
 ghost use Rattle.swd_check.specs.Watched.{CheckTakes};
 ghost use Rattle.swd_recorder.specs.Items.{recorded_in_hand_by};
 ghost use Rattle.swd_port.specs.declared.cue.Cue.TheVariants.{Ask};
@@ -351,7 +351,7 @@ impl<A: Allocator + Copy> ConformRun<A> {
     // Makes a call of the wire at which nothing is asked, whose items the check takes.
     fn call<W: Wire>(&mut self, wire: &mut W, cue: Cue)
         requires may { PortMayStep (W.port wire.old).link.due cue }
-        requires sends { IsCheckedCue cue }
+        requires sends { IsRecordedCue cue }
         requires none { conform_asked cue ≡ 0 }
         ensures makes { ConformMakes W.notes 0 wire.old self.old wire.new self.new }
         ensures due { (W.port wire.new).link.due ≡ Nothing }
@@ -362,7 +362,7 @@ impl<A: Allocator + Copy> ConformRun<A> {
     // Makes a call of the wire, whose items the check takes. Returns what was seen.
     fn step<W: Wire>(&mut self, wire: &mut W, cue: Cue) -> u64
         requires may { PortMayStep (W.port wire.old).link.due cue }
-        requires sends { IsCheckedCue cue }
+        requires sends { IsRecordedCue cue }
         requires stays { ∥ ConformMayMake self.old.bounds cue self.old.noted.calls ∥₁ }
         requires room { ConformHasRoom (conform_asked cue) self.old }
         ensures makes { ConformMakes W.notes (conform_asked cue) wire.old self.old wire.new self.new }
@@ -375,12 +375,12 @@ impl<A: Allocator + Copy> ConformRun<A> {
 
     // Takes a call, and its items.
     fn record(&mut self, cue: Cue, seen: u64)
-        requires may { IsCheckedCue cue }
+        requires may { IsRecordedCue cue }
         requires seen { IsPortSeen cue seen }
         requires stays { ∥ ConformMayMake self.old.bounds cue self.old.noted.calls ∥₁ }
         requires room { ConformHasRoom (conform_asked cue) self.old }
         ensures calls { self.new.noted.calls ≡ record { cue = cue; seen = seen } ∷ self.old.noted.calls }
-        ensures takes { CheckTakes (checked_call_items (recorded_in_hand_by self.old.noted.calls) cue seen)
+        ensures takes { CheckTakes (recorded_call_items (recorded_in_hand_by self.old.noted.calls) cue seen)
             self.old.items.check self.new.items.check }
         ensures asked { self.new.requests ≡ self.old.requests + conform_asked cue }
         ensures left { conform_run_left self.new ≡ conform_run_left self.old }

@@ -3,7 +3,7 @@ ghost use Rattle.std.specs.Prelude.{◌≡◌, true, [], Some, IfSome, List};
 ghost use Rattle.swd_port.specs.declared.call.Call.{Call};
 ghost use Rattle.swd_port.specs.Stories.{IsPortSeen};
 ghost use Rattle.swd_port.specs.Transports.{PortAttempt};
-ghost use Rattle.swd_check.specs.Calls.{IsCheckedCue};
+ghost use Rattle.swd_recorder.specs.Calls.{IsRecordedCue};
 ghost use Rattle.swd_check.specs.Watched.{CheckTakes};
 ghost use Rattle.swd_conform.specs.Sessions.{GoesOverChecked, IsSessionVerdict, SessionHas};
 ghost use Rattle.swd_conform.specs.Sessions.{session_hand_once, session_items_of, session_shown};
@@ -59,7 +59,7 @@ impl<A: Allocator + Copy> CallSink for SessionCheck<A> {
 // Returns what a call showed, or `None` if it failed, or a number has too many bits.
 fn shown_by(cue: Cue, told: Result<u64, Disconnected>) -> Option<u64>
     ensures is { result ≡ session_shown cue told }
-    ensures range { IfSome result (λ seen. IsCheckedCue cue × IsPortSeen cue seen) }
+    ensures range { IfSome result (λ seen. IsRecordedCue cue × IsPortSeen cue seen) }
 {
     let Ok(seen) = told else {
         return None;
@@ -80,7 +80,7 @@ fn take_items<A: Allocator + Copy>(
     cue: Cue,
     shown: Option<u64>,
 )
-    requires { IfSome shown (λ seen. IsCheckedCue cue × IsPortSeen cue seen) }
+    requires { IfSome shown (λ seen. IsRecordedCue cue × IsPortSeen cue seen) }
     ensures { CheckTakes (session_items_of in_hand cue shown) items.old.check items.new.check }
 {
     match shown {
@@ -91,7 +91,7 @@ fn take_items<A: Allocator + Copy>(
 
 // Returns the incomplete transaction after a call that showed this.
 fn in_hand_after(cue: Cue, shown: Option<u64>) -> Option<InHand>
-    requires { IfSome shown (λ seen. IsCheckedCue cue × IsPortSeen cue seen) }
+    requires { IfSome shown (λ seen. IsRecordedCue cue × IsPortSeen cue seen) }
     ensures { result ≡ session_hand_once cue shown }
 {
     match shown {

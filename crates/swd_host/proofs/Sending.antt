@@ -4,7 +4,7 @@ use Rattle.swd_host.proofs.Words.{inr, arith, ◌∙◌, ◌⊎◌, List, length
 use Rattle.swd_host.proofs.Words.{data_phase_word, data_phase_number, Answered, Stopped, Task, Job, Ask, Data, Waited}
 use Rattle.swd_host.proofs.Words.{State, Doing, Resting, Ahead, Unsent, NextSent, NextFailed, HostStep, Flags, Lost, At}
 use Rattle.swd_host.proofs.Words.{Check, Clear, LastStatus, Resend, Status, WriteTar, Behind, Confirm, Transfer}
-use Rattle.swd_host.proofs.Words.{engine_word_for, engine_job_starts, engine_confirmed, engine_is_ahead_at}
+use Rattle.swd_host.proofs.Words.{engine_word_for, engine_job_starts, engine_is_ahead_at}
 use Rattle.swd_host.proofs.Words.{engine_job_is_of, host_flags_in, engine_state_after_ack, not, task_is_read}
 use Rattle.swd_host.proofs.Words.{task_is_block, access_of_task, Access, Answer, Request, ◌&&◌, ◌||◌, Engine}
 use Rattle.swd_host.proofs.Words.{engine_state_is_of, Bursts}

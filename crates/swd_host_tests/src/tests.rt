@@ -1,13 +1,8 @@
-//! Worked runs, each over both simulated targets.
+//! Runs over both simulated targets, beside the worked runs of `swd_rows_tests`.
 mod accesses;
 mod blocks;
-mod bursts;
-mod confirmed;
-mod damage;
 mod expect;
-mod late_power;
 mod losses;
 mod polls;
 mod refusals;
-mod runs;
 mod sessions;

@@ -105,8 +105,8 @@ module _ {W : Type 0} (wire : Ghosts W) (limits : Limits) (always : (w : W) → 
       let turns =
       (tell_of wire n batch.accesses limits.tries r h.at_rest run.stops run.told v went
       (always v)).turns in
-      let same = same_chain (bursts_limit n) batch.accesses (wire.port r).target.memory turns.calls run.told turns.memory h.plain
-      turns.chain in
+      let same = same_chain (bursts_limit n) batch.accesses (wire.port r).target.memory turns.calls run.told
+      turns.memory h.plain turns.chain in
       record {
         at_rest = rests wire n batch.accesses limits.tries r h.at_rest run.stops run.told
             v went (always v) all;

@@ -1,6 +1,7 @@
 -- Lists of items as a host sends them: which item may follow which. It is this project's choice that a
 -- recording is such a list, and how it is divided into items.
-use Rattle.std.specs.Prelude.{ℕ, ◌^◌, nat_le, nat_lt, ◌==◌, ◌&&◌, ◌||◌, Bool, true, false, List, [], ◌∷◌}
+use Rattle.std.specs.Prelude.{ℕ, ◌≡◌, ◌^◌, nat_le, nat_lt, ◌==◌, ◌&&◌, ◌||◌, Bool, true, false, List, [], ◌∷◌, Option}
+use Rattle.std.specs.Prelude.{None, Some}
 use Rattle.swd_bits.specs.declared.tx.TxEnd.{TxEnd}
 use Rattle.swd_bits.specs.declared.tx.TxEnd.TheVariants.{Moved, Wait, Fault, NoAck}
 use Rattle.swd_trace.specs.declared.item.Item.{Item}
@@ -97,3 +98,15 @@ is_recorded_chain place (item ∷ items) = recorded_may_follow place item && is_
 abbrev pub recorded_may_lower : RecordedPlace → ℕ → Bool
 recorded_may_lower Low n = true
 recorded_may_lower place n = recorded_may_idle place n
+
+-- ---- the items of a call behind these
+
+-- the zeros of a call that has nothing else
+abbrev pub recorded_lone_idle : List Item → Option ℕ
+recorded_lone_idle (Idle n ∷ []) = Some n
+recorded_lone_idle items = None
+
+-- they may come there: zeros alone may join others
+abbrev pub RecordedMayJoin : RecordedPlace → List Item → Option ℕ → Type 0
+RecordedMayJoin place items (Some n) = recorded_may_lower place n ≡ true
+RecordedMayJoin place items None = is_recorded_chain place items ≡ true

@@ -8,7 +8,6 @@ use Rattle.swd_trace.specs.declared.item.Item.TheVariants.{Reset, Switch, Idle, 
 use Rattle.swd_port.specs.declared.call.Call.{Call}
 use Rattle.swd_port.specs.declared.cue.Cue.{Cue}
 use Rattle.swd_port.specs.declared.cue.Cue.TheVariants.{Lead}
-use Rattle.swd_port.specs.Leading.{PortMayLead}
 use Rattle.swd_port.specs.Stories.{PortMayStep, is_port_ask}
 use Rattle.swd_port.specs.declared.wire.Due.{Due}
 use Rattle.swd_port.specs.declared.wire.Due.TheVariants.{Nothing, Take, Give, Pass, Lost}
@@ -63,10 +62,6 @@ is_recorded_inside in_hand cue = false
 abbrev pub RecorderMayAdd : Option InHand → Cue → RecorderKept → Type 0
 RecorderMayAdd in_hand cue kept = (due : Due) × PortMayStep due cue
     × (recorded_due_count due ≡ recorded_in_hand_count in_hand) × IsRecordedPlaced due kept
-
--- a wire with these items allows a lead, outside a transaction
-abbrev pub RecorderMayAddLead : ℕ → Bool → ℕ → RecorderKept → Type 0
-RecorderMayAddLead ones switch zeros kept = (due : Due) × PortMayLead due ones switch zeros × IsRecordedPlaced due kept
 
 -- the last item is a transaction without acknowledgement
 abbrev pub RecordedEndsUnacknowledged : List Item → Type 0

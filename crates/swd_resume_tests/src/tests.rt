@@ -1,7 +1,6 @@
 //! What a host sends, request by request, and how it resumes.
 mod expect;
 mod hostile;
-mod request_order;
+mod length;
 mod resume;
-mod resumed;
 mod resumed_blocks;

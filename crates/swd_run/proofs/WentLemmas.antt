@@ -650,7 +650,8 @@ module _ {W : Type 0} (wire : Ghosts W) (opened : Bool)
       let told : HostReport = run.told in
       let n : Bursts = batch_bursts limits.bursts batch in
       let list : List Access = batch.accesses in
-      let went : ScriptCallsFrom wire opened (batch_bursts limits.bursts batch) batch.accesses limits.tries s run.stops run.told t =
+      let went : ScriptCallsFrom wire opened (batch_bursts limits.bursts batch) batch.accesses limits.tries s run.stops
+      run.told t =
       goes.went in
       let bounded : (w : W) → wire.plan w ≡ wire.plan s → ((wire.port w).tally.disturbed ≤ port_disturbed_among marks)
       × ((wire.port w).tally.lost ≤ port_lost_among marks) =

@@ -77,7 +77,8 @@ pub record RunsAs (opened : Bool) (kind : Bursts) (tries : ℕ) (batch : ScriptL
 pub record RunsOn (opened : Bool) (limits : Limits) (batch : ScriptListed) (before : Bus) (marks : List Mark)
     (stops : List Stop) (told : HostReport) (after : Bus) : Type 0 where
   pub alone : stops ≡ [] → RunsAs opened (batch_bursts limits.bursts batch) limits.tries batch before marks told after
-  pub tells : ScriptCallsReport opened (batch_bursts limits.bursts batch) limits.tries batch.accesses before stops told after
+  pub tells : ScriptCallsReport opened (batch_bursts limits.bursts batch) limits.tries batch.accesses before stops told
+      after
   pub few : length stops ≤ limits.resumes
   pub lost : length stops ≤ port_lost_among marks
   pub excused : IsRunExcused told.ended limits.tries marks

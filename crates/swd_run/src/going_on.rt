@@ -73,9 +73,9 @@ fn begin<W: Wire, K: AnswerSink, A: Allocator>(
     requires room { length (script_batch_listed batch.now).accesses ≤ K.most sink.old }
     ensures accepted { (length (script_batch_listed batch.now).accesses ≤ 65536)
         × AreHostAccesses (script_batch_listed batch.now).accesses }
-    ensures closes { ScriptCallCloses options.opened (batch_bursts options.limits.bursts (script_batch_listed batch.now))
-        (script_batch_listed batch.now).accesses options.limits.tries (host_report_to (K.taken sink.new) result)
-        (W.port wire.new).link.due }
+    ensures closes { ScriptCallCloses options.opened
+        (batch_bursts options.limits.bursts (script_batch_listed batch.now)) (script_batch_listed batch.now).accesses
+        options.limits.tries (host_report_to (K.taken sink.new) result) (W.port wire.new).link.due }
     ensures fits { W.lawful wire.new → W.lawful wire.old
         × ScriptCallFits options.opened (batch_bursts options.limits.bursts (script_batch_listed batch.now))
         (script_batch_listed batch.now).accesses options.limits.tries (host_report_to (K.taken sink.new) result)

@@ -10,6 +10,7 @@ use std::alloc::{Allocator, Global};
 use std::test::Fail;
 use swd_host::{End, Report};
 use swd_port::{Access, Answer, Due, Transfer, Wire};
+use swd_recorder::Recorder;
 use swd_target::{Mark, Memory, Quirks};
 
 /// Where the memory begins.
@@ -23,13 +24,6 @@ pub const READ: Access = Access::Read(BASE);
 
 /// The write of `WORD` there.
 pub const WRITE: Access = Access::Write(BASE, WORD);
-
-/// Three writes at addresses that follow each other.
-pub const BURST: &[Access] = &[
-    WRITE,
-    Access::Write(0x2000_0004, 1),
-    Access::Write(0x2000_0008, 2),
-];
 
 /// What an unknown value reads as.
 pub const FILLER: u32 = 0xa5a5_a5a5;
@@ -127,9 +121,6 @@ pub const WHOLE: Wanted = Wanted {
     log: &[],
 };
 
-/// A run, what has to come of it, and what is tried by it, in words.
-pub type Row<'m, 'a, 'l> = (&'static str, Run<'m, 'a>, Wanted<'a, 'l>);
-
 /// `WORD` was written where the memory begins.
 pub const WRITTEN: Transfer = Transfer {
     read: false,
@@ -150,21 +141,6 @@ pub const READ_WORD: Transfer = Transfer {
     addr: BASE,
     word: WORD,
 };
-
-/// What the three writes of `BURST` leave in the log.
-pub const BURST_LOG: &[Transfer] = &[
-    WRITTEN,
-    Transfer {
-        read: false,
-        addr: 0x2000_0004,
-        word: 1,
-    },
-    Transfer {
-        read: false,
-        addr: 0x2000_0008,
-        word: 2,
-    },
-];
 
 /// Each mark is legal.
 pub fn are_legal(marks: &[Mark]) -> bool
@@ -205,5 +181,13 @@ pub fn report_of<W: Wire>(alloc: Global, wire: &mut W, run: &Run) -> Result<Repo
     match wire.due() {
         Due::Nothing => Ok(swd_host::run(alloc, wire, run.accesses, run.tries)?),
         due => Err(Fail::from(due)),
+    }
+}
+
+/// A recorder over a wire. Fails with what is due there.
+pub fn recorder_over<W: Wire + Drop>(alloc: Global, wire: W) -> Result<Recorder<W>, Due> {
+    match wire.due() {
+        Due::Nothing => Ok(Recorder::new(alloc, wire)),
+        due => Err(due),
     }
 }

@@ -6,7 +6,7 @@ ghost use Rattle.swd_words.specs.Commands.{AreCheckArguments, ArePlainArguments,
 
 use crate::argument::{Argument, CommandRow, Form};
 use crate::fault::LineFault;
-use crate::words::{FILE, invalid, is_asked_for, owned, refused};
+use crate::words::{FILE, invalid, is_set, refused, text_in};
 use clap::ArgMatches;
 use clap::error::ErrorKind;
 use std::alloc::Global;
@@ -172,22 +172,17 @@ pub(crate) fn plain_in(
 pub(crate) fn check_line(alloc: Global, matches: &ArgMatches<'_>) -> Result<CheckLine, LineFault>
     ensures { IfOk result (λ check. AreCheckArguments check (rows_of (found_of matches.now))) }
 {
-    let Ok(file) = owned(alloc, matches.get_str("FILE")) else {
-        return Err(LineFault::Memory);
-    };
-    let made = is_asked_for(matches.get_str("made"));
-    let rest = is_asked_for(matches.get_str("rest"));
-    let clean = is_asked_for(matches.get_str("clean"));
-    let exact_registers = is_asked_for(matches.get_str("exact-registers"));
-    let resync = is_asked_for(matches.get_str("resync"));
-    let overrun = is_asked_for(matches.get_str("overrun"));
+    let made = is_set(matches, "made");
+    let rest = is_set(matches, "rest");
+    let clean = is_set(matches, "clean");
+    let exact_registers = is_set(matches, "exact-registers");
+    let resync = is_set(matches, "resync");
+    let overrun = is_set(matches, "overrun");
     if made && rest {
         return Err(refused(alloc, ErrorKind::ArgumentConflict, TWO_STARTS));
     }
-    let plain = match plain_in(alloc, matches) {
-        Ok(plain) => plain,
-        Err(fault) => return Err(fault),
-    };
+    let plain = plain_in(alloc, matches)?;
+    let file = text_in(alloc, matches, "FILE")?;
     Ok(CheckLine {
         file,
         made,

@@ -7,7 +7,7 @@ use crate::argument::{Argument, CommandRow, Form};
 use crate::check_words::{CLEAN, PLAIN, plain_in};
 use crate::fault::LineFault;
 use crate::target_words::idr_in;
-use crate::words::{REMOTE, invalid, is_asked_for, owned, refused};
+use crate::words::{REMOTE, invalid, is_set, refused, text_in};
 use clap::ArgMatches;
 use clap::error::ErrorKind;
 use std::alloc::Global;
@@ -68,10 +68,7 @@ pub(crate) fn conform_line(
 ) -> Result<ConformLine, LineFault>
     ensures { IfOk result (λ conform. AreConformArguments conform (rows_of (found_of matches.now))) }
 {
-    let Ok(remote) = owned(alloc, matches.get_str("remote")) else {
-        return Err(LineFault::Memory);
-    };
-    let Some(remote) = remote else {
+    let Some(remote) = text_in(alloc, matches, "remote")? else {
         let kind = ErrorKind::MissingRequiredArgument;
         return Err(refused(alloc, kind, NO_TARGET));
     };
@@ -80,7 +77,7 @@ pub(crate) fn conform_line(
         let kind = ErrorKind::InvalidValue;
         return Err(invalid(alloc, kind, given, "--hole <ADDR>", HOLE_FORM));
     };
-    let clean = is_asked_for(matches.get_str("clean"));
+    let clean = is_set(matches, "clean");
     let plain = match plain_in(alloc, matches) {
         Ok(plain) => plain,
         Err(fault) => return Err(fault),

@@ -5,7 +5,7 @@ ghost use Rattle.swd_words.specs.Commands.{AreDecodeArguments};
 
 use crate::argument::{Argument, CommandRow, Form};
 use crate::fault::LineFault;
-use crate::words::{FILE, is_asked_for, owned, refused};
+use crate::words::{FILE, is_set, refused, text_in};
 use clap::ArgMatches;
 use clap::error::ErrorKind;
 use std::alloc::Global;
@@ -123,16 +123,13 @@ pub(crate) const DECODE: CommandRow = CommandRow {
 pub(crate) fn decode_line(alloc: Global, matches: &ArgMatches<'_>) -> Result<DecodeLine, LineFault>
     ensures { IfOk result (λ decode. AreDecodeArguments decode (rows_of (found_of matches.now))) }
 {
-    let Ok(file) = owned(alloc, matches.get_str("FILE")) else {
-        return Err(LineFault::Memory);
-    };
-    let places = is_asked_for(matches.get_str("places"));
-    let names = is_asked_for(matches.get_str("names"));
-    let count = is_asked_for(matches.get_str("count"));
-    let accesses = is_asked_for(matches.get_str("accesses"));
-    let made = is_asked_for(matches.get_str("made"));
-    let resync = is_asked_for(matches.get_str("resync"));
-    let overrun = is_asked_for(matches.get_str("overrun"));
+    let places = is_set(matches, "places");
+    let names = is_set(matches, "names");
+    let count = is_set(matches, "count");
+    let accesses = is_set(matches, "accesses");
+    let made = is_set(matches, "made");
+    let resync = is_set(matches, "resync");
+    let overrun = is_set(matches, "overrun");
     if count && (places || names) {
         return Err(refused(alloc, ErrorKind::ArgumentConflict, COUNT_ALONE));
     }
@@ -147,6 +144,7 @@ pub(crate) fn decode_line(alloc: Global, matches: &ArgMatches<'_>) -> Result<Dec
         let kind = ErrorKind::MissingRequiredArgument;
         return Err(refused(alloc, kind, OVERRUN_WITH_RESYNC));
     }
+    let file = text_in(alloc, matches, "FILE")?;
     Ok(DecodeLine {
         file,
         places,

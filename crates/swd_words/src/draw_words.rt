@@ -7,7 +7,7 @@ ghost use Rattle.swd_words.specs.Commands.{AreDrawArguments, IsItemsArgument};
 use crate::argument::{Argument, CommandRow, Form};
 use crate::decode_words::{NAMES, OVERRUN, OVERRUN_WITH_RESYNC, RESYNC};
 use crate::fault::LineFault;
-use crate::words::{FILE, invalid, is_asked_for, number_in, owned, refused};
+use crate::words::{FILE, invalid, is_set, number_in, refused, text_in};
 use clap::ArgMatches;
 use clap::error::ErrorKind;
 use std::alloc::Global;
@@ -69,11 +69,8 @@ fn items_in(word: Option<&str>) -> Option<u32>
 pub(crate) fn draw_line(alloc: Global, matches: &ArgMatches<'_>) -> Result<DrawLine, LineFault>
     ensures { IfOk result (λ draw. AreDrawArguments draw (rows_of (found_of matches.now))) }
 {
-    let Ok(file) = owned(alloc, matches.get_str("FILE")) else {
-        return Err(LineFault::Memory);
-    };
-    let resync = is_asked_for(matches.get_str("resync"));
-    let overrun = is_asked_for(matches.get_str("overrun"));
+    let resync = is_set(matches, "resync");
+    let overrun = is_set(matches, "overrun");
     if overrun && !resync {
         let kind = ErrorKind::MissingRequiredArgument;
         return Err(refused(alloc, kind, OVERRUN_WITH_RESYNC));
@@ -83,7 +80,8 @@ pub(crate) fn draw_line(alloc: Global, matches: &ArgMatches<'_>) -> Result<DrawL
         let kind = ErrorKind::InvalidValue;
         return Err(invalid(alloc, kind, given, ITEMS_OPTION, ITEMS_RANGE));
     };
-    let names = is_asked_for(matches.get_str("names"));
+    let names = is_set(matches, "names");
+    let file = text_in(alloc, matches, "FILE")?;
     Ok(DrawLine {
         file,
         items,

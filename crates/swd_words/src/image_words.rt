@@ -1,23 +1,25 @@
 //! The arguments of `swd load`, `swd verify` and `swd dump`.
-ghost use Rattle.std.specs.Prelude.{◌≡◌, IfOk, IfSome, IsSomeAnd, Some};
+ghost use Rattle.std.specs.Prelude.{◌≡◌, IfOk, IfSome, IsSomeAnd, Some, codes};
 ghost use Rattle.std.specs.Option.{option_and_then, option_map};
-ghost use Rattle.clap.specs.Words.{found_of, rows_of};
+ghost use Rattle.std.specs.String.{string_bytes};
+ghost use Rattle.clap.specs.Words.{first_of, found_of, rows_of};
 ghost use Rattle.swd_script.specs.Numerals.{is_script_hex_prefix, script_hex_number};
 ghost use Rattle.swd_words.specs.Commands.{IsActionArgument};
-ghost use Rattle.swd_words.specs.Commands.{AreBytesInUnits, AreImageArguments, IsBytesArgument};
+ghost use Rattle.swd_words.specs.Commands.{AreBytesInUnits, AreFormatArguments, AreImageArguments, IsBytesArgument};
 
 use crate::argument::{Argument, CommandRow, Form};
 use crate::fault::LineFault;
 use crate::format_words::{READ_FORMAT, WRITTEN_FORMAT, format_form, formats_in};
 use crate::memory_words::{BASE, MEMORY, target_in};
 use crate::words::{
-    BURSTS, PLAN, PROGRESS, REMOTE, RESUME, SESSION, TRIES, invalid, is_asked_for, numbers_in,
-    owned, refused, unknown, why_unchecked, why_unpaced,
+    BURSTS, PLAN, PROGRESS, REMOTE, RESUME, SESSION, TRIES, invalid, is_set, numbers_in, refused,
+    text_in, unknown, why_unwatched,
 };
 use clap::ArgMatches;
 use clap::error::ErrorKind;
 use std::alloc::Global;
 use swd_command_line::{ImageAction, ImageLine};
+use swd_image_files::{ElfChoice, Format};
 use swd_script::{decimal_of, hex_of};
 
 // The bytes that a `k` and an `M` behind a number stand for.
@@ -308,6 +310,46 @@ fn action_of(alloc: Global, name: &str, matches: &ArgMatches<'_>) -> Result<Imag
     }
 }
 
+// Returns the format of the file, and whether it is ELF.
+fn formats_of(
+    alloc: Global,
+    action: ImageAction,
+    matches: &ArgMatches<'_>,
+) -> Result<(Format, ElfChoice), LineFault>
+    ensures { IfOk result (λ found. IsSomeAnd (first_of (codes "FILE") (rows_of (found_of matches.now)))
+        (λ file. AreFormatArguments action found.0 found.1 file
+        (first_of (codes "format") (rows_of (found_of matches.now))))) }
+{
+    let Some(file) = matches.get_str("FILE") else {
+        return Err(LineFault::Memory);
+    };
+    let word = matches.get_str("format");
+    match formats_in(action, word, file) {
+        Some(formats) => Ok(formats),
+        None => Err(unfit(alloc, word, "--format <FORMAT>", format_form(action))),
+    }
+}
+
+// Returns the file, the file of the reports, and what leads to a remote target.
+fn names_in(
+    alloc: Global,
+    matches: &ArgMatches<'_>,
+) -> Result<(String, Option<String>, Option<String>), LineFault>
+    ensures file { IfOk result (λ names. Some (string_bytes names.0)
+        ≡ first_of (codes "FILE") (rows_of (found_of matches.now))) }
+    ensures report { IfOk result (λ names. option_map string_bytes names.1
+        ≡ first_of (codes "report") (rows_of (found_of matches.now))) }
+    ensures remote { IfOk result (λ names. option_map string_bytes names.2
+        ≡ first_of (codes "remote") (rows_of (found_of matches.now))) }
+{
+    let Some(file) = text_in(alloc, matches, "FILE")? else {
+        return Err(LineFault::Memory);
+    };
+    let report = text_in(alloc, matches, "report")?;
+    let remote = text_in(alloc, matches, "remote")?;
+    Ok((file, report, remote))
+}
+
 /// Returns the arguments of the command of this name, which is `load`, `verify` or `dump`.
 pub(crate) fn image_line(
     alloc: Global,
@@ -321,40 +363,26 @@ pub(crate) fn image_line(
     let Some(addr) = addr_in(address) else {
         return Err(unfit(alloc, address, "<ADDR>", ADDR_FORM));
     };
-    let Ok(Some(file)) = owned(alloc, matches.get_str("FILE")) else {
-        return Err(LineFault::Memory);
-    };
     let numbers = numbers_in(alloc, matches)?;
-    let Ok(report) = owned(alloc, matches.get_str("report")) else {
-        return Err(LineFault::Memory);
-    };
-    let progress = is_asked_for(matches.get_str("progress"));
-    let Ok(remote) = owned(alloc, matches.get_str("remote")) else {
-        return Err(LineFault::Memory);
-    };
-    let check = is_asked_for(matches.get_str("check"));
-    let bursts = is_asked_for(matches.get_str("bursts"));
-    if let Some(why) = why_unchecked(check, &remote).or(why_unpaced(progress, &report)) {
+    if let Some(why) = why_unwatched(matches) {
         return Err(refused(alloc, ErrorKind::ArgumentConflict, why));
     }
     let memory = target_in(alloc, matches)?;
-    let word = matches.get_str("format");
-    let Some(formats) = formats_in(action, word, file.as_str()) else {
-        return Err(unfit(alloc, word, "--format <FORMAT>", format_form(action)));
-    };
+    let formats = formats_of(alloc, action, matches)?;
+    let names = names_in(alloc, matches)?;
     Ok(ImageLine {
         action,
         addr,
-        file,
+        file: names.0,
         format: formats.0,
         elf: formats.1,
         tries: numbers.0,
         resumes: numbers.1,
-        report,
-        progress,
-        check,
-        remote,
+        report: names.1,
+        progress: is_set(matches, "progress"),
+        check: is_set(matches, "check"),
+        remote: names.2,
         memory,
-        bursts,
+        bursts: is_set(matches, "bursts"),
     })
 }

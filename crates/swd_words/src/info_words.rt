@@ -5,7 +5,7 @@ ghost use Rattle.swd_words.specs.Commands.{AreInfoArguments};
 
 use crate::argument::CommandRow;
 use crate::fault::LineFault;
-use crate::words::{REMOTE, TRIES, numbers_in, owned, refused};
+use crate::words::{REMOTE, TRIES, numbers_in, refused, text_in};
 use clap::ArgMatches;
 use clap::error::ErrorKind;
 use std::alloc::Global;
@@ -38,10 +38,7 @@ pub(crate) const INFO: CommandRow = CommandRow {
 pub(crate) fn info_line(alloc: Global, matches: &ArgMatches<'_>) -> Result<InfoLine, LineFault>
     ensures { IfOk result (λ info. AreInfoArguments info (rows_of (found_of matches.now))) }
 {
-    let Ok(remote) = owned(alloc, matches.get_str("remote")) else {
-        return Err(LineFault::Memory);
-    };
-    let Some(remote) = remote else {
+    let Some(remote) = text_in(alloc, matches, "remote")? else {
         let kind = ErrorKind::MissingRequiredArgument;
         return Err(refused(alloc, kind, NO_TARGET));
     };

@@ -7,7 +7,7 @@ ghost use Rattle.swd_words.specs.Commands.{IsBaseArgument, AreMemoryArguments, I
 
 use crate::argument::{Argument, Form};
 use crate::fault::LineFault;
-use crate::words::{invalid, owned, refused};
+use crate::words::{invalid, refused, text_in};
 use clap::ArgMatches;
 use clap::error::ErrorKind;
 use std::alloc::Global;
@@ -68,21 +68,16 @@ pub(crate) fn memory_line(
 ) -> Result<MemoryLine, LineFault>
     ensures { IfOk result (λ memory. AreMemoryArguments memory (rows_of (found_of matches.now))) }
 {
-    let Ok(memory) = owned(alloc, matches.get_str("memory")) else {
-        return Err(LineFault::Memory);
-    };
-    let Some(file) = memory else {
+    let Some(file) = text_in(alloc, matches, "memory")? else {
         let kind = ErrorKind::MissingRequiredArgument;
         return Err(refused(alloc, kind, missing));
-    };
-    let Ok(plan) = owned(alloc, matches.get_str("plan")) else {
-        return Err(LineFault::Memory);
     };
     let given = matches.get_str("base");
     let Some(base) = base_in(given) else {
         let kind = ErrorKind::InvalidValue;
         return Err(invalid(alloc, kind, given, "--base <ADDR>", BASE_FORM));
     };
+    let plan = text_in(alloc, matches, "plan")?;
     Ok(MemoryLine { file, base, plan })
 }
 

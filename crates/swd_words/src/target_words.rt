@@ -7,7 +7,7 @@ ghost use Rattle.swd_words.specs.Commands.{AreServedArguments, AreTargetArgument
 use crate::argument::{Argument, CommandRow, Form};
 use crate::fault::LineFault;
 use crate::memory_words::{BASE, is_missing, memory_line};
-use crate::words::{PLAN, TRACE, invalid, owned, refused};
+use crate::words::{PLAN, TRACE, invalid, refused, text_in};
 use clap::ArgMatches;
 use clap::error::ErrorKind;
 use std::alloc::Global;
@@ -89,10 +89,7 @@ pub(crate) const TARGET: CommandRow = CommandRow {
 fn served_memory(alloc: Global, matches: &ArgMatches<'_>) -> Result<ServedMemory, LineFault>
     ensures { IfOk result (λ memory. AreServedArguments memory (rows_of (found_of matches.now))) }
 {
-    let Ok(script) = owned(alloc, matches.get_str("SCRIPT")) else {
-        return Err(LineFault::Memory);
-    };
-    let Some(script) = script else {
+    let Some(script) = text_in(alloc, matches, "SCRIPT")? else {
         return match memory_line(alloc, matches, NO_MEMORY) {
             Ok(memory) => Ok(ServedMemory::File(memory)),
             Err(fault) => Err(fault),
@@ -104,9 +101,7 @@ fn served_memory(alloc: Global, matches: &ArgMatches<'_>) -> Result<ServedMemory
     if !is_missing(matches.get_str("base")) {
         return Err(refused(alloc, ErrorKind::ArgumentConflict, NO_BASE));
     }
-    let Ok(plan) = owned(alloc, matches.get_str("plan")) else {
-        return Err(LineFault::Memory);
-    };
+    let plan = text_in(alloc, matches, "plan")?;
     Ok(ServedMemory::Script(ScriptLine { script, plan }))
 }
 
@@ -128,17 +123,13 @@ pub(crate) fn target_line(alloc: Global, matches: &ArgMatches<'_>) -> Result<Tar
     ensures { IfOk result (λ target. AreTargetArguments target (rows_of (found_of matches.now))) }
 {
     let memory = served_memory(alloc, matches)?;
-    let Ok(log) = owned(alloc, matches.get_str("log")) else {
-        return Err(LineFault::Memory);
-    };
-    let Ok(trace) = owned(alloc, matches.get_str("trace")) else {
-        return Err(LineFault::Memory);
-    };
     let given = matches.get_str("idr");
     let Some(idr) = idr_in(given) else {
         let kind = ErrorKind::InvalidValue;
         return Err(invalid(alloc, kind, given, "--idr <WORD>", IDR_FORM));
     };
+    let log = text_in(alloc, matches, "log")?;
+    let trace = text_in(alloc, matches, "trace")?;
     Ok(TargetLine {
         memory,
         log,

@@ -186,12 +186,27 @@ pub(crate) const NUMBER_RANGE: &str = "it is not in 0..=1000";
 const REMOTE_STREAMS: &str = "--remote=-";
 
 // Returns a value as an owned string.
-pub(crate) fn owned(alloc: Global, text: Option<&str>) -> Result<Option<String>, AllocError>
+fn owned(alloc: Global, text: Option<&str>) -> Result<Option<String>, AllocError>
     ensures { IfOk result (λ o. option_map string_bytes o ≡ option_map (λ s. s.now) text.entry) }
 {
     match text {
         Some(text) => Ok(Some(String::from_str(alloc, text)?)),
         None => Ok(None),
+    }
+}
+
+/// Returns the first value of an argument, if it has one.
+pub(crate) fn text_in(
+    alloc: Global,
+    matches: &ArgMatches<'_>,
+    name: &str,
+) -> Result<Option<String>, LineFault>
+    ensures { IfOk result (λ text. option_map string_bytes text
+        ≡ first_of name.now (rows_of (found_of matches.now))) }
+{
+    match owned(alloc, matches.get_str(name)) {
+        Ok(text) => Ok(text),
+        Err(_) => Err(LineFault::Memory),
     }
 }
 
@@ -490,36 +505,36 @@ pub(crate) fn numbers_in(alloc: Global, matches: &ArgMatches<'_>) -> Result<(u32
     Ok((tries, resumes))
 }
 
-// Returns whether a flag is set.
-pub(crate) fn is_asked_for(word: Option<&str>) -> bool
+// Returns whether the value of an argument is that of a flag that is set.
+fn is_asked_for(word: Option<&str>) -> bool
     ensures { (result ≡ true) ↔ (option_map (λ s. s.now) word.entry ≡ Some (codes "true")) }
 {
     word == Some("true")
 }
 
-// Returns the arguments of `swd run`.
+/// Returns whether a flag is set.
+pub(crate) fn is_set(matches: &ArgMatches<'_>, name: &str) -> bool
+    ensures { (result ≡ true) ↔ (first_of name.now (rows_of (found_of matches.now)) ≡ Some (codes "true")) }
+{
+    is_asked_for(matches.get_str(name))
+}
+
+// Returns the arguments of `swd run`. Rejects options that can't be combined.
 fn run_line(alloc: Global, matches: &ArgMatches<'_>) -> Result<RunLine, LineFault>
     ensures { IfOk result (λ run. AreRunArguments run (rows_of (found_of matches.now))) }
 {
-    let Ok(Some(script)) = owned(alloc, matches.get_str("SCRIPT")) else {
-        return Err(LineFault::Memory);
-    };
-    let Ok(plan) = owned(alloc, matches.get_str("plan")) else {
-        return Err(LineFault::Memory);
-    };
-    let Ok(trace) = owned(alloc, matches.get_str("trace")) else {
-        return Err(LineFault::Memory);
-    };
-    let Ok(accesses) = owned(alloc, matches.get_str("accesses")) else {
-        return Err(LineFault::Memory);
-    };
-    let Ok(report) = owned(alloc, matches.get_str("report")) else {
-        return Err(LineFault::Memory);
-    };
-    let Ok(remote) = owned(alloc, matches.get_str("remote")) else {
-        return Err(LineFault::Memory);
-    };
     let numbers = numbers_in(alloc, matches)?;
+    if let Some(why) = why_unmatched(matches) {
+        return Err(refused(alloc, ErrorKind::ArgumentConflict, why));
+    }
+    let Some(script) = text_in(alloc, matches, "SCRIPT")? else {
+        return Err(LineFault::Memory);
+    };
+    let plan = text_in(alloc, matches, "plan")?;
+    let trace = text_in(alloc, matches, "trace")?;
+    let accesses = text_in(alloc, matches, "accesses")?;
+    let report = text_in(alloc, matches, "report")?;
+    let remote = text_in(alloc, matches, "remote")?;
     Ok(RunLine {
         script,
         plan,
@@ -527,56 +542,36 @@ fn run_line(alloc: Global, matches: &ArgMatches<'_>) -> Result<RunLine, LineFaul
         resumes: numbers.1,
         trace,
         accesses,
-        strict: is_asked_for(matches.get_str("strict")),
-        check: is_asked_for(matches.get_str("check")),
+        strict: is_set(matches, "strict"),
+        check: is_set(matches, "check"),
         remote,
         report,
-        progress: is_asked_for(matches.get_str("progress")),
-        bursts: is_asked_for(matches.get_str("bursts")),
+        progress: is_set(matches, "progress"),
+        bursts: is_set(matches, "bursts"),
     })
 }
 
-// Returns the arguments of `swd run`. Rejects options that can't be combined.
-fn matched_line(alloc: Global, matches: &ArgMatches<'_>) -> Result<RunLine, LineFault>
-    ensures { IfOk result (λ run. AreRunArguments run (rows_of (found_of matches.now))) }
-{
-    let run = match run_line(alloc, matches) {
-        Ok(run) => run,
-        Err(fault) => return Err(fault),
-    };
-    match why_unmatched(&run) {
-        Some(why) => Err(refused(alloc, ErrorKind::ArgumentConflict, why)),
-        None => Ok(run),
-    }
-}
-
-// Returns why the options can't be combined, if they can't.
-fn why_unmatched(run: &RunLine) -> Option<&'static str> {
-    if run.remote.is_some() != run.report.is_some() {
+// Returns why the options of `swd run` can't be combined, if they can't.
+fn why_unmatched(matches: &ArgMatches<'_>) -> Option<&'static str> {
+    let remote = matches.get_str("remote").is_some();
+    if remote != matches.get_str("report").is_some() {
         Some("--remote and --report FILE go together")
-    } else if run.remote.is_some() && run.plan.is_some() {
+    } else if remote && matches.get_str("plan").is_some() {
         Some("with --remote there is no --plan")
     } else {
-        why_unchecked(run.check, &run.remote).or(why_unpaced(run.progress, &run.report))
+        why_unwatched(matches)
     }
 }
 
-/// Returns why a session can't be checked, if it can't: only that with a remote target is.
-pub(crate) fn why_unchecked(check: bool, remote: &Option<String>) -> Option<&'static str> {
-    if check && remote.is_none() {
+/// Returns why a session can't be checked, or a command can't say how far it is, if it can't: only a session with a
+/// remote target is checked, and a report on standard error is not to be mixed with progress.
+pub(crate) fn why_unwatched(matches: &ArgMatches<'_>) -> Option<&'static str> {
+    if is_set(matches, "check") && matches.get_str("remote").is_none() {
         Some("--check goes with --remote")
+    } else if is_set(matches, "progress") && matches.get_str("report") == Some("-") {
+        Some("with --report - there is no --progress")
     } else {
         None
-    }
-}
-
-/// Returns why a command can't say how far it is, if it can't: its report goes to standard error, too.
-pub(crate) fn why_unpaced(progress: bool, report: &Option<String>) -> Option<&'static str> {
-    match report {
-        Some(name) if progress && name.as_str() == "-" => {
-            Some("with --report - there is no --progress")
-        }
-        _ => None,
     }
 }
 
@@ -587,11 +582,11 @@ fn line_of(alloc: Global, matches: &ArgMatches<'_>) -> Result<CommandLine, LineF
     let Some((name, rest)) = matches.subcommand() else {
         return Err(unknown(alloc));
     };
-    let Ok(file) = owned(alloc, rest.get_str("FILE")) else {
-        return Err(LineFault::Memory);
-    };
     match name {
-        "one" => Ok(CommandLine::One(file)),
+        "one" => match text_in(alloc, rest, "FILE") {
+            Ok(file) => Ok(CommandLine::One(file)),
+            Err(fault) => Err(fault),
+        },
         "decode" => match decode_line(alloc, rest) {
             Ok(decode) => Ok(CommandLine::Decode(decode)),
             Err(fault) => Err(fault),
@@ -604,8 +599,11 @@ fn line_of(alloc: Global, matches: &ArgMatches<'_>) -> Result<CommandLine, LineF
             Ok(check) => Ok(CommandLine::Check(check)),
             Err(fault) => Err(fault),
         },
-        "encode" => Ok(CommandLine::Encode(file)),
-        "run" => match matched_line(alloc, rest) {
+        "encode" => match text_in(alloc, rest, "FILE") {
+            Ok(file) => Ok(CommandLine::Encode(file)),
+            Err(fault) => Err(fault),
+        },
+        "run" => match run_line(alloc, rest) {
             Ok(run) => Ok(CommandLine::Run(run)),
             Err(fault) => Err(fault),
         },

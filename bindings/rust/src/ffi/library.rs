@@ -44,7 +44,7 @@ pub(super) fn check() {
 
 /// How the library differs from this crate.
 #[derive(Clone, Copy, Debug, PartialEq, Eq)]
-enum Difference {
+pub(super) enum Difference {
     /// The version of the library.
     Version(u32),
     /// The size of a struct in the library.
@@ -114,7 +114,7 @@ struct Room<L> {
 }
 
 /// The layout that the library writes, which is a struct of numbers.
-fn written<L: Copy>(write: unsafe extern "C" fn(*mut L)) -> Result<L, Difference> {
+pub(super) fn written<L: Copy>(write: unsafe extern "C" fn(*mut L)) -> Result<L, Difference> {
     let mut room = Room { layout: MaybeUninit::<L>::zeroed(), more: [0; 1024] };
     // SAFETY: there is room for the struct also where it is larger than ours by 8 kB.
     unsafe { write(ptr::from_mut(&mut room).cast()) };
@@ -133,7 +133,7 @@ macro_rules! fields {
 }
 
 /// Compares fields with the numbers from 1 on: each has its own in all of its bytes.
-fn compare_fields(fields: &[(&'static str, usize, u64)]) -> Result<(), Difference> {
+pub(super) fn compare_fields(fields: &[(&'static str, usize, u64)]) -> Result<(), Difference> {
     for ((name, size, value), number) in fields.iter().zip(1_u64..) {
         if *value != (number * 0x0101_0101_0101_0101) >> (64 - 8 * size) {
             return Err(Difference::Field(name));
@@ -142,7 +142,7 @@ fn compare_fields(fields: &[(&'static str, usize, u64)]) -> Result<(), Differenc
     Ok(())
 }
 
-fn compare_sizes(sizes: &[(&'static str, u64, usize)]) -> Result<(), Difference> {
+pub(super) fn compare_sizes(sizes: &[(&'static str, u64, usize)]) -> Result<(), Difference> {
     match sizes.iter().find(|(_, size, here)| *size != *here as u64) {
         Some((name, size, _)) => Err(Difference::Size { name, size: *size }),
         None => Ok(()),

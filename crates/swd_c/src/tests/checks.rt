@@ -310,12 +310,12 @@ fn a_read_of_seventy_addresses_is_crowded(rt: HostRuntime) {
 
 #[test]
 fn a_check_begins_where_its_start_says(rt: HostRuntime) {
-    for (name, start, has_began, began) in [
+    for (name, start, has_began, began) in &[
         ("made", 1, 1, 0),
         ("at rest", 2, 1, 98),
         ("any", 3, 0, 0),
     ] {
-        let mut watched = started(&rt, name, start, 0);
+        let mut watched = started(&rt, name, *start, 0);
         let items = [
             counted(1, 50),
             counted(3, 2),
@@ -324,9 +324,9 @@ fn a_check_begins_where_its_start_says(rt: HostRuntime) {
         ];
         watch(&rt, name, &mut watched, &items);
         let wanted = SwdVerdict {
-            began,
+            began: *began,
             kind: 1,
-            has_began,
+            has_began: *has_began,
             ..NO_VERDICT
         };
         is_verdict(&rt, name, &watched.check, &wanted);

@@ -77,11 +77,11 @@ fn going_on_begins_with_a_longer_lead(rt: HostRuntime) {
 
 #[test]
 fn a_run_stops_at_each_first_answer_but_ok(rt: HostRuntime) {
-    for seen in [0, 3, 5, 6, 7] {
+    for seen in &[0, 3, 5, 6, 7] {
         let mut run = led();
         let mut rest = cue(REST);
         rest.outcome = plain(LOST);
-        expect_eq(&rt, &next(&mut run, seen), &rest);
+        expect_eq(&rt, &next(&mut run, *seen), &rest);
         expect_eq(&rt, &run.requests, &1);
         expect_eq(&rt, &swd_run_cue(&run), &rest);
     }
@@ -125,9 +125,9 @@ fn a_burst_is_gone_on_with(rt: HostRuntime) {
     let mut run = NO_RUN;
     let mut seen = swd_run_opened(&mut run, accesses.as_slice(), 0, 8);
     expect_eq(&rt, &seen.request, &0x8b);
-    for reply in [1, 0, 1, 0, 1] {
+    for reply in &[1, 0, 1, 0, 1] {
         expect_eq(&rt, &run.answered, &0);
-        seen = swd_run_next(&mut run, accesses.as_slice(), &mut answers, reply);
+        seen = swd_run_next(&mut run, accesses.as_slice(), &mut answers, *reply);
     }
     expect_eq(&rt, &run.answered, &1);
     expect_eq(&rt, &answers[0], &plain(3));

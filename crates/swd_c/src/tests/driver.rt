@@ -28,8 +28,6 @@ pub const ALL: u8 = 5;
 
 pub const LOST: u8 = 6;
 
-pub const TRIES_OUT: u8 = 7;
-
 pub const WRONG_ID: u8 = 8;
 
 pub const CONFUSED: u8 = 9;

@@ -230,7 +230,7 @@ fn accesses_over_the_exported_target(rt: HostRuntime) -> Result<(), Fail> {
         plain(BUS_FAULT),
         value(0x89ab_cdef),
     ];
-    for (name, at_once) in [("at once", true), ("late", false)] {
+    for (name, at_once) in &[("at once", true), ("late", false)] {
         let quirks = Quirks {
             wrap: true,
             late: true,
@@ -243,7 +243,7 @@ fn accesses_over_the_exported_target(rt: HostRuntime) -> Result<(), Fail> {
             words: [0; 16],
             transfers: 0,
             twin: Clocked::new(memory, quirks),
-            at_once,
+            at_once: *at_once,
             alike: true,
         };
         let mut told = [plain(0); 8];
@@ -275,13 +275,13 @@ fn a_slow_bus_is_waited_for(rt: HostRuntime) -> Result<(), Fail> {
     expect_eq(&rt, &pair.perform(&[], &mut []), &ALL);
     assert!(rt; !swd_target_settle(&mut pair.target, VALUE, 7));
     // TAR, and a read of DRW.
-    for (request, data) in [(0x8b, Some(0x2000_0004u64)), (0x9f, None)] {
-        pair.send(request, 8);
+    for (request, data) in &[(0x8b, Some(0x2000_0004u64)), (0x9f, None)] {
+        pair.send(*request, 8);
         pair.leave(1);
         expect_eq(&rt, &(pair.see(3) >> 61), &1);
         pair.leave(1);
         match data {
-            Some(word) => pair.send(word | (u64::from(word.count_ones()) % 2) << 32, 33),
+            Some(word) => pair.send(*word | (u64::from(word.count_ones()) % 2) << 32, 33),
             None => pair.leave(33),
         }
     }
@@ -301,8 +301,8 @@ fn a_slow_bus_is_waited_for(rt: HostRuntime) -> Result<(), Fail> {
     assert!(rt; swd_target_hold(&mut pair.target, 0));
     pair.twin.hold(false);
     // The result of a read can't be `WRITTEN` or another kind.
-    for kind in [0, 1, WRITTEN, 5, 255] {
-        assert!(rt; !swd_target_settle(&mut pair.target, kind, 7));
+    for kind in &[0, 1, WRITTEN, 5, 255] {
+        assert!(rt; !swd_target_settle(&mut pair.target, *kind, 7));
     }
     assert!(rt; swd_target_settle(&mut pair.target, VALUE, 0));
     expect_eq(&rt, &swd_target_wants(&pair.target).kind, &0);

@@ -2,10 +2,26 @@
 use super::engine::{CONFUSED, Row, Turn, all_go};
 use swd_host::{End, Outcome};
 use swd_port::{Access, Answer};
-use swd_simulated::{
-    ABORT, BASE, CSW_WRITE, CTRL_STAT, DRW, DRW_WRITE, RDBUFF, READ, RESEND, SELECT, TAR, WORD,
-    WRITE,
-};
+use swd_simulated::{BASE, READ, WORD, WRITE};
+
+// Requests by their bytes.
+const ABORT: u8 = 0x81;
+
+const CTRL_STAT: u8 = 0x8d;
+
+const SELECT: u8 = 0xb1;
+
+const RESEND: u8 = 0x95;
+
+const RDBUFF: u8 = 0xbd;
+
+const CSW_WRITE: u8 = 0xa3;
+
+const TAR: u8 = 0x8b;
+
+const DRW: u8 = 0x9f;
+
+const DRW_WRITE: u8 = 0xbb;
 
 const TRIES_OUT: Option<Outcome> = Some(Outcome::Stopped(End::TriesOut));
 

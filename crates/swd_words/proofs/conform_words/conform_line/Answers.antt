@@ -1,4 +1,4 @@
-use Rattle.std.proofs.Common.{◌∙◌, ◌≡◌, ◌↔◌, List, [], Option, Some, true, sym, ap, subst, unwrap_or, codes}
+use Rattle.std.proofs.Common.{◌∙◌, List, [], Option, sym, ap, subst, unwrap_or, codes}
 use Rattle.std.specs.Option.{option_map}
 use Rattle.std.specs.String.{string_bytes}
 use Rattle.clap.specs.Words.{Text, all_of, found_of, rows_of}
@@ -9,15 +9,12 @@ use Rattle.swd_words.proofs.conform_words.conform_line.Goals as goal
 
 pub returns : goal.returns
 returns c = record {
-  remote = ap (option_map string_bytes) (sym c.in-Some.is) ∙ c.in-Ok.ensures ∙ c.get_str.ensures
-      ∙ first_value-rows (found_of c.args.matches.now) (codes "remote");
+  remote = ap (option_map string_bytes) (sym c.in-Some.is) ∙ c.in_ok-remote.ensures;
   plain = subst (λ (l : List PlainWords). ArePlainArguments l
       (unwrap_or (all_of (codes "plain") (rows_of (found_of c.args.matches.now))) []))
-      (sym c.as_slice.ensures.value ∙ c.in-Some-only_one.ensures) c.in-Ok-plain_in.ensures;
+      (sym c.as_slice.ensures.value ∙ c.in-Some-only_one.ensures) c.in-Ok.ensures;
   hole = subst (λ (word : Option Text). IsIdrArgument c.in-Some-idr_in.hole word)
       (c.get_str-given.ensures ∙ first_value-rows (found_of c.args.matches.now) (codes "hole"))
       c.in-Some-idr_in.ensures;
-  clean = subst (λ (word : Option Text). (c.is_asked_for-clean.result ≡ true) ↔ (word ≡ Some (codes "true")))
-      (c.get_str-2.ensures ∙ first_value-rows (found_of c.args.matches.now) (codes "clean"))
-      c.is_asked_for-clean.ensures;
+  clean = c.is_set-clean.ensures;
 }

@@ -8,11 +8,9 @@ use Rattle.swd_words.proofs.memory_words.memory_line.Goals as goal
 
 pub returns : goal.returns
 returns c = record {
-  file = ap (option_map string_bytes) (sym c.in-Some.is) ∙ c.in-Ok.ensures ∙ c.get_str.ensures
-      ∙ first_value-rows (found_of c.args.matches.now) (codes "memory");
+  file = ap (option_map string_bytes) (sym c.in-Some.is) ∙ c.in_ok-file.ensures;
   base = subst (λ (word : Option Text). IsBaseArgument c.in-Some-base_in.base word)
       (c.get_str-given.ensures ∙ first_value-rows (found_of c.args.matches.now) (codes "base"))
       c.in-Some-base_in.ensures.base;
-  plan = c.in-Ok-owned.ensures ∙ c.get_str-2.ensures
-      ∙ first_value-rows (found_of c.args.matches.now) (codes "plan");
+  plan = c.in_ok-plan.ensures;
 }

@@ -5,23 +5,20 @@ use Rattle.clap.specs.Words.{found_of}
 use Rattle.clap.proofs.WalkLemmas.{first_value-rows}
 use Rattle.swd_words.proofs.target_words.served_memory.Goals as goal
 
-pub returns-in-Ok-memory_line : goal.returns-in-Ok-memory_line
-returns-in-Ok-memory_line c = (
-  sym (ap (option_map string_bytes) (sym c.in_default-script.is) ∙ c.in-Ok.ensures ∙ c.get_str.ensures
-      ∙ first_value-rows (found_of c.args.matches.now) (codes "SCRIPT")),
-  c.in-Ok-memory_line.ensures,
+pub returns-in-Ok : goal.returns-in-Ok
+returns-in-Ok c = (
+  sym (ap (option_map string_bytes) (sym c.in_default.is) ∙ c.in_ok-script.ensures),
+  c.in-Ok.ensures,
 )
 
 pub returns : goal.returns
 returns c = (
   record {
-    file = ap (option_map string_bytes) (sym c.in-Some.is) ∙ c.in-Ok.ensures ∙ c.get_str.ensures
-        ∙ first_value-rows (found_of c.args.matches.now) (codes "SCRIPT");
-    plan = c.in-Ok-owned.ensures ∙ c.get_str-4.ensures
-        ∙ first_value-rows (found_of c.args.matches.now) (codes "plan");
+    file = ap (option_map string_bytes) (sym c.in-Some.is) ∙ c.in_ok-script.ensures;
+    plan = c.in_ok-plan.ensures;
   },
-  sym (c.get_str-2.ensures ∙ first_value-rows (found_of c.args.matches.now) (codes "memory"))
+  sym (c.get_str.ensures ∙ first_value-rows (found_of c.args.matches.now) (codes "memory"))
       ∙ c.is_missing.ensures.0 c.if-not-is_missing.false,
-  sym (c.get_str-3.ensures ∙ first_value-rows (found_of c.args.matches.now) (codes "base"))
+  sym (c.get_str-2.ensures ∙ first_value-rows (found_of c.args.matches.now) (codes "base"))
       ∙ c.is_missing-2.ensures.0 c.if-not-is_missing-2.false,
 )

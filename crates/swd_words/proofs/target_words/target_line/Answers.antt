@@ -7,9 +7,8 @@ use Rattle.swd_words.proofs.target_words.target_line.Goals as goal
 pub returns : goal.returns
 returns c = record {
   memory = c.in_ok-memory.ensures;
-  log = c.in-Ok.ensures ∙ c.get_str.ensures ∙ first_value-rows (found_of c.args.matches.now) (codes "log");
-  trace = c.in-Ok-owned.ensures ∙ c.get_str-2.ensures
-      ∙ first_value-rows (found_of c.args.matches.now) (codes "trace");
+  log = c.in_ok-log.ensures;
+  trace = c.in_ok-trace.ensures;
   idr = subst (λ (word : Option Text). IsIdrArgument c.in-Some.idr word)
       (c.get_str-given.ensures ∙ first_value-rows (found_of c.args.matches.now) (codes "idr")) c.in-Some.ensures;
 }

@@ -1,19 +1,18 @@
 use Rattle.std.proofs.Common.{◌∙◌, codes}
 use Rattle.clap.specs.Words.{found_of, rows_of, subcommand_rows_of}
-use Rattle.clap.proofs.WalkLemmas.{first_value-rows}
 use Rattle.swd_words.proofs.CommandLemmas.{argument_from_rows, argument_name_in_rows}
 use Rattle.swd_words.proofs.words.line_of.Goals as goal
 
-pub returns-in-one : goal.returns-in-one
-returns-in-one c =
+pub returns-in-Ok : goal.returns-in-Ok
+returns-in-Ok c =
     argument_from_rows (subcommand_rows_of c.args.matches.now) c.in-Some.name.now (codes "one") (codes "FILE")
     (rows_of (found_of c.in-Some.rest.now)) _
     (c.in-Some.ensures.name ∙ argument_name_in_rows c.args.matches.now) c.in-Some.ensures.rows c.in-one.is
-    (c.in-Ok.ensures ∙ c.get_str.ensures ∙ first_value-rows (found_of c.in-Some.rest.now) (codes "FILE"))
+    c.in-Ok.ensures
 
-pub returns-in-encode : goal.returns-in-encode
-returns-in-encode c =
+pub returns-in-Ok-text_in : goal.returns-in-Ok-text_in
+returns-in-Ok-text_in c =
     argument_from_rows (subcommand_rows_of c.args.matches.now) c.in-Some.name.now (codes "encode") (codes "FILE")
     (rows_of (found_of c.in-Some.rest.now)) _
     (c.in-Some.ensures.name ∙ argument_name_in_rows c.args.matches.now) c.in-Some.ensures.rows c.in-encode.is
-    (c.in-Ok.ensures ∙ c.get_str.ensures ∙ first_value-rows (found_of c.in-Some.rest.now) (codes "FILE"))
+    c.in-Ok-text_in.ensures

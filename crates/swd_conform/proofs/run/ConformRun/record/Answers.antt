@@ -4,7 +4,7 @@ use Rattle.swd_port.specs.declared.call.Call.{Call}
 use Rattle.swd_check.specs.Watched.{CheckTakes}
 use Rattle.swd_recorder.specs.declared.in_hand.InHand.{InHand}
 use Rattle.swd_recorder.specs.Items.{recorded_in_hand_by}
-use Rattle.swd_check.specs.Calls.{checked_call_items}
+use Rattle.swd_recorder.specs.Calls.{recorded_call_items}
 use Rattle.swd_conform.specs.Aims.{ConformStays, IsConformAim}
 use Rattle.swd_conform.proofs.RunLemmas.{conform_counts}
 use Rattle.swd_conform.proofs.run.ConformRun.record.Goals as goal
@@ -27,5 +27,5 @@ invariant_of-self g c =
 pub returns-clause-takes : goal.returns-clause-takes
 returns-clause-takes g c =
     let self = c.args.self.now in
-    subst (λ (in_hand : Option InHand). CheckTakes (checked_call_items in_hand c.args.cue c.args.seen) self.items.check
+    subst (λ (in_hand : Option InHand). CheckTakes (recorded_call_items in_hand c.args.cue c.args.seen) self.items.check
     c.take.new.self.check) self.held c.take.ensures
