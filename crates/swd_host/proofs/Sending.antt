@@ -52,7 +52,11 @@ module _ (list : List Access) (answers : List Answer) where
       → EngineStood list answers most S (call ∷ calls)
   stood_other most S call calls none plain h =
       record {
-        sent = h.sent; sure = h.sure; since = h.since; at = h.at; few = h.few;
+        sent = h.sent;
+        sure = h.sure;
+        since = h.since;
+        at = h.at;
+        few = h.few;
         is = plain_other call none
             plain h.is;
       }
@@ -140,11 +144,19 @@ module _ (list : List Access) (answers : List Answer) where
   }
   asked_stood (At Behind) task b calls here none h = absurd h.at
   asked_stood (At p) task b calls here none h = record {
-    sent = h.sent; sure = h.sure; since = h.since; at = h.at; few = h.few;
+    sent = h.sent;
+    sure = h.sure;
+    since = h.since;
+    at = h.at;
+    few = h.few;
     is = other _ none (λ k. (h.at.2, h.at.1)) h.is;
   }
   asked_stood job task b calls here none h = record {
-    sent = h.sent; sure = h.sure; since = h.since; at = h.at; few = h.few;
+    sent = h.sent;
+    sure = h.sure;
+    since = h.since;
+    at = h.at;
+    few = h.few;
     is = other _ none (λ k. absurd (cc)) h.is;
   }
 
