@@ -46,4 +46,5 @@ mod SendingWords
 mod SendingTurns
 mod SendingRuns
 mod Listed
+pub mod Foreseeing
 pub mod Folding

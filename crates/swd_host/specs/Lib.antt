@@ -12,6 +12,7 @@ pub mod Turns
 pub mod Replies
 pub mod Steps
 pub mod Calls
+pub mod Coming
 pub mod Sent
 pub mod Sinks
 pub mod Stages

@@ -1,5 +1,5 @@
 -- An engine after it took the reply to its cue.
-use Rattle.std.specs.Prelude.{ℕ, ◌≡◌, ◌+◌, ◌≤◌, true, false, None}
+use Rattle.std.specs.Prelude.{ℕ, ◌≡◌, ◌+◌, ◌≤◌, true, false, None, is_some}
 use Rattle.swd_bits.specs.Phases.{data_phase_word}
 use Rattle.swd_port.specs.declared.cue.Cue.{Cue}
 use Rattle.swd_port.specs.declared.cue.Cue.TheVariants.{Ask, Take}
@@ -9,6 +9,7 @@ use Rattle.swd_host.specs.Engines.{engine_job, engine_count_more, engine_request
 use Rattle.swd_host.specs.Events.{EngineMeets, EngineMeetsRead, EngineMeetsSent}
 use Rattle.swd_host.specs.Progress.{engine_job_is_of, engine_open_requests}
 use Rattle.swd_host.specs.Steps.{EngineGoesTo, EngineRestsWith, engine_ahead_to, engine_after_read, engine_after_cue}
+use Rattle.swd_host.specs.Steps.{EngineRestsAtTar, engine_is_at_data, engine_tar_to, engine_word_decides}
 use Rattle.swd_host.specs.Tracks.{EngineHasReadData, EngineHasSentCue, EngineHearsAck, EngineCallKeeps}
 use Rattle.swd_host.specs.Turns.{EngineSeesAck, engine_lands_from}
 
@@ -30,6 +31,11 @@ pub record EngineTookData (bits : ℕ) (e f : Engine) : Type 0 where
   pub goes : engine_job_is_of false (engine_job e.state) ≡ true
       → EngineGoesTo (engine_after_read (engine_job e.state) (data_phase_word bits) e.task e.aims e.bursts) f.state
   pub rests : EngineRestsWith (engine_ahead_to (engine_job e.state) e.task) f.state f.ahead
+  -- after a word of right parity that decides nothing, the engine never stops
+  pub on : is_some (data_phase_word bits) ≡ true → engine_word_decides (engine_job e.state) ≡ false
+      → f.state ≡ engine_after_read (engine_job e.state) (data_phase_word bits) e.task e.aims e.bursts
+  pub tar : is_some (data_phase_word bits) ≡ true → engine_word_decides (engine_job e.state) ≡ false
+      → EngineRestsAtTar (engine_tar_to (engine_job e.state) e.task) f.state f.tar
 
 -- an engine after a lead, the data phase of a write or a turnaround
 pub record EngineSentCue (e f : Engine) : Type 0 where
@@ -38,6 +44,8 @@ pub record EngineSentCue (e f : Engine) : Type 0 where
   pub early : CueKeepsResumedOpening e f
   pub meets : EngineMeetsSent e f
   pub goes : EngineGoesTo (engine_after_cue e.state e.task) f.state
+  -- after a data phase that was sent, the engine never stops
+  pub on : engine_is_at_data e.state ≡ true → f.state ≡ engine_after_cue e.state e.task
 
 -- an engine after this reply to this cue
 abbrev pub EngineTookReply : Cue → ℕ → Engine → Engine → Type 0

@@ -1,6 +1,8 @@
 -- The state to which the reply to a cue leads the engine, unless it stops.
 use Rattle.std.specs.Prelude.{ℕ, ◌≡◌, ◌||◌, ◌&&◌, not, Bool, true, false, if◌then◌else◌, Option, Some, None}
+use Rattle.swd_port.specs.declared.access.Answer.{Answer}
 use Rattle.swd_port.specs.declared.access.Answer.TheVariants.{Written, Value, BusFault}
+use Rattle.swd_port.specs.PlainMemory.{plain_address}
 use Rattle.swd_host.specs.declared.engine.Ahead.{Ahead}
 use Rattle.swd_host.specs.declared.engine.Ahead.TheVariants.{Unsent, Sent, Failed}
 use Rattle.swd_host.specs.declared.engine.Phase.TheVariants.{Ask, Data, Waited, Faulted}
@@ -12,12 +14,13 @@ use Rattle.swd_host.specs.declared.outcome.Outcome.TheVariants.{Opened, Answered
 use Rattle.swd_host.specs.declared.request.Job.{Job}
 use Rattle.swd_host.specs.declared.request.Job.TheVariants.{At, Resend, Status, LastStatus, Clear, Check}
 use Rattle.swd_host.specs.declared.request.HostStep.{HostStep}
-use Rattle.swd_host.specs.declared.request.HostStep.TheVariants.{Identify, Confirm, Behind}
+use Rattle.swd_host.specs.declared.request.HostStep.TheVariants.{Identify, ReadCsw, Transfer, Confirm, Behind}
 use Rattle.swd_host.specs.declared.task.Task.{Task}
 use Rattle.swd_host.specs.declared.task.Bursts.{Bursts}
 use Rattle.swd_host.specs.Flags.{host_flags_in}
 use Rattle.swd_host.specs.Requests.{engine_reread_job, engine_repeat_place, engine_word_is_ignored, engine_next_place}
-use Rattle.swd_host.specs.Tasks.{task_is_block, task_is_read}
+use Rattle.swd_host.specs.Addresses.{burst_next_address}
+use Rattle.swd_host.specs.Tasks.{access_of_task, task_is_block, task_is_read}
 
 abbrev pub engine_is_stopped : State → Bool
 engine_is_stopped (Resting (Stopped end)) = true
@@ -123,3 +126,33 @@ engine_ahead_to job task = Unsent
 -- where the engine rests, this is the state of the next access
 abbrev pub EngineRestsWith : Ahead → State → Ahead → Type 0
 EngineRestsWith ahead x known = engine_is_rested x ≡ true → known ≡ ahead
+
+-- The word of this read decides what comes next. Any other word is ignored, or it is the answer of an access, after
+-- which the next one starts.
+abbrev pub engine_word_decides : Job → Bool
+engine_word_decides (At ReadCsw) = false
+engine_word_decides (At Transfer) = false
+engine_word_decides (At Confirm) = false
+engine_word_decides (Resend Confirm) = false
+engine_word_decides (Resend Behind) = false
+engine_word_decides job = true
+
+-- a data phase comes next
+abbrev pub engine_is_at_data : State → Bool
+engine_is_at_data (Doing job Data) = true
+engine_is_at_data x = false
+
+-- what TAR is known to hold after an access: the next address, in the same kilobyte, if no transfer was a bus error
+abbrev pub engine_tar_left : Answer → Ahead → Task → Option ℕ
+engine_tar_left BusFault ahead task = None
+engine_tar_left answer Failed task = None
+engine_tar_left answer ahead task = burst_next_address (plain_address (access_of_task task))
+
+-- the same where the word that this read returned answers the access
+abbrev pub engine_tar_to : Job → Task → Option ℕ
+engine_tar_to (Resend Behind) task = None
+engine_tar_to job task = burst_next_address (plain_address (access_of_task task))
+
+-- where the engine rests, TAR is known to hold this
+abbrev pub EngineRestsAtTar : Option ℕ → State → Option ℕ → Type 0
+EngineRestsAtTar tar x known = engine_is_rested x ≡ true → known ≡ tar

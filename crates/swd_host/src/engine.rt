@@ -1,5 +1,5 @@
 //! The engine: a state machine without I/O, which returns what to send next from what was seen so far.
-ghost use Rattle.std.specs.Prelude.{◌≡◌, ◌+◌, ◌<◌, ◌≤◌, ◌*◌, ◌^◌, true, false, None, IfSome};
+ghost use Rattle.std.specs.Prelude.{◌≡◌, ◌+◌, ◌<◌, ◌≤◌, ◌*◌, ◌^◌, true, false, None, IfSome, is_some};
 ghost use Rattle.swd_port.specs.declared.wire.Due.TheVariants.{Nothing};
 ghost use Rattle.swd_bits.specs.Phases.{data_phase_word};
 ghost use Rattle.swd_port.specs.Port.{Port};
@@ -13,7 +13,8 @@ ghost use Rattle.swd_host.specs.Progress.{engine_job_is_of, engine_open_requests
 ghost use Rattle.swd_host.specs.Replies.{EngineTookReply};
 ghost use Rattle.swd_host.specs.Standing.{EngineIsOpened};
 ghost use Rattle.swd_host.specs.Steps.{EngineGoesTo, EngineRestsWith, engine_ahead_to, engine_after_read};
-ghost use Rattle.swd_host.specs.Steps.{engine_after_cue};
+ghost use Rattle.swd_host.specs.Steps.{EngineRestsAtTar, engine_after_cue, engine_is_at_data, engine_tar_to};
+ghost use Rattle.swd_host.specs.Steps.{engine_word_decides};
 ghost use Rattle.swd_host.specs.Tasks.{event_requests, resumed_bursts};
 ghost use Rattle.swd_host.specs.Turns.{EngineIsNew, EngineStarts, EngineSeesAck, engine_first_state, engine_lands_from};
 ghost use Rattle.swd_host.specs.Tracks.{EngineDueFits, EngineHasReadData, EngineHasSentCue, EngineHearsAck};
@@ -369,6 +370,8 @@ impl Engine {
         ensures early { CueKeepsResumedOpening self.old self.new }
         ensures meets { EngineMeetsSent self.old self.new }
         ensures goes { EngineGoesTo (engine_after_cue self.old.state self.old.task) self.new.state }
+        ensures on { engine_is_at_data self.old.state ≡ true
+            → self.new.state ≡ engine_after_cue self.old.state self.old.task }
     {
         let State::Doing(job, phase) = self.state else {
             self.state = State::Doing(Job::At(HostStep::Identify), Phase::Ask);
@@ -396,6 +399,11 @@ impl Engine {
             self.old.aims self.old.bursts) self.new.state }
         ensures rests { EngineRestsWith (engine_ahead_to (engine_job self.old.state) self.old.task) self.new.state
             self.new.ahead }
+        ensures on { is_some (data_phase_word bits) ≡ true → engine_word_decides (engine_job self.old.state) ≡ false
+            → self.new.state ≡ engine_after_read (engine_job self.old.state) (data_phase_word bits) self.old.task
+            self.old.aims self.old.bursts }
+        ensures tar { is_some (data_phase_word bits) ≡ true → engine_word_decides (engine_job self.old.state) ≡ false
+            → EngineRestsAtTar (engine_tar_to (engine_job self.old.state) self.old.task) self.new.state self.new.tar }
     {
         let State::Doing(job, _) = self.state else {
             unreachable!()

@@ -4,6 +4,7 @@
 
 mod accepting;
 mod block;
+mod coming;
 mod engine;
 mod fields;
 mod flags;

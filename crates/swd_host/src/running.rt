@@ -21,6 +21,7 @@ ghost use Rattle.swd_host.specs.Sent.{HostCalls, HostReportsCalls};
 ghost use Rattle.swd_host.specs.Stages.{EngineListCalls};
 ghost use Rattle.swd_host.specs.Standing.{EngineDoes, EngineHasOpened, EnginePerforms, engine_report};
 
+use crate::coming::announce;
 use crate::engine::Engine;
 use crate::outcome::{End, Ending, Outcome, Refused, Report};
 use crate::sink::AnswerSink;
@@ -103,9 +104,9 @@ fn turn<W: Wire>(wire: &mut W, engine: &mut Engine)
     }
 }
 
-// Drives the engine to its next outcome.
+// Drives the engine to its next outcome. `after` are the accesses after the current one.
 #[inline(always)]
-fn drive<W: Wire>(wire: &mut W, engine: &mut Engine) -> Outcome
+fn drive<W: Wire>(wire: &mut W, engine: &mut Engine, after: &[Access]) -> Outcome
     requires { EngineDueFits engine.old (W.port wire.old) }
     ensures due { EngineDueFits engine.new (W.port wire.new) }
     ensures works { EngineWorks engine.old engine.new }
@@ -119,6 +120,7 @@ fn drive<W: Wire>(wire: &mut W, engine: &mut Engine) -> Outcome
         if let Some(outcome) = engine.finished() {
             return outcome;
         }
+        announce(wire, engine, after);
         turn(wire, engine);
     }
 }
@@ -161,27 +163,44 @@ pub(crate) fn open<W: Wire>(wire: &mut W, engine: &mut Engine) -> Result<(), End
     ensures plan { W.plan wire.new ≡ W.plan wire.old }
     ensures made { HostCalls W.notes (λ calls. EngineTurns engine.old calls engine.new) wire.old wire.new }
 {
-    match drive(wire, engine) {
+    match drive(wire, engine, &[]) {
         Outcome::Stopped(end) => Err(end),
         _ => Ok(()),
     }
 }
 
-// Returns the access after the one at this index.
-fn following(accesses: &[Access], index: usize) -> Option<Access>
+// Returns where the piece of a list ends that has the access at this index. Where a wire makes several transactions by
+// one exchange, a burst ends with its piece, so that packets of 64 bytes can hold it: 11 writes, or 15 reads.
+#[inline(always)]
+fn piece_end(index: usize, count: usize, pieces: Option<Bursts>) -> usize {
+    let length = match pieces {
+        Some(Bursts::Writes) => 11,
+        Some(Bursts::Reads) => 15,
+        _ => return count,
+    };
+    count.min(index.saturating_add(length - index % length))
+}
+
+// Returns the access after the one at this index, unless its piece ends there.
+#[inline(always)]
+fn following(accesses: &[Access], index: usize, end: usize) -> Option<Access>
     requires { index < length accesses.now }
     ensures { IfSome result (HostNextAccess index accesses.now) }
 {
+    if index + 1 == end {
+        return None;
+    }
     accesses.get(index + 1).copied()
 }
 
-// Performs one access.
+// Performs one access. `after` are the accesses after it; the wire may be told of them.
 #[inline(always)]
 fn access<W: Wire>(
     wire: &mut W,
     engine: &mut Engine,
     access: Access,
     following: Option<Access>,
+    after: &[Access],
 ) -> Result<Answer, End>
     requires due { EngineDueFits engine.old (W.port wire.old) }
     requires rests { engine_may_start (engine_outcome engine.old) ≡ true }
@@ -196,7 +215,7 @@ fn access<W: Wire>(
         wire.new }
 {
     engine.start(access, following);
-    match drive(wire, engine) {
+    match drive(wire, engine, after) {
         Outcome::Answered(answer) => Ok(answer),
         Outcome::Stopped(end) => Err(end),
         Outcome::Opened => unreachable!(),
@@ -243,9 +262,16 @@ pub(crate) fn perform<W: Wire, K: AnswerSink>(
     ensures most { K.most sink.old ≤ K.most sink.new }
     ensures keeps { K.keeps sink.old sink.new }
 {
+    let pieces = if wire.looks_ahead() {
+        Some(engine.bursts)
+    } else {
+        None
+    };
     for (index, next) in accesses.iter().enumerate() {
-        let following = following(accesses, index);
-        match access(wire, engine, *next, following) {
+        let end = piece_end(index, accesses.len(), pieces);
+        let following = following(accesses, index, end);
+        let after = accesses.get(index + 1..end).unwrap_or(&[]);
+        match access(wire, engine, *next, following, after) {
             Ok(answer) => sink.take(answer),
             Err(end) => return end,
         }

@@ -13,6 +13,10 @@ ghost use Rattle.swd_host.specs.Steps.{EngineGoesTo, EngineRestsWith, engine_ahe
 ghost use Rattle.swd_host.specs.Steps.{engine_after_check, engine_after_clearing, engine_after_fault, engine_is_rested};
 ghost use Rattle.swd_host.specs.Steps.{engine_after_ignored_word, engine_after_read, engine_after_resend};
 ghost use Rattle.swd_host.specs.Steps.{engine_after_status, engine_after_value, engine_after_write};
+ghost use Rattle.swd_host.specs.Steps.{EngineRestsAtTar, engine_tar_left, engine_tar_to, engine_word_decides};
+ghost use Rattle.swd_host.specs.Addresses.{burst_next_address};
+ghost use Rattle.swd_host.specs.Tasks.{access_of_task};
+ghost use Rattle.swd_port.specs.PlainMemory.{plain_address};
 ghost use Rattle.swd_host.specs.Turns.{EngineLandsAnswered, EngineLandsAtEvent, EngineLandsFromJob};
 ghost use Rattle.swd_host.specs.Tracks.{EngineBefore, EngineChecksFlags, EngineErrorCleared, EngineStepKeeps};
 ghost use Rattle.swd_host.specs.Tracks.{EngineStepKeepsFlags, TaskEarnsAnswer, EngineFaultAtJob, OpeningAskedPower};
@@ -102,6 +106,7 @@ impl Engine {
         ensures meets { EngineMeets false None self.old self.new }
         ensures goes { self.new.state ≡ State.Resting (Outcome.Answered answer) }
         ensures ahead { self.new.ahead ≡ ahead }
+        ensures tar { self.new.tar ≡ engine_tar_left answer ahead self.old.task }
     {
         self.tar = match (answer, ahead) {
             (Answer::BusFault, _) | (_, Ahead::Failed) => None,
@@ -198,6 +203,10 @@ impl Engine {
             → EngineGoesTo (engine_after_read job (Some word) self.old.task self.old.aims self.old.bursts)
             self.new.state }
         ensures rests { EngineRestsWith (engine_ahead_to job self.old.task) self.new.state self.new.ahead }
+        ensures on { engine_word_decides job ≡ false
+            → self.new.state ≡ engine_after_read job (Some word) self.old.task self.old.aims self.old.bursts }
+        ensures tar { engine_word_decides job ≡ false
+            → EngineRestsAtTar (engine_tar_to job self.old.task) self.new.state self.new.tar }
     {
         match job {
             Job::At(place) if self.is_unread(place) => self.pass_over(place),
@@ -230,6 +239,7 @@ impl Engine {
         ensures meets { EngineMeets false None self.old self.new }
         ensures goes { self.new.state ≡ engine_after_ignored_word place }
         ensures rests { EngineRestsWith Ahead.Unsent self.new.state self.new.ahead }
+        ensures tar { EngineRestsAtTar (engine_tar_to (Job.At place) self.old.task) self.new.state self.new.tar }
     {
         match place {
             HostStep::Confirm => self.answer(Answer::Written, Ahead::Unsent),
@@ -247,6 +257,9 @@ impl Engine {
         ensures goes { engine_place_is_of false place ≡ true
             → EngineGoesTo (engine_after_value place word) self.new.state }
         ensures rests { EngineRestsWith (engine_ahead_to (Job.At place) self.old.task) self.new.state self.new.ahead }
+        ensures on { place ≡ HostStep.Confirm → self.new.state ≡ engine_after_value place word }
+        ensures tar { place ≡ HostStep.Confirm
+            → EngineRestsAtTar (engine_tar_to (Job.At place) self.old.task) self.new.state self.new.tar }
     {
         match place {
             HostStep::Identify => self.identify(word),
@@ -267,6 +280,9 @@ impl Engine {
             → EngineGoesTo (engine_after_resend place word) self.new.state }
         ensures rests { EngineRestsWith (engine_ahead_to (Job.Resend place) self.old.task) self.new.state
             self.new.ahead }
+        ensures on { engine_word_decides (Job.Resend place) ≡ false → self.new.state ≡ engine_after_resend place word }
+        ensures tar { engine_word_decides (Job.Resend place) ≡ false
+            → EngineRestsAtTar (engine_tar_to (Job.Resend place) self.old.task) self.new.state self.new.tar }
     {
         match place {
             HostStep::Configured => self.check_csw(is_configured(word)),
@@ -283,6 +299,7 @@ impl Engine {
         ensures meets { EngineMeets false None self.old self.new }
         ensures goes { self.new.state ≡ State.Resting (Outcome.Answered (Answer.Value word)) }
         ensures ahead { self.new.ahead ≡ engine_ahead_sent self.old.task }
+        ensures tar { self.new.tar ≡ burst_next_address (plain_address (access_of_task self.old.task)) }
     {
         let ahead = if self.task.is_block() {
             Ahead::Sent

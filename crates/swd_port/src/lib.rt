@@ -4,6 +4,7 @@
 mod abort;
 mod access;
 mod call;
+mod coming;
 mod count;
 mod csw;
 mod ctrl_stat;
@@ -20,6 +21,7 @@ mod wire;
 pub use abort::Abort;
 pub use access::{Access, Answer, MOST_ACCESSES, Transfer, push_reads};
 pub use call::Call;
+pub use coming::Coming;
 pub use count::Count;
 pub use csw::Csw;
 pub use ctrl_stat::CtrlStat;

@@ -7,6 +7,7 @@ ghost use Rattle.swd_port.specs.Transports.{PortTransportHas, PortTransportHasOv
 ghost use Rattle.swd_port.specs.declared.cue.Cue.TheVariants.{Ask, Take};
 
 use crate::call::Call;
+use crate::coming::Coming;
 use crate::cue::Cue;
 use crate::noted::NotedCalls;
 use crate::wire::{Due, Wire};
@@ -42,6 +43,17 @@ pub trait Transport {
     fn step(&mut self, cue: Cue) -> Result<u64, Disconnected>
         ensures told { (made : List PortAttempt) → tells made self.old
             → tells (made ++ port_attempt cue result ∷ []) self.new };
+
+    /// Returns whether [`announce`](Transport::announce) is of use to this transport now.
+    fn looks_ahead(&self) -> bool {
+        false
+    }
+
+    /// Tells which transactions come next, each as long as those before it are answered OK with right parity. It is no
+    /// call.
+    fn announce(&mut self, _coming: &[Coming])
+        ensures { (made : List PortAttempt) → tells made self.old → tells made self.new }
+    {}
 }
 
 /// Whether the contracts of a wire relate its calls to those that it makes of its transport. It is for contracts alone.
@@ -106,6 +118,14 @@ impl<T: Transport, S: Story, K: Tie> Wire for TransportWire<T, S, K> {
         self.noted = self.noted.and(&Call { cue, seen });
         self.due = due_once(cue, seen);
         seen
+    }
+
+    fn looks_ahead(&self) -> bool {
+        !self.gone && self.transport.looks_ahead()
+    }
+
+    fn announce(&mut self, coming: &[Coming]) {
+        self.transport.announce(coming);
     }
 }
 

@@ -10,6 +10,7 @@ ghost use Rattle.swd_port.specs.Moving.{PortTakes, PortGives, PortPasses};
 ghost use Rattle.swd_port.specs.Stories.{PortMayStep, IsPortSeen, IsPortStep, port_due_once};
 ghost use Rattle.swd_port.specs.declared.call.Call.{Call};
 
+use crate::coming::Coming;
 use crate::cue::Cue;
 use swd_bits::Request;
 
@@ -62,8 +63,9 @@ impl Due {
 /// The host's end of a serial wire (IHI 0031, B4). Each call is a step of the port model at the other end, whose state
 /// contracts see as `port`.
 ///
-/// An implementer writes `due` and `step`. The other calls are named cues of `step`. Bits are numbers with the first
-/// bit in time least significant. No call fails. `due` returns what has to come next, which follows from what was seen:
+/// An implementer writes `due` and `step`. `looks_ahead` and `announce` are for wires over which an exchange is slow,
+/// and for those that pass calls on. The other calls are named cues of `step`. Bits are numbers with the first bit in
+/// time least significant. No call fails. `due` returns what has to come next, which follows from what was seen:
 ///
 /// ```text
 /// // What DPIDR reads after a line reset.
@@ -110,6 +112,22 @@ pub trait Wire {
         ensures plan { plan self.new ≡ plan self.old }
         ensures notes { (calls : List Call) → notes calls self.old
             → notes (record { cue = cue; seen = result } ∷ calls) self.new };
+
+    /// Returns whether [`announce`](Wire::announce) is of use to this wire now.
+    #[inline(always)]
+    fn looks_ahead(&self) -> bool {
+        false
+    }
+
+    /// Tells which transactions come next, each as long as those before it are answered OK with right parity. A wire
+    /// to a probe can have several made by one exchange. It makes no call, and changes nothing that contracts see.
+    #[inline(always)]
+    fn announce(&mut self, _coming: &[Coming])
+        ensures port { port self.new ≡ port self.old }
+        ensures plan { plan self.new ≡ plan self.old }
+        ensures lawful { lawful self.new → lawful self.old }
+        ensures notes { (calls : List Call) → notes calls self.old → notes calls self.new }
+    {}
 
     /// Drives `ones` cycles high, if `switch` the sixteen bits 0111100111100111 in time order and the ones again, and
     /// then `zeros` cycles low. With ones this is a line reset. Where anything but `Due::Nothing` is due, the first 34
@@ -218,5 +236,15 @@ impl<W: Wire> Wire for &mut W {
     #[inline(always)]
     fn step(&mut self, cue: Cue) -> u64 {
         (**self).step(cue)
+    }
+
+    #[inline(always)]
+    fn looks_ahead(&self) -> bool {
+        (**self).looks_ahead()
+    }
+
+    #[inline(always)]
+    fn announce(&mut self, coming: &[Coming]) {
+        (**self).announce(coming);
     }
 }

@@ -19,7 +19,7 @@ use crate::trace_file::{write_settled, write_to};
 use std::alloc::Allocator;
 use std::io::Write;
 use std::marker::{Brand, PhantomData};
-use swd_port::{Cue, Due, Wire};
+use swd_port::{Coming, Cue, Due, Wire};
 use swd_recorder::Recorder;
 
 /// The state of the port model at the start of a recorded run, the contents of the trace's writer, if there is one, and
@@ -112,5 +112,13 @@ impl<W: Wire, T: Write, A: Allocator, B: Origin> Wire for Traced<W, T, A, B> {
         let seen = self.recorder.step(cue);
         write_settled(&mut self.file, self.recorder.items(), cue);
         seen
+    }
+
+    fn looks_ahead(&self) -> bool {
+        self.recorder.looks_ahead()
+    }
+
+    fn announce(&mut self, coming: &[Coming]) {
+        self.recorder.announce(coming);
     }
 }

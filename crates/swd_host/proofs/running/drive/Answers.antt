@@ -1,4 +1,4 @@
-use Rattle.swd_host.proofs.Words.{sym, ap, refl, ◌∙◌, is_some}
+use Rattle.swd_host.proofs.Words.{sym, ap, refl, ◌∙◌, is_some, subst, EngineGoesWithPort}
 use Rattle.swd_host.proofs.Going.{engine_goes_refl, engine_goes_trans}
 use Rattle.swd_host.proofs.Working.{engine_works_refl, engine_works_trans}
 use Rattle.swd_host.specs.Calls.{EngineTurns}
@@ -22,10 +22,14 @@ loop-outcome-preserved g c =
       works = engine_works_trans _ c.loop-outcome.engine _ on c.loop-outcome.invariant.works c.turn.ensures.works;
       goes = λ lawful. (
           let late = c.turn.ensures.goes lawful in
-          let soon = c.loop-outcome.invariant.goes late.0 in
-          (soon.0, engine_goes_trans _ c.loop-outcome.engine _ _ _ _ on soon.1 late.1));
-      plan = c.turn.ensures.plan ∙ c.loop-outcome.invariant.plan;
+          let soon = c.loop-outcome.invariant.goes (c.announce.ensures.lawful late.0) in
+          let on_from = subst
+          (λ s. EngineGoesWithPort c.loop-outcome.engine s c.turn.new.engine (g.W.Wire.port c.turn.new.wire))
+          c.announce.ensures.port late.1 in
+          (soon.0, engine_goes_trans _ c.loop-outcome.engine _ _ _ _ on soon.1 on_from));
+      plan = c.turn.ensures.plan ∙ c.announce.ensures.plan ∙ c.loop-outcome.invariant.plan;
       made = host_calls_append g.W.Wire.notes (λ calls. EngineTurns c.args.engine.now calls c.loop-outcome.engine)
           (λ calls. EngineTurns c.loop-outcome.engine calls c.turn.new.engine) _ _ _ _
-          (engine_turns_trans _ c.loop-outcome.engine _) c.loop-outcome.invariant.made c.turn.ensures.made;
+          (engine_turns_trans _ c.loop-outcome.engine _) c.loop-outcome.invariant.made
+          (λ calls kept. c.turn.ensures.made calls (c.announce.ensures.notes calls kept));
     }
