@@ -1,0 +1,4 @@
+pub mod TransferLemmas
+pub mod BeginningLemmas
+pub mod LeadLemmas
+pub mod CallLemmas

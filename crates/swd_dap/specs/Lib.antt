@@ -1,0 +1,7 @@
+pub mod Transfers
+pub mod Sequences
+pub mod Packets
+pub mod Opening
+pub mod Leading
+pub mod Nexts
+pub mod Calls

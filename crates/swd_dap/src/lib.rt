@@ -1,0 +1,16 @@
+//! A debug probe that speaks CMSIS-DAP, as the transport of a wire. Several transactions go by one packet where the
+//! host says which come next.
+#![tactic(auto)]
+
+mod beginning;
+mod packets;
+mod replies;
+mod reports;
+mod requests;
+mod sequences;
+mod transfer;
+mod transport;
+
+pub use packets::{DapFault, LONGEST, Packets};
+pub use reports::Reports;
+pub use transport::DapTransport;
