@@ -1,3 +1,5 @@
 pub mod Accesses
+pub mod CoreTargets
+pub mod Cores
 pub mod Flashes
 pub mod FourRegisters

@@ -2,16 +2,21 @@
 //! [`Attached`] makes a device of it for a simulated target.
 //!
 //! - [`Registers`]: a status, a key, a FIFO and a flag;
-//! - [`Flash`]: a flash controller with a page of one double word.
+//! - [`Flash`]: a flash controller with a page of one double word;
+//! - [`CoreTarget`]: a memory, and a [`Core`] with halting debug beside it.
 //!
 //! [`Peripheral`]: swd_target::Peripheral
 //! [`Attached`]: swd_target::Attached
 #![tactic(auto)]
 
+mod core_target;
 mod flash;
+mod halting;
 mod registers;
 mod seen;
 
+pub use core_target::CoreTarget;
 pub use flash::{Flash, Lock};
+pub use halting::Core;
 pub use registers::{Key, Registers};
 pub use seen::Seen;
