@@ -29,6 +29,7 @@ use Rattle.swd_check.specs.declared.why.Broken.{Broken}
 use Rattle.swd_check.specs.declared.check.Check.{Check}
 use Rattle.swd_check.specs.Watched.{CheckIndex, CheckBreaksAt, CheckBroke, CheckHolds, CheckTakes, CheckJudges}
 use Rattle.swd_check.specs.Watched.{CheckRulesHold, CheckRulesTake, IsCheckJudged}
+use Rattle.swd_check.specs.Watched.{IsCheckedAnswer, HasCheckedAnswer}
 
 -- GAPS
 junk_stays : (none : Bool) (b : Bool) (g : CheckedGap) → (g.stray == 0) ≡ none → g.in_gap ≡ true
@@ -84,12 +85,47 @@ shows_here c clean item g s t wire (inr same) shows =
     subst (λ b. CheckedShows b (checker_gap c) item s t) (sym wire)
     (subst (λ h. CheckedShows clean h item s t) (sym same) shows)
 
+-- ANSWERS
+-- after one item more the target answered if it did before, or if the item is an answer
+answer_more : (items : List Item) (item : Item) → HasCheckedAnswer items ⊎ IsCheckedAnswer item
+    → HasCheckedAnswer (items ++ item ∷ [])
+answer_more items item (inl h) = record {
+  before = h.before;
+  tx = h.tx;
+  after = h.after ++ item ∷ [];
+  is = ap (λ l. l ++ item ∷ []) h.is ∙ append_assoc h.before (Tx h.tx ∷ h.after) (item ∷ []);
+  acknowledged = h.acknowledged;
+}
+answer_more items item (inr h) = record {
+  before = items;
+  tx = h.0;
+  after = [];
+  is = ap (λ x. items ++ x ∷ []) h.1;
+  acknowledged = h.2;
+}
+
+-- what is noted of a step
+abbrev pub AnswersMore : Item → Rules → Rules → Type 0
+AnswersMore item r now = now.is_answered ≡ true → (r.is_answered ≡ true) ⊎ IsCheckedAnswer item
+
+answered_more : (items : List Item) (item : Item) (r now : Rules) → AnswersMore item r now
+    → (r.is_answered ≡ true → HasCheckedAnswer items) → now.is_answered ≡ true → HasCheckedAnswer (items ++ item ∷ [])
+answered_more items item r now more before e = elim (more e) as (λ _. HasCheckedAnswer (items ++ item ∷ [])) [
+  | inl f ↦ answer_more items item (inl (before f))
+  | inr f ↦ answer_more items item (inr f)
+]
+
+-- nothing is noted
+pub answers_same : (item : Item) (r now : Rules) → now.is_answered ≡ r.is_answered → AnswersMore item r now
+answers_same item r now same = λ e. inl (sym same ∙ e)
+
 -- RULES
 -- the checker watches an item
 pub check_rules_watch : (item : Item) (r now : Rules) → CheckerWatches item r.checker now.checker
     → CheckerFollows item r.checker now.checker → now.outside ≡ r.outside
-    → (now.is_outside ≡ true → (r.is_outside ≡ true) × ((ones : ℕ) → item ≡ Reset ones → ⊥)) → CheckRulesTake item r now
-check_rules_watch item r now watches follows place outside = λ start clean items unbroken h. record {
+    → (now.is_outside ≡ true → (r.is_outside ≡ true) × ((ones : ℕ) → item ≡ Reset ones → ⊥))
+    → AnswersMore item r now → CheckRulesTake item r now
+check_rules_watch item r now watches follows place outside answers = λ start clean items unbroken h. record {
   holds = λ s t starts run.
       let x = checked_last_shown clean checked_gap_none items item s t run in
       watches.holds x.0 t
@@ -102,6 +138,7 @@ check_rules_watch item r now watches follows place outside = λ start clean item
       ap (λ (g : CheckedGap). g.in_gap) (watches.gap unbroken)
       ∙ gap_stays item (checker_gap r.checker) o.1 (h.outside o.0);
   left = λ e f. h.left (outside e).0 (sym place ∙ f);
+  answered = answered_more items item r now answers h.answered;
   fits = λ made inside room whole legal gapless.
       let l = legal_items_more items item legal in
       let g = checked_gapless_more checked_gap_none items item gapless in
@@ -113,9 +150,9 @@ check_rules_watch item r now watches follows place outside = λ start clean item
 -- an item that a checker in a gap isn't given
 check_rules_stay : (item : Item) (start : CheckStart) (clean : Bool) (items : List Item) (r now : Rules)
     → now.checker ≡ r.checker → now.outside ≡ r.outside → now.is_outside ≡ r.is_outside → r.checker.in_gap ≡ true
-    → (r.outside ≡ None → AreGapless checked_gap_none items → ⊥) → CheckRulesHold start clean r items
-    → CheckRulesHold start clean now (items ++ item ∷ [])
-check_rules_stay item start clean items r now same place stays gap never h =
+    → (r.outside ≡ None → AreGapless checked_gap_none items → ⊥) → AnswersMore item r now
+    → CheckRulesHold start clean r items → CheckRulesHold start clean now (items ++ item ∷ [])
+check_rules_stay item start clean items r now same place stays gap never answers h =
     let there : now.checker.in_gap ≡ true = ap (λ (c : Checker). c.in_gap) same ∙ gap in record {
       holds = λ s t starts run.
           let x = checked_last_shown clean checked_gap_none items item s t run in
@@ -126,21 +163,22 @@ check_rules_stay item start clean items r now same place stays gap never h =
       gap = inl there;
       outside = λ e. there;
       left = λ e f. h.left (sym stays ∙ e) (sym place ∙ f);
+      answered = answered_more items item r now answers h.answered;
       fits = λ made inside room whole legal gapless. absurd (never (sym place ∙ inside)
           (checked_gapless_more checked_gap_none items item gapless).0);
     }
 
 -- outside of the model an item isn't looked at
 pub check_rules_outside : (item : Item) (r now : Rules) → now.checker ≡ r.checker → now.outside ≡ r.outside
-    → now.is_outside ≡ r.is_outside → r.is_outside ≡ true → CheckRulesTake item r now
-check_rules_outside item r now same place stays outside = λ start clean items unbroken h.
+    → now.is_outside ≡ r.is_outside → r.is_outside ≡ true → AnswersMore item r now → CheckRulesTake item r now
+check_rules_outside item r now same place stays outside answers = λ start clean items unbroken h.
     check_rules_stay item start clean items r now same place stays (h.outside outside)
-    (λ inside gapless. h.left outside inside) h
+    (λ inside gapless. h.left outside inside) answers h
 
 -- and where a session leaves the model
 pub check_rules_leave : (item : Item) (r now : Rules) → CheckerLeaves r.checker now.checker
-    → (now.outside ≡ None → ⊥) → CheckRulesTake item r now
-check_rules_leave item r now leaves left = λ start clean items unbroken h.
+    → (now.outside ≡ None → ⊥) → AnswersMore item r now → CheckRulesTake item r now
+check_rules_leave item r now leaves left answers = λ start clean items unbroken h.
     let there : now.checker.in_gap ≡ true = ap (λ (g : CheckedGap). g.in_gap) leaves.gap in record {
       holds = λ s t starts run.
           let x = checked_last_shown clean checked_gap_none items item s t run in
@@ -150,6 +188,7 @@ check_rules_leave item r now leaves left = λ start clean items unbroken h.
       gap = inl there;
       outside = λ e. there;
       left = λ e f. left f;
+      answered = answered_more items item r now answers h.answered;
       fits = λ made inside. absurd (left inside);
     }
 
@@ -231,16 +270,18 @@ pub no_some : (broken : Option Broken) → ((b : Broken) → broken ≡ Some b �
 no_some None h = refl
 no_some (Some b) h = absurd (h b refl)
 
--- where no rule is broken, and all was checked, some run shows the items
+-- where no rule is broken, and all was checked, the target answered, and some run shows the items
 pub check_fits : {A : Type 0} (i : CheckIndex) (check : Check A) (seen : List Item) → check.broken ≡ None
     → check.rules.outside ≡ None → (check.rules.checker.broken ≡ None → check.rules.checker.crowded ≡ None)
-    → CheckHolds i check seen → i.start ≡ Made → AreLegalItems seen → AreGapless checked_gap_none seen
-    → AreShownByRun Made i.clean seen
-check_fits i check seen none inside room h made legal gapless =
+    → check.rules.is_answered ≡ true → CheckHolds i check seen → HasCheckedAnswer seen × (i.start ≡ Made
+    → AreLegalItems seen → AreGapless checked_gap_none seen → AreShownByRun Made i.clean seen)
+check_fits i check seen none inside room answered h =
     let k = h.rules none in
-    let whole = h.unbroken none in
-    subst (λ b. AreShownByRun Made b seen) k.wire
-    (shown_by_run Made seen check.rules.checker (k.fits made inside (room whole) whole legal gapless))
+    let whole = h.unbroken none in (
+      k.answered answered,
+      λ made legal gapless. subst (λ b. AreShownByRun Made b seen) k.wire
+          (shown_by_run Made seen check.rules.checker (k.fits made inside (room whole) whole legal gapless)),
+    )
 
 -- SKIPS
 stray_less : (n k : ℕ) → (n == 0) ≡ false → n < suc k → n - 1 < k
@@ -318,7 +359,8 @@ check_rules_junk (suc k) start clean items r gap never h =
     subst (CheckRulesHold start clean r) (append_assoc items (Junk false ∷ []) (replicate k (Junk false)))
     (check_rules_junk k start clean (items ++ Junk false ∷ []) r gap
     (λ gapless. never (checked_gapless_more checked_gap_none items (Junk false) gapless).0)
-    (check_rules_stay (Junk false) start clean items r r refl refl refl gap (λ inside gapless. never gapless) h))
+    (check_rules_stay (Junk false) start clean items r r refl refl refl gap (λ inside gapless. never gapless)
+    (answers_same (Junk false) r r refl) h))
 
 junk_joined : (seen : List Item) (n : ℕ) → 35 ≤ n
     → (seen ++ replicate 35 (Junk false)) ++ replicate (n - 35) (Junk false) ≡ seen ++ replicate n (Junk false)

@@ -1,5 +1,7 @@
 -- What a check knows of the items that it took, and what its verdict says of them.
 use Rattle.std.specs.Prelude.{◌≡◌, ◌⊎◌, ◌++◌, Bool, true, false, List, [], ◌∷◌, Option, None, Some}
+use Rattle.swd_bits.specs.declared.tx.TxEnd.{TxEnd}
+use Rattle.swd_bits.specs.declared.tx.TxEnd.TheVariants.{NoAck}
 use Rattle.swd_bits.specs.declared.tx.Tx.{Tx as Transaction}
 use Rattle.swd_trace.specs.declared.item.Item.{Item}
 use Rattle.swd_trace.specs.declared.item.Item.TheVariants.{Tx}
@@ -44,14 +46,29 @@ pub record CheckBreaksAt (start : CheckStart) (clean : Bool) (items : List Item)
   pub is : items ≡ before ++ Tx tx ∷ after
   pub never : IsShownByNoRun start clean (before ++ Tx tx ∷ [])
 
--- What a verdict says of the items: where a rule of the port model is broken, it is so. Where the items fit, of a
--- target
--- in its reset state, some run of the model shows them, if no bits hide a part of the session.
+-- the target acknowledged a request
+abbrev pub is_checked_ack : TxEnd → Bool
+is_checked_ack (NoAck seen) = false
+is_checked_ack end = true
+
+abbrev pub IsCheckedAnswer : Item → Type 0
+IsCheckedAnswer item = (tx : Transaction) × (item ≡ Tx tx) × (is_checked_ack tx.result ≡ true)
+
+-- it did so once at least
+pub record HasCheckedAnswer (items : List Item) : Type 0 where
+  pub before : List Item
+  pub tx : Transaction
+  pub after : List Item
+  pub is : items ≡ before ++ Tx tx ∷ after
+  pub acknowledged : is_checked_ack tx.result ≡ true
+
+-- What a verdict says of the items: where a rule of the port model is broken, it is so. Where the items fit, the target
+-- answered, and of one in its reset state, some run of the model shows them, if no bits hide a part of the session.
 abbrev pub CheckSays : CheckIndex → List Item → Checked → Type 0
 CheckSays i items (Breaks broken) =
     is_check_rule broken.why ≡ true → CheckBreaksAt i.start i.clean items broken.tx
-CheckSays i items (Fits count from faults gaps) = i.start ≡ Made → AreLegalItems items
-    → AreGapless checked_gap_none items → AreShownByRun Made i.clean items
+CheckSays i items (Fits count from faults gaps) = HasCheckedAnswer items × (i.start ≡ Made
+    → AreLegalItems items → AreGapless checked_gap_none items → AreShownByRun Made i.clean items)
 CheckSays i items checked = Unit {0}
 
 -- Rules that took these items. Outside of the model the checker is in a gap, and the items may be in none.
@@ -62,6 +79,7 @@ pub record CheckRulesHold (start : CheckStart) (clean : Bool) (r : Rules) (items
   pub gap : (r.checker.in_gap ≡ true) ⊎ (checker_gap r.checker ≡ checked_gap_over items checked_gap_none)
   pub outside : r.is_outside ≡ true → r.checker.in_gap ≡ true
   pub left : r.is_outside ≡ true → r.outside ≡ None → ⊥
+  pub answered : r.is_answered ≡ true → HasCheckedAnswer items
   pub fits : start ≡ Made → r.outside ≡ None → r.checker.crowded ≡ None → r.checker.broken ≡ None
       → AreLegalItems items → AreGapless checked_gap_none items → CheckerShows Made items r.checker
 

@@ -40,6 +40,11 @@ impl<A: Allocator + Copy> Beside<A> {
         self.exact.is_some() || !self.plain.is_empty()
     }
 
+    /// Returns the place from which on it isn't decided, since there was no memory to note a word of a plain memory.
+    pub(crate) fn full(&self) -> Option<u64> {
+        self.plain.full()
+    }
+
     /// Takes a transaction, with what is known before and after it, and what it shows. Returns why it isn't right, if
     /// it isn't.
     pub(crate) fn take(

@@ -108,11 +108,16 @@ impl<A: Allocator + Copy> Check<A> {
         if let Some(broken) = self.broken {
             return Checked::Breaks(broken);
         }
-        match (self.rules.outside(), self.rules.crowded()) {
-            (Some(place), Some(before)) if before < place => Checked::Crowded { place: before },
-            (Some(place), _) => Checked::Outside { place },
-            (None, Some(place)) => Checked::Crowded { place },
-            (None, None) => Checked::Fits {
+        match (
+            self.rules.outside(),
+            self.crowded(),
+            self.rules.is_answered(),
+        ) {
+            (Some(place), Some(before), _) if before < place => Checked::Crowded { place: before },
+            (Some(place), _, _) => Checked::Outside { place },
+            (None, Some(place), _) => Checked::Crowded { place },
+            (None, None, false) => Checked::Crowded { place: 0 },
+            (None, None, true) => Checked::Fits {
                 items,
                 from: match self.rules.began() {
                     Some(0) => None,
@@ -121,6 +126,19 @@ impl<A: Allocator + Copy> Check<A> {
                 faults: self.rules.faults(),
                 gaps: self.rules.gaps(),
             },
+        }
+    }
+
+    // Returns the place from which on it isn't decided, since there was too little room, or too little was known.
+    fn crowded(&self) -> Option<u64>
+        ensures { result ≡ None → self.now.rules.checker.broken ≡ None → self.now.rules.checker.crowded ≡ None }
+    {
+        let Some(place) = self.rules.crowded() else {
+            return self.beside.full();
+        };
+        match self.beside.full() {
+            Some(full) => Some(place.min(full)),
+            None => Some(place),
         }
     }
 

@@ -1,6 +1,7 @@
 //! Plain memory: each word is the one that was written to it last.
 
 use std::alloc::{AllocError, Allocator};
+use std::collections::BTreeMap;
 use swd_observer::{How, ObservedAccess};
 
 /// A word that was read or written, and the place of that access's request.
@@ -10,30 +11,21 @@ pub struct Read {
     pub place: u64,
 }
 
-/// What is known of a word.
-#[derive(Clone, Copy)]
-struct Known {
-    read: Read,
-    /// It is known if it was noted since everything was last forgotten.
-    noted: u64,
-}
-
 /// Addresses of a plain memory.
 #[derive(Clone, Copy)]
 struct Region {
     base: u32,
     words: u32,
-    /// The index of its first word.
-    first: usize,
 }
 
-/// Plain memories, and what is known of their words.
+/// Plain memories, and what is known of their words. Only words that are known take memory.
 #[derive(Drop)]
 pub struct PlainMemory<A: Allocator> {
     regions: Vec<Region, A>,
-    words: Vec<Known, A>,
-    /// How often everything was forgotten, and 1 more.
-    forgotten: u64,
+    /// The known words, by their address, a multiple of 4.
+    known: BTreeMap<u32, Read, A>,
+    /// The place of the first word that wasn't noted, since there was no memory for it.
+    full: Option<u64>,
 }
 
 /// Why an access isn't one of a plain memory.
@@ -50,25 +42,18 @@ impl<A: Allocator + Copy> PlainMemory<A> {
     pub fn new(alloc: A) -> PlainMemory<A> {
         PlainMemory {
             regions: Vec::new(alloc),
-            words: Vec::new(alloc),
-            forgotten: 1,
+            known: BTreeMap::new(alloc),
+            full: None,
         }
     }
 
-    /// Adds so many words from an address on, a multiple of 4.
+    /// Adds so many words from an address on, a multiple of 4. It takes memory for the range, not for its words.
     ///
     /// # Errors
     ///
     /// Out of memory.
     pub fn add(&mut self, base: u32, words: u32) -> Result<(), AllocError> {
-        let first = self.words.len();
-        for _ in 0..words {
-            self.words.push(Known {
-                read: Read { word: 0, place: 0 },
-                noted: 0,
-            })?;
-        }
-        self.regions.push(Region { base, words, first })?;
+        self.regions.push(Region { base, words })?;
         Ok(())
     }
 
@@ -77,9 +62,14 @@ impl<A: Allocator + Copy> PlainMemory<A> {
         self.regions.is_empty()
     }
 
+    /// Returns the place from which on a word may be missing, since there was no memory to note it.
+    pub(crate) fn full(&self) -> Option<u64> {
+        self.full
+    }
+
     /// Forgets what is known.
     pub(crate) fn forget(&mut self) {
-        self.forgotten = self.forgotten.saturating_add(1);
+        self.known.clear();
     }
 
     /// Takes an access that a trace shows. Returns why it isn't one of a plain memory, if it isn't. Where `clean` is
@@ -91,9 +81,9 @@ impl<A: Allocator + Copy> PlainMemory<A> {
             }
             return None;
         };
-        let Some(index) = self.index_of(addr) else {
+        if !self.has(addr) {
             return None;
-        };
+        }
         match (told.how, told.word) {
             (How::Not, word) => refused(told, addr, clean && word.is_some()),
             (How::Took, Some(word)) => {
@@ -101,53 +91,53 @@ impl<A: Allocator + Copy> PlainMemory<A> {
                     word,
                     place: told.place,
                 };
-                self.note(index, addr, told.read, found)
+                self.note(addr, told.read, found)
             }
             _ => {
                 if !told.read {
-                    self.lose(index);
+                    self.known.remove(&word_at(addr));
                 }
                 None
             }
         }
     }
 
-    // Returns the index of the word at an address.
-    fn index_of(&self, addr: u32) -> Option<usize> {
+    // Returns whether there is a word at an address.
+    fn has(&self, addr: u32) -> bool {
         for region in self.regions.as_slice() {
-            if addr >= region.base {
-                let word = (addr - region.base) / 4;
-                if word < region.words {
-                    return region.first.checked_add(word as usize);
-                }
+            if addr >= region.base && (addr - region.base) / 4 < region.words {
+                return true;
             }
         }
-        None
+        false
     }
 
     // Notes a word that was read or written.
-    fn note(&mut self, index: usize, addr: u32, read: bool, found: Read) -> Option<NotPlain> {
-        let noted = self.forgotten;
-        let Some(known) = self.words.get_mut(index) else {
-            return None;
-        };
-        let held = known.read;
-        if read && known.noted == noted {
-            return if held.word == found.word {
-                None
-            } else {
-                Some(NotPlain::Differs { addr, found, held })
-            };
+    fn note(&mut self, addr: u32, read: bool, found: Read) -> Option<NotPlain> {
+        let at = word_at(addr);
+        if read {
+            if let Some(held) = self.known.get(&at) {
+                return differs(addr, found, *held);
+            }
         }
-        *known = Known { read: found, noted };
+        if self.known.insert(at, found).is_err() {
+            self.full = self.full.or(Some(found.place));
+        }
         None
     }
+}
 
-    // Forgets one word.
-    fn lose(&mut self, index: usize) {
-        if let Some(known) = self.words.get_mut(index) {
-            known.noted = 0;
-        }
+// Returns the address of the word that has this one.
+fn word_at(addr: u32) -> u32 {
+    addr - addr % 4
+}
+
+// Returns a read of another word than the one that is known.
+fn differs(addr: u32, found: Read, held: Read) -> Option<NotPlain> {
+    if held.word == found.word {
+        None
+    } else {
+        Some(NotPlain::Differs { addr, found, held })
     }
 }
 

@@ -1,14 +1,14 @@
 //! The rules of the port model, up to where a session leaves it.
-ghost use Rattle.std.specs.Prelude.{◌≡◌, true, false, IfSome, None, []};
+ghost use Rattle.std.specs.Prelude.{◌≡◌, ◌⊎◌, true, false, IfSome, None, []};
 ghost use Rattle.swd_bits.specs.declared.tx.Tx.{Tx as Transaction};
 ghost use Rattle.swd_trace.specs.declared.item.Item.{Item};
 ghost use Rattle.swd_checker.specs.Standing.{CheckerWatches, CheckerLeaves};
 ghost use Rattle.swd_checker.specs.Fitting.{CheckerFollows};
-ghost use Rattle.swd_check.specs.Watched.{CheckRulesHold, CheckRulesTake};
+ghost use Rattle.swd_check.specs.Watched.{CheckRulesHold, CheckRulesTake, IsCheckedAnswer, is_checked_ack};
 
 use crate::check::CheckOptions;
 use crate::overrun::Overrun;
-use swd_bits::Tx;
+use swd_bits::{Tx, TxEnd};
 use swd_checker::{Checker, Origins, Reason, Verdict};
 use swd_trace::Item;
 
@@ -22,6 +22,8 @@ pub(crate) struct Rules {
     outside: Option<u64>,
     /// Whether it left the model and there was no line reset since.
     is_outside: bool,
+    /// Whether the target acknowledged a request that was checked.
+    is_answered: bool,
 }
 
 /// Where a transaction stands.
@@ -47,6 +49,7 @@ impl Rules {
             overrun: Overrun::new(options.overrun, options.clean),
             outside: None,
             is_outside: false,
+            is_answered: false,
         }
     }
 
@@ -77,6 +80,7 @@ impl Rules {
             return Stand::Leaves;
         }
         self.follow(&Item::Tx(*tx), place);
+        self.note_answer(tx);
         Stand::Inside
     }
 
@@ -110,6 +114,13 @@ impl Rules {
         self.outside
     }
 
+    /// Returns whether the target acknowledged a request that was checked.
+    pub(crate) fn is_answered(&self) -> bool
+        ensures { result ≡ self.now.is_answered }
+    {
+        self.is_answered
+    }
+
     /// Returns the place from which on it isn't decided, since there were too many worlds, or too little was known.
     pub(crate) fn crowded(&self) -> Option<u64>
         ensures { result ≡ None → self.now.checker.broken ≡ None → self.now.checker.crowded ≡ None }
@@ -127,6 +138,7 @@ impl Rules {
         ensures follows { CheckerFollows item.now self.old.checker self.new.checker }
         ensures outside { self.new.is_outside ≡ false }
         ensures place { self.new.outside ≡ self.old.outside }
+        ensures answered { self.new.is_answered ≡ self.old.is_answered }
     {
         self.is_outside = false;
         self.follow(item, place);
@@ -138,6 +150,7 @@ impl Rules {
         ensures follows { CheckerFollows item.now self.old.checker self.new.checker }
         ensures outside { self.new.is_outside ≡ self.old.is_outside }
         ensures place { self.new.outside ≡ self.old.outside }
+        ensures answered { self.new.is_answered ≡ self.old.is_answered }
     {
         self.checker.watch(item, place);
         self.note(item, place);
@@ -148,15 +161,30 @@ impl Rules {
         ensures checker { self.new.checker ≡ self.old.checker }
         ensures outside { self.new.is_outside ≡ self.old.is_outside }
         ensures place { self.new.outside ≡ self.old.outside }
+        ensures answered { self.new.is_answered ≡ self.old.is_answered }
     {
         if !matches!(self.checker.verdict(), Verdict::Breaks { .. }) {
             self.origins.note(&self.checker, item, place);
         }
     }
 
+    // Notes that a transaction that was taken was checked and acknowledged, if it was.
+    fn note_answer(&mut self, tx: &Tx)
+        ensures checker { self.new.checker ≡ self.old.checker }
+        ensures outside { self.new.is_outside ≡ self.old.is_outside }
+        ensures place { self.new.outside ≡ self.old.outside }
+        ensures answered { self.new.is_answered ≡ true
+            → (self.old.is_answered ≡ true) ⊎ (IsCheckedAnswer (Item.Tx tx.now)) }
+    {
+        if is_answer(tx) && self.checker.worlds() > 0 {
+            self.is_answered = true;
+        }
+    }
+
     // Leaves the model up to the next line reset.
     fn leave(&mut self, place: u64)
         ensures leaves { CheckerLeaves self.old.checker self.new.checker }
+        ensures answered { self.new.is_answered ≡ self.old.is_answered }
         ensures outside { self.new.is_outside ≡ true }
         ensures left { self.new.outside ≡ None → ⊥ }
     {
@@ -165,4 +193,11 @@ impl Rules {
         self.outside = self.outside.or(Some(place));
         self.is_outside = true;
     }
+}
+
+// Returns whether a request was acknowledged.
+fn is_answer(tx: &Tx) -> bool
+    ensures { result ≡ is_checked_ack tx.now.result }
+{
+    !matches!(&tx.result, TxEnd::NoAck(_))
 }

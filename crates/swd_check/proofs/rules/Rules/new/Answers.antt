@@ -9,6 +9,7 @@ returns-clause-holds c = record {
   gap = inr c.of.ensures.starts.gapless;
   outside = λ e. absurd (let f : false ≡ true = e in cc);
   left = λ e. absurd (let f : false ≡ true = e in cc);
+  answered = λ e. absurd (let f : false ≡ true = e in cc);
   fits = λ made inside room whole legal gapless. (c.of.ensures.begins made).shows;
 }
 
