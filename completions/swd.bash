@@ -15,14 +15,14 @@ _swd() {
     if ((COMP_CWORD == 1)); then
         case $word in
         -*) words='--help --version -h -V' ;;
-        *) words='one decode encode run target draw check info conform load verify dump help' ;;
+        *) words='one decode encode run target draw check info conform load verify dump probes help' ;;
         esac
         COMPREPLY=($(compgen -W "$words" -- "$word"))
         return
     fi
     case ${COMP_WORDS[1]} in
     help)
-        ((COMP_CWORD > 2)) || COMPREPLY=($(compgen -W 'one decode encode run target draw check info conform load verify dump help' -- "$word"))
+        ((COMP_CWORD > 2)) || COMPREPLY=($(compgen -W 'one decode encode run target draw check info conform load verify dump probes help' -- "$word"))
         return
         ;;
     one)
@@ -35,7 +35,7 @@ _swd() {
         words='--help -h'
         ;;
     run)
-        words='--plan --tries --resume --trace --accesses --strict --remote --report --progress --check --bursts --help -h'
+        words='--plan --tries --resume --trace --accesses --strict --remote --probe --speed --framed --report --progress --check --bursts --help -h'
         ;;
     target)
         words='--memory --base --plan --log --trace --idr --help -h'
@@ -47,22 +47,25 @@ _swd() {
         words='--made --rest --clean --plain --exact-registers --resync --overrun --help -h'
         ;;
     info)
-        words='--remote --tries --help -h'
+        words='--remote --probe --speed --framed --tries --help -h'
         ;;
     conform)
-        words='--remote --plain --hole --clean --help -h'
+        words='--remote --probe --speed --framed --plain --hole --clean --help -h'
         ;;
     load)
-        words='--format --tries --resume --report --progress --remote --check --memory --base --plan --bursts --help -h'
+        words='--format --tries --resume --report --progress --remote --probe --speed --framed --check --memory --base --plan --bursts --help -h'
         formats='bin hex srec elf'
         ;;
     verify)
-        words='--format --tries --resume --report --progress --remote --check --memory --base --plan --help -h'
+        words='--format --tries --resume --report --progress --remote --probe --speed --framed --check --memory --base --plan --help -h'
         formats='bin hex srec elf'
         ;;
     dump)
-        words='--format --tries --resume --report --progress --remote --check --memory --base --plan --help -h'
+        words='--format --tries --resume --report --progress --remote --probe --speed --framed --check --memory --base --plan --help -h'
         formats='bin hex srec'
+        ;;
+    probes)
+        words='--help -h'
         ;;
     esac
     case $earlier in
@@ -71,11 +74,11 @@ _swd() {
         ;;
     esac
     case $before in
-    --accesses | --log | --memory | --plan | --report | --trace)
+    --accesses | --log | --memory | --plan | --probe | --report | --trace)
         mapfile -t COMPREPLY < <(compgen -f -- "$word")
         return
         ;;
-    --base | --hole | --idr | --items | --resume | --tries | --plain)
+    --base | --hole | --idr | --items | --resume | --speed | --tries | --plain)
         return
         ;;
     --format)

@@ -115,6 +115,12 @@ impl Files for Disk<'_> {
         }
     }
 
+    fn withdraw(&self, name: &str, file: &DiskFile) {
+        if file.is_new {
+            let _ = self.remove_empty(name, &file.file);
+        }
+    }
+
     fn begin_replacing(&self, name: &str, file: &mut DiskFile) -> io::Result<()> {
         file.beside = self.beside(name, &file.file)?;
         Ok(())
@@ -125,7 +131,7 @@ impl Files for Disk<'_> {
             return end_here(&mut file.file);
         };
         beside.file.sync_all()?;
-        let taken = self.take_place(beside, &file.file);
+        let taken = self.take_place(beside, file);
         // What can't take the place stays where it is: it holds what a session left.
         file.beside = None;
         taken
@@ -135,9 +141,7 @@ impl Files for Disk<'_> {
         if let Some(beside) = file.beside.take() {
             beside.remove(self.rt);
         }
-        if file.is_new {
-            let _ = self.remove_empty(name, &file.file);
-        }
+        self.withdraw(name, file);
     }
 
     fn standard_input(&self) -> io::Result<Option<Identity>> {
@@ -230,10 +234,12 @@ impl Disk<'_> {
         }
     }
 
-    // Renames a file to the place of this one, if that is still its own. An error says where the file is then.
-    fn take_place(&self, beside: &Beside, file: &File) -> io::Result<()> {
+    // Renames a file to the place of this one, if that is still its own, or nothing has the name of one that was
+    // withdrawn. An error says where the file is then.
+    fn take_place(&self, beside: &Beside, file: &DiskFile) -> io::Result<()> {
         match fs::metadata(self.rt, beside.place.as_str()) {
-            Ok(place) if identity_of(&place) == identity_of(&file.metadata()?) => {}
+            Ok(place) if identity_of(&place) == identity_of(&file.file.metadata()?) => {}
+            Err(error) if file.is_new && error.kind() == ErrorKind::NotFound => {}
             _ => return Err(beside.kept(self.rt, "it is another file now")),
         }
         match fs::rename(self.rt, beside.name.as_str(), beside.place.as_str()) {

@@ -28,6 +28,9 @@ pub enum CommandLine {
     Info(InfoLine),
     /// `swd conform --remote[=IN,OUT] --plain BASE WORDS [--hole ADDR] [--clean]`.
     Conform(ConformLine),
+    /// `swd probes`. In each command `--probe FILE [--speed HERTZ] [--framed]` may take the place of
+    /// `--remote[=IN,OUT]`.
+    Probes,
     /// `swd load ADDR FILE TARGET [--format FORMAT] [--tries N] [--resume N] [--report FILE] [--progress]`, the same
     /// with `verify`, or with `dump ADDR BYTES FILE`. TARGET is `--remote[=IN,OUT] [--check]` or
     /// `--memory FILE [--base ADDR] [--plan FILE]`.
@@ -100,6 +103,15 @@ pub struct CheckLine {
     pub overrun: bool,
 }
 
+/// How packets of CMSIS-DAP go to a probe.
+#[derive(Clone, Copy, Debug, PartialEq, Eq)]
+pub struct ProbeLine {
+    /// The frequency of SWCLK in hertz.
+    pub speed: u32,
+    /// Whether each packet has its length before it, in place of being a report of one size.
+    pub framed: bool,
+}
+
 /// The arguments of `swd run`.
 #[derive(Drop)]
 pub struct RunLine {
@@ -122,6 +134,8 @@ pub struct RunLine {
     /// What leads to a remote target: `-` for the standard streams, two files as `IN,OUT`, or one that does both.
     /// `None` for a simulated target.
     pub remote: Option<String>,
+    /// The probe that it leads to. `None` for a server of remote_bitbang.
+    pub probe: Option<ProbeLine>,
     /// The file that the report of a remote run is written to.
     pub report: Option<String>,
     /// Whether lines on standard error say how far the run is.
@@ -166,6 +180,8 @@ pub struct TargetLine {
 pub struct InfoLine {
     /// What leads to the target: `-` for the standard streams, two files as `IN,OUT`, or one that does both.
     pub remote: String,
+    /// The probe that it leads to. `None` for a server of remote_bitbang.
+    pub probe: Option<ProbeLine>,
     /// The number of events that the opening may meet, at most 1,000.
     pub tries: u32,
 }
@@ -175,6 +191,8 @@ pub struct InfoLine {
 pub struct ConformLine {
     /// What leads to the target: `-` for the standard streams, two files as `IN,OUT`, or one that does both.
     pub remote: String,
+    /// The probe that it leads to. `None` for a server of remote_bitbang.
+    pub probe: Option<ProbeLine>,
     /// The words of memory that the run overwrites.
     pub plain: PlainWords,
     /// An address without memory, if one is named.
@@ -232,6 +250,8 @@ pub struct ImageLine {
     /// What leads to a remote target: `-` for the standard streams, two files as `IN,OUT`, or one that does both.
     /// `None` for a simulated target.
     pub remote: Option<String>,
+    /// The probe that it leads to. `None` for a server of remote_bitbang.
+    pub probe: Option<ProbeLine>,
     /// The memory of the simulated target, or `None` for a remote target.
     pub memory: Option<MemoryLine>,
     /// Whether writes next to each other are sent to a remote target in bursts.

@@ -5,5 +5,5 @@ mod command;
 
 pub use command::{
     CheckLine, CommandLine, ConformLine, DecodeLine, DrawLine, ImageAction, ImageLine, InfoLine,
-    MemoryLine, PlainWords, RunLine, ScriptLine, ServedMemory, TargetLine,
+    MemoryLine, PlainWords, ProbeLine, RunLine, ScriptLine, ServedMemory, TargetLine,
 };

@@ -7,7 +7,7 @@ use Rattle.swd_command_line.specs.declared.command.ServedMemory.{ServedMemory}
 use Rattle.swd_command_line.specs.declared.command.ServedMemory.TheVariants.{Script, File}
 use Rattle.swd_command_line.specs.declared.command.CommandLine.TheVariants.{One, Decode, Draw, Check, Encode, Run}
 use Rattle.swd_command_line.specs.declared.command.CommandLine.TheVariants.{Target}
-use Rattle.swd_command_line.specs.declared.command.CommandLine.TheVariants.{Image, Info, Conform}
+use Rattle.swd_command_line.specs.declared.command.CommandLine.TheVariants.{Image, Info, Conform, Probes}
 
 -- the file of a served memory: its script, or its bytes
 abbrev pub command_served_file : ServedMemory → List ℕ
@@ -28,6 +28,8 @@ command_named_file (Image image) = Some (string_bytes image.file)
 command_named_file (Info info) = Some []
 -- nor does a conformance run
 command_named_file (Conform conform) = Some []
+-- nor does a list of probes
+command_named_file Probes = Some []
 
 -- standard input is read: no file is named, or `-` is
 abbrev pub IsStandardInput : Option (List ℕ) → Type 0

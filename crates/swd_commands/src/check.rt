@@ -16,6 +16,9 @@ use swd_console::{Console, DONE, FAULT, KeepsError, STOPPED, tell};
 const NOT_BEGUN: &str = "\
 nothing was checked: no part of the trace shows a state of the target to begin with; --made and --rest say one";
 
+const NOT_ANSWERED: &str = "\
+nothing was checked: outside of stray bits the target acknowledged no request";
+
 /// Checks what the reader has, and writes the verdict. `name` is the input's. Returns the status: 0 if the trace fits,
 /// 1 if it breaks a rule, 2 if that isn't decided, or at an error.
 pub(crate) fn check_read<
@@ -40,7 +43,7 @@ pub(crate) fn check_read<
     };
     let reading = reading_of(check);
     match check_to(reading, Check::new(options(check), plain), input, output) {
-        Ok(checked) => told_status(console.errors, &checked),
+        Ok(checked) => told_status(console.errors, check.made, &checked),
         Err(fault) => trace_status(console.errors, Err(fault), reading, name, input, output),
     }
 }
@@ -93,11 +96,12 @@ pub(crate) fn plain_memory<A: Allocator + Copy>(
 }
 
 // Prints that nothing was checked, where that is so, and returns the status of a verdict.
-fn told_status<E: Write>(errors: &mut E, checked: &Checked) -> u8
+fn told_status<E: Write>(errors: &mut E, made: bool, checked: &Checked) -> u8
     ensures { result ≡ status_of (Ok checked.now) }
 {
     if let Checked::Crowded { place: 0 } = checked {
-        let _ = writeln!(errors, "swd: {NOT_BEGUN}");
+        let why = if made { NOT_ANSWERED } else { NOT_BEGUN };
+        let _ = writeln!(errors, "swd: {why}");
     }
     checked_status(checked)
 }

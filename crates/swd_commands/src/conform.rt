@@ -11,10 +11,10 @@ use swd_checker::CheckStart;
 use swd_command_line::ConformLine;
 use swd_conform::{ConformRun, Conformed, LEAST_WORDS, Plan, Without};
 use swd_console::{
-    Clock, Console, FAULT, Files, KeepsError, STOPPED, Stream, Untold, Watched, cannot_open_line,
-    gone_status, line_ends, line_streams, named_file_of, status_after, tell, tell_failure_or,
+    Clock, Console, FAULT, Files, KeepsError, STOPPED, Stream, Untold, Watched, gone_status,
+    line_streams, named_file_of, open_line, status_after, tell, tell_failure_or, way_of,
 };
-use swd_remote::{RemoteStreams, over_line};
+use swd_remote::{Line, RemoteStreams, over_line};
 
 /// Carries out `swd conform`, over the files that lead to its target, or over the standard streams. The verdict goes to
 /// standard output; where that is the target's, it goes to standard error.
@@ -94,16 +94,16 @@ fn conform_over<O: Write + KeepsError, F: Files, C, E: Write>(
     output: &mut O,
     console: &mut Console<'_, Global, F, C, E>,
 ) -> u8 {
-    let (from, to) = line_ends(files);
-    let sender = match console.files.open_line_in(from) {
-        Ok(opened) => Watched::line(opened.file),
-        Err(why) => return cannot_open_line(console.errors, from, &why),
+    let (sender, receiver) = match open_line(files, conform.probe.is_some(), console) {
+        Ok(opened) => opened,
+        Err(status) => return status,
     };
-    let receiver = match console.files.open_line_out(to) {
-        Ok(opened) => Watched::line(opened.file),
-        Err(why) => return cannot_open_line(console.errors, to, &why),
+    let line = Line {
+        reader: Watched::line(sender.file),
+        writer: Watched::line(receiver.file),
+        way: way_of(conform.probe),
     };
-    let (conformed, line) = perform(run, sender, receiver);
+    let (conformed, line) = perform(run, line);
     if let Some(status) = lost_status(&conformed, &line, console) {
         return status;
     }
@@ -123,7 +123,12 @@ fn conform_here<I: Read + KeepsError, O: Write + KeepsError, F, C, E: Write>(
     output: &mut O,
     console: &mut Console<'_, Global, F, C, E>,
 ) -> u8 {
-    let (conformed, line) = perform(run, input, output);
+    let line = Line {
+        reader: input,
+        writer: output,
+        way: way_of(conform.probe),
+    };
+    let (conformed, line) = perform(run, line);
     if let Some(status) = lost_status(&conformed, &line, console) {
         return status;
     }
@@ -132,14 +137,13 @@ fn conform_here<I: Read + KeepsError, O: Write + KeepsError, F, C, E: Write>(
     conformed_status(&conformed)
 }
 
-// Performs a run over these streams.
+// Performs a run over a line.
 fn perform<I: Read + Drop, O: Write + Drop>(
     run: ConformRun<Global>,
-    input: I,
-    output: O,
+    line: Line<I, O>,
 ) -> (Conformed, RemoteStreams<I, O>) {
     let mut run = run;
-    over_line::<Untold, _, _, _>(&mut run, input, output)
+    over_line::<Untold, _, _, _>(&mut run, line)
 }
 
 // Prints why the other end is gone, if it is, and how far the run came. Returns the status 2 then.
@@ -163,7 +167,7 @@ fn tell_sent<E: Write>(conformed: &Conformed, errors: &mut E) {
 // Prints how many requests and clocks were sent, and what the run couldn't reach.
 fn tell_run<E: Write>(conform: &ConformLine, conformed: &Conformed, errors: &mut E) {
     tell_sent(conformed, errors);
-    if !conformed.answered && fits(&conformed.checked) {
+    if !conformed.answered {
         let _ = writeln!(
             errors,
             "swd: not reached: anything, since the port answered no request"
@@ -186,11 +190,6 @@ fn tell_run<E: Write>(conform: &ConformLine, conformed: &Conformed, errors: &mut
     if let Some(plan) = plan {
         tell_without(plan.without(), errors);
     }
-}
-
-// Returns whether no rule was broken, and the items could be followed.
-fn fits(checked: &Checked) -> bool {
-    matches!(checked, Checked::Fits { .. })
 }
 
 // Returns whether requests were damaged or lost.

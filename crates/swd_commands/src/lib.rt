@@ -7,8 +7,8 @@ mod character;
 mod check;
 mod conform;
 mod conversion;
+mod probes;
 mod program;
-mod reached;
 mod usage;
 
 pub use arguments::run_arguments;

@@ -9,16 +9,16 @@ ghost use Rattle.swd_commands.specs.Statuses.{PerformsCommand};
 
 use crate::conform::carry_out_conform;
 use crate::conversion::{Conversion, convert, decode_conversion, draw_conversion};
-use crate::reached::Reached;
+use crate::probes::carry_out_probes;
 use crate::usage::tell_usage;
 use clap::Error;
 use std::alloc::Global;
 use std::io::{Read, Write};
 use swd_command_line::{CommandLine, ImageLine, ServedMemory, TargetLine};
 use swd_console::{
-    Clock, Console, DONE, FAULT, Files, KeepsError, LineFiles, STOPPED, Stream, Untold, Watched,
-    cannot_open, cannot_open_line, line_ends, named_file_of, status_after, tell, tell_failure,
-    unnamed_file,
+    Clock, Console, DONE, FAULT, Files, KeepsError, LineFiles, Stream, Untold, Watched,
+    cannot_open, named_file_of, open_line, status_after, tell, tell_failure, tell_info,
+    tell_session, unnamed_file,
 };
 use swd_image_commands::perform_image;
 use swd_run_commands::{perform_info, perform_run, perform_target};
@@ -119,6 +119,16 @@ fn remote_of(line: &CommandLine) -> Option<&str>
     }
 }
 
+// Returns whether a command's target is behind a probe.
+fn is_probe(line: &CommandLine) -> bool {
+    match line {
+        CommandLine::Run(run) => run.probe.is_some(),
+        CommandLine::Image(image) => image.probe.is_some(),
+        CommandLine::Info(info) => info.probe.is_some(),
+        _ => false,
+    }
+}
+
 // Returns whether a command speaks to a remote target.
 fn is_remote(line: &CommandLine) -> bool
     ensures { result ≡ is_some (command_remote line.now) }
@@ -153,20 +163,15 @@ fn files_beside<'a>(files: Option<&'a str>, name: &str) -> Option<&'a str>
     }
 }
 
-// Performs a command at the target to which these files lead. If it wasn't opened, prints how far the session came.
+// Performs a command at the target to which these files lead.
 fn carry_out_over<F: Files, C: Clock, E: Write>(
     line: &CommandLine,
     files: &str,
     console: &mut Console<'_, Global, F, C, E>,
 ) -> u8 {
-    let (from, to) = line_ends(files);
-    let input = match console.files.open_line_in(from) {
+    let (input, output) = match open_line(files, is_probe(line), console) {
         Ok(opened) => opened,
-        Err(why) => return cannot_open_line(console.errors, from, &why),
-    };
-    let output = match console.files.open_line_out(to) {
-        Ok(opened) => opened,
-        Err(why) => return cannot_open_line(console.errors, to, &why),
+        Err(status) => return status,
     };
     let files = LineFiles {
         files: console.files,
@@ -187,7 +192,7 @@ fn carry_out_over<F: Files, C: Clock, E: Write>(
     )
 }
 
-// Performs a command at the target to which these streams lead. If it wasn't opened, prints how far the session came.
+// Performs a command at the target to which these streams lead.
 fn perform_over<
     I: Read + KeepsError + Drop,
     O: Write + KeepsError + Drop,
@@ -196,9 +201,7 @@ fn perform_over<
     E: Write,
 >(line: &CommandLine, input: I, output: O, console: Console<'_, Global, F, C, E>) -> u8 {
     let (mut input, mut output, mut console) = (input, output, console);
-    let status = perform(line, &mut input, &mut output, &mut console);
-    tell_session(console.errors, line, status, &input, &output);
-    status
+    perform(line, &mut input, &mut output, &mut console)
 }
 
 // Performs the command, over the files that lead to its target, or over the standard streams.
@@ -221,7 +224,7 @@ fn carry_out<I: Read + KeepsError, O: Write + KeepsError, F: Files, C: Clock, E:
 }
 
 // Performs the command over the standard streams. In a terminal none speaks to a target: its characters would fill the
-// screen. If a target wasn't opened, prints how far the session came.
+// screen.
 fn carry_out_here<I: Read + KeepsError, O: Write + KeepsError, F: Files, C: Clock, E: Write>(
     line: &CommandLine,
     input: &mut I,
@@ -235,51 +238,7 @@ fn carry_out_here<I: Read + KeepsError, O: Write + KeepsError, F: Files, C: Cloc
     if is_remote(line) && console.files.shows_output() {
         return status_after(output.kept_error(), tell(console.errors, SHOWN));
     }
-    let status = perform(line, input, output, console);
-    if is_remote(line) {
-        tell_session(console.errors, line, status, input, output);
-    }
-    status
-}
-
-// Prints how far a session came that ended before the target was open: one line, unless the target sent nothing. Of an
-// info it prints what was read in any case.
-fn tell_session<I: KeepsError, O: KeepsError, E: Write>(
-    errors: &mut E,
-    line: &CommandLine,
-    status: u8,
-    input: &I,
-    output: &O,
-) {
-    let is_info = matches!(line, CommandLine::Info(_));
-    if status == FAULT || status == DONE && !is_info {
-        return;
-    }
-    if let Some(level) = input.sample().only_bit() {
-        tell_no_reply(errors, level);
-        return;
-    }
-    let reached = Reached::of(input, output);
-    if is_info {
-        let reached = if status == DONE {
-            reached.opened()
-        } else {
-            reached
-        };
-        let _ = write!(errors, "{}", reached.info());
-    } else if reached.is_answered() && !reached.is_open() {
-        let _ = writeln!(errors, "swd: {reached}");
-    }
-}
-
-// Prints that a target that can't be reached gave no reply: an acknowledgement has a 0 and a 1, and all levels that
-// came were this one.
-fn tell_no_reply<E: Write>(errors: &mut E, level: bool) {
-    let _ = writeln!(
-        errors,
-        "swd: no reply to the first request, SWDIO read {}: is it driven, and the target connected and powered?",
-        u8::from(level)
-    );
+    perform(line, input, output, console)
 }
 
 // Performs the command at whatever the streams are.
@@ -318,11 +277,13 @@ fn perform<I: Read + KeepsError, O: Write + KeepsError, F: Files, C: Clock, E: W
         CommandLine::Image(image) => carry_out_image(image, input, output, console),
         CommandLine::Conform(conform) => carry_out_conform(conform, input, output, console),
         CommandLine::Info(info) => {
-            let (status, _) = perform_info::<Untold, _, _, _, _, _, _>(
+            let (status, line) = perform_info::<Untold, _, _, _, _, _, _>(
                 info, input, output, console,
             );
+            tell_info(console.errors, status, &line);
             status
         }
+        CommandLine::Probes => carry_out_probes(output, console),
     }
 }
 
@@ -366,14 +327,17 @@ fn carry_out_image<I: Read + KeepsError, O: Write + KeepsError, F: Files, C: Clo
         (λ status. CommandNotOpened status (O.contents output.old) (O.contents output.new)) result }
 {
     if named_file_of(image.file.as_str()).is_some() {
-        let (status, _) = perform_image::<Untold, _, _, _, _, _, _>(image, input, output, console);
+        let (status, line) = perform_image::<Untold, _, _, _, _, _, _>(
+            image, input, output, console,
+        );
+        tell_session(console.errors, status, &line);
         return status;
     }
     let status = match &image.memory {
         Some(_) => cannot_open(console.errors, "-", &unnamed_file()),
         None => tell(
             console.errors,
-            "with --remote FILE has to be a file, not standard input",
+            "with --remote or --probe FILE has to be a file, not standard input",
         ),
     };
     status_after(output.kept_error(), status)

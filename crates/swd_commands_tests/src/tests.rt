@@ -173,6 +173,8 @@ impl Files for Shelf<'_> {
         Ok(())
     }
 
+    fn withdraw(&self, _name: &str, _file: &Page) {}
+
     fn begin_replacing(&self, _name: &str, file: &mut Page) -> io::Result<()> {
         self.cut_off(file)
     }

@@ -10,6 +10,7 @@ use Rattle.swd_trace.specs.declared.item.Item.{Item}
 use Rattle.swd_recorder.specs.declared.in_hand.InHand.{InHand}
 use Rattle.swd_recorder.specs.Items.{recorded_in_hand_once}
 use Rattle.swd_remote.specs.declared.kept.RemoteStreams.{RemoteStreams}
+use Rattle.swd_remote.specs.declared.line.Way.{Way}
 use Rattle.swd_remote.specs.WholeRuns.{GoesOver}
 use Rattle.swd_check.specs.declared.checked.Checked.{Checked}
 use Rattle.swd_recorder.specs.Calls.{recorded_call_items}
@@ -58,8 +59,8 @@ IsSessionVerdict false made None = Unit {0}
 IsSessionVerdict check made verdict = ⊥
 
 -- what went over a line, and the verdict on it
-pub record GoesOverChecked {R W : Type 0} (check : Bool) (remaining : R → Option (List ℕ))
+pub record GoesOverChecked {R W : Type 0} (check : Bool) (way : Way) (remaining : R → Option (List ℕ))
     (contents : W → Option (List ℕ)) (sent left : Option (List ℕ)) (line : RemoteStreams R W) (calls : List Call)
     (verdict : Option Checked) : Type 0 where
-  pub over : GoesOver remaining contents sent left line calls
+  pub over : GoesOver way remaining contents sent left line calls
   pub verdict_on : IsSessionVerdict check over.made verdict

@@ -13,7 +13,7 @@ use std::io::{Read, Write};
 use swd_check::{Check, Checked, CheckedItems};
 use swd_port::{Cue, Disconnected, Story};
 use swd_recorder::{InHand, in_hand_once};
-use swd_remote::{CallSink, LineJob, RemoteStreams, over_line, over_watched_line};
+use swd_remote::{CallSink, Line, LineJob, RemoteStreams, over_line, over_watched_line};
 
 // The bits of an answer, and of a data phase.
 const ANSWERS: u64 = 1 << 3;
@@ -106,21 +106,20 @@ pub fn over_checked_line<P: Story, J: LineJob, R: Read, W: Write, A: Allocator +
     alloc: A,
     check: bool,
     job: &mut J,
-    reader: R,
-    writer: W,
+    line: Line<R, W>,
 ) -> (J::Answer, RemoteStreams<R, W>, Option<Checked>)
     ensures { (calls : List Call) × J.came P.at job.old job.new result.0 calls
-        × ∥ GoesOverChecked check R.remaining W.contents (W.contents writer) (R.remaining reader) result.1 calls
-        result.2 ∥₁ }
+        × ∥ GoesOverChecked check line.way R.remaining W.contents (W.contents line.writer) (R.remaining line.reader)
+        result.1 calls result.2 ∥₁ }
 {
     if check {
         let session = SessionCheck::new(alloc);
-        let (answer, line, session) = over_watched_line::<P, J, R, W, SessionCheck<A>>(
-            job, reader, writer, session,
+        let (answer, streams, session) = over_watched_line::<P, J, R, W, SessionCheck<A>>(
+            job, line, session,
         );
         let checked = session.checked();
-        return (answer, line, Some(checked));
+        return (answer, streams, Some(checked));
     }
-    let (answer, line) = over_line::<P, J, R, W>(job, reader, writer);
-    (answer, line, None)
+    let (answer, streams) = over_line::<P, J, R, W>(job, line);
+    (answer, streams, None)
 }

@@ -4,6 +4,7 @@ ghost use Rattle.std.specs.FinMap.{empty};
 ghost use Rattle.swd_port.specs.Bus.{bus_of};
 ghost use Rattle.swd_port.specs.Port.{port_made};
 
+use crate::probe::tell_probe;
 use crate::report::{FAULT, STOPPED, tell};
 use crate::streams::{Stream, tell_failure_or};
 use crate::watched::KeepsError;
@@ -42,6 +43,10 @@ pub fn gone_status<E: Write>(errors: &mut E, fault: Fault, streams: &[Stream<'_>
         Fault::Read => tell_failure_or(errors, streams, "read failed"),
         Fault::Write => tell_failure_or(errors, streams, "write failed"),
         Fault::TooMany => tell(errors, "too many levels were asked for"),
+        Fault::Probe(fault) => {
+            tell_probe(errors, fault, streams);
+            FAULT
+        }
     };
     STOPPED
 }

@@ -1,9 +1,12 @@
 //! The files of the machine, where files lead to the target in place of the standard streams.
-ghost use Rattle.std.specs.Prelude.{◌≡◌};
+ghost use Rattle.std.specs.Prelude.{◌≡◌, IfErr};
 ghost use Rattle.swd_console.specs.LineFiles.{line_file_from, line_file_to};
 
+use crate::machine::Console;
 use crate::open_files::{Files, Identity, Opened};
+use crate::report::{cannot_open_line, cannot_open_probe};
 use std::io;
+use std::io::Write;
 
 /// The files of a machine, for a command whose standard streams are two other files: those that lead to a target.
 #[derive(Drop)]
@@ -52,6 +55,10 @@ impl<F: Files> Files for LineFiles<'_, F> {
         self.files.lock(name, file)
     }
 
+    fn withdraw(&self, name: &str, file: &F::Made) {
+        self.files.withdraw(name, file)
+    }
+
     fn begin_replacing(&self, name: &str, file: &mut F::Made) -> io::Result<()> {
         self.files.begin_replacing(name, file)
     }
@@ -90,5 +97,36 @@ pub fn line_ends(files: &str) -> (&str, &str)
     match files.split_once(',') {
         Some(ends) => ends,
         None => (files, files),
+    }
+}
+
+/// Opens the files that lead to a target, `IN,OUT`: that to read, and that to write. `to_probe` is whether a probe is
+/// there. At an error it prints a line and returns the status 2.
+pub fn open_line<A, F: Files, C, E: Write>(
+    files: &str,
+    to_probe: bool,
+    console: &mut Console<'_, A, F, C, E>,
+) -> Result<(Opened<F::File>, Opened<F::Made>), u8>
+    ensures { IfErr result (λ status. status ≡ 2) }
+{
+    let (from, to) = line_ends(files);
+    let input = match console.files.open_line_in(from) {
+        Ok(opened) => opened,
+        Err(why) => return Err(cannot_open_end(console.errors, to_probe, from, &why)),
+    };
+    match console.files.open_line_out(to) {
+        Ok(output) => Ok((input, output)),
+        Err(why) => Err(cannot_open_end(console.errors, to_probe, to, &why)),
+    }
+}
+
+// Prints that one of these files can't be opened, and returns the status 2.
+fn cannot_open_end<E: Write>(errors: &mut E, to_probe: bool, name: &str, why: &io::Error) -> u8
+    ensures { result ≡ 2 }
+{
+    if to_probe {
+        cannot_open_probe(errors, name, why)
+    } else {
+        cannot_open_line(errors, name, why)
     }
 }

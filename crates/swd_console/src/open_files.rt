@@ -67,6 +67,9 @@ pub trait Files {
     fn begin_replacing(&self, name: &str, file: &mut Self::Made) -> io::Result<()>
         ensures { Self.Made.Write.contents file.new ≡ Self.Made.Write.contents file.old };
 
+    /// Removes such a file if opening it created it and it is empty: until `finish_replacing` nothing has its name.
+    fn withdraw(&self, name: &str, file: &Self::Made);
+
     /// Gives what was written the name of the file, once it is on the disk. Fails if the name is another file's by now,
     /// or can't be given: then both files stay, and the error says where what was written is.
     fn finish_replacing(&self, file: &mut Self::Made) -> io::Result<()>

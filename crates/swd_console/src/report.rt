@@ -69,6 +69,11 @@ pub fn cannot_open<E: Write>(errors: &mut E, name: &str, why: &io::Error) -> u8
 // What to do where the file of a memory isn't there, and a file that leads to a target.
 const NEW_MEMORY: &str = "for a memory of 64 KiB of zeros: head -c 64K /dev/zero >FILE";
 
+const PROBES: &str = "swd probes lists the probes of this machine";
+
+const DENIED: &str =
+    "a udev rule lets users open it: SUBSYSTEM==\"hidraw\", MODE=\"0660\", TAG+=\"uaccess\"";
+
 const SOCKET: &str = "for a server on a socket: swd-line localhost:4711 -- swd .. --remote";
 
 /// Prints that the file of a memory can't be opened, why, and how to make one that isn't there. Returns the status 2.
@@ -80,10 +85,25 @@ pub(crate) fn cannot_open_memory<E: Write>(errors: &mut E, name: &str, why: &io:
 
 /// Prints that a file that leads to a target can't be opened, why, and how to reach a server on a socket if the file
 /// isn't there. Returns the status 2.
-pub fn cannot_open_line<E: Write>(errors: &mut E, name: &str, why: &io::Error) -> u8
+pub(crate) fn cannot_open_line<E: Write>(errors: &mut E, name: &str, why: &io::Error) -> u8
     ensures { result ≡ 2 }
 {
     cannot_find(errors, name, why, SOCKET)
+}
+
+/// Prints that a file that leads to a probe can't be opened, why, and what to do about it. Returns the status 2.
+pub fn cannot_open_probe<E: Write>(errors: &mut E, name: &str, why: &io::Error) -> u8
+    ensures { result ≡ 2 }
+{
+    if why.kind() == ErrorKind::PermissionDenied {
+        let _ = writeln!(
+            errors,
+            "swd: cannot open {}: {why}; {DENIED}",
+            Escaped(name)
+        );
+        return FAULT;
+    }
+    cannot_find(errors, name, why, PROBES)
 }
 
 // Prints that a file can't be opened, why, and what to do if it isn't there. Returns the status 2.

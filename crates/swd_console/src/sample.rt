@@ -1,6 +1,5 @@
 //! What passed through a stream, as far as a line on standard error can name it.
 
-use crate::first_clocks::{FirstClocks, FirstLevels, SentClock};
 use arrayvec::ArrayVec;
 use swd_bits::{Scan, Sign};
 
@@ -27,8 +26,7 @@ fn stray_in(bytes: &[u8]) -> u64 {
     count
 }
 
-// What was found in a trace text, or among the levels of a connection, until both bits were found or something else: a
-// character that isn't allowed there, the end, or an error.
+// What was found in a trace text, until both bits were found or something else: a character that isn't allowed there.
 #[derive(Drop)]
 struct Found {
     scan: Scan,
@@ -64,15 +62,12 @@ impl Found {
     }
 }
 
-/// The first bytes that were read, which bits were among all of them, how many lines of stray bits were written, and
-/// the first levels and clocks of a connection.
+/// The first bytes that were read, which bits were among all of them, and how many lines of stray bits were written.
 #[derive(Drop)]
 pub struct Sample {
     first: ArrayVec<u8, FIRST>,
     found: Found,
     stray: u64,
-    levels: FirstLevels,
-    clocks: FirstClocks,
     // Whether the stream is a file that leads to a target.
     is_line: bool,
 }
@@ -84,8 +79,6 @@ impl Sample {
             first: ArrayVec::new(),
             found: Found::new(),
             stray: 0,
-            levels: FirstLevels::new(),
-            clocks: FirstClocks::new(),
             is_line,
         }
     }
@@ -94,17 +87,13 @@ impl Sample {
     pub(crate) fn note_read(&mut self, bytes: &[u8]) {
         let more = self.first.remaining_capacity().min(bytes.len());
         let _ = self.first.try_extend_from_slice(&bytes[..more]);
-        self.levels.pass(bytes);
         self.found.look(bytes);
-        self.found.other = self.found.other || bytes.is_empty();
     }
 
-    // Notes bytes that were written, unless they are a host's characters. All of them are looked at only where a line
-    // of a stray bit is among the first, and until enough were found.
+    // Notes bytes that were written. All of them are looked at only where a line of a stray bit is among the first, and
+    // until enough were found.
     pub(crate) fn note_written(&mut self, bytes: &[u8]) {
-        self.clocks.pass(bytes);
-        let looks = !self.clocks.are_sent() && self.stray < ENOUGH;
-        if looks && stray_in(&bytes[..bytes.len().min(LOOKED_AT)]) > 0 {
+        if self.stray < ENOUGH && stray_in(&bytes[..bytes.len().min(LOOKED_AT)]) > 0 {
             self.stray = self.stray.saturating_add(stray_in(bytes));
         }
     }
@@ -119,33 +108,9 @@ impl Sample {
         self.is_line
     }
 
-    /// Returns the level at this place, if this is a connection and it is one of the first.
-    pub fn level(&self, place: usize) -> Option<bool> {
-        self.levels.level(place)
-    }
-
-    /// Returns the clock at this place, if this is a connection and it is one of the first.
-    pub fn clock(&self, place: usize) -> Option<SentClock> {
-        self.clocks.clock(place)
-    }
-
-    /// Returns whether a connection may have had more clocks than are kept.
-    pub fn is_cut(&self) -> bool {
-        self.clocks.are_full()
-    }
-
     /// Returns whether a bit was read, if this is the text of a trace.
     pub fn has_bits(&self) -> bool {
         self.found.zero || self.found.one
-    }
-
-    /// Returns the only bit that was read, if no other character was, nor the end.
-    pub fn only_bit(&self) -> Option<bool> {
-        if self.found.other || self.found.zero == self.found.one {
-            None
-        } else {
-            Some(self.found.one)
-        }
     }
 
     /// Returns how many lines of stray bits were written, as far as they were looked at.

@@ -13,5 +13,5 @@ mod target_log;
 
 pub use clocked_probe::ClockedProbe;
 pub use live_files::{LiveFiles, serve_logged};
-pub use remote::{Line, RemoteFault, run_remote, run_remote_script};
+pub use remote::{RemoteFault, run_remote, run_remote_script};
 pub use serving::{TargetFault, read_target, target_pins};

@@ -1,4 +1,4 @@
-//! Runs a script at a target behind OpenOCD's remote_bitbang characters.
+//! Runs a script at a target behind a line: OpenOCD's remote_bitbang characters, or the packets of a probe.
 ghost use Rattle.std.specs.Prelude.{◌≡◌};
 ghost use Rattle.swd_remote.specs.WholeRuns.{GoesOver, IsUnusedRemote};
 ghost use Rattle.swd_script.specs.Laws.{IsScriptRunnable};
@@ -11,7 +11,7 @@ use std::io::{Read, Write};
 use std::marker::Brand;
 use swd_io::Unread;
 use swd_port::{Story, Tied, TransportWire};
-use swd_remote::{InitialStreams, RemoteStreams, RemoteTransport};
+use swd_remote::{InitialStreams, Line, RemoteStreams, RemoteTransport};
 use swd_run::{EngineFault, Finished, Limits, Progress, Records, run_batches};
 use swd_script::{Script, ScriptFault, read_script};
 use swd_text::ItemsPrinter;
@@ -43,15 +43,6 @@ impl RemoteFault {
     }
 }
 
-/// The two directions of a connection to a remote_bitbang server, before its use.
-#[derive(Debug, Drop)]
-pub struct Line<R, W> {
-    /// Where its levels are read.
-    pub reader: R,
-    /// Where the characters are written.
-    pub writer: W,
-}
-
 /// Reads a script, and runs it by [`run_remote_script`]. Returns the connection too, with the error that ended it, if
 /// any.
 ///
@@ -78,8 +69,8 @@ pub fn run_remote<
     records: &mut Records<T, I, G>,
 ) -> (Result<Finished, RemoteFault>, RemoteStreams<R, W>)
     ensures { RunsRemote P.at limits
-        (λ calls. ∥ GoesOver R.remaining W.contents (W.contents line.writer) (R.remaining line.reader) result.1 calls
-        ∥₁)
+        (λ calls. ∥ GoesOver line.way R.remaining W.contents (W.contents line.writer) (R.remaining line.reader)
+        result.1 calls ∥₁)
         (IsUnusedRemote R.remaining W.contents (W.contents line.writer) (R.remaining line.reader) result.1)
         result.0 (S.remaining script.old) (O.contents report.old) (O.contents report.new)
         (run_files_of T.contents I.text records.old) (run_files_of T.contents I.text records.new) }
@@ -100,16 +91,16 @@ pub fn run_remote<
     }
 }
 
-/// Runs a script's calls by `swd_run::run_batches` at the target behind a remote_bitbang server. Writes their reports,
-/// and the files for which `records` has a writer. Then sends `Q`. The script's memory and log capacity are ignored.
-/// Returns the connection too, with the error that ended it, if any.
+/// Runs a script's calls by `swd_run::run_batches` at the target behind a line. Writes their reports, and the files for
+/// which `records` has a writer. Then ends the connection, over characters by `Q`. The script's memory and log capacity
+/// are ignored. Returns the connection too, with the error that ended it, if any.
 ///
 /// Whatever comes back, the run ends unless the connection blocks, and each report has at most as many requests as its
 /// tries allow. For every story that starts at rest and with which the replies are consistent, the reports are as
-/// `run_batches` promises. If the target conforms to the model, one of these stories is its own. Up to the first I/O
-/// error, exactly `O`, the characters of the calls of a wire and `Q` are sent, and exactly the levels that these calls
-/// ask for are read. Nothing is sent after that error. The reports describe all these calls, with or without such a
-/// story.
+/// `run_batches` promises. If the target conforms to the model, one of these stories is its own. Over characters, up to
+/// the first I/O error, exactly `O`, the characters of the calls of a wire and `Q` are sent, and exactly the levels
+/// that these calls ask for are read. Nothing is sent after that error. The reports describe all these calls, with or
+/// without such a story.
 ///
 /// # Errors
 ///
@@ -133,15 +124,15 @@ pub fn run_remote_script<
 ) -> (Result<Finished, EngineFault>, RemoteStreams<R, W>)
     requires { IsScriptRunnable (read_script_meaning script.now) }
     ensures { RanRemoteEndScript P.at limits
-        (λ calls. ∥ GoesOver R.remaining W.contents (W.contents line.writer) (R.remaining line.reader) result.1 calls
-        ∥₁)
+        (λ calls. ∥ GoesOver line.way R.remaining W.contents (W.contents line.writer) (R.remaining line.reader)
+        result.1 calls ∥₁)
         (read_script_meaning script.now).batches result.0 (O.contents report.old) (O.contents report.new)
         (run_files_of T.contents I.text records.old) (run_files_of T.contents I.text records.new) }
 {
     run_begun::<P, Brand, R, W, O, T, I, A, G>(alloc, script, line, limits, report, records)
 }
 
-// Runs a script's calls over a connection from its beginning on, and then sends `Q`.
+// Runs a script's calls over a connection from its beginning to its end.
 fn run_begun<
     P: Story,
     B: InitialStreams,
@@ -161,15 +152,16 @@ fn run_begun<
     records: &mut Records<T, I, G>,
 ) -> (Result<Finished, EngineFault>, RemoteStreams<R, W>)
     requires script { IsScriptRunnable (read_script_meaning script.now) }
+    requires way { B.way ≡ line.way }
     requires sent { B.sent ≡ W.contents line.writer }
     requires left { B.left ≡ R.remaining line.reader }
     ensures { RanRemoteEndScript P.at limits
-        (λ calls. ∥ GoesOver R.remaining W.contents B.sent B.left result.1 calls ∥₁)
+        (λ calls. ∥ GoesOver B.way R.remaining W.contents B.sent B.left result.1 calls ∥₁)
         (read_script_meaning script.now).batches result.0 (O.contents report.old) (O.contents report.new)
         (run_files_of T.contents I.text records.old) (run_files_of T.contents I.text records.new) }
 {
     let wire: TransportWire<RemoteTransport<R, W, B>, P, Tied> = TransportWire::begun(
-        RemoteTransport::new(line.reader, line.writer),
+        RemoteTransport::new(line),
     );
     let batches = script.batches.as_slice();
     let (answer, wire) = run_batches(alloc, wire, batches, limits, report, records);

@@ -21,6 +21,7 @@ use Rattle.swd_image_files.specs.Texts.{image_file_of_piece}
 use Rattle.swd_image_ends.specs.Came.{DumpCame}
 use Rattle.swd_check.specs.declared.checked.Checked.{Checked}
 use Rattle.swd_conform.specs.Sessions.{GoesOverChecked}
+use Rattle.swd_console.specs.Connections.{command_way}
 use Rattle.swd_command_line.specs.declared.command.ImageAction.{ImageAction}
 use Rattle.swd_command_line.specs.declared.command.ImageAction.TheVariants.{Load, Verify, Dump}
 use Rattle.swd_command_line.specs.declared.command.ImageLine.{ImageLine}
@@ -115,7 +116,8 @@ module _ {R W : Type 0} (story : ℕ → Port) (image : ImageLine) (status : ℕ
 
   -- what went over the line, and the verdict on it if the session is checked
   abbrev pub WentOverChecked : List Call → Option Checked → Type 0
-  WentOverChecked calls verdict = ∥ GoesOverChecked image.check remaining contents sent left line calls verdict ∥₁
+  WentOverChecked calls verdict = ∥ GoesOverChecked image.check (command_way image.probe) remaining contents sent
+      left line calls verdict ∥₁
 
   -- The pieces of a file are loaded over a line, or compared with the memory. The reports of the calls are written if
   -- a file is named for them. Nothing else is known of this file. Only tests show that the line is over the standard

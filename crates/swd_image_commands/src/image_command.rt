@@ -2,7 +2,7 @@
 ghost use Rattle.swd_image_commands.specs.Images.{PerformsDump, PerformsPieces};
 ghost use Rattle.swd_image_commands.specs.Targeted.{PerformsImage};
 
-use crate::image_file::{finish_dump, keep_or_give_up, open_dump, read_image_file};
+use crate::image_file::{finish_dump, keep_or_give_up, open_dump, read_image_file, withdraw_dump};
 use crate::image_report::{image_reports, limits_of, open_report, words_in, words_of};
 use crate::pieces::{PiecesAction, PiecesJob};
 use crate::result::{Came, pieces_status, range_of, reached};
@@ -11,10 +11,12 @@ use std::alloc::Allocator;
 use std::io::{Read, Write};
 use swd_command_line::{ImageAction, ImageLine};
 use swd_conform::over_checked_line;
-use swd_console::{Clock, Console, Files, InUse, KeepsError, Stream, StreamsInUse, session_status};
+use swd_console::{
+    Clock, Console, Files, InUse, KeepsError, Stream, StreamsInUse, session_status, way_of,
+};
 use swd_image_ends::DumpJob;
 use swd_port::Story;
-use swd_remote::RemoteStreams;
+use swd_remote::{Line, RemoteStreams};
 
 /// Makes the one call of an image, at the target behind the streams or at a simulated one. Prints a line with the
 /// result on standard error. Returns the status and the connection. If the target is simulated, if the image's file
@@ -103,8 +105,11 @@ fn perform_pieces<
         console.alloc,
         image.check,
         &mut job,
-        input,
-        output,
+        Line {
+            reader: input,
+            writer: output,
+            way: way_of(image.probe),
+        },
     );
     let streams = call_streams(job.report.stream(image), &line);
     let came = Came {
@@ -148,6 +153,7 @@ fn perform_dump<
             return (status, RemoteStreams::unused(input, output));
         }
     };
+    withdraw_dump(image, &file.stream, console);
     let words = words_of(image.addr, u64::from(count));
     let mut job = DumpJob {
         alloc: console.alloc,
@@ -160,8 +166,11 @@ fn perform_dump<
         console.alloc,
         image.check,
         &mut job,
-        input,
-        output,
+        Line {
+            reader: input,
+            writer: output,
+            way: way_of(image.probe),
+        },
     );
     let streams = call_streams(job.report.stream(image), &line);
     let range = range_of(image.addr, count);

@@ -120,6 +120,17 @@ pub(crate) fn open_dump<A, F: Files, C, E: Write>(
     }
 }
 
+/// Leaves the name of a dump to no file until its bytes are there, if opening the file created it: what ends the
+/// program in the session leaves no empty file. All files of the command have to be open, since the name tells this one
+/// apart.
+pub(crate) fn withdraw_dump<A, F: Files, C, E>(
+    image: &ImageLine,
+    file: &F::Made,
+    console: &Console<'_, A, F, C, E>,
+) {
+    console.files.withdraw(image.file.as_str(), file);
+}
+
 /// Replaces the file of a dump by the bytes that were read, or gives it up where they weren't read or can't be written.
 /// Returns the status.
 pub(crate) fn finish_dump<A: Allocator, F: Files, C, E: Write>(

@@ -11,7 +11,7 @@ ghost use Rattle.swd_image_commands.specs.Simulated.{PiecesCommandSimulated, Sim
 ghost use Rattle.swd_image_commands.specs.Simulated.{SimulatesDump, SimulatesImage, SimulatesPieces};
 ghost use Rattle.swd_image_commands.specs.Simulated.{simulated_back_held};
 
-use crate::image_file::{finish_dump, keep_or_give_up, open_dump, read_image_file};
+use crate::image_file::{finish_dump, keep_or_give_up, open_dump, read_image_file, withdraw_dump};
 use crate::image_report::{ReportTo, image_reports, limits_of, open_report, words_in, words_of};
 use crate::pieces::{PiecesAction, PiecesJob};
 use crate::result::{Came, pieces_status, range_of, reached};
@@ -273,6 +273,7 @@ fn simulate_dump<A: Allocator + Copy, F: Files, C: Clock, E: Write>(
             return status;
         }
     };
+    withdraw_dump(image, &file.stream, console);
     let spare = spare_room(1, count as u64, held.marks.len());
     match target_of(held, spare, console) {
         Ok(bench) => dump_over(image, count, bench, &mut file, report, console),

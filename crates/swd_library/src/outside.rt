@@ -11,7 +11,7 @@ use swd_clocked::FaultyClocked;
 use swd_ends::ClockedProbe;
 use swd_host::{End, run_over_transport};
 use swd_port::{Access, Answer, Story, TransportWire};
-use swd_remote::{ProbeTransport, run_over_line};
+use swd_remote::{Line, ProbeTransport, run_over_line};
 use swd_target::Memory;
 
 // An instance of `Story`. Which one is irrelevant: the contracts of both calls are proved for each.
@@ -57,7 +57,8 @@ const WORD: u32 = 0xdead_beef;
 pub fn write_over_line(alloc: Global) -> Result<(), Failure> {
     let accesses = [Access::Write(BASE, WORD), Access::Read(BASE)];
     let mut sent = Vec::new(alloc);
-    let (ran, line) = run_over_line::<Untold, _, _, _>(alloc, LEVELS, &mut sent, &accesses, TRIES);
+    let line = Line::characters(LEVELS, &mut sent);
+    let (ran, line) = run_over_line::<Untold, _, _, _>(alloc, line, &accesses, TRIES);
     let report = ran?;
     if report.ended != End::All || line.fault.is_some() {
         return Err(Failure::Stopped(report.ended));

@@ -10,7 +10,7 @@ use swd_image::{ImageFault, Limits, NoReports};
 use swd_image_ends::{LoadJob, over_line};
 use swd_image_files::Image;
 use swd_port::Story;
-use swd_remote::RemoteStreams;
+use swd_remote::{Line, RemoteStreams};
 
 // An instance of `Story`. Which one is irrelevant: the contract of the call is proved for each.
 struct Untold;
@@ -37,5 +37,5 @@ pub fn flash<R: Read, W: Write>(
         },
         report: NoReports,
     };
-    over_line::<Untold, _, _, _>(&mut job, levels, characters)
+    over_line::<Untold, _, _, _>(&mut job, Line::characters(levels, characters))
 }

@@ -13,7 +13,7 @@ ghost use Rattle.swd_recorder.specs.Steps.{recorded_transactions, recorded_due_c
 
 use crate::recording::Recording;
 use std::alloc::{Allocator, Global};
-use swd_port::{Cue, Due, Wire};
+use swd_port::{Coming, Cue, Due, Wire};
 use swd_trace::Item;
 
 /// A wire that forwards every call to another one. It keeps what the host sent and saw since the recorder was
@@ -129,5 +129,22 @@ impl<W: Wire, A: Allocator> Wire for Recorder<W, A> {
         let seen = self.wire.step(cue);
         self.recording.record(cue, seen);
         seen
+    }
+
+    fn looks_ahead(&self) -> bool {
+        self.wire.looks_ahead()
+    }
+
+    fn announce(&mut self, coming: &[Coming])
+        ensures port { recorder_port self.new ≡ recorder_port self.old }
+        ensures plan { recorder_plan self.new ≡ recorder_plan self.old }
+        ensures lawful { recorder_lawful self.new → recorder_lawful self.old }
+        ensures notes { (calls : List Call) → recorder_notes calls self.old → recorder_notes calls self.new }
+        ensures calls { recorder_calls self.new ≡ recorder_calls self.old }
+        ensures noted { (calls : List Call) → W.Wire.notes calls (recorder_wire_under self.old)
+            → W.Wire.notes calls (recorder_wire_under self.new) }
+        ensures kept { recorder_kept self.new ≡ recorder_kept self.old }
+    {
+        self.wire.announce(coming);
     }
 }

@@ -1,17 +1,22 @@
 -- Laws of a line from its beginning to its end.
 use Rattle.std.proofs.Common.{◌≡◌, ℕ, true, List, [], ◌∷◌, ◌++◌, Option, Some, None, Result, Ok, Err, refl, sym}
 use Rattle.std.proofs.Common.{ap, ◌∙◌, subst}
-use Rattle.std.proofs.Math.Logic.{∥∥₁_map}
 use Rattle.std.specs.Io.KnownBytes.{Appends, Consumes}
 use Rattle.swd_port.specs.declared.outside.Disconnected.{Disconnected}
-use Rattle.swd_port.specs.Transports.{PortAttempt}
+use Rattle.swd_port.specs.Transports.{PortAttempt, port_attempt}
+use Rattle.swd_port.specs.declared.cue.Cue.{Cue}
 use Rattle.swd_remote.specs.declared.kept.RemoteStreams.{RemoteStreams}
 use Rattle.swd_remote.specs.declared.remote.Fault.{Fault}
 use Rattle.swd_remote.specs.declared.remote.Remote.{Remote}
 use Rattle.swd_remote.specs.declared.probe_transport.ProbeTransport.{ProbeTransport}
 use Rattle.swd_remote.specs.Remotes.{RemoteQuitsAt}
 use Rattle.swd_remote.specs.Runs.{IsRemoteCallMade, AreRemoteCallsMade, remote_characters_of, remote_all_levels}
+use Rattle.swd_remote.specs.declared.line.LineTransport.{LineTransport}
+use Rattle.swd_remote.specs.declared.line.LineTransport.TheVariants.{Server, Probe}
+use Rattle.swd_remote.specs.declared.line.Way.{Way}
+use Rattle.swd_remote.specs.declared.line.Way.TheVariants.{Characters, Packets}
 use Rattle.swd_remote.specs.Kept.{IsFreshRemote, AreRemoteCallsSent, RemoteWentWell, RemoteHangsUp}
+use Rattle.swd_remote.specs.Kept.{AreLineCallsSent, LinePerforms}
 use Rattle.swd_remote.proofs.RunLemmas.{remote_fault_not_none, remote_runs_exactly, remote_quits_exactly}
 
 made_more : {R W : Type 0} (remaining : R → Option (List ℕ)) (contents : W → Option (List ℕ)) (calls : List PortAttempt)
@@ -26,13 +31,37 @@ made_more remaining contents (first ∷ calls) call s m t h one =
 pub remote_calls_one_more : {R W : Type 0} (remaining : R → Option (List ℕ)) (contents : W → Option (List ℕ))
     (sent left : Option (List ℕ)) (calls : List PortAttempt) (call : PortAttempt) (s t : ProbeTransport (Remote R W))
     → IsRemoteCallMade remaining contents call s.probe t.probe
-    → ∥ AreRemoteCallsSent remaining contents sent left calls s ∥₁
-    → ∥ AreRemoteCallsSent remaining contents sent left (calls ++ call ∷ []) t ∥₁
-remote_calls_one_more remaining contents sent left calls call s t one h = ∥∥₁_map h (λ h. record {
+    → AreRemoteCallsSent remaining contents sent left calls s
+    → AreRemoteCallsSent remaining contents sent left (calls ++ call ∷ []) t
+remote_calls_one_more remaining contents sent left calls call s t one h = record {
   start = h.start;
   fresh = h.fresh;
   made = made_more remaining contents calls call h.start s.probe t.probe h.made one;
-})
+}
+
+-- the same over a line
+pub line_calls_one_more : {R W : Type 0} (remaining : R → Option (List ℕ)) (contents : W → Option (List ℕ)) (way : Way)
+    (sent left : Option (List ℕ)) (calls : List PortAttempt) (cue : Cue) (told : Result ℕ Disconnected)
+    (s t : LineTransport R W) → LinePerforms remaining contents cue told s t
+    → AreLineCallsSent way remaining contents sent left calls s
+    → AreLineCallsSent way remaining contents sent left (calls ++ port_attempt cue told ∷ []) t
+line_calls_one_more remaining contents Characters sent left calls cue told (Server s) (Server t) one h =
+    remote_calls_one_more remaining contents sent left calls (port_attempt cue told) s t one h
+line_calls_one_more remaining contents Characters sent left calls cue told (Server s) (Probe t) one h = absurd one
+line_calls_one_more remaining contents Characters sent left calls cue told (Probe s) t one h = absurd h
+line_calls_one_more remaining contents (Packets speed framed) sent left calls cue told (Server s) t one h = absurd h
+line_calls_one_more remaining contents (Packets speed framed) sent left calls cue told (Probe s) (Server t) one h =
+    absurd one
+line_calls_one_more remaining contents (Packets speed framed) sent left calls cue told (Probe s) (Probe t) one h = tt
+
+-- a line from a beginning that contracts know
+pub line_begins_at : {R W : Type 0} (remaining : R → Option (List ℕ)) (contents : W → Option (List ℕ)) (way known : Way)
+    (sent held left had : Option (List ℕ)) (t : LineTransport R W) → way ≡ known → sent ≡ held → left ≡ had
+    → AreLineCallsSent way remaining contents sent left [] t → AreLineCallsSent known remaining contents held had [] t
+line_begins_at remaining contents way known sent held left had t same_way same_sent same_left h =
+    subst (λ w. AreLineCallsSent w remaining contents held had [] t) same_way
+    (subst (λ o. AreLineCallsSent way remaining contents o had [] t) same_sent
+    (subst (λ o. AreLineCallsSent way remaining contents sent o [] t) same_left h))
 
 -- where it is well at the end, it was so before, and Q went out
 quit_well : {R W : Type 0} (contents : W → Option (List ℕ)) (o : Option Fault) (done : Result (Unit {0}) Disconnected)

@@ -1,15 +1,21 @@
--- A remote_bitbang connection from its beginning to its end.
+-- A connection from its beginning to its end: of remote_bitbang characters, or of packets.
 use Rattle.std.specs.Prelude.{ℕ, ◌≡◌, true, List, [], ◌∷◌, ◌++◌, Option, None, Result}
 use Rattle.std.specs.Io.KnownBytes.{Appends, Consumes}
 use Rattle.swd_sequences.specs.declared.character.Character.TheVariants.{Drives, Quits}
 use Rattle.swd_sequences.specs.Alphabet.{alphabet_byte}
 use Rattle.swd_port.specs.declared.outside.Disconnected.{Disconnected}
-use Rattle.swd_port.specs.Transports.{PortAttempt}
+use Rattle.swd_port.specs.Transports.{PortAttempt, port_attempt}
 use Rattle.swd_remote.specs.declared.kept.RemoteStreams.{RemoteStreams}
+use Rattle.swd_remote.specs.declared.line.LineTransport.{LineTransport}
+use Rattle.swd_remote.specs.declared.line.LineTransport.TheVariants.{Server, Probe}
+use Rattle.swd_remote.specs.declared.line.Way.{Way}
+use Rattle.swd_remote.specs.declared.line.Way.TheVariants.{Characters, Packets}
+use Rattle.swd_port.specs.declared.cue.Cue.{Cue}
 use Rattle.swd_remote.specs.declared.remote.Remote.{Remote}
 use Rattle.swd_remote.specs.declared.probe_transport.ProbeTransport.{ProbeTransport}
 use Rattle.swd_remote.specs.Remotes.{RemoteQuitsAt}
-use Rattle.swd_remote.specs.Runs.{AreRemoteCallsMade, RemoteExactUpTo, remote_connection_characters, remote_all_levels}
+use Rattle.swd_remote.specs.Runs.{AreRemoteCallsMade, IsRemoteCallMade, RemoteExactUpTo, remote_all_levels}
+use Rattle.swd_remote.specs.Runs.{remote_connection_characters}
 use Rattle.swd_remote.specs.Ways.{IsOnRemoteWay}
 
 -- nothing was sent or read yet but that the host drives SWDIO, which is on its way
@@ -51,3 +57,25 @@ pub record RemoteHangsUp {R W : Type 0} (remaining : R → Option (List ℕ)) (c
   pub writer : line.writer ≡ end.outgoing.writer
   pub fault : line.fault ≡ end.fault
   pub well : line.fault ≡ None → RemoteWentWell remaining contents sent left calls line
+
+-- these calls were made of the transport of a line since the beginning; nothing more is stated of packets
+abbrev pub AreLineCallsSent : {R W : Type 0} → Way → (R → Option (List ℕ)) → (W → Option (List ℕ)) → Option (List ℕ)
+    → Option (List ℕ) → List PortAttempt → LineTransport R W → Type 0
+AreLineCallsSent Characters remaining contents sent left calls (Server t) =
+    AreRemoteCallsSent remaining contents sent left calls t
+AreLineCallsSent (Packets speed framed) remaining contents sent left calls (Probe t) = Unit {0}
+AreLineCallsSent way remaining contents sent left calls t = ⊥
+
+-- a call of it
+abbrev pub LinePerforms : {R W : Type 0} → (R → Option (List ℕ)) → (W → Option (List ℕ)) → Cue → Result ℕ Disconnected
+    → LineTransport R W → LineTransport R W → Type 0
+LinePerforms remaining contents cue told (Server s) (Server t) =
+    IsRemoteCallMade remaining contents (port_attempt cue told) s.probe t.probe
+LinePerforms remaining contents cue told (Probe s) (Probe t) = Unit {0}
+LinePerforms remaining contents cue told s t = ⊥
+
+-- these calls were made up to the end of a connection; nothing more is stated of packets
+abbrev pub LineHangsUp : {R W : Type 0} → Way → (R → Option (List ℕ)) → (W → Option (List ℕ)) → Option (List ℕ)
+    → Option (List ℕ) → List PortAttempt → RemoteStreams R W → Type 0
+LineHangsUp Characters remaining contents sent left calls line = RemoteHangsUp remaining contents sent left calls line
+LineHangsUp (Packets speed framed) remaining contents sent left calls line = Unit {0}

@@ -12,25 +12,26 @@ use Rattle.swd_host.specs.Plain.{AreHostAccesses}
 use Rattle.swd_host.specs.Reports.{Closes, HostRefusesList, RunsOver, host_report_of}
 use Rattle.swd_host.specs.Sent.{HostReportsCalls}
 use Rattle.swd_remote.specs.declared.kept.RemoteStreams.{RemoteStreams}
-use Rattle.swd_remote.specs.Kept.{RemoteHangsUp}
+use Rattle.swd_remote.specs.declared.line.Way.{Way}
+use Rattle.swd_remote.specs.Kept.{LineHangsUp}
 
 -- These were the calls of a wire over a connection from its beginning to its end, the last one first. `made`
--- are the calls that they made of the transport, in order: up to the first error their characters were sent,
--- and their levels were read.
-pub record GoesOver {R W : Type 0} (remaining : R → Option (List ℕ)) (contents : W → Option (List ℕ))
+-- are the calls that they made of the transport, in order: where characters go over it, up to the first error
+-- theirs were sent, and their levels were read.
+pub record GoesOver {R W : Type 0} (way : Way) (remaining : R → Option (List ℕ)) (contents : W → Option (List ℕ))
     (sent left : Option (List ℕ))
     (line : RemoteStreams R W) (calls : List Call) : Type 0 where
   pub made : List PortAttempt
   pub gone : Bool
   pub fetched : ℕ
   pub of : PortTransportMade calls made gone fetched
-  pub hangs : RemoteHangsUp remaining contents sent left made line
+  pub hangs : LineHangsUp way remaining contents sent left made line
 
 -- the same, and what a sink states of the calls that it got: those that were made of the transport
-pub record GoesOverWatched {R W K : Type 0} (got : List PortAttempt → K → Type 0) (remaining : R → Option (List ℕ))
-    (contents : W → Option (List ℕ)) (sent left : Option (List ℕ)) (line : RemoteStreams R W) (calls : List Call)
-    (sink : K) : Type 0 where
-  pub over : GoesOver remaining contents sent left line calls
+pub record GoesOverWatched {R W K : Type 0} (got : List PortAttempt → K → Type 0) (way : Way)
+    (remaining : R → Option (List ℕ)) (contents : W → Option (List ℕ)) (sent left : Option (List ℕ))
+    (line : RemoteStreams R W) (calls : List Call) (sink : K) : Type 0 where
+  pub over : GoesOver way remaining contents sent left line calls
   pub watched : got over.made sink
 
 -- a connection over which nothing was sent or read
@@ -39,7 +40,7 @@ abbrev pub IsUnusedRemote : {R W : Type 0} → (R → Option (List ℕ)) → (W 
 IsUnusedRemote remaining contents sent left line = (contents line.writer ≡ sent) × (remaining line.reader ≡ left)
 
 -- The calls of the wire that the report is of, and all that was sent and read. A list that is refused makes no call.
-pub record RanOver {A R W : Type 0} (story : ℕ → Port) (accesses : List Access) (tries : ℕ)
+pub record RanOver {A R W : Type 0} (way : Way) (story : ℕ → Port) (accesses : List Access) (tries : ℕ)
     (remaining : R → Option (List ℕ))
     (contents : W → Option (List ℕ)) (sent left : Option (List ℕ)) (result : Result (Report A) Refused)
     (line : RemoteStreams R W) : Type 0 where
@@ -51,4 +52,4 @@ pub record RanOver {A R W : Type 0} (story : ℕ → Port) (accesses : List Acce
   pub accepted : IfOk result (λ report. (length accesses ≤ 65536) × AreHostAccesses accesses)
   pub refused : IfErr result (HostRefusesList accesses)
   pub untouched : IfErr result (λ refused. calls ≡ [])
-  pub over : GoesOver remaining contents sent left line calls
+  pub over : GoesOver way remaining contents sent left line calls

@@ -2,7 +2,7 @@
 ghost use Rattle.std.specs.Prelude.{◌∷◌, ◌++◌, [], List};
 ghost use Rattle.swd_port.specs.Transports.{PortAttempt, port_attempt};
 
-use swd_port::{Cue, Disconnected, Transport};
+use swd_port::{Coming, Cue, Disconnected, Transport};
 
 /// What gets the calls that are made of a transport, each with its result.
 pub trait CallSink {
@@ -33,5 +33,13 @@ impl<T: Transport, K: CallSink> Transport for WatchedTransport<T, K> {
         let told = self.transport.step(cue);
         self.sink.take(cue, told);
         told
+    }
+
+    fn looks_ahead(&self) -> bool {
+        self.transport.looks_ahead()
+    }
+
+    fn announce(&mut self, coming: &[Coming]) {
+        self.transport.announce(coming);
     }
 }

@@ -1,33 +1,40 @@
-//! A transport over remote_bitbang characters whose contract has its calls, so that contracts can speak of a
-//! whole run.
+//! A transport over a line whose contract has its calls, so that contracts can speak of a whole run.
 ghost use Rattle.std.specs.Prelude.{◌≡◌, ℕ, List, [], Option, None};
+ghost use Rattle.swd_remote.specs.declared.line.Way.{Way};
+ghost use Rattle.swd_remote.specs.declared.line.Way.TheVariants.{Characters};
 ghost use Rattle.swd_port.specs.Transports.{PortAttempt};
 
-use crate::probe_transport::ProbeTransport;
-use crate::remote::{Fault, Remote};
+use crate::line::{Line, LineTransport};
+use crate::opening::Opening;
+use crate::remote::Fault;
 use std::io::{Read, Write};
 use std::marker::{Brand, PhantomData};
-use swd_port::{Cue, Disconnected, Transport};
+use swd_port::{Coming, Cue, Disconnected, Transport};
 
-/// What the writer holds and the reader has at the beginning of a connection. It is for contracts alone: a
-/// caller passes [`Brand`], and its proof gives the values.
+/// What goes over a line, and what its writer holds and its reader has at the beginning of a connection. It is for
+/// contracts alone: a caller passes [`Brand`], and its proof gives the values.
 pub trait InitialStreams {
+    ghost way: { Way };
+
     ghost sent: { Option (List ℕ) };
 
     ghost left: { Option (List ℕ) };
 }
 
 impl InitialStreams for Brand {
+    ghost way = { Characters };
+
     ghost sent = { None };
 
     ghost left = { None };
 }
 
-/// A transport over remote_bitbang characters whose contract has its calls: up to the first error, exactly `O` and
-/// their characters were sent since the beginning, and exactly their levels were read.
+/// A transport over a line whose contract has its calls. Over remote_bitbang characters, up to the first error exactly
+/// `O` and their characters were sent since the beginning, and exactly their levels were read.
 #[derive(Drop)]
 pub struct RemoteTransport<R: Read, W: Write, B: InitialStreams> {
-    pub transport: ProbeTransport<Remote<R, W>>,
+    pub(crate) transport: LineTransport<R, W>,
+    opening: Opening,
     beginning: PhantomData<B>,
 }
 
@@ -38,6 +45,8 @@ pub struct RemoteStreams<R, W> {
     pub writer: W,
     /// The error that ended the connection, if any.
     pub fault: Option<Fault>,
+    /// How far the session came in opening its target.
+    pub opening: Opening,
 }
 
 impl<R, W> RemoteStreams<R, W> {
@@ -51,51 +60,61 @@ impl<R, W> RemoteStreams<R, W> {
             reader,
             writer,
             fault: None,
+            opening: Opening::new(),
         }
     }
 }
 
 impl<R: Read, W: Write, B: InitialStreams> RemoteTransport<R, W, B> {
-    ghost use Rattle.swd_remote.specs.Kept.{AreRemoteCallsSent, RemoteHangsUp};
+    ghost use Rattle.swd_remote.specs.Kept.{AreLineCallsSent, LineHangsUp};
 
     /// Returns a transport over which nothing was sent yet.
-    pub fn new(reader: R, writer: W) -> RemoteTransport<R, W, B>
-        requires sent { B.sent ≡ W.contents writer }
-        requires left { B.left ≡ R.remaining reader }
-        ensures { ∥ AreRemoteCallsSent R.remaining W.contents B.sent B.left [] result.transport ∥₁ }
+    pub fn new(line: Line<R, W>) -> RemoteTransport<R, W, B>
+        requires way { B.way ≡ line.way }
+        requires sent { B.sent ≡ W.contents line.writer }
+        requires left { B.left ≡ R.remaining line.reader }
+        ensures { ∥ AreLineCallsSent B.way R.remaining W.contents B.sent B.left [] result.transport ∥₁ }
     {
-        let transport = ProbeTransport::new(Remote::new(reader, writer));
         RemoteTransport {
-            transport,
+            transport: LineTransport::new(line),
+            opening: Opening::new(),
             beginning: PhantomData,
         }
     }
 
-    /// Sends what is queued and `Q`, unless an error came before, and returns the connection.
+    /// Ends the connection, unless an error came before, and returns it. Over characters it sends what is queued, and
+    /// `Q`.
     pub fn hang_up(self) -> RemoteStreams<R, W>
         ensures { (calls : List PortAttempt)
-            → ∥ AreRemoteCallsSent R.remaining W.contents B.sent B.left calls self.transport ∥₁
-            → ∥ RemoteHangsUp R.remaining W.contents B.sent B.left calls result ∥₁ }
+            → ∥ AreLineCallsSent B.way R.remaining W.contents B.sent B.left calls self.transport ∥₁
+            → ∥ LineHangsUp B.way R.remaining W.contents B.sent B.left calls result ∥₁ }
     {
-        let RemoteTransport { transport, .. } = self;
-        let mut remote = transport.into_probe();
-        let _ = remote.quit();
-        let fault = remote.fault();
-        let (reader, writer) = remote.into_parts();
-        RemoteStreams {
-            reader,
-            writer,
-            fault,
-        }
+        let RemoteTransport {
+            transport,
+            opening,
+            ..
+        } = self;
+        transport.hang_up(opening)
     }
 }
 
 impl<R: Read, W: Write, B: InitialStreams> Transport for RemoteTransport<R, W, B> {
-    ghost use Rattle.swd_remote.specs.Kept.{AreRemoteCallsSent};
+    ghost use Rattle.swd_remote.specs.Kept.{AreLineCallsSent};
 
-    ghost tells = { λ calls kept. ∥ AreRemoteCallsSent R.remaining W.contents B.sent B.left calls kept.transport ∥₁ };
+    ghost tells = { λ calls kept. ∥ AreLineCallsSent B.way R.remaining W.contents B.sent B.left calls kept.transport
+        ∥₁ };
 
     fn step(&mut self, cue: Cue) -> Result<u64, Disconnected> {
-        self.transport.step(cue)
+        let told = self.transport.perform(cue);
+        self.opening.take(cue, told);
+        told
+    }
+
+    fn looks_ahead(&self) -> bool {
+        self.transport.looks_ahead()
+    }
+
+    fn announce(&mut self, coming: &[Coming]) {
+        self.transport.announce(coming);
     }
 }

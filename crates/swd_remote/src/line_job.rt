@@ -7,6 +7,7 @@ ghost use Rattle.swd_remote.specs.WholeRuns.{GoesOver, GoesOverWatched};
 
 use crate::call_sink::{CallSink, WatchedTransport};
 use crate::kept::{InitialStreams, RemoteStreams, RemoteTransport};
+use crate::line::Line;
 use std::io::{Read, Write};
 use std::marker::Brand;
 use swd_port::{Story, Tied, Transport, TransportWire};
@@ -38,47 +39,46 @@ pub trait LineJob {
 /// levels that these calls ask for are read. Nothing is sent after that error.
 pub fn over_line<P: Story, J: LineJob, R: Read, W: Write>(
     job: &mut J,
-    reader: R,
-    writer: W,
+    line: Line<R, W>,
 ) -> (J::Answer, RemoteStreams<R, W>)
     ensures { (calls : List Call) × J.came P.at job.old job.new result.0 calls
-        × ∥ GoesOver R.remaining W.contents (W.contents writer) (R.remaining reader) result.1 calls ∥₁ }
+        × ∥ GoesOver line.way R.remaining W.contents (W.contents line.writer) (R.remaining line.reader)
+        result.1 calls ∥₁ }
 {
-    let (answer, line, ()) = over_watched_line::<P, J, R, W, ()>(job, reader, writer, ());
-    (answer, line)
+    let (answer, streams, ()) = over_watched_line::<P, J, R, W, ()>(job, line, ());
+    (answer, streams)
 }
 
 /// Does a job as [`over_line`] does. A sink gets the calls that the job's calls make of the connection, up to the first
 /// one that fails, each as soon as its result is there.
 pub fn over_watched_line<P: Story, J: LineJob, R: Read, W: Write, K: CallSink>(
     job: &mut J,
-    reader: R,
-    writer: W,
+    line: Line<R, W>,
     sink: K,
 ) -> (J::Answer, RemoteStreams<R, W>, K)
     requires { K.got [] sink }
     ensures { (calls : List Call) × J.came P.at job.old job.new result.0 calls
-        × ∥ GoesOverWatched K.got R.remaining W.contents (W.contents writer) (R.remaining reader) result.1 calls
-        result.2 ∥₁ }
+        × ∥ GoesOverWatched K.got line.way R.remaining W.contents (W.contents line.writer) (R.remaining line.reader)
+        result.1 calls result.2 ∥₁ }
 {
-    over_begun::<P, Brand, J, R, W, K>(job, reader, writer, sink)
+    over_begun::<P, Brand, J, R, W, K>(job, line, sink)
 }
 
 // Does a job over a connection whose beginning contracts know.
 fn over_begun<P: Story, B: InitialStreams, J: LineJob, R: Read, W: Write, K: CallSink>(
     job: &mut J,
-    reader: R,
-    writer: W,
+    line: Line<R, W>,
     sink: K,
 ) -> (J::Answer, RemoteStreams<R, W>, K)
-    requires sent { B.sent ≡ W.contents writer }
-    requires left { B.left ≡ R.remaining reader }
+    requires way { B.way ≡ line.way }
+    requires sent { B.sent ≡ W.contents line.writer }
+    requires left { B.left ≡ R.remaining line.reader }
     requires got { K.got [] sink }
     ensures { (calls : List Call) × J.came P.at job.old job.new result.0 calls
-        × ∥ GoesOverWatched K.got R.remaining W.contents B.sent B.left result.1 calls result.2 ∥₁ }
+        × ∥ GoesOverWatched K.got B.way R.remaining W.contents B.sent B.left result.1 calls result.2 ∥₁ }
 {
     let transport = WatchedTransport {
-        transport: RemoteTransport::<R, W, B>::new(reader, writer),
+        transport: RemoteTransport::<R, W, B>::new(line),
         sink,
     };
     let mut wire: TransportWire<WatchedTransport<RemoteTransport<R, W, B>, K>, P, Tied> =

@@ -11,6 +11,7 @@ use crate::levels::{MOST, read_levels};
 use crate::outgoing::Outgoing;
 use crate::probe::Probe;
 use std::io::{Read, Write};
+use swd_dap::DapFault;
 use swd_port::Disconnected;
 use swd_sequences::{Character, Sequence};
 
@@ -27,6 +28,8 @@ pub enum Fault {
     Write,
     /// More than 64 levels were asked for in one exchange.
     TooMany,
+    /// A probe's packets failed, or its reply can't be used.
+    Probe(DapFault),
 }
 
 /// A connection to a server of OpenOCD's remote_bitbang protocol for serial wire, over a reader and a writer.

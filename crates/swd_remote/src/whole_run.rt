@@ -3,6 +3,7 @@ ghost use Rattle.std.specs.Prelude.{◌≡◌};
 ghost use Rattle.swd_remote.specs.WholeRuns.{RanOver};
 
 use crate::kept::{InitialStreams, RemoteStreams, RemoteTransport};
+use crate::line::Line;
 use std::alloc::Allocator;
 use std::io::{Read, Write};
 use std::marker::Brand;
@@ -24,30 +25,29 @@ use swd_port::{Access, Story, Tied, TransportWire};
 /// `Q` are sent.
 pub fn run_over_line<S: Story, R: Read, W: Write, A: Allocator>(
     alloc: A,
-    reader: R,
-    writer: W,
+    line: Line<R, W>,
     accesses: &[Access],
     tries: u32,
 ) -> (Result<Report<A>, Refused>, RemoteStreams<R, W>)
-    ensures { ∥ RanOver S.at accesses.now tries R.remaining W.contents (W.contents writer) (R.remaining reader)
-        result.0 result.1 ∥₁ }
+    ensures { ∥ RanOver line.way S.at accesses.now tries R.remaining W.contents (W.contents line.writer)
+        (R.remaining line.reader) result.0 result.1 ∥₁ }
 {
-    run_begun::<S, Brand, R, W, A>(alloc, reader, writer, accesses, tries)
+    run_begun::<S, Brand, R, W, A>(alloc, line, accesses, tries)
 }
 
 fn run_begun<S: Story, B: InitialStreams, R: Read, W: Write, A: Allocator>(
     alloc: A,
-    reader: R,
-    writer: W,
+    line: Line<R, W>,
     accesses: &[Access],
     tries: u32,
 ) -> (Result<Report<A>, Refused>, RemoteStreams<R, W>)
-    requires sent { B.sent ≡ W.contents writer }
-    requires left { B.left ≡ R.remaining reader }
-    ensures { ∥ RanOver S.at accesses.now tries R.remaining W.contents B.sent B.left result.0 result.1 ∥₁ }
+    requires way { B.way ≡ line.way }
+    requires sent { B.sent ≡ W.contents line.writer }
+    requires left { B.left ≡ R.remaining line.reader }
+    ensures { ∥ RanOver B.way S.at accesses.now tries R.remaining W.contents B.sent B.left result.0 result.1 ∥₁ }
 {
     let mut wire: TransportWire<RemoteTransport<R, W, B>, S, Tied> = TransportWire::begun(
-        RemoteTransport::new(reader, writer),
+        RemoteTransport::new(line),
     );
     let ran = run(alloc, &mut wire, accesses, tries);
     (ran, wire.into_transport().hang_up())

@@ -9,6 +9,7 @@ use Rattle.swd_remote.specs.declared.kept.RemoteStreams.{RemoteStreams}
 use Rattle.swd_remote.specs.declared.remote.Fault.{Fault}
 use Rattle.swd_remote.specs.WholeRuns.{RanOver}
 use Rattle.swd_command_line.specs.declared.command.InfoLine.{InfoLine}
+use Rattle.swd_console.specs.Connections.{command_way}
 use Rattle.swd_console.specs.Statuses.{command_status_of_end}
 
 -- 0 if the target was opened, and 1 if not
@@ -27,5 +28,5 @@ abbrev pub PerformsInfo : {R W : Type 0} → (A : Type 0) → (ℕ → Port) →
     → Option (List ℕ) → Option (List ℕ) → RemoteStreams R W → Type 0
 PerformsInfo A story info status remaining contents sent left line =
     (answer : Result (Report A) Refused)
-    × ∥ RanOver story [] info.tries remaining contents sent left answer line ∥₁
+    × ∥ RanOver (command_way info.probe) story [] info.tries remaining contents sent left answer line ∥₁
     × (status ≡ info_command_status line.fault answer)

@@ -14,7 +14,7 @@ use Rattle.swd_run.specs.declared.fault.EngineFault.{EngineFault}
 use Rattle.swd_run.specs.Records.{RunFiles}
 use Rattle.swd_ends.specs.RemoteRuns.{RanRemoteEndScript}
 use Rattle.swd_command_line.specs.declared.command.RunLine.{RunLine}
-use Rattle.swd_console.specs.Connections.{CommandWentOver}
+use Rattle.swd_console.specs.Connections.{CommandWentOver, command_way}
 use Rattle.swd_console.specs.Statuses.{command_status_of_run}
 use Rattle.swd_console.specs.Verdicts.{command_status_checked}
 use Rattle.swd_run_commands.specs.Runs.{run_command_limits}
@@ -46,7 +46,8 @@ abbrev pub RunsRemoteScript : {R W : Type 0} → (ℕ → Port) → RunLine → 
 RunsRemoteScript story run status remaining contents sent left line batches =
     (answer : Result Finished EngineFault) × (before : Option (List ℕ)) × (after : Option (List ℕ))
     × (unwritten : RunFiles) × (written : RunFiles) × AreRemoteCommandFiles run unwritten
-    × RanRemoteEndScript story (run_command_limits run) (CommandWentOver remaining contents sent left line)
+    × RanRemoteEndScript story (run_command_limits run)
+    (CommandWentOver (command_way run.probe) remaining contents sent left line)
     batches answer before after unwritten written
     × RemoteCommandEndsAs run line.fault answer status
 

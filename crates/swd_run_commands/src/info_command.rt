@@ -5,10 +5,12 @@ ghost use Rattle.swd_run_commands.specs.Infos.{PerformsInfo, info_command_status
 use std::alloc::Allocator;
 use std::io::{Read, Write};
 use swd_command_line::InfoLine;
-use swd_console::{Console, DONE, KeepsError, STOPPED, engine_status, gone_status, line_streams};
+use swd_console::{
+    Console, DONE, KeepsError, STOPPED, engine_status, gone_status, line_streams, way_of,
+};
 use swd_host::{End, Refused, Report};
 use swd_port::Story;
-use swd_remote::{RemoteStreams, run_over_line};
+use swd_remote::{Line, RemoteStreams, run_over_line};
 
 /// Opens the target behind the streams by a run without accesses. Returns the status, and the streams with the error
 /// that ended the connection, if any. At an error it prints a line.
@@ -29,7 +31,12 @@ pub fn perform_info<
     ensures { PerformsInfo A P.at info.now result.0 I.remaining O.contents (O.contents output) (I.remaining input)
         result.1 }
 {
-    let (answer, line) = run_over_line::<P, _, _, _>(console.alloc, input, output, &[], info.tries);
+    let line = Line {
+        reader: input,
+        writer: output,
+        way: way_of(info.probe),
+    };
+    let (answer, line) = run_over_line::<P, _, _, _>(console.alloc, line, &[], info.tries);
     let status = info_status(console.errors, answer, &line);
     (status, line)
 }

@@ -5,6 +5,7 @@ ghost use Rattle.swd_script.specs.Laws.{IsScriptRunnable};
 ghost use Rattle.swd_script.specs.Readers.{read_script_meaning};
 ghost use Rattle.swd_run.specs.Records.{run_files_of};
 ghost use Rattle.swd_check.specs.Checkings.{checking_contents};
+ghost use Rattle.swd_console.specs.Connections.{command_way};
 ghost use Rattle.swd_console.specs.Streams.{stream_watched};
 ghost use Rattle.swd_run_commands.specs.Remotes.{AreRemoteCommandFiles, PerformsRemoteCommand, RemoteCommandEndsAs};
 ghost use Rattle.swd_run_commands.specs.Remotes.{RunsRemoteScript, remote_command_status};
@@ -22,12 +23,12 @@ use swd_command_line::RunLine;
 use swd_console::{
     Clock, Console, Destination, ERRORS, FAULT, Files, InUse, KeepsError, Stream, TrackedReader,
     Watched, WriteRole, advice_on, cannot_open, cut_off, gone_status, line_streams,
-    name_or_nothing, run_status, tell, tell_failure, verdict_status,
+    name_or_nothing, run_status, tell, tell_failure, verdict_status, way_of,
 };
-use swd_ends::{Line, run_remote_script};
+use swd_ends::run_remote_script;
 use swd_host::End;
 use swd_port::Story;
-use swd_remote::RemoteStreams;
+use swd_remote::{Line, RemoteStreams};
 use swd_run::{EngineFault, Finished, Records};
 use swd_script::{Script, read_script};
 use swd_text::TextFault;
@@ -108,7 +109,10 @@ pub(crate) fn perform_remote<
 {
     let mut in_use = in_use;
     let Some(name) = &run.report else {
-        let status = tell(console.errors, "--remote and --report FILE go together");
+        let status = tell(
+            console.errors,
+            "--remote or --probe and --report FILE go together",
+        );
         return (status, RemoteStreams::unused(input, output));
     };
     let report = match open_report(name.as_str(), &mut in_use, console) {
@@ -142,6 +146,7 @@ pub(crate) fn perform_remote<
     let line = Line {
         reader: input,
         writer: output,
+        way: way_of(run.probe),
     };
     match report {
         Destination::File(file) => {
@@ -182,6 +187,7 @@ fn report_to_file<
     console: &mut Console<'_, A, F, C, E>,
 ) -> (u8, RemoteStreams<I, O>)
     requires script { IsScriptRunnable (read_script_meaning script.now) }
+    requires way { line.way ≡ command_way run.now.probe }
     requires files { AreRemoteCommandFiles run.now (run_files_of (stream_watched (checking_contents T.contents))
         accesses_printed records) }
     ensures { RunsRemoteScript P.at run.now result.0 I.remaining O.contents (O.contents line.writer)
@@ -226,6 +232,7 @@ fn report_to_errors<
     console: &mut Console<'_, A, F, C, E>,
 ) -> (u8, RemoteStreams<I, O>)
     requires script { IsScriptRunnable (read_script_meaning script.now) }
+    requires way { line.way ≡ command_way run.now.probe }
     requires files { AreRemoteCommandFiles run.now (run_files_of (stream_watched (checking_contents T.contents))
         accesses_printed records) }
     ensures { RunsRemoteScript P.at run.now result.0 I.remaining O.contents (O.contents line.writer)

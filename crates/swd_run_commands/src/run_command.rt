@@ -21,6 +21,7 @@ use swd_command_line::RunLine;
 use swd_console::{
     Clock, Console, FAULT, Files, INPUT, InUse, KeepsError, ReadRole, Stream, StreamsInUse,
     TrackedReader, Untold, Watched, named_file_of, run_status, status_after, tell, tell_failure,
+    tell_session,
 };
 use swd_run::{EngineFault, Finished, Limits, Records, Texts, read_texts, run_script};
 
@@ -68,9 +69,10 @@ pub fn perform_run<
     };
     let mut script = TrackedReader::new(name, Watched::new(script));
     if run.remote.is_some() {
-        let (status, _) = perform_remote::<Untold, _, _, _, _, _, _, _>(
+        let (status, line) = perform_remote::<Untold, _, _, _, _, _, _, _>(
             run, script, in_use, input, output, console,
         );
+        tell_session(console.errors, status, &line);
         return status;
     }
     let own = run_planned(run, &mut script, in_use, output, console);
@@ -93,7 +95,7 @@ fn run_standard_input<
     if run.remote.is_some() {
         return tell(
             console.errors,
-            "with --remote SCRIPT has to be a file, not standard input",
+            "with --remote or --probe SCRIPT has to be a file, not standard input",
         );
     }
     let mut script = TrackedReader::new(INPUT, input);

@@ -9,12 +9,13 @@ use Rattle.clap.specs.Words.{App, HasKind, Kinds, kind_of, Row, all_of, first_of
 use Rattle.clap.specs.Words.{with_subcommand}
 use Rattle.swd_command_line.specs.declared.command.CommandLine.{CommandLine}
 use Rattle.swd_command_line.specs.declared.command.CommandLine.TheVariants.{One, Decode, Draw, Check, Encode, Run}
-use Rattle.swd_command_line.specs.declared.command.CommandLine.TheVariants.{Target, Info, Image, Conform}
+use Rattle.swd_command_line.specs.declared.command.CommandLine.TheVariants.{Target, Info, Image, Conform, Probes}
 use Rattle.swd_command_line.specs.declared.command.DecodeLine.{DecodeLine}
 use Rattle.swd_command_line.specs.declared.command.DrawLine.{DrawLine}
 use Rattle.swd_command_line.specs.declared.command.CheckLine.{CheckLine}
 use Rattle.swd_command_line.specs.declared.command.ConformLine.{ConformLine}
 use Rattle.swd_command_line.specs.declared.command.PlainWords.{PlainWords}
+use Rattle.swd_command_line.specs.declared.command.ProbeLine.{ProbeLine}
 use Rattle.swd_command_line.specs.declared.command.ImageAction.{ImageAction}
 use Rattle.swd_command_line.specs.declared.command.ImageAction.TheVariants.{Load, Verify, Dump}
 use Rattle.swd_command_line.specs.declared.command.ImageLine.{ImageLine}
@@ -57,6 +58,11 @@ resume_rule = number_rule (codes "resume") 0 (codes "0")
 abbrev pub remote_rule : Rule
 remote_rule = optional_rule (codes "remote")
 
+-- with --probe, what leads to a probe in its place, the frequency of SWCLK, and whether packets have their length
+-- before them
+abbrev pub lead_rules : List Rule
+lead_rules = remote_rule ∷ value_rule (codes "probe") ∷ value_rule (codes "speed") ∷ flag_rule (codes "framed") ∷ []
+
 -- --plain: words of plain memory, each use with an address and a number of words
 abbrev pub plain_rule : Rule
 plain_rule = repeated_rule (codes "plain") (codes "BASE" ∷ codes "WORDS" ∷ [])
@@ -81,8 +87,8 @@ check_rules = file_rules ++ flag_rule (codes "made") ∷ flag_rule (codes "rest"
 
 abbrev pub run_rules : List Rule
 run_rules = place_rule (codes "SCRIPT") true ∷ value_rule (codes "plan") ∷ tries_rule ∷ resume_rule
-    ∷ value_rule (codes "trace") ∷ value_rule (codes "accesses") ∷ flag_rule (codes "strict") ∷ remote_rule
-    ∷ value_rule (codes "report") ∷ flag_rule (codes "progress") ∷ flag_rule (codes "check")
+    ∷ value_rule (codes "trace") ∷ value_rule (codes "accesses") ∷ flag_rule (codes "strict") ∷ lead_rules
+    ++ value_rule (codes "report") ∷ flag_rule (codes "progress") ∷ flag_rule (codes "check")
     ∷ flag_rule (codes "bursts") ∷ []
 
 -- with the script of a target, in place of which there may be --memory
@@ -91,13 +97,13 @@ target_rules = place_rule (codes "SCRIPT") false ∷ value_rule (codes "memory")
     ∷ value_rule (codes "plan") ∷ value_rule (codes "log") ∷ value_rule (codes "trace") ∷ value_rule (codes "idr") ∷ []
 
 abbrev pub conform_rules : List Rule
-conform_rules = remote_rule ∷ plain_rule ∷ value_rule (codes "hole") ∷ flag_rule (codes "clean") ∷ []
+conform_rules = lead_rules ++ plain_rule ∷ value_rule (codes "hole") ∷ flag_rule (codes "clean") ∷ []
 
 -- the options of each command over an image, after its places: the format, the limits, the report, the progress, and
 -- the target, which is remote, or simulated
 abbrev pub image_rules : List Rule
 image_rules = value_rule (codes "format") ∷ tries_rule ∷ resume_rule ∷ value_rule (codes "report")
-    ∷ flag_rule (codes "progress") ∷ remote_rule ∷ flag_rule (codes "check") ∷ value_rule (codes "memory")
+    ∷ flag_rule (codes "progress") ∷ lead_rules ++ flag_rule (codes "check") ∷ value_rule (codes "memory")
     ∷ value_rule (codes "base") ∷ value_rule (codes "plan") ∷ []
 
 abbrev pub read_rules : List Rule
@@ -120,9 +126,9 @@ bare_args_app =
 abbrev pub swd_app : App
 swd_app = commands_app bare_args_app ((codes "one", file_rules) ∷ (codes "decode", decode_rules)
     ∷ (codes "encode", file_rules) ∷ (codes "run", run_rules) ∷ (codes "target", target_rules)
-    ∷ (codes "draw", draw_rules) ∷ (codes "check", check_rules) ∷ (codes "info", remote_rule ∷ tries_rule ∷ [])
+    ∷ (codes "draw", draw_rules) ∷ (codes "check", check_rules) ∷ (codes "info", lead_rules ++ tries_rule ∷ [])
     ∷ (codes "conform", conform_rules) ∷ (codes "load", load_rules) ∷ (codes "verify", read_rules)
-    ∷ (codes "dump", dump_rules) ∷ [])
+    ∷ (codes "dump", dump_rules) ∷ (codes "probes", []) ∷ [])
 
 -- --remote alone is read as --remote=-, so that the argument after it isn't its value
 abbrev pub remote_spelled_out : Text → Text
@@ -201,6 +207,20 @@ abbrev pub IsResumeArgument : ℕ → Option Text → Type 0
 IsResumeArgument resumes None = resumes ≡ 0
 IsResumeArgument resumes (Some text) = (resumes ≤ 1000) × (pos resumes ≡ signed_digits_value 10 text)
 
+-- the frequency of SWCLK is that of the argument, 1 to 10 decimal digits, and not 0; 1,000,000 without an argument
+abbrev pub IsSpeedArgument : ℕ → Option Text → Type 0
+IsSpeedArgument speed None = speed ≡ 1000000
+IsSpeedArgument speed (Some text) = (Some speed ≡ script_decimal_number text) × (0 < speed)
+
+-- What leads to a remote target is what --remote names. With --probe, which excludes it, it is what that names, and a
+-- probe is there, with this frequency, and with packets that have their length before them or not.
+abbrev pub AreLeadArguments : Option Text → Option ProbeLine → List Row → Type 0
+AreLeadArguments files None rows = (files ≡ first_of (codes "remote") rows) × (first_of (codes "probe") rows ≡ None)
+AreLeadArguments files (Some probe) rows = (files ≡ first_of (codes "probe") rows)
+    × (first_of (codes "probe") rows ≢ None) × (first_of (codes "remote") rows ≡ None)
+    × IsSpeedArgument probe.speed (first_of (codes "speed") rows)
+    × ((probe.framed ≡ true) ↔ (first_of (codes "framed") rows ≡ Some (codes "true")))
+
 -- the script, the plan, the two numbers, the trace, the accesses, what leads to a remote target, and the report that
 -- the arguments name, and whether the run is strict, says how far it is, checks its session, and sends bursts
 pub record AreRunArguments (run : RunLine) (rows : List Row) : Type 0 where
@@ -211,7 +231,7 @@ pub record AreRunArguments (run : RunLine) (rows : List Row) : Type 0 where
   pub trace : option_map string_bytes run.trace ≡ first_of (codes "trace") rows
   pub accesses : option_map string_bytes run.accesses ≡ first_of (codes "accesses") rows
   pub strict : (run.strict ≡ true) ↔ (first_of (codes "strict") rows ≡ Some (codes "true"))
-  pub remote : option_map string_bytes run.remote ≡ first_of (codes "remote") rows
+  pub remote : AreLeadArguments (option_map string_bytes run.remote) run.probe rows
   pub report : option_map string_bytes run.report ≡ first_of (codes "report") rows
   pub progress : (run.progress ≡ true) ↔ (first_of (codes "progress") rows ≡ Some (codes "true"))
   pub check : (run.check ≡ true) ↔ (first_of (codes "check") rows ≡ Some (codes "true"))
@@ -234,7 +254,7 @@ IsBytesArgument count text =
 
 -- what leads to the remote target, and the number of tries
 pub record AreInfoArguments (info : InfoLine) (rows : List Row) : Type 0 where
-  pub remote : Some (string_bytes info.remote) ≡ first_of (codes "remote") rows
+  pub remote : AreLeadArguments (Some (string_bytes info.remote)) info.probe rows
   pub tries : IsTriesArgument info.tries (first_of (codes "tries") rows)
 
 -- what is done with an image, by the command's name, and a dump's number of bytes
@@ -305,18 +325,19 @@ pub record AreTargetArguments (target : TargetLine) (rows : List Row) : Type 0 w
 
 -- what leads to the remote target, the one memory, the address without memory, and the flag
 pub record AreConformArguments (conform : ConformLine) (rows : List Row) : Type 0 where
-  pub remote : Some (string_bytes conform.remote) ≡ first_of (codes "remote") rows
+  pub remote : AreLeadArguments (Some (string_bytes conform.remote)) conform.probe rows
   pub plain : ArePlainArguments (conform.plain ∷ []) (unwrap_or (all_of (codes "plain") rows) [])
   pub hole : IsIdrArgument conform.hole (first_of (codes "hole") rows)
   pub clean : (conform.clean ≡ true) ↔ (first_of (codes "clean") rows ≡ Some (codes "true"))
 
--- Exactly one of --remote and --memory is given: the target is remote, or has this memory. Only with --memory there may
--- be --base and --plan.
+-- One of --remote and --probe, or --memory is given: the target is remote, or has this memory. Only with --memory there
+-- may be --base and --plan.
 abbrev pub IsTargetArgument : Option MemoryLine → List Row → Type 0
-IsTargetArgument None rows = (first_of (codes "remote") rows ≢ None)
+IsTargetArgument None rows = (first_of (codes "remote") rows ≡ None → first_of (codes "probe") rows ≢ None)
     × (first_of (codes "memory") rows ≡ None) × (first_of (codes "base") rows ≡ None)
     × (first_of (codes "plan") rows ≡ None)
-IsTargetArgument (Some memory) rows = (first_of (codes "remote") rows ≡ None) × AreMemoryArguments memory rows
+IsTargetArgument (Some memory) rows = (first_of (codes "remote") rows ≡ None) × (first_of (codes "probe") rows ≡ None)
+    × AreMemoryArguments memory rows
 
 -- the action, the address of 1 to 8 hexadecimal digits after an optional 0x, the file with its format, the two numbers,
 -- the report, what leads to a remote target, and the target that the arguments name, and whether the command says how
@@ -331,7 +352,7 @@ pub record AreImageArguments (image : ImageLine) (name : Text) (rows : List Row)
   pub progress : (image.progress ≡ true) ↔ (first_of (codes "progress") rows ≡ Some (codes "true"))
   pub check : (image.check ≡ true) ↔ (first_of (codes "check") rows ≡ Some (codes "true"))
   pub bursts : (image.bursts ≡ true) ↔ (first_of (codes "bursts") rows ≡ Some (codes "true"))
-  pub remote : option_map string_bytes image.remote ≡ first_of (codes "remote") rows
+  pub remote : AreLeadArguments (option_map string_bytes image.remote) image.probe rows
   pub target : IsTargetArgument image.memory rows
   pub format : AreFormatArguments image.action image.format image.elf (string_bytes image.file)
       (first_of (codes "format") rows)
@@ -358,4 +379,5 @@ IsLineOfArguments (Target target) rows = IsSomeAnd rows (λ p. (p.0 ≡ codes "t
 IsLineOfArguments (Info info) rows = IsSomeAnd rows (λ p. (p.0 ≡ codes "info") × AreInfoArguments info p.1)
 IsLineOfArguments (Conform conform) rows =
     IsSomeAnd rows (λ p. (p.0 ≡ codes "conform") × AreConformArguments conform p.1)
+IsLineOfArguments Probes rows = IsSomeAnd rows (λ p. p.0 ≡ codes "probes")
 IsLineOfArguments (Image image) rows = IsSomeAnd rows (λ p. AreImageArguments image p.0 p.1)

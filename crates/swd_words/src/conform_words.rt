@@ -6,8 +6,9 @@ ghost use Rattle.swd_words.specs.Commands.{AreConformArguments};
 use crate::argument::{Argument, CommandRow, Form};
 use crate::check_words::{CLEAN, PLAIN, plain_in};
 use crate::fault::LineFault;
+use crate::lead_words::{FRAMED, PROBE, REMOTE, SPEED, lead_in};
 use crate::target_words::idr_in;
-use crate::words::{REMOTE, invalid, is_set, refused, text_in};
+use crate::words::{invalid, is_set, refused};
 use clap::ArgMatches;
 use clap::error::ErrorKind;
 use std::alloc::Global;
@@ -29,8 +30,8 @@ of 4 and no word of the memory; without, this part is left out. All other
 transfers of access port 0 are in the memory, if the port conforms: one is left
 out where an event on the line leaves open at which address it would be.
 
---remote is as for swd run. Without =IN,OUT standard output is the line's, and
-the verdict is on standard error. For a server on a socket:
+--remote and --probe are as for swd run. With --remote alone standard output is
+the line's, and the verdict is on standard error. For a server on a socket:
   swd-line localhost:4711 -- swd conform --remote ..
 Lines on standard error say how many requests and clocks were sent, and what was
 not reached: WAIT, if the port never answered it, and damage on the line.
@@ -38,7 +39,7 @@ not reached: WAIT, if the port never answered it, and damage on the line.
 Status: 0 fits; 1 breaks, or a transfer at ADDR was no bus error; 2 crowded, an
 error, the other end went away, or the port answered no request.";
 
-const NO_TARGET: &str = "the target is missing: give --remote";
+const NO_TARGET: &str = "the target is missing: give --remote or --probe FILE";
 
 const ONE_MEMORY: &str = "give the memory that may be overwritten: --plain BASE WORDS, once";
 
@@ -51,6 +52,9 @@ pub(crate) const CONFORM: CommandRow = CommandRow {
     after: Some(CONFORM_AFTER),
     arguments: &[
         REMOTE,
+        PROBE,
+        SPEED,
+        FRAMED,
         PLAIN,
         Argument {
             name: "hole",
@@ -61,14 +65,16 @@ pub(crate) const CONFORM: CommandRow = CommandRow {
     ],
 };
 
-/// Returns the arguments of `swd conform`. Rejects those without `--remote`, and without `--plain` or with several.
+/// Returns the arguments of `swd conform`. Rejects those without a target, and without `--plain` or with several.
 pub(crate) fn conform_line(
     alloc: Global,
     matches: &ArgMatches<'_>,
 ) -> Result<ConformLine, LineFault>
     ensures { IfOk result (λ conform. AreConformArguments conform (rows_of (found_of matches.now))) }
 {
-    let Some(remote) = text_in(alloc, matches, "remote")? else {
+    let lead = lead_in(alloc, matches)?;
+    let (remote, probe) = lead;
+    let Some(remote) = remote else {
         let kind = ErrorKind::MissingRequiredArgument;
         return Err(refused(alloc, kind, NO_TARGET));
     };
@@ -88,6 +94,7 @@ pub(crate) fn conform_line(
     };
     Ok(ConformLine {
         remote,
+        probe,
         plain,
         hole,
         clean,

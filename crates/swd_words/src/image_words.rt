@@ -10,10 +10,11 @@ ghost use Rattle.swd_words.specs.Commands.{AreBytesInUnits, AreFormatArguments, 
 use crate::argument::{Argument, CommandRow, Form};
 use crate::fault::LineFault;
 use crate::format_words::{READ_FORMAT, WRITTEN_FORMAT, format_form, formats_in};
+use crate::lead_words::{FRAMED, PROBE, REMOTE, SPEED, lead_in};
 use crate::memory_words::{BASE, MEMORY, target_in};
 use crate::words::{
-    BURSTS, PLAN, PROGRESS, REMOTE, RESUME, SESSION, TRIES, invalid, is_set, numbers_in, refused,
-    text_in, unknown, why_unwatched,
+    BURSTS, PLAN, PROGRESS, RESUME, SESSION, TRIES, invalid, is_set, numbers_in, refused, text_in,
+    unknown, why_unwatched,
 };
 use clap::ArgMatches;
 use clap::error::ErrorKind;
@@ -50,7 +51,7 @@ are read first, so that their other bytes keep their values.
 With --remote the standard streams connect to a server of OpenOCD's
 remote_bitbang protocol for SWD, such as swd target. For a server on a socket:
   swd-line localhost:4711 -- swd load ADDR FILE --remote
---remote=IN,OUT is as for swd run, and so is --bursts.
+--remote=IN,OUT, --probe and --bursts are as for swd run.
 
 With --memory the target is simulated. The memory's FILE has its bytes from
 --base on, a multiple of 4 of them, the byte at the lowest address first. A load
@@ -84,8 +85,8 @@ or the other end went away, 2 at an error. With --check it is 1 in place of 0 if
 the verdict is breaks.";
 
 const VERIFY_AFTER: &str = "\
-FILE and ADDR are as for swd load, and so are --remote and --memory, whose FILE
-is only read. The pieces of FILE are read and compared in its order,
+FILE and ADDR are as for swd load, and so are --remote, --probe and --memory,
+whose FILE is only read. The pieces of FILE are read and compared in its order,
 up to the first one that differs.
 
 --report FILE is as for swd load, and so is --check. A call has up to 65,536
@@ -103,11 +104,11 @@ it is 1 in place of 0 if the verdict is breaks.";
 const DUMP_AFTER: &str = "\
 BYTES is 1 to 10 decimal digits, which k (1024 bytes) or M (1048576 bytes) may
 follow, or 1 to 8 hexadecimal digits after 0x. ADDR is 1 to 8 hexadecimal
-digits, after an optional 0x. --remote and --memory are as for swd load, and so
-is --check; the memory's FILE is only read. --report and --progress are as for
-swd verify. FILE is hex, srec or bin by its name, as for swd load, or by
---format. Without that a name in .elf or .axf is refused: a dump is never ELF.
-In a hex or srec file the addresses are the target's.
+digits, after an optional 0x. --remote, --probe and --memory are as for swd
+load, and so is --check; the memory's FILE is only read. --report and --progress
+are as for swd verify. FILE is hex, srec or bin by its name, as for swd load, or
+by --format. Without that a name in .elf or .axf is refused: a dump is never
+ELF. In a hex or srec file the addresses are the target's.
 
 FILE is replaced once all bytes are read, by a new file beside it that gets its
 name. At an error it is unchanged, or isn't created. A line on standard error
@@ -177,6 +178,9 @@ pub(crate) const LOAD: CommandRow = CommandRow {
         REPORT,
         PROGRESS,
         REMOTE,
+        PROBE,
+        SPEED,
+        FRAMED,
         SESSION,
         MEMORY,
         BASE,
@@ -199,6 +203,9 @@ pub(crate) const VERIFY: CommandRow = CommandRow {
         REPORT,
         PROGRESS,
         REMOTE,
+        PROBE,
+        SPEED,
+        FRAMED,
         SESSION,
         MEMORY,
         BASE,
@@ -221,6 +228,9 @@ pub(crate) const DUMP: CommandRow = CommandRow {
         REPORT,
         PROGRESS,
         REMOTE,
+        PROBE,
+        SPEED,
+        FRAMED,
         SESSION,
         MEMORY,
         BASE,
@@ -330,24 +340,18 @@ fn formats_of(
     }
 }
 
-// Returns the file, the file of the reports, and what leads to a remote target.
-fn names_in(
-    alloc: Global,
-    matches: &ArgMatches<'_>,
-) -> Result<(String, Option<String>, Option<String>), LineFault>
+// Returns the file, and the file of the reports.
+fn names_in(alloc: Global, matches: &ArgMatches<'_>) -> Result<(String, Option<String>), LineFault>
     ensures file { IfOk result (λ names. Some (string_bytes names.0)
         ≡ first_of (codes "FILE") (rows_of (found_of matches.now))) }
     ensures report { IfOk result (λ names. option_map string_bytes names.1
         ≡ first_of (codes "report") (rows_of (found_of matches.now))) }
-    ensures remote { IfOk result (λ names. option_map string_bytes names.2
-        ≡ first_of (codes "remote") (rows_of (found_of matches.now))) }
 {
     let Some(file) = text_in(alloc, matches, "FILE")? else {
         return Err(LineFault::Memory);
     };
     let report = text_in(alloc, matches, "report")?;
-    let remote = text_in(alloc, matches, "remote")?;
-    Ok((file, report, remote))
+    Ok((file, report))
 }
 
 /// Returns the arguments of the command of this name, which is `load`, `verify` or `dump`.
@@ -367,6 +371,7 @@ pub(crate) fn image_line(
     if let Some(why) = why_unwatched(matches) {
         return Err(refused(alloc, ErrorKind::ArgumentConflict, why));
     }
+    let lead = lead_in(alloc, matches)?;
     let memory = target_in(alloc, matches)?;
     let formats = formats_of(alloc, action, matches)?;
     let names = names_in(alloc, matches)?;
@@ -381,7 +386,8 @@ pub(crate) fn image_line(
         report: names.1,
         progress: is_set(matches, "progress"),
         check: is_set(matches, "check"),
-        remote: names.2,
+        remote: lead.0,
+        probe: lead.1,
         memory,
         bursts: is_set(matches, "bursts"),
     })

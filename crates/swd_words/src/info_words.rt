@@ -5,7 +5,8 @@ ghost use Rattle.swd_words.specs.Commands.{AreInfoArguments};
 
 use crate::argument::CommandRow;
 use crate::fault::LineFault;
-use crate::words::{REMOTE, TRIES, numbers_in, refused, text_in};
+use crate::lead_words::{FRAMED, PROBE, REMOTE, SPEED, lead_in};
+use crate::words::{TRIES, numbers_in, refused};
 use clap::ArgMatches;
 use clap::error::ErrorKind;
 use std::alloc::Global;
@@ -18,33 +19,36 @@ have DPIDR by its fields, in hexadecimal, and what power was acknowledged:
   swd: debug power and system power are acknowledged: the target is open
 If the opening failed, the last line says how far it came. Designer 23b is Arm.
 
---remote is as for swd run. For a server on a socket:
+--remote and --probe are as for swd run. For a server on a socket:
   swd-line localhost:4711 -- swd info --remote
 
 Status: 0 if the target was opened, 1 if it wasn't, the other end went away, or
 its line can't be read or written, 2 at any other error.";
 
-const NO_TARGET: &str = "the target is missing: give --remote";
+const NO_TARGET: &str = "the target is missing: give --remote or --probe FILE";
 
 /// The command `info`.
 pub(crate) const INFO: CommandRow = CommandRow {
     name: "info",
     about: "Identify a target, or say how far its opening came",
     after: Some(INFO_AFTER),
-    arguments: &[REMOTE, TRIES],
+    arguments: &[REMOTE, PROBE, SPEED, FRAMED, TRIES],
 };
 
-/// Returns the arguments of `swd info`. Rejects those without `--remote`.
+/// Returns the arguments of `swd info`. Rejects those without a target.
 pub(crate) fn info_line(alloc: Global, matches: &ArgMatches<'_>) -> Result<InfoLine, LineFault>
     ensures { IfOk result (λ info. AreInfoArguments info (rows_of (found_of matches.now))) }
 {
-    let Some(remote) = text_in(alloc, matches, "remote")? else {
+    let lead = lead_in(alloc, matches)?;
+    let (remote, probe) = lead;
+    let Some(remote) = remote else {
         let kind = ErrorKind::MissingRequiredArgument;
         return Err(refused(alloc, kind, NO_TARGET));
     };
     let numbers = numbers_in(alloc, matches)?;
     Ok(InfoLine {
         remote,
+        probe,
         tries: numbers.0,
     })
 }

@@ -10,6 +10,7 @@ mod fault;
 mod format_words;
 mod image_words;
 mod info_words;
+mod lead_words;
 mod memory_words;
 mod target_words;
 mod usage;

@@ -7,6 +7,7 @@ ghost use Rattle.swd_words.specs.Commands.{IsBaseArgument, AreMemoryArguments, I
 
 use crate::argument::{Argument, Form};
 use crate::fault::LineFault;
+use crate::lead_words::is_local;
 use crate::words::{invalid, refused, text_in};
 use clap::ArgMatches;
 use clap::error::ErrorKind;
@@ -19,9 +20,9 @@ const DEFAULT_BASE: u32 = 0x2000_0000;
 
 const BASE_FORM: &str = "it is not 1 to 8 hexadecimal digits of a multiple of 4";
 
-const NO_TARGET: &str = "the target is missing: give --remote or --memory FILE";
+const NO_TARGET: &str = "the target is missing: give --remote, --probe FILE or --memory FILE";
 
-const TWO_TARGETS: &str = "--remote and --memory FILE are two targets: give one of them";
+const TWO_TARGETS: &str = "--remote or --probe and --memory FILE are two targets: give one of them";
 
 const NO_MEMORY: &str = "--base ADDR and --plan FILE go with --memory FILE";
 
@@ -88,7 +89,7 @@ pub(crate) fn target_in(
 ) -> Result<Option<MemoryLine>, LineFault>
     ensures { IfOk result (λ memory. IsTargetArgument memory (rows_of (found_of matches.now))) }
 {
-    if is_missing(matches.get_str("remote")) {
+    if is_local(matches) {
         return match memory_line(alloc, matches, NO_TARGET) {
             Ok(memory) => Ok(Some(memory)),
             Err(fault) => Err(fault),

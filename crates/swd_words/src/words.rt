@@ -19,6 +19,7 @@ use crate::draw_words::{DRAW, ITEMS_OPTION, ITEMS_RANGE, draw_line};
 use crate::fault::LineFault;
 use crate::image_words::{DUMP, LOAD, VERIFY, image_line};
 use crate::info_words::{INFO, info_line};
+use crate::lead_words::{FRAMED, PROBE, REMOTE, SPEED, is_local, lead_in};
 use crate::target_words::{TARGET, target_line};
 use clap::error::ErrorKind;
 use clap::{ArgMatches, Command, Error};
@@ -76,6 +77,12 @@ With --remote=IN,OUT these files take the place of the standard streams, such as
 two fifos; with --remote=DEVICE one file is both, such as a serial device that
 stty set raw. Each is opened for reading and writing, so opening one waits for
 no other end. If the server goes away the run waits until a signal ends it.
+
+--probe=FILE leads to a CMSIS-DAP probe in place of a server, such as
+/dev/hidraw0: swd probes lists those of this machine. Each packet is a report of
+one size. --probe=IN,OUT are two files with such reports. With --framed a packet
+has its length before it, two bytes, the first least significant. What is said
+of --remote holds of --probe. The report goes up to where a probe went away.
 
 With --remote a read of RDBUFF confirms each write. With --bursts the next write
 confirms it, if that is at the next address in the same kilobyte: a word takes
@@ -148,7 +155,8 @@ line before, rounded down. --progress can't be combined with --report -.
 With --check and --remote the session is checked while it goes on. At the end a
 line on standard error has the verdict: that of swd check --rest of its trace.
 If it is breaks, the target doesn't conform to the port model, or it wasn't at
-rest before, and the status is 1 in place of 0.
+rest before, and the status is 1 in place of 0. A probe doesn't tell which bits
+of a word arrived damaged: then the verdict may be breaks without a cause.
 
 The trace has every bit on the line, one item per line: see swd decode. The
 accesses are those of the target's memory that the trace shows, one per line:
@@ -169,6 +177,18 @@ is printed with its line, counted from 1, and with what was expected there:
   range           a number out of its range
   no memory line  an access or room before memory
   memory          out of memory at this line";
+
+const PROBES_AFTER: &str = "\
+Lists the probes that speak CMSIS-DAP over reports, one a line on standard
+output: the file for --probe, the serial number, - if it has none, and the name:
+  /dev/hidraw0 0240000034544e45 ARM DAPLink CMSIS-DAP
+It looks at hidraw0 to hidraw63 in /sys/class/hidraw. A line on standard error
+says why a file can't be opened. Users may open it once this line is in a file
+such as /etc/udev/rules.d/60-swd.rules, and the probe was plugged in again:
+  SUBSYSTEM==\"hidraw\", MODE=\"0660\", TAG+=\"uaccess\"
+
+Status: 0 if there is a probe, 1 if there is none, 2 if standard output can't be
+written.";
 
 // The number of events that an access may meet: the default and the maximum.
 const DEFAULT_TRIES: u32 = 8;
@@ -252,13 +272,6 @@ const STRICT: Argument = Argument {
     help: "Exit with status 1 if an access met a bus error",
 };
 
-/// A remote target, and what leads to it.
-pub(crate) const REMOTE: Argument = Argument {
-    name: "remote",
-    form: Form::Optional("LINE"),
-    help: "The target is a server on the streams, or =IN,OUT",
-};
-
 // The file of the report.
 const REPORT: Argument = Argument {
     name: "report",
@@ -323,14 +336,22 @@ const RUN: CommandRow = CommandRow {
     about: "Run a script's accesses at a target",
     after: Some(RUN_AFTER),
     arguments: &[
-        SCRIPT, PLAN, TRIES, RESUME, TRACE, ACCESSES, STRICT, REMOTE, REPORT, PROGRESS, SESSION,
-        BURSTS,
+        SCRIPT, PLAN, TRIES, RESUME, TRACE, ACCESSES, STRICT, REMOTE, PROBE, SPEED, FRAMED, REPORT,
+        PROGRESS, SESSION, BURSTS,
     ],
 };
 
+// The command `probes`.
+const PROBES: CommandRow = CommandRow {
+    name: "probes",
+    about: "List the CMSIS-DAP probes of this machine",
+    after: Some(PROBES_AFTER),
+    arguments: &[],
+};
+
 // The commands, in the order of the help.
-const COMMANDS: [CommandRow; 12] = [
-    ONE, DECODE, ENCODE, RUN, TARGET, DRAW, CHECK, INFO, CONFORM, LOAD, VERIFY, DUMP,
+const COMMANDS: [CommandRow; 13] = [
+    ONE, DECODE, ENCODE, RUN, TARGET, DRAW, CHECK, INFO, CONFORM, LOAD, VERIFY, DUMP, PROBES,
 ];
 
 // Returns the program without its commands. One of them is required.
@@ -534,7 +555,7 @@ fn run_line(alloc: Global, matches: &ArgMatches<'_>) -> Result<RunLine, LineFaul
     let trace = text_in(alloc, matches, "trace")?;
     let accesses = text_in(alloc, matches, "accesses")?;
     let report = text_in(alloc, matches, "report")?;
-    let remote = text_in(alloc, matches, "remote")?;
+    let lead = lead_in(alloc, matches)?;
     Ok(RunLine {
         script,
         plan,
@@ -544,7 +565,8 @@ fn run_line(alloc: Global, matches: &ArgMatches<'_>) -> Result<RunLine, LineFaul
         accesses,
         strict: is_set(matches, "strict"),
         check: is_set(matches, "check"),
-        remote,
+        remote: lead.0,
+        probe: lead.1,
         report,
         progress: is_set(matches, "progress"),
         bursts: is_set(matches, "bursts"),
@@ -553,11 +575,11 @@ fn run_line(alloc: Global, matches: &ArgMatches<'_>) -> Result<RunLine, LineFaul
 
 // Returns why the options of `swd run` can't be combined, if they can't.
 fn why_unmatched(matches: &ArgMatches<'_>) -> Option<&'static str> {
-    let remote = matches.get_str("remote").is_some();
+    let remote = !is_local(matches);
     if remote != matches.get_str("report").is_some() {
-        Some("--remote and --report FILE go together")
+        Some("--remote or --probe and --report FILE go together")
     } else if remote && matches.get_str("plan").is_some() {
-        Some("with --remote there is no --plan")
+        Some("with --remote or --probe there is no --plan")
     } else {
         why_unwatched(matches)
     }
@@ -566,8 +588,8 @@ fn why_unmatched(matches: &ArgMatches<'_>) -> Option<&'static str> {
 /// Returns why a session can't be checked, or a command can't say how far it is, if it can't: only a session with a
 /// remote target is checked, and a report on standard error is not to be mixed with progress.
 pub(crate) fn why_unwatched(matches: &ArgMatches<'_>) -> Option<&'static str> {
-    if is_set(matches, "check") && matches.get_str("remote").is_none() {
-        Some("--check goes with --remote")
+    if is_set(matches, "check") && is_local(matches) {
+        Some("--check goes with --remote or --probe")
     } else if is_set(matches, "progress") && matches.get_str("report") == Some("-") {
         Some("with --report - there is no --progress")
     } else {
@@ -619,6 +641,7 @@ fn line_of(alloc: Global, matches: &ArgMatches<'_>) -> Result<CommandLine, LineF
             Ok(conform) => Ok(CommandLine::Conform(conform)),
             Err(fault) => Err(fault),
         },
+        "probes" => Ok(CommandLine::Probes),
         _ => match image_line(alloc, name, rest) {
             Ok(image) => Ok(CommandLine::Image(image)),
             Err(fault) => Err(fault),

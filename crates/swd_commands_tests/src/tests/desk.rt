@@ -120,6 +120,8 @@ impl<'a> Files for Desk<'a> {
         }
     }
 
+    fn withdraw(&self, _name: &str, _file: &Pen<'a>) {}
+
     // It counts as one that is cut off.
     fn begin_replacing(&self, _name: &str, file: &mut Pen<'a>) -> io::Result<()> {
         self.cuts.set(self.cuts.get().saturating_add(1));

@@ -17,6 +17,10 @@ const SESSION: &[u8] = b"\
     egegegegegegegegdfdfegdfegdfdfegdfegodfdcfdcfdcfdcfdcfdcfdcfdcfdcfdcfdcfdcfdcfdcfdcfdcfdcfdcfdcf\
     dcfdcfdcfdcfdcfdcfdcfdcfdcfdcfdcfdcfdcfdcfdcfdcfdcfdfQ";
 
+// A trace of a line reset, and of DPIDR read.
+const RESET_READ: &[u8] = b"11111111111111111111111111111111111111111111111111 00 \
+    10100101 1 100 11101110001010000000010111010100 0 1";
+
 // What it was answered: OK, 2ba01477 and its parity.
 const LEVELS: &[u8] = b"100111011100010100000000101110101000";
 
@@ -113,7 +117,7 @@ const COMMANDS: &[(&[&str], &[u8])] = &[
     (&["swd", "decode", "--accesses"], DPIDR_READ),
     (&["swd", "decode", "--resync"], DPIDR_READ),
     (&["swd", "draw"], DPIDR_READ),
-    (&["swd", "check", "--made"], b""),
+    (&["swd", "check", "--made"], RESET_READ),
     (&["swd", "encode"], DPIDR_LINE),
     (&["swd", "encode", "list"], b""),
     (&["swd", "run", "-"], SCRIPT),

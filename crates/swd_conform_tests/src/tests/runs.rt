@@ -10,7 +10,7 @@ use swd_checker::CheckStart;
 use swd_clocked::ClockedBench;
 use swd_conform::{ConformRun, Conformed, Plan, conform};
 use swd_port::{Cue, Disconnected, Mark, Story, Transport, TransportWire};
-use swd_remote::{Fault, over_line};
+use swd_remote::{Fault, Line, over_line};
 use swd_target::{Bench, Memory, Quirks};
 
 const BASE: u32 = 0x2000_0ff0;
@@ -200,7 +200,8 @@ fn runs_stop_where_the_other_end_goes_away(rt: HostRuntime) -> Result<(), Fail> 
         let mut run = ConformRun::new(plan()?, check(rt.alloc())?);
         let mut input = *sent;
         let mut output = Vec::new(rt.alloc());
-        let (conformed, line) = over_line::<Any, _, _, _>(&mut run, &mut input, &mut output);
+        let ends = Line::characters(&mut input, &mut output);
+        let (conformed, line) = over_line::<Any, _, _, _>(&mut run, ends);
         assert_eq!(rt; line.fault, Some(Fault::Ended));
         assert_eq!(rt; conformed.requests, *requests);
     }

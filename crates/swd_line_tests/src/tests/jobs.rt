@@ -8,7 +8,7 @@ use swd_host::End as RunEnd;
 use swd_image::{ByteDifference, ImageFault, NoReports};
 use swd_image_ends::{DumpJob, LoadJob, VerifyJob, over_line};
 use swd_image_files::{Image, Range};
-use swd_remote::RemoteStreams;
+use swd_remote::{Line as Ends, RemoteStreams};
 
 type Line<'a> = RemoteStreams<End<'a>, End<'a>>;
 
@@ -41,7 +41,7 @@ pub(super) fn load_over<'a>(
         limits: limits(resumes),
         report: NoReports,
     };
-    over_line::<Untold, _, _, _>(&mut job, end, end)
+    over_line::<Untold, _, _, _>(&mut job, Ends::characters(end, end))
 }
 
 /// A verification.
@@ -56,7 +56,7 @@ pub(super) fn verify_over<'a>(
         limits: limits(0),
         report: NoReports,
     };
-    over_line::<Untold, _, _, _>(&mut job, end, end)
+    over_line::<Untold, _, _, _>(&mut job, Ends::characters(end, end))
 }
 
 /// A dump.
@@ -73,7 +73,7 @@ pub(super) fn dump_over<'a>(
         limits: limits(0),
         report: NoReports,
     };
-    over_line::<Untold, _, _, _>(&mut job, end, end)
+    over_line::<Untold, _, _, _>(&mut job, Ends::characters(end, end))
 }
 
 // WAIT at the first request, or OK and 33 zeros.
@@ -100,7 +100,10 @@ fn ended_by(
                 limits,
                 report,
             };
-            let (answer, _) = over_line::<Untold, _, _, _>(&mut job, levels, &mut sent);
+            let (answer, _) = over_line::<Untold, _, _, _>(
+                &mut job,
+                Ends::characters(levels, &mut sent),
+            );
             (answer.err(), job.report)
         }
         "verify" => {
@@ -110,7 +113,10 @@ fn ended_by(
                 limits,
                 report,
             };
-            let (answer, _) = over_line::<Untold, _, _, _>(&mut job, levels, &mut sent);
+            let (answer, _) = over_line::<Untold, _, _, _>(
+                &mut job,
+                Ends::characters(levels, &mut sent),
+            );
             (answer.err(), job.report)
         }
         _ => {
@@ -122,7 +128,10 @@ fn ended_by(
                 limits,
                 report,
             };
-            let (answer, _) = over_line::<Untold, _, _, _>(&mut job, levels, &mut sent);
+            let (answer, _) = over_line::<Untold, _, _, _>(
+                &mut job,
+                Ends::characters(levels, &mut sent),
+            );
             (answer.err(), job.report)
         }
     };

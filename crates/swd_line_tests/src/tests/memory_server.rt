@@ -18,7 +18,7 @@ use swd_clocked::{ClockedBench, FaultyClocked};
 use swd_ends::ClockedProbe;
 use swd_host::{Report, run, run_block, run_over_transport};
 use swd_port::{Access, Due, Mark, Story, Transfer, Transport, TransportWire, Wire};
-use swd_remote::{Fault, Probe, ProbeTransport, Remote, RemoteStreams, run_over_line};
+use swd_remote::{Fault, Line, Probe, ProbeTransport, Remote, RemoteStreams, run_over_line};
 use swd_target::{Memory, Quirks};
 
 pub(super) const BASE: u32 = 0x2000_0000;
@@ -300,7 +300,8 @@ pub(super) fn over(alloc: Global, end: End, task: &Task) -> Result<(Report, Opti
 
 /// The report of a whole line, and why the other end is gone, where it is.
 pub(super) fn whole(alloc: Global, end: End, task: &Task) -> Result<(Report, Option<Fault>), Fail> {
-    let (ran, line) = run_over_line::<Untold, _, _, _>(alloc, end, end, task.accesses, 8);
+    let ends = Line::characters(end, end);
+    let (ran, line) = run_over_line::<Untold, _, _, _>(alloc, ends, task.accesses, 8);
     let RemoteStreams { fault, .. } = line;
     Ok((ran?, fault))
 }

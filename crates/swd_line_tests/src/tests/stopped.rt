@@ -5,9 +5,10 @@ use super::limits;
 use super::memory_server::Untold;
 use std::process::Abort;
 use std::test::Fail;
-use swd_ends::{Line, run_remote};
+use swd_ends::run_remote;
 use swd_host::End;
 use swd_port::{Cue, Disconnected, Transport, TransportWire};
+use swd_remote::Line;
 use swd_run::{Finished, Records, run_batches};
 use swd_script::read_script;
 
@@ -139,10 +140,7 @@ fn a_remote_run_stops_where_no_target_answers_so(rt: HostRuntime) {
         let (answer, line) = run_remote::<Untold, _, _, _, _, _, _, _, _>(
             rt.alloc(),
             &mut script,
-            Line {
-                reader: row.levels,
-                writer: &mut sent,
-            },
+            Line::characters(row.levels, &mut sent),
             limits(1),
             &mut report,
             &mut Records::<Vec<u8>>::none(),

@@ -12,11 +12,11 @@ use std::cell::Cell;
 use std::io::{Read, Write};
 use std::process::Abort;
 use swd_capture_text::AccessesPrinter;
-use swd_ends::{Line, RemoteFault, run_remote};
+use swd_ends::{RemoteFault, run_remote};
 use swd_fakes::{CountingWriter, ShortWriter, WatchingReader};
 use swd_host::End;
 use swd_port::{Answer, Story};
-use swd_remote::{Fault, RemoteStreams};
+use swd_remote::{Fault, Line, RemoteStreams};
 use swd_run::{Difference, EngineFault, Finished, Limits, Records, run_text};
 
 // Any story.
@@ -66,7 +66,7 @@ fn run_at<R: Read, O: Write>(alloc: Global, script: &[u8], reader: R, report: &m
     run_remote::<Untold, _, _, _, _, _, _, _, _>(
         alloc,
         &mut script,
-        Line { reader, writer },
+        Line::characters(reader, writer),
         LIMITS,
         report,
         &mut Records::<Vec<u8>>::none(),
@@ -112,10 +112,7 @@ fn a_remote_run_is_traced(rt: HostRuntime) {
     let (answer, line) = run_remote::<Untold, _, _, _, _, _, _, _, _>(
         rt.alloc(),
         &mut script,
-        Line {
-            reader: UNDISTURBED.levels,
-            writer: &mut sent,
-        },
+        Line::characters(UNDISTURBED.levels, &mut sent),
         LIMITS,
         &mut report,
         &mut records,
@@ -164,10 +161,7 @@ fn a_failed_write_ends_the_session(rt: HostRuntime) {
         let (answer, _) = run_remote::<Untold, _, _, _, _, _, _, _, _>(
             rt.alloc(),
             &mut script,
-            Line {
-                reader: UNDISTURBED.levels,
-                writer: &mut sent,
-            },
+            Line::characters(UNDISTURBED.levels, &mut sent),
             LIMITS,
             &mut report,
             &mut records,

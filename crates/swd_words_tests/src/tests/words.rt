@@ -1,7 +1,7 @@
 //! What words ask for, and what is said of words that ask for nothing: a row for each, with its words apart by `|`.
 use std::alloc::{AllocError, Global};
 use std::test::Fail;
-use swd_command_line::{CommandLine, ImageAction, ImageLine, RunLine};
+use swd_command_line::{CommandLine, ImageAction, ImageLine, ProbeLine, RunLine};
 use swd_words::{LineFault, line};
 
 fn named(name: &Option<String>) -> &str {
@@ -15,9 +15,17 @@ fn bursts_shown(bursts: bool) -> &'static str {
     if bursts { " bursts" } else { "" }
 }
 
+fn probe_shown(alloc: Global, probe: Option<ProbeLine>) -> Result<String, AllocError> {
+    match probe {
+        Some(ProbeLine { speed, framed }) => format!(in alloc; " probe {speed} {framed}"),
+        None => format!(in alloc; ""),
+    }
+}
+
 fn run_shown(alloc: Global, run: &RunLine) -> Result<String, AllocError> {
+    let probe = probe_shown(alloc, run.probe)?;
     format!(in alloc;
-        "run {} {} {} {} {} {} {} {} {}{}",
+        "run {} {} {} {} {} {} {} {} {}{}{}",
         run.script,
         named(&run.plan),
         run.tries,
@@ -27,7 +35,8 @@ fn run_shown(alloc: Global, run: &RunLine) -> Result<String, AllocError> {
         run.strict,
         run.progress,
         named(&run.remote),
-        bursts_shown(run.bursts)
+        bursts_shown(run.bursts),
+        probe
     )
 }
 
@@ -60,6 +69,7 @@ fn shown(alloc: Global, line: &CommandLine) -> Result<String, AllocError> {
         CommandLine::Encode(file) => format!(in alloc; "encode {}", named(file)),
         CommandLine::Run(run) => run_shown(alloc, run),
         CommandLine::Image(image) => image_shown(alloc, image),
+        CommandLine::Probes => format!(in alloc; "probes"),
         _ => format!(in alloc; "another"),
     }
 }
@@ -256,6 +266,27 @@ swd|info => refused
 swd|info|--|--remote => refused
 swd|info|--remote|in,out => refused
 swd|info|--remote|--remote=a => refused
+# What leads to a probe, in place of a server: with its frequency, and whether packets have their length before them.
+swd|run|--report|r|--probe=/dev/hidraw0|s => run s none 8 0 none none false false /dev/hidraw0 probe 1000000 false
+swd|run|--report|r|--probe|a,b|--speed|9|--framed|s => run s none 8 0 none none false false a,b probe 9 true
+swd|run|--report|r|--probe=f|--speed=4294967295|s => run s none 8 0 none none false false f probe 4294967295 false
+swd|run|--report|r|--probe=f|--speed|0|s => refused
+swd|run|--report|r|--probe=f|--speed|4294967296|s => refused
+swd|run|--report|r|--probe=f|--speed|1M|s => refused
+swd|run|--report|r|--remote|--speed|1|s => refused
+swd|run|--report|r|--remote|--framed|s => refused
+swd|run|--report|r|--remote|--probe=f|s => refused
+swd|run|--probe=f|s => refused
+swd|run|--report|r|--probe=f|--plan|p|s => refused
+swd|run|--report|r|--probe|--framed|s => refused
+swd|load|0|image|--probe=f|--check => load 0 true
+swd|load|0|image|--probe=f|--memory|m => refused
+swd|dump|0|1|image|--memory|m|--speed|1 => refused
+swd|info|--probe=f => another
+swd|info|--framed => refused
+swd|conform|--probe=f|--plain|20000000|80 => another
+swd|probes => probes
+swd|probes|x => refused
 # No command.
 swd|two => refused
 swd => refused

@@ -23,12 +23,13 @@ returns g c =
     let new = g.O.Write.contents ran.new.report in
     let before = run_files_of g.T.Write.contents g.I.ItemsPrinter.text c.args.records.now in
     let after = run_files_of g.T.Write.contents g.I.ItemsPrinter.text ran.new.records in
-    let Over : List Call → Type 0 = λ calls. ∥ GoesOver g.R.Read.remaining g.W.Write.contents g.B.InitialStreams.sent
-    g.B.InitialStreams.left c.hang_up.result calls ∥₁ in
+    let Over : List Call → Type 0 = λ calls. ∥ GoesOver g.B.InitialStreams.way g.R.Read.remaining g.W.Write.contents
+    g.B.InitialStreams.sent g.B.InitialStreams.left c.hang_up.result calls ∥₁ in
     remote_end_ran_by_calls (λ w. w.noted.calls) story c.args.limits Over
     (map script_batch_listed c.args.script.now.batches.items) (map script_batch_listed c.as_slice-batches.result.now)
     (ap (map script_batch_listed) c.as_slice-batches.ensures.value) c.begun-wire.result wire c.begun-wire.ensures.calls
-    (remote_connection_went_over g.R.Read.remaining g.W.Write.contents g.B.InitialStreams.sent g.B.InitialStreams.left
+    (remote_connection_went_over g.B.InitialStreams.way g.R.Read.remaining g.W.Write.contents g.B.InitialStreams.sent
+    g.B.InitialStreams.left
     wire.noted.calls wire.gone
     c.into_transport.result c.hang_up.result (c.into_transport.ensures refl) c.hang_up.ensures)
     ran.result.0 old new before after ran.ensures.answer

@@ -4,6 +4,7 @@ use Rattle.swd_run.specs.Wires.{run_story_wire}
 use Rattle.swd_image_commands.specs.Images.{IsCommandDumped, command_bytes_of}
 use Rattle.swd_image_commands.specs.Reports.{command_reports_held}
 use Rattle.swd_image_commands.proofs.ImageLemmas.{dump_command_fits, dump_command_performed, dump_command_somewhere}
+use Rattle.swd_image_commands.proofs.ImageLemmas.{image_went_over_way}
 use Rattle.swd_image_commands.proofs.image_command.perform_dump.Goals as goal
 
 pub finish_dump-status-requires : goal.finish_dump-status-requires
@@ -25,7 +26,10 @@ returns g c =
     (held c.over_checked_line-answer.new.job.report) calls c.limits_of.ensures
     (c.image_reports.ensures ∙ c.in-Ok-open_report.ensures.named) came g.I.Read.remaining g.O.Write.contents
     (g.O.Write.contents c.args.output) (g.I.Read.remaining c.args.input) c.over_checked_line-answer.result.1
-    c.over_checked_line-answer.result.2 over status _ c.session_status.ensures
+    c.over_checked_line-answer.result.2
+    (image_went_over_way image.check _ _ c.way_of.ensures g.I.Read.remaining g.O.Write.contents
+    (g.O.Write.contents c.args.output) (g.I.Read.remaining c.args.input) c.over_checked_line-answer.result.1 calls
+    c.over_checked_line-answer.result.2 over) status _ c.session_status.ensures
     (subst (λ answer. IsCommandDumped image.format image.addr (command_bytes_of (λ bytes. bytes.items) answer) status)
     c.reached-answer.ensures
     (dump_command_somewhere _ _ image.format image.addr

@@ -8,8 +8,8 @@ returns g c =
     let wire = c.perform-answer.new.wire in (
       wire_calls wire,
       c.perform-answer.ensures,
-      remote_watched_went_over g.K.CallSink.got g.R.Read.remaining g.W.Write.contents g.B.InitialStreams.sent
-          g.B.InitialStreams.left (wire_calls wire) (is_wire_gone wire) c.into_transport-transport.result
-          c.hang_up.result
+      remote_watched_went_over g.K.CallSink.got g.B.InitialStreams.way g.R.Read.remaining g.W.Write.contents
+          g.B.InitialStreams.sent g.B.InitialStreams.left (wire_calls wire) (is_wire_gone wire)
+          c.into_transport-transport.result c.hang_up.result
           (c.into_transport-transport.ensures refl) c.hang_up.ensures,
     )

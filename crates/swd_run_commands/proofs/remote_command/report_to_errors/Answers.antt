@@ -5,7 +5,7 @@ use Rattle.swd_capture_text.specs.Captures.{accesses_printed}
 use Rattle.swd_script.specs.Readers.{read_script_meaning}
 use Rattle.swd_run.specs.Records.{run_files_of}
 use Rattle.swd_run_commands.specs.Remotes.{RunsRemoteScript}
-use Rattle.swd_run_commands.proofs.LimitLemmas.{ran_by_limits}
+use Rattle.swd_run_commands.proofs.LimitLemmas.{ran_by_limits, ran_over_way}
 use Rattle.swd_run_commands.proofs.remote_command.report_to_errors.Goals as goal
 
 pub returns : goal.returns
@@ -20,6 +20,7 @@ returns g c =
       run_files_of contents accesses_printed c.args.records,
       run_files_of contents accesses_printed c.run_remote_script-answer.new.records,
       c.requires.files,
-      ran_by_limits _ _ c.limits_of-limits.ensures c.run_remote_script-answer.ensures,
+      ran_over_way g.I.Read.remaining g.O.Write.contents _ _ _ _ _ c.requires.way
+          (ran_by_limits _ _ c.limits_of-limits.ensures c.run_remote_script-answer.ensures),
       c.ended.ensures.status,
     )

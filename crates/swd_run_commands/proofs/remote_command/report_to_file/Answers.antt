@@ -6,7 +6,7 @@ use Rattle.swd_script.specs.Readers.{read_script_meaning}
 use Rattle.swd_run.specs.Records.{run_files_of}
 use Rattle.swd_run_commands.specs.Remotes.{AreRemoteCommandFiles, RunsRemoteScript}
 use Rattle.swd_run_commands.proofs.RecordLemmas.{run_files_told}
-use Rattle.swd_run_commands.proofs.LimitLemmas.{ran_by_limits}
+use Rattle.swd_run_commands.proofs.LimitLemmas.{ran_by_limits, ran_over_way}
 use Rattle.swd_run_commands.proofs.remote_command.report_to_file.Goals as goal
 
 pub returns : goal.returns
@@ -24,6 +24,7 @@ returns g c =
       subst (AreRemoteCommandFiles c.args.run.now)
           (sym (run_files_told contents c.args.records c.paced-records.result told.trace told.accesses told.printer))
           c.requires.files,
-      ran_by_limits _ _ c.limits_of-limits.ensures c.run_remote_script-answer.ensures,
+      ran_over_way g.I.Read.remaining g.O.Write.contents _ _ _ _ _ c.requires.way
+          (ran_by_limits _ _ c.limits_of-limits.ensures c.run_remote_script-answer.ensures),
       c.ended.ensures.status,
     )

@@ -20,7 +20,7 @@ returns c = record {
   progress = c.is_set.ensures;
   check = c.is_set-2.ensures;
   bursts = c.is_set-3.ensures;
-  remote = c.in_ok-names.ensures.remote;
+  remote = c.in_ok-lead.ensures;
   target = c.in_ok-memory.ensures;
   format = subst (λ (file : Option Text). IsSomeAnd file
       (λ text. AreFormatArguments c.in_ok-action.action c.in_ok-formats.formats.0 c.in_ok-formats.formats.1 text

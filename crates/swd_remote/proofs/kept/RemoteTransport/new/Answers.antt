@@ -1,27 +1,9 @@
-use Rattle.std.proofs.Common.{[], ◌∷◌, refl, sym, ap, ◌∙◌, subst}
+use Rattle.std.proofs.Common.{sym}
 use Rattle.std.proofs.lemmas.Grind.{merely}
-use Rattle.std.proofs.KnownBytes.{Appends-nil}
-use Rattle.swd_remote.specs.declared.remote.Remote.{Remote}
-use Rattle.swd_remote.specs.Ways.{IsOnRemoteWay}
+use Rattle.swd_remote.proofs.KeptLemmas.{line_begins_at}
 use Rattle.swd_remote.proofs.kept.RemoteTransport.new.Goals as goal
 
 pub returns : goal.returns
 returns g c =
-    let probe = c.new-transport.ensures in
-    let contents = g.W.Write.contents in
-    let way = c.new.ensures.out (contents c.args.writer) [] (Appends-nil (contents c.args.writer)) in
-    merely (record {
-      start = c.new-transport.result.probe;
-      fresh = record {
-        well = ap (λ (r : Remote g.row.R.Denot g.row.W.Denot). r.fault) probe ∙ c.new.ensures.fault;
-        asked = ap (λ (r : Remote g.row.R.Denot g.row.W.Denot). r.asked) probe ∙ c.new.ensures.asked;
-        drives = ap (λ (r : Remote g.row.R.Denot g.row.W.Denot). r.drives) probe ∙ c.new.ensures.drives;
-        writer = subst (λ o. IsOnRemoteWay contents o c.new-transport.result.probe.outgoing (79 ∷ []))
-            (sym c.requires.sent)
-            (subst (λ (r : Remote g.row.R.Denot g.row.W.Denot). IsOnRemoteWay contents (contents c.args.writer)
-            r.outgoing (79 ∷ [])) (sym probe) way);
-        reader = ap (λ (r : Remote g.row.R.Denot g.row.W.Denot). g.R.Read.remaining r.reader) probe
-            ∙ ap g.R.Read.remaining c.new.ensures.reader ∙ sym c.requires.left;
-      };
-      made = refl;
-    })
+    merely (line_begins_at g.R.Read.remaining g.W.Write.contents _ _ _ _ _ _ c.new.result (sym c.requires.way)
+    (sym c.requires.sent) (sym c.requires.left) c.new.ensures)

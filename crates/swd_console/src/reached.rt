@@ -1,0 +1,167 @@
+//! Prints how far a session at a remote target came in opening it.
+
+use crate::report::{DONE, FAULT};
+use std::fmt;
+use std::fmt::{Display, Formatter};
+use std::io::Write;
+use swd_bits::TxEnd;
+use swd_port::CtrlStat;
+use swd_remote::{Fault, Opening, RemoteStreams};
+
+/// Prints how far a session came that ended with this status before the target was open: one line, unless the target
+/// sent nothing. Of an open target behind a probe that failed it prints what isn't known.
+pub fn tell_session<E: Write, R, W>(errors: &mut E, status: u8, line: &RemoteStreams<R, W>) {
+    if status == FAULT || status == DONE || tell_no_reply(errors, line) {
+        return;
+    }
+    let opening = &line.opening;
+    let _ = match line.fault {
+        Some(Fault::Probe(_)) if opening.is_open => writeln!(errors, "swd: {LAST_PACKET}"),
+        _ if opening.last.is_some() && !opening.is_open => {
+            writeln!(errors, "swd: {}", Reached(opening))
+        }
+        _ => Ok(()),
+    };
+}
+
+// What is said of a probe that failed.
+const LAST_PACKET: &str =
+    "the accesses of the probe's last packet may have been made, also those that begun doesn't count";
+
+/// Prints what an info with this status read of its target, or how far the session came.
+pub fn tell_info<E: Write, R, W>(errors: &mut E, status: u8, line: &RemoteStreams<R, W>) {
+    if status != FAULT && !tell_no_reply(errors, line) {
+        let _ = write!(errors, "{}", Info(&line.opening));
+    }
+}
+
+// Prints that a target that can't be reached gave no reply, and returns whether it gave none: an acknowledgement has a
+// 0 and a 1, and all levels that came were one of them.
+fn tell_no_reply<E: Write, R, W>(errors: &mut E, line: &RemoteStreams<R, W>) -> bool {
+    let Some(level) = line.opening.only_level() else {
+        return false;
+    };
+    if line.fault.is_some() {
+        return false;
+    }
+    let _ = writeln!(
+        errors,
+        "swd: no reply to the first request, SWDIO read {}: is it driven, and the target connected and powered?",
+        u8::from(level)
+    );
+    true
+}
+
+// What is said of a target that was opened.
+const OPEN: &str = "debug power and system power are acknowledged: the target is open";
+
+// Returns what is said of a word of CTRL/STAT that doesn't acknowledge both powers.
+fn missing_power(status: u32) -> Option<&'static str> {
+    match (
+        has(status, CtrlStat::CDBGPWRUPACK),
+        has(status, CtrlStat::CSYSPWRUPACK),
+    ) {
+        (true, true) => None,
+        (true, false) => Some("debug power is acknowledged, and system power is not"),
+        (false, true) => Some("system power is acknowledged, and debug power is not"),
+        (false, false) => Some("power was requested and is not acknowledged"),
+    }
+}
+
+// Returns whether a word of CTRL/STAT has a flag.
+fn has(word: u32, flag: CtrlStat) -> bool {
+    word & flag.bits() != 0
+}
+
+// What was the last answer.
+#[derive(Clone, Copy)]
+struct LastAnswer(Option<TxEnd>);
+
+impl Display for LastAnswer {
+    fn fmt<W: fmt::Write>(&self, f: &mut Formatter<W>) -> fmt::Result {
+        match self.0 {
+            Some(TxEnd::NoAck(bits)) => write!(f, "no acknowledgement, but the three bits {bits}"),
+            Some(TxEnd::Wait) => f.write_str("WAIT"),
+            Some(TxEnd::Fault) => f.write_str("FAULT"),
+            Some(
+                TxEnd::Moved {
+                    parity_ok: false,
+                    ..
+                },
+            ) => f.write_str("a word with wrong parity"),
+            Some(
+                TxEnd::Moved {
+                    parity_ok: true,
+                    ..
+                },
+            ) => f.write_str("OK"),
+            None => f.write_str("none"),
+        }
+    }
+}
+
+// What is known of the power of a target that was identified.
+#[derive(Clone, Copy)]
+struct Power<'a>(&'a Opening);
+
+impl Display for Power<'_> {
+    fn fmt<W: fmt::Write>(&self, f: &mut Formatter<W>) -> fmt::Result {
+        let last = LastAnswer(self.0.last);
+        match self.0.status {
+            _ if !self.0.asked => {
+                write!(f, "power was not requested yet: the last answer was {last}")
+            }
+            Some(status) => match missing_power(status) {
+                Some(missing) => write!(f, "{missing}: CTRL/STAT is {status:08x}"),
+                None if self.0.is_open => f.write_str(OPEN),
+                None => write!(
+                    f,
+                    "power is acknowledged; no access port answered: the last answer was {last}"
+                ),
+            },
+            None => write!(f, "power was requested: the last answer was {last}"),
+        }
+    }
+}
+
+// How far a session came, on one line.
+#[derive(Clone, Copy)]
+struct Reached<'a>(&'a Opening);
+
+impl Display for Reached<'_> {
+    fn fmt<W: fmt::Write>(&self, f: &mut Formatter<W>) -> fmt::Result {
+        match (self.0.dpidr, self.0.last) {
+            (Some(dpidr), _) => write!(f, "DPIDR was read, {dpidr:08x}; {}", Power(self.0)),
+            (None, None) => f.write_str("DPIDR was not read: no request was answered"),
+            (None, last) => {
+                let last = LastAnswer(last);
+                write!(f, "DPIDR was not read: the last answer was {last}")
+            }
+        }
+    }
+}
+
+// The lines of `swd info`: DPIDR by its fields, and what is known of the power; or that DPIDR wasn't read.
+#[derive(Clone, Copy)]
+struct Info<'a>(&'a Opening);
+
+impl Display for Info<'_> {
+    fn fmt<W: fmt::Write>(&self, f: &mut Formatter<W>) -> fmt::Result {
+        let Some(dpidr) = self.0.dpidr else {
+            return writeln!(f, "swd: {}", Reached(self.0));
+        };
+        let (designer, part) = (dpidr >> 1 & 0x7ff, dpidr >> 20 & 0xff);
+        let (version, revision) = (dpidr >> 12 & 0xf, dpidr >> 28);
+        let minimal = if dpidr >> 16 & 1 == 1 {
+            ", minimal"
+        } else {
+            ""
+        };
+        write!(
+            f,
+            "swd: DPIDR {dpidr:08x}: designer {designer:03x}, part {part:02x}, "
+        )?;
+        writeln!(f, "version {version:x}, revision {revision:x}{minimal}")?;
+        writeln!(f, "swd: {}", Power(self.0))
+    }
+}

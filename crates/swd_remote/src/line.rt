@@ -1,0 +1,167 @@
+//! A line to a target, and what goes over it: remote_bitbang characters, or the packets of a debug probe.
+ghost use Rattle.std.specs.Prelude.{◌≡◌, [], List, ℕ, Option};
+ghost use Rattle.swd_port.specs.Transports.{PortAttempt};
+ghost use Rattle.swd_remote.specs.declared.line.Way.TheVariants.{Characters};
+ghost use Rattle.swd_remote.specs.Kept.{AreLineCallsSent, AreRemoteCallsSent, LineHangsUp, LinePerforms, RemoteHangsUp};
+
+use crate::kept::RemoteStreams;
+use crate::opening::Opening;
+use crate::probe_transport::ProbeTransport;
+use crate::remote::{Fault, Remote};
+use std::io::{Read, Write};
+use swd_dap::{DapTransport, Reports};
+use swd_port::{Coming, Cue, Disconnected, Transport};
+
+/// What goes over a line.
+#[derive(Clone, Copy, Debug, PartialEq, Eq)]
+pub enum Way {
+    /// OpenOCD's remote_bitbang characters for serial wire.
+    Characters,
+    /// The packets of CMSIS-DAP.
+    Packets {
+        /// The frequency of SWCLK that the probe is asked for, in hertz.
+        speed: u32,
+        /// Whether each packet has its length before it, in place of being a report of one size.
+        framed: bool,
+    },
+}
+
+/// The two directions of a connection to a target, before its use.
+#[derive(Debug, Drop)]
+pub struct Line<R, W> {
+    /// Where the replies are read.
+    pub reader: R,
+    /// Where the requests are written.
+    pub writer: W,
+    /// What goes over it.
+    pub way: Way,
+}
+
+impl<R, W> Line<R, W> {
+    /// Returns a line of remote_bitbang characters.
+    pub fn characters(reader: R, writer: W) -> Line<R, W>
+        ensures reader { result.reader ≡ reader }
+        ensures writer { result.writer ≡ writer }
+        ensures way { result.way ≡ Characters }
+    {
+        Line {
+            reader,
+            writer,
+            way: Way::Characters,
+        }
+    }
+}
+
+/// A transport over a line: to a server of remote_bitbang, or to a debug probe.
+#[derive(Drop)]
+pub enum LineTransport<R: Read, W: Write> {
+    Server(ProbeTransport<Remote<R, W>>),
+    Probe(DapTransport<Reports<R, W>>),
+}
+
+impl<R: Read, W: Write> LineTransport<R, W> {
+    /// Returns a transport over which nothing was sent yet.
+    pub(crate) fn new(line: Line<R, W>) -> LineTransport<R, W>
+        ensures { AreLineCallsSent line.way R.remaining W.contents (W.contents line.writer) (R.remaining line.reader) []
+            result }
+    {
+        let Line {
+            reader,
+            writer,
+            way,
+        } = line;
+        match way {
+            Way::Characters => LineTransport::Server(begun(reader, writer)),
+            Way::Packets { speed, framed } => {
+                let packets = Reports::new(reader, writer, framed);
+                LineTransport::Probe(DapTransport::new(packets, speed))
+            }
+        }
+    }
+
+    /// Performs a cue.
+    #[inline(always)]
+    pub(crate) fn perform(&mut self, cue: Cue) -> Result<u64, Disconnected>
+        ensures { LinePerforms R.remaining W.contents cue result self.old self.new }
+    {
+        match self {
+            LineTransport::Server(transport) => transport.step(cue),
+            LineTransport::Probe(transport) => transport.step(cue),
+        }
+    }
+
+    /// Returns whether it is of use to tell which transactions come next.
+    pub(crate) fn looks_ahead(&self) -> bool {
+        match self {
+            LineTransport::Server(_) => false,
+            LineTransport::Probe(transport) => transport.looks_ahead(),
+        }
+    }
+
+    /// Tells which transactions come next. It is no call.
+    pub(crate) fn announce(&mut self, coming: &[Coming])
+        ensures { (way : Way) (sent left : Option (List ℕ)) (calls : List PortAttempt)
+            → AreLineCallsSent way R.remaining W.contents sent left calls self.old
+            → AreLineCallsSent way R.remaining W.contents sent left calls self.new }
+    {
+        match self {
+            LineTransport::Server(_) => {}
+            LineTransport::Probe(transport) => transport.announce(coming),
+        }
+    }
+
+    /// Ends the connection, unless an error came before, and returns its streams.
+    pub(crate) fn hang_up(self, opening: Opening) -> RemoteStreams<R, W>
+        ensures { (way : Way) (sent left : Option (List ℕ)) (calls : List PortAttempt)
+            → AreLineCallsSent way R.remaining W.contents sent left calls self
+            → LineHangsUp way R.remaining W.contents sent left calls result }
+    {
+        match self {
+            LineTransport::Server(transport) => end_server(transport, opening),
+            LineTransport::Probe(transport) => end_probe(transport, opening),
+        }
+    }
+}
+
+// Returns a transport of characters over which nothing was sent yet.
+fn begun<R: Read, W: Write>(reader: R, writer: W) -> ProbeTransport<Remote<R, W>>
+    ensures { AreRemoteCallsSent R.remaining W.contents (W.contents writer) (R.remaining reader) [] result }
+{
+    ProbeTransport::new(Remote::new(reader, writer))
+}
+
+// Sends what is queued and `Q`, unless an error came before.
+fn end_server<R: Read, W: Write>(
+    transport: ProbeTransport<Remote<R, W>>,
+    opening: Opening,
+) -> RemoteStreams<R, W>
+    ensures { (sent left : Option (List ℕ)) (calls : List PortAttempt)
+        → AreRemoteCallsSent R.remaining W.contents sent left calls transport
+        → RemoteHangsUp R.remaining W.contents sent left calls result }
+{
+    let mut remote = transport.into_probe();
+    let _ = remote.quit();
+    let fault = remote.fault();
+    let (reader, writer) = remote.into_parts();
+    RemoteStreams {
+        reader,
+        writer,
+        fault,
+        opening,
+    }
+}
+
+// Sends what disconnects the probe from its target, unless an error came before.
+fn end_probe<R: Read, W: Write>(
+    transport: DapTransport<Reports<R, W>>,
+    opening: Opening,
+) -> RemoteStreams<R, W> {
+    let (packets, fault) = transport.hang_up();
+    let (reader, writer) = packets.into_parts();
+    RemoteStreams {
+        reader,
+        writer,
+        fault: fault.map(Fault::Probe),
+        opening,
+    }
+}
