@@ -232,7 +232,8 @@ bool swd_run_again(struct swd_run *run, uint32_t tries) SWD_CHECKED;
 uint64_t swd_give_rest(uint64_t bits, uint32_t made, uint32_t failed);
 
 /*
- * Returns what has to be sent next. SWD_REST: the run has ended; `outcome` is `end`. SWD_REFUSED: *run is invalid.
+ * Returns what has to be sent next. SWD_REST: the run has ended; `outcome` is `end`. SWD_REFUSED: *run is invalid, or has
+ * more than 65,536 answers.
  */
 struct swd_cue swd_run_cue(const struct swd_run *run);
 

@@ -1,5 +1,5 @@
 //! A whole run of the host in the caller's memory.
-ghost use Rattle.std.specs.Prelude.{◌≡◌, ◌≢◌, ◌+◌, ◌≤◌, true, false, [], List, Some, length};
+ghost use Rattle.std.specs.Prelude.{◌≡◌, ◌≢◌, ◌+◌, ◌≤◌, ◌<◌, true, false, [], List, Some, length};
 ghost use Rattle.swd_port.specs.declared.access.Access.{Access as AccessType};
 ghost use Rattle.swd_port.specs.declared.access.Answer.{Answer as AnswerType};
 ghost use Rattle.swd_host.specs.declared.outcome.Outcome.TheVariants.{Answered};
@@ -19,7 +19,7 @@ ghost use Rattle.swd_c.specs.Runs.{c_api_stored_answers};
 use crate::access::{SwdAccess, access_at};
 use crate::cue::SwdCue;
 use swd_host::{Bursts, Outcome, OutcomeFields};
-use swd_port::Access;
+use swd_port::{Access, MOST_ACCESSES};
 use swd_steps::{Accesses, Answers, Refusal, Run, RunFields};
 
 // The reason of a refusal: the run has ended.
@@ -124,12 +124,17 @@ pub extern "C" fn swd_run_again(run: &mut RunFields, tries: u32) -> bool
     true
 }
 
-/// Returns what to send next. Refuses fields of no run.
+/// Returns what to send next. Refuses fields of no run, and those that have more answers than a list has accesses.
 #[unsafe(no_mangle)]
 pub extern "C" fn swd_run_cue(run: &RunFields) -> SwdCue
-    ensures cue { (now : RunType) → stepped_fields now ≡ run.now → result ≡ c_api_run_cue now }
+    ensures cue { (now : RunType) → stepped_fields now ≡ run.now → now.answered ≤ 65536
+        → result ≡ c_api_run_cue now }
     ensures refused { CApiHasNoRun run.now → result ≡ c_api_refusal }
+    ensures many { 65536 < run.now.answered → result ≡ c_api_refusal }
 {
+    if run.answered > MOST_ACCESSES {
+        return SwdCue::refusal();
+    }
     match run.run() {
         Some(run) => SwdCue::of_run(&run),
         None => SwdCue::refusal(),

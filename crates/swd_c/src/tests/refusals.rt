@@ -126,6 +126,11 @@ fn calls_of_a_run_are_refused(rt: HostRuntime) {
     short.room = 1;
     is_refused_for(&rt, "no room for the second answer", short, 0, why(6, 0));
     expect_eq(&rt, &swd_run_cue(&NO_RUN), &SwdCue::refusal());
+    let mut many = ended;
+    many.answered = 65_536;
+    assert!(rt; swd_run_cue(&many).kind != REFUSED);
+    many.answered = 65_537;
+    expect_eq(&rt, &swd_run_cue(&many), &SwdCue::refusal());
     let mut none = NO_RUN;
     assert!(rt; !swd_run_again(&mut none, 8));
     expect_eq(&rt, &none, &NO_RUN);
