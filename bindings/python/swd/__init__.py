@@ -37,6 +37,11 @@ from ._accesses import (
 )
 from ._async import AsyncSequenceLine, AsyncSequences
 from ._checking import Checker, Verdict
+from ._core import Core, CoreState
+from ._core_errors import (
+    CoreAsleep, CoreDidNotHalt, CoreError, CoreLockedUp, CoreNotHalted, DebugLocked, NoBreakpointLeft, RegisterNotReady,
+)
+from ._core_words import CoreIdentification
 from ._cues import Ask, Cue, Drive, Give, Lead, Pass, Release, Sample, Sequence, Take
 from ._decoding import Bits, Cut, Decoder, Idle, Item, Junk, Reset, Switch, Transaction, decode, trace_bits
 from ._errors import (
@@ -55,12 +60,14 @@ from ._target import Bus, Target
 __version__ = "0.1.0"
 __all__ = [
     "Access", "AccessFaulted", "Answer", "Ask", "AsyncSequenceLine", "AsyncSequences", "Bits", "Bus", "BusError",
-    "BusFault", "CallbackFailed", "Checker", "ConditionNotMet", "Cue", "Cut", "Decoder", "DecoderFinished", "Drive",
-    "End", "Give", "Host", "Idle", "Identification", "ImageDiffers", "ImageInterrupted", "ImageStopped",
-    "Interrupted", "Item", "Junk", "Lead", "Library", "LibraryMismatch", "LibraryNotFound", "LibraryNotProved",
-    "LibraryRefused", "Line", "LineFailed", "MOST_ACCESSES", "NotABit", "NotALine", "NotAnAccess", "NotAnItem", "NotBytes", "NotResumable",
-    "Opening", "OutOfRange", "Pass", "Read", "Reentered", "Release", "Report", "Reset", "Run", "RunEnded",
-    "RunFailed", "RunStopped", "Sample", "Sequence", "SequenceLine", "Sequences", "Session", "SwdError", "Switch",
-    "Take", "Target", "TooManyAccesses", "Transaction", "Unaligned", "Value", "Verdict", "Write", "Written", "block",
-    "decode", "report_of", "trace_bits",
+    "BusFault", "CallbackFailed", "Checker", "ConditionNotMet", "Core", "CoreAsleep", "CoreDidNotHalt", "CoreError",
+    "CoreIdentification", "CoreLockedUp", "CoreNotHalted", "CoreState", "Cue", "Cut", "DebugLocked", "Decoder",
+    "DecoderFinished", "Drive", "End", "Give", "Host", "Idle", "Identification", "ImageDiffers", "ImageInterrupted",
+    "ImageStopped", "Interrupted", "Item", "Junk", "Lead", "Library", "LibraryMismatch", "LibraryNotFound",
+    "LibraryNotProved", "LibraryRefused", "Line", "LineFailed", "MOST_ACCESSES", "NoBreakpointLeft", "NotABit",
+    "NotALine", "NotAnAccess", "NotAnItem", "NotBytes", "NotResumable", "Opening", "OutOfRange", "Pass", "Read",
+    "Reentered", "RegisterNotReady", "Release", "Report", "Reset", "Run", "RunEnded", "RunFailed", "RunStopped",
+    "Sample", "Sequence", "SequenceLine", "Sequences", "Session", "SwdError", "Switch", "Take", "Target",
+    "TooManyAccesses", "Transaction", "Unaligned", "Value", "Verdict", "Write", "Written", "block", "decode",
+    "report_of", "trace_bits",
 ]

@@ -1,7 +1,8 @@
 """A program over the package whose types `mypy --strict` checks, as those of the package itself (`checks/bindings`)."""
-from typing import List
+from typing import Dict, List
 
 import swd
+import swd.flash
 
 
 class Probe:
@@ -54,6 +55,14 @@ def use() -> List[int]:
         session.load(0x20000000, b"abc", on_progress=lambda done, total: print(done, total))
         data: bytes = session.dump(0x20000000, 3)
         print(word, found, data)
+        core = swd.Core(session, reads=100, interval=0.1)
+        with core.halted():
+            core.write("r0", core.read("r1"))
+            registers: Dict[str, int] = core.registers("pc")
+        state: swd.CoreState = core.state
+        print(registers, state, core.identify().name, core.wait(10))
+        algorithm: swd.flash.Algorithm = swd.flash.Algorithm.read("a.FLM")
+        swd.flash.Programmer(session, algorithm, ram=(0x20000000, 0x1000)).program(swd.flash.read_image("a.hex"))
     host = swd.Host(Wire())
     accesses: List[swd.Access] = [swd.Read(0x20000000), swd.Write(0x20000000, 7)]
     try:
