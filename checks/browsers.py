@@ -121,7 +121,14 @@ class Firefox:
         return result
 
     def load(self, path):
+        # On a machine under load the answer comes while the page before is still there.
+        self.run("window.isBefore = true")
         self.call("WebDriver:Navigate", url="file://" + path)
+        until = time.time() + 120
+        while self.run("return window.isBefore || !document.ondrop"):
+            if time.time() > until:
+                raise RuntimeError("firefox doesn't load " + path)
+            time.sleep(0.05)
 
     def run(self, script):
         return self.call("WebDriver:ExecuteScript", script=script, args=[])["value"]

@@ -272,6 +272,7 @@ class Reference:
         self.worlds = [(MADE, 0)] if start == "made" else []
         self.began = 0 if start == "made" else None
         self.spent, self.gaps, self.in_gap, self.broken, self.crowded = 0, 0, False, None, None
+        self.answered = False  # whether the target acknowledged a request that was checked
 
     def watch(self, item):
         if self.broken is None:
@@ -315,6 +316,7 @@ class Reference:
                 self.worlds = new
                 if not new:
                     self.broken = self.place
+        self.answered = self.answered or item[4] != "none" and bool(self.worlds)
         if item[1:4] == ("dp", 0, "read") and item[4] in ("ok", "bad"):
             seen = frozenset([item[5]]) if item[4] == "ok" else near(item[5])
             self.ident = frozenset(v for v in seen if v & 1 and (self.ident is None or v in self.ident))

@@ -1,4 +1,4 @@
-"""A serial wire debug port with a write buffer, clock by clock: the target of target.py behind the pins of checks/checked.
+"""A serial wire debug port with a write buffer, clock by clock: the target of target.py behind the pins of line.py.
 
 What such a port does that the target without a buffer doesn't, from memory of IHI 0031, B4 (write buffering) and B2 (WDATAERR):
 
@@ -15,18 +15,16 @@ What such a port does that the target without a buffer doesn't, from memory of I
 from __future__ import annotations
 
 import random
-from dataclasses import dataclass, field
+from dataclasses import dataclass
 from typing import Callable, Optional
 
-from checked.pins import Pins
-
-from .bits import FAULT, OK, Request, WAIT, WORD, data_bits, word_of
-from .target import CLEAN, Mark, Memory, Quirks, Target
+from .bits import OK, Request, WAIT, word_of
+from .line import MarkedPins
+from .target import Mark, Memory, Quirks, Target
 
 Span = tuple[int, int]  # the least and the most of a number of clocks
 FAULTS = ("at once", "to writes", "behind")
 DRW, DRW_READ = 12, Request(True, True, 12)
-ENDS = {OK: "ok", WAIT: "wait", FAULT: "fault"}
 
 
 @dataclass(frozen=True)
@@ -44,31 +42,6 @@ class Choices:
     fault: str = "at once"  # one of FAULTS
     any_flag: bool = False  # WDATAERR of damaged data discards writes in the buffer, too, not only a bus error before them
     dp_writes: bool = False  # writes of SELECT and CTRL/STAT wait in the buffer, too
-
-
-@dataclass(frozen=True, slots=True)
-class Effect:
-    """A transfer at the bus: the word that it read or wrote, or that a bus error refused."""
-
-    read: bool
-    addr: int
-    word: int
-    done: bool
-
-
-class Bus(Memory):
-    """A memory that keeps the transfers that reached it, also those that were bus errors."""
-
-    __slots__ = ("effects",)
-
-    def __init__(self, words: dict[int, int]) -> None:
-        super().__init__(words, 1 << 30)
-        self.effects: list[Effect] = []
-
-    def transfer(self, read: bool, addr: int, word: int = 0) -> Optional[int]:
-        got = super().transfer(read, addr, word)
-        self.effects.append(Effect(read, addr, word if got is None else got, got is not None))
-        return got
 
 
 @dataclass(slots=True)
@@ -183,40 +156,12 @@ class BufferedTarget(Target):
             self.take()
 
 
-@dataclass
-class Facing:
-    """A target as Pins ask it."""
-
-    target: Target
-    awaits: bool = False  # the data phase of a write, or a line reset
-    bug: Optional[str] = field(default=None, init=False)
-
-    def ask(self, request: tuple[str, int, str], busy: bool) -> Optional[str]:
-        return ENDS.get(self.target.answer(asked(request), busy))
-
-    def read(self, request: tuple[str, int, str], _busy: bool) -> int:
-        return self.target.value(asked(request))
-
-    def write(self, request: tuple[str, int, str], word: Optional[int], sent: int) -> None:
-        self.target.write(asked(request), data_bits(sent & WORD) ^ (word is None) << 32)
-
-    def line_reset(self) -> None:
-        self.target.reset = "fresh"
-        self.target.wdataerr |= self.awaits
-        self.awaits = False
-
-
-def asked(request: tuple[str, int, str]) -> Request:
-    port, addr, direction = request
-    return Request(port == "ap", direction == "read", addr)
-
-
-class Line(Pins):
+class Line(MarkedPins):
     """The pins of a BufferedTarget, for so many clocks at most. `marks` has the mark of a request by its number, from 1 on."""
 
     def __init__(self, target: BufferedTarget, marks: Callable[[int], Mark], most: int) -> None:
-        super().__init__(Facing(target), marks)
-        self.port, self.mark, self.left = target, CLEAN, most
+        super().__init__(target, marks)
+        self.port, self.left = target, most
 
     def clock(self, level: int) -> None:
         self.left -= 1
@@ -224,18 +169,3 @@ class Line(Pins):
             raise TimeoutError("the session doesn't end")
         self.port.tick()
         super().clock(level)
-
-    def answer(self, mark: Mark) -> None:
-        self.mark = mark
-        if mark.kind == "deaf":
-            return
-        super().answer(mark.kind == "wait")
-        if mark.kind == "mute" and self.driven:
-            self.driven[1 + mark.place] ^= 1
-        if mark.kind == "flip" and len(self.driven) > 5:
-            self.driven[4 + mark.place] ^= 1
-
-    def written(self) -> None:
-        if self.mark.kind == "flip":
-            self.bits[self.mark.place] ^= 1
-        super().written()

@@ -1,6 +1,7 @@
 """Judges the report of a run against the transfers that reached the bus.
 
-Each write of a run has its own word, so that a transfer names its write. `wrongs(calls, report, effects)` says what is wrong.
+Each write of a run has its own word, so that a transfer names its write. `wrongs(calls, report, effects)` says what is wrong,
+where the memory began as zeros or as the words that are handed over.
 """
 
 from __future__ import annotations
@@ -9,8 +10,8 @@ from collections import Counter
 from dataclasses import dataclass, field
 from typing import Iterator, Optional
 
-from .buffered import Effect
 from .host import Access
+from .line import Effect
 
 
 @dataclass
@@ -92,9 +93,9 @@ def wrong_write(access: Access, answer: Optional[str], begun: int, effects: list
         yield "twice"
 
 
-def wrong_reads(accesses: list[Access], said: Said) -> Iterator[str]:
-    """What is wrong of the words that were read, if the words were written that the report says so of."""
-    memory: dict[int, str] = {}
+def wrong_reads(accesses: list[Access], said: Said, words: dict[int, int]) -> Iterator[str]:
+    """What is wrong of the words that were read, if the words were written that the report says so of, over these."""
+    memory = {addr: f"{word:08x}" for addr, word in words.items()}
     for place, access in enumerate(accesses):
         answer = said.answers.get(place)
         if access.word is not None and answer == "written":
@@ -103,12 +104,13 @@ def wrong_reads(accesses: list[Access], said: Said) -> Iterator[str]:
             yield "read"
 
 
-def wrongs(calls: list[list[Access]], report: str, effects: list[Effect]) -> list[str]:
-    """What a report says that isn't so; `confused` alone is no false report, but no right port may be called that."""
+def wrongs(calls: list[list[Access]], report: str, effects: list[Effect], words: Optional[dict[int, int]] = None) -> list[str]:
+    """What a report says that isn't so; `confused` alone is no false report, but no right port may be called that. `words` is
+    the memory as it began."""
     said = said_of(report, calls)
     accesses = [access for call in calls for access in call]
     begun = said.begun()
-    found = set(wrong_reads(accesses, said))
+    found = set(wrong_reads(accesses, said, words or {}))
     for place, access in enumerate(accesses):
         if not access.read:
             found.update(wrong_write(access, said.answers.get(place), begun[place], effects))
