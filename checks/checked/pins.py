@@ -14,7 +14,7 @@ class Pins:
 
     def __init__(self, target, waits):
         self.target, self.waits = target, waits
-        self.ones, self.bits, self.driven, self.asked = 0, [], [], 0
+        self.ones, self.bits, self.driven, self.asked, self.clocks = 0, [], [], 0, 0
         self.take, self.request = self.begin, None
 
     def level(self):
@@ -23,6 +23,7 @@ class Pins:
 
     def clock(self, level):
         """A rising edge."""
+        self.clocks += 1
         self.ones = self.ones + 1 if level else self.ended(self.ones)
         if self.driven:
             self.driven.pop(0)

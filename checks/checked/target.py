@@ -15,7 +15,8 @@ buffer_kept_in_bank resend_skips_rdbuff resend_moves_tar read_after_fault write_
 tar_by_1 tar_packed tar_within_4096 tar_stops_at_1024 error_late error_reads_zero error_loses_write error_each_7th
 reset_clears_select reset_drops_transfer reset_clears_readok status_keeps_word status_bit_31 dp_bank_ignored
 ap_bank_ignored ap_ignored dp_c_selects csw_in_progress csw_upper_zero ap8_is_csw tar_16_bits byte_lost aliased
-stale_read zero_sticks""".split()
+stale_read zero_sticks tar_wraps_early resend_sets_readok dpidr_empties ap_ff_is_0 wderrclr_waits wdataerr_hides
+second_dpidr_silent power_goes_with_both damaged_drw_made""".split()
 EXEMPT = {("dp", 0, "read"), ("dp", 0, "write")}
 FAULTLESS = (("rdbuff_no_fault", ("dp", 12, "read")), ("select_no_fault", ("dp", 8, "write")),
              ("resend_no_fault", ("dp", 8, "read")))
@@ -29,12 +30,14 @@ class Target:
         self.select, self.single, self.tar, self.buffer, self.last, self.pending = 0, False, 0, None, None, None
         self.awaits, self.ident, self.resets, self.tar_next = False, 0x2BA01477, 0, None
         self.memory, self.stale = {}, {}
-        self.transfers, self.kept, self.owed, self.reads_again = 0, 0, False, False
+        self.transfers, self.kept, self.owed, self.reads_again, self.asked = 0, 0, False, False, None
 
     def word(self):
         return self.rng.choice([0, 0xFFFFFFFF, self.rng.getrandbits(32)])
 
     def memap(self):
+        if self.bug == "ap_ff_is_0" and self.select >> 24 == 0xFF:
+            return self.select & 0xF0 == 0
         seen = {"bank_ignored": 0, "ap_bank_ignored": 0xFF000000, "ap_ignored": 0xF0}.get(self.bug, 0xFF0000F0)
         return self.select & seen == 0
 
@@ -111,6 +114,8 @@ class Target:
         """The address behind TAR's."""
         step = {"tar_by_8": 8, "tar_by_1": 1}.get(self.bug, 4)
         size = {"tar_within_256": 256, "tar_within_4096": 4096}.get(self.bug, 1024)
+        if self.bug == "tar_wraps_early" and self.tar % size + step == size - 4:
+            return self.tar - self.tar % size
         if self.tar % size + step < size:
             return self.tar + step
         if self.bug == "tar_stops_at_1024":
@@ -128,6 +133,8 @@ class Target:
             if not (bug == "fresh_answers" or (bug == "fresh_status" and status)):
                 return None
         flags = self.sticky or self.damaged
+        if bug == "second_dpidr_silent" and request == self.asked == ("dp", 0, "read"):
+            return None
         if request in EXEMPT or status:
             if busy and self.bug == {4: "status_waits", 0: "abort_waits"}[request[1]] and request != ("dp", 0, "read"):
                 return "wait"
@@ -140,6 +147,7 @@ class Target:
             sticky = damaged = False
         dark = request[0] == "ap" and not (self.powers[0] and self.ups[0] != "late") and bug != "unpowered_ok"
         dark = dark and not (bug == "unpowered_writes_ok" and request[2] == "write")
+        dark = dark and not (bug == "power_goes_with_both" and self.powers[1])
         if busy and bug == "wait_first":
             return "wait"
         if busy and not (sticky or damaged or dark):
@@ -160,6 +168,7 @@ class Target:
         if self.pending is not None and self.rng.random() < 0.5:
             self.complete()
         end = self.answer(request, busy)
+        self.asked = request
         port, address, direction = request
         posted = direction == "read" and (port == "ap" or address == 12 or self.bug == "readok_any")
         if posted and end is not None:
@@ -182,7 +191,8 @@ class Target:
         readok, damaged = self.readok or self.bug == "readok_always", self.damaged
         if self.bug == "status_swapped":
             readok, damaged = damaged, readok
-        word = self.sticky << 5 | readok << 6 | damaged << 7
+        sticky = self.sticky and not (self.bug == "wdataerr_hides" and damaged)
+        word = sticky << 5 | readok << 6 | damaged << 7
         for place in (0, 1):
             word |= self.powers[place] << 28 + 2 * place
             word |= (self.powers[place] and self.ups[place] == "seen") << 29 + 2 * place
@@ -195,10 +205,12 @@ class Target:
         """The word of a read that was answered OK."""
         port, address, _ = request
         if port == "dp" and address == 0:
+            self.buffer = None if self.bug == "dpidr_empties" else self.buffer
             return self.ident ^ (self.bug == "dpidr_even") ^ (self.bug == "dpidr_changes" and self.resets > 2) * 0x10
         if port == "dp" and address == 4:
             return self.status(busy) if self.bank0() else self.word()
         if port == "dp" and address == 8:
+            self.readok = self.readok or self.bug == "resend_sets_readok"
             if self.bug == "resend_zero":
                 return 0
             kept = self.buffer if self.bug == "resend_buffer" else self.last
@@ -246,6 +258,9 @@ class Target:
     def write(self, request, word, sent=0):
         """The data of a write arrives, or arrives damaged: None, and what was sent."""
         port, address, _ = request
+        if word is None and self.bug == "damaged_drw_made" and (port, address) == ("ap", 12) and self.memap():
+            self.damaged, self.buffer, self.last, self.pending = True, None, None, ("write", sent)
+            return
         if word is None and self.bug not in ("damage_done", "damage_done_flagged"):
             if self.bug != "damage_ignored" and not (self.bug == "abort_damage_ignored" and (port, address) == ("dp", 0)):
                 self.damaged = True
@@ -275,7 +290,8 @@ class Target:
         if address == 0:
             if word & 4 and self.bug != "stkerrclr_nothing" or word & 8 and self.bug == "wderrclr_all":
                 self.sticky = False
-            if word & 8 and self.bug != "wderrclr_nothing" or word & 4 and self.bug == "stkerrclr_all":
+            waits = self.bug == "wderrclr_waits" and self.sticky
+            if word & 8 and self.bug != "wderrclr_nothing" and not waits or word & 4 and self.bug == "stkerrclr_all":
                 self.damaged = False
             if word & 1 and self.bug == "dapabort_clears":
                 self.sticky = self.damaged = False
@@ -292,6 +308,7 @@ class Target:
 
     def line_reset(self):
         self.resets += 1
+        self.asked = None
         self.reset = self.reset if self.bug == "reset_keeps_live" else "fresh"
         self.damaged = self.damaged or (self.awaits and self.bug != "reset_no_damage")
         self.awaits = False

@@ -1,5 +1,6 @@
 -- What `swd one`, `swd encode`, `swd decode`, `swd draw` and `swd check` do with their input.
-use Rattle.std.specs.Prelude.{◌≡◌, ◌≢◌, ◌⊎◌, ◌||◌, ℕ, Bool, List, [], Option, Result, Ok, Err, is_ok, if◌then◌else◌}
+use Rattle.std.specs.Prelude.{◌≡◌, ◌≢◌, ◌⊎◌, ◌||◌, ℕ, Bool, List, [], Option, None, Some, Result, Ok, Err, is_ok}
+use Rattle.std.specs.Prelude.{if◌then◌else◌}
 use Rattle.swd_bits.specs.One.{AnswersOneTx}
 use Rattle.swd_bits.specs.declared.one.OneFault.{OneFault}
 use Rattle.swd_text.specs.Decoding.{Decodes}
@@ -17,6 +18,7 @@ use Rattle.swd_check.specs.Checks.{WritesChecked}
 use Rattle.swd_check.specs.Watched.{CheckSays, check_index}
 use Rattle.swd_check.specs.declared.checked.Checked.{Checked}
 use Rattle.swd_check.specs.declared.checked.Checked.TheVariants.{Fits, Breaks, Crowded, Outside}
+use Rattle.swd_conform.specs.declared.run.Stop.{Stop}
 use Rattle.swd_command_line.specs.declared.command.CheckLine.{CheckLine}
 use Rattle.swd_command_line.specs.declared.command.DecodeLine.{DecodeLine}
 use Rattle.swd_command_line.specs.declared.command.DrawLine.{DrawLine}
@@ -51,12 +53,17 @@ command_status_of_check (Ok (Crowded place)) = 2
 command_status_of_check (Ok (Outside place)) = 2
 command_status_of_check (Err fault) = 2
 
--- The same of a conformance run: 2 if the port answered no request, so that nothing was checked, and 1 if a transfer
--- without memory was no bus error.
-abbrev pub command_status_of_conform : Bool → Bool → Checked → ℕ
-command_status_of_conform answered unrefused (Fits items from faults gaps) =
-    if answered then (if unrefused then 1 else 0) else 2
-command_status_of_conform answered unrefused checked = command_status_of_check (Ok checked)
+-- 0 if nothing stopped a conformance run, else 2
+abbrev command_status_of_stop : Option Stop → ℕ
+command_status_of_stop None = 0
+command_status_of_stop (Some stop) = 2
+
+-- The same of a conformance run: 2 if the port answered no request, so that nothing was checked, 1 if a transfer without
+-- memory was no bus error, and 2 if the run ended early.
+abbrev pub command_status_of_conform : Bool → Bool → Option Stop → Checked → ℕ
+command_status_of_conform answered unrefused stop (Fits items from faults gaps) =
+    if answered then (if unrefused then 1 else command_status_of_stop stop) else 2
+command_status_of_conform answered unrefused stop checked = command_status_of_check (Ok checked)
 
 -- the state of the target before the first item
 abbrev pub command_check_start : CheckLine → CheckStart

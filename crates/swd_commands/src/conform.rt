@@ -9,7 +9,7 @@ use std::io::{Read, Write};
 use swd_check::{Check, CheckOptions, Checked};
 use swd_checker::CheckStart;
 use swd_command_line::ConformLine;
-use swd_conform::{ConformRun, Conformed, LEAST_WORDS, Plan, Without};
+use swd_conform::{ConformRun, Conformed, LEAST_WORDS, Plan, Stop, Without};
 use swd_console::{
     Clock, Console, FAULT, Files, KeepsError, STOPPED, Stream, Untold, Watched, gone_status,
     line_streams, named_file_of, open_line, status_after, tell, tell_failure_or, way_of,
@@ -174,6 +174,7 @@ fn tell_run<E: Write>(conform: &ConformLine, conformed: &Conformed, errors: &mut
         );
         return;
     }
+    tell_stop(conformed, errors);
     if !conformed.waited {
         let _ = writeln!(
             errors,
@@ -192,6 +193,20 @@ fn tell_run<E: Write>(conform: &ConformLine, conformed: &Conformed, errors: &mut
     }
 }
 
+// Prints why the run ended early, if it did, and from which rule on the port wasn't tried.
+fn tell_stop<E: Write>(conformed: &Conformed, errors: &mut E) {
+    let why = match conformed.stop {
+        None => return,
+        Some(Stop::Waits) => "a request was answered WAIT 64 times",
+        Some(Stop::Power) => "CTRL/STAT never acknowledged both powers",
+    };
+    let rule = conformed.rule;
+    let _ = writeln!(
+        errors,
+        "swd: not decided: {why}; not reached: this rule, and those that follow: {rule}"
+    );
+}
+
 // Returns whether requests were damaged or lost.
 fn has_faults(checked: &Checked) -> bool {
     match checked {
@@ -200,14 +215,16 @@ fn has_faults(checked: &Checked) -> bool {
     }
 }
 
-// Returns the status of a run whose other end stayed: that of the verdict, but for `fits` 2 where no request was
-// answered, and 1 where a transfer at HOLE was no bus error.
+// Returns the status of a run whose other end stayed: that of the verdict, but for `fits` 1 where a transfer at HOLE was
+// no bus error, and else 2 where no request was answered, or the run ended early.
 fn conformed_status(conformed: &Conformed) -> u8
-    ensures { result ≡ status_of conformed.now.answered conformed.now.unrefused conformed.now.checked }
+    ensures { result ≡ status_of conformed.now.answered conformed.now.unrefused conformed.now.stop
+        conformed.now.checked }
 {
     match &conformed.checked {
         Checked::Fits { .. } if !conformed.answered => FAULT,
         Checked::Fits { .. } if conformed.unrefused => STOPPED,
+        Checked::Fits { .. } if conformed.stop.is_some() => FAULT,
         checked => checked_status(checked),
     }
 }

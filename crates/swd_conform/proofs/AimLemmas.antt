@@ -9,7 +9,7 @@ use Rattle.swd_conform.specs.declared.aim.Aim.{Aim}
 use Rattle.swd_conform.specs.declared.aim.Aim.TheVariants.{Unpowered, Unknown, Hole, Behind, Words}
 use Rattle.swd_conform.specs.declared.aim.Bounds.{Bounds}
 use Rattle.swd_conform.specs.Aims.{IsConformAim, conform_leaves_address, conform_powers, conform_unsettles, left}
-use Rattle.swd_conform.specs.Aims.{is_conform_unsettling}
+use Rattle.swd_conform.specs.Aims.{is_conform_unsettling, kept}
 
 settled_of : (unsettling other : Bool) → (not unsettling && other) ≡ true → unsettling ≡ false
 settled_of false other e = refl
@@ -30,8 +30,14 @@ pub conform_aim_left : (bounds : Bounds) (aim : Aim) (cue : Cue) (seen : ℕ) (c
 conform_aim_left bounds Unpowered cue seen calls leaves powers h = (powers, h)
 conform_aim_left bounds Unknown cue seen calls leaves powers h = tt
 conform_aim_left bounds Hole cue seen calls leaves powers h = (h.0, h.1, left cue seen leaves h.2)
-conform_aim_left bounds (Behind used refused) cue seen calls leaves powers h =
-    (h.0, h.1, h.2, left cue seen leaves h.3, λ is. inr (leaves_settled cue seen leaves, powers, h.4 is))
+conform_aim_left bounds (Behind used refused) cue seen calls leaves powers h = (
+  h.0,
+  h.1,
+  h.2,
+  left cue seen leaves h.3,
+  λ is. inr (leaves_settled cue seen leaves, powers, h.4 is),
+  λ is. kept cue seen leaves powers (h.5 is),
+)
 conform_aim_left bounds (Words low high) cue seen calls leaves powers h = (h.0, h.1, left cue seen leaves h.2)
 
 -- the same of a call with this cue

@@ -1,6 +1,7 @@
 -- What a run did, call by call.
 use Rattle.std.proofs.Common.{◌≡◌, ◌≤◌, ◌+◌, ℕ, List, [], ◌∷◌, ◌++◌, refl, sym, ap, subst, ◌∙◌, append_assoc}
-use Rattle.std.proofs.Common.{append-nil, arith}
+use Rattle.std.proofs.Common.{append-nil, arith, Bool, true, false, ◌||◌}
+use Rattle.std.proofs.Math.Logic.{∥∥₁_map}
 use Rattle.swd_port.specs.declared.call.Call.{Call}
 use Rattle.swd_port.specs.declared.cue.Cue.{Cue}
 use Rattle.swd_trace.specs.declared.item.Item.{Item}
@@ -8,8 +9,8 @@ use Rattle.swd_check.specs.declared.check.Check.{Check}
 use Rattle.swd_check.specs.Watched.{CheckHolds, CheckSays, CheckTakes}
 use Rattle.swd_recorder.specs.Items.{recorded_in_hand_by}
 use Rattle.swd_recorder.specs.Calls.{recorded_call_items, recorded_calls_items}
-use Rattle.swd_conform.specs.Aims.{ConformStays}
-use Rattle.swd_conform.specs.Calls.{conform_asked, conform_requests_by}
+use Rattle.swd_conform.specs.Aims.{ConformStays, ConformUnrefused, earlier}
+use Rattle.swd_conform.specs.Calls.{conform_asked, conform_requests_by, conform_saw, conform_sees}
 use Rattle.swd_conform.specs.declared.aim.Bounds.{Bounds}
 use Rattle.swd_host.specs.Sent.{HostCalls}
 use Rattle.swd_conform.specs.Runs.{ConformCame}
@@ -24,6 +25,20 @@ pub conform_counts : (cue : Cue) (seen n m : ℕ) (calls now : List Call)
     → n + m ≡ conform_requests_by now
 conform_counts cue seen n m calls now e a b =
     ap (λ k. n + k) a ∙ ap (λ k. k + conform_asked cue) b ∙ ap conform_requests_by (sym e)
+
+-- whether a request was answered so, with one call more
+pub conform_saw_more : (bits : ℕ) (cue : Cue) (seen : ℕ) (is was : Bool) (calls now : List Call)
+    → now ≡ record { cue = cue; seen = seen } ∷ calls → is ≡ conform_sees bits cue seen → was ≡ conform_saw bits calls
+    → (is || was) ≡ conform_saw bits now
+conform_saw_more bits cue seen is was calls now e a b =
+    ap (λ k. k || was) a ∙ ap (λ k. conform_sees bits cue seen || k) b ∙ ap (conform_saw bits) (sym e)
+
+-- that a transfer was no bus error, with one call more
+pub conform_unrefused_more : (bounds : Bounds) (call : Call) (calls : List Call) (is was : Bool)
+    → (is ≡ true → ∥ ConformUnrefused bounds (call ∷ calls) ∥₁) → (was ≡ true → ∥ ConformUnrefused bounds calls ∥₁)
+    → (is || was) ≡ true → ∥ ConformUnrefused bounds (call ∷ calls) ∥₁
+conform_unrefused_more bounds call calls true was here before e = here refl
+conform_unrefused_more bounds call calls false was here before e = ∥∥₁_map (before e) (λ h. earlier call h)
 
 module _ {A W : Type 0} (notes : List Call → W → Type 0) where
   -- no call was made, and nothing that counts changed
@@ -118,6 +133,11 @@ module _ {A W : Type 0} (notes : List Call → W → Type 0) where
               subst (λ (l : List Call). CheckSays i (seen ++ recorded_calls_items l) told.checked) all
               (f.says i (seen ++ recorded_calls_items t.noted.calls) (g.takes i seen first));
           requests = f.requests ∙ t.counted ∙ ap conform_requests_by all;
+          answered = f.answered ∙ t.heard ∙ ap (conform_saw 1) all;
+          waited = f.waited ∙ t.slowed ∙ ap (conform_saw 2) all;
+          unrefused = λ is. subst (λ (l : List Call). ∥ ConformUnrefused bounds l ∥₁) all
+              (subst (λ (here : Bounds). ∥ ConformUnrefused here t.noted.calls ∥₁) (g.bounds ∙ same)
+              (t.denied (sym f.unrefused ∙ is)));
         },
       )
 

@@ -99,6 +99,24 @@ IsConformFaulted (call ∷ calls) =
     ⊎ ((conform_unsettles call.cue ≡ false) × (conform_powers call.cue (recorded_in_hand_by calls) ≡ false)
     × IsConformFaulted calls)
 
+-- A transfer at this address got OK, and since then no call could move TAR, clear a flag or give power.
+pub data ConformTook (at : ℕ) : List Call → Type 0 where
+  took : {calls : List Call} (q : Request) → is_conform_transfer q ≡ true → ConformAims at 0 calls
+      → ConformTook at (record { cue = Ask q; seen = 1 } ∷ calls)
+  kept : {calls : List Call} (cue : Cue) (seen : ℕ) → conform_leaves_address cue seen ≡ true
+      → conform_powers cue (recorded_in_hand_by calls) ≡ false
+      → ConformTook at calls → ConformTook at (record { cue = cue; seen = seen } ∷ calls)
+
+-- a read of the access port or of RDBUFF, which gets no OK once a transfer was a bus error
+abbrev pub is_conform_answer : Request → Bool
+is_conform_answer q = q.read && (q.ap || conform_is_rc q.addr)
+
+-- Behind a transfer at the address without memory that got OK, such a read did, too: the transfer was no bus error.
+pub data ConformUnrefused (bounds : Bounds) : List Call → Type 0 where
+  here : {calls : List Call} (q : Request) (at : ℕ) → bounds.hole ≡ Some at → is_conform_answer q ≡ true
+      → ConformTook at calls → ConformUnrefused bounds (record { cue = Ask q; seen = 1 } ∷ calls)
+  earlier : {calls : List Call} (call : Call) → ConformUnrefused bounds calls → ConformUnrefused bounds (call ∷ calls)
+
 -- The next transfer, if there is one, is at one of the words, all in one kilobyte, or at the address without memory.
 -- Once one was accepted there, a further one is refused: FAULT was seen.
 pub data ConformMayTransfer (bounds : Bounds) (calls : List Call) : Type 0 where
@@ -125,7 +143,7 @@ IsConformAim bounds Unpowered calls = IsConformUnpowered calls
 IsConformAim bounds Unknown calls = Unit {0}
 IsConformAim bounds Hole calls = (at : ℕ) × (bounds.hole ≡ Some at) × ConformAims at 0 calls
 IsConformAim bounds (Behind used refused) calls = (at : ℕ) × (more : ℕ) × (bounds.hole ≡ Some at)
-    × ConformAims at more calls × (refused ≡ true → IsConformFaulted calls)
+    × ConformAims at more calls × (refused ≡ true → IsConformFaulted calls) × (used ≡ true → ConformTook at calls)
 IsConformAim bounds (Words low high) calls = (more : ℕ) × (high ≡ low + 4 * more) × ConformAims low more calls
 
 -- the memory that a plan is made for

@@ -7,7 +7,7 @@ ghost use Rattle.swd_recorder.specs.Items.{recorded_in_hand_by};
 ghost use Rattle.swd_conform.specs.declared.aim.Bounds.{Bounds as BoundsType};
 ghost use Rattle.swd_conform.specs.Aims.{ConformAims, ConformMayTransfer, IsConformAim, is_conform_refusal};
 ghost use Rattle.swd_conform.specs.Aims.{is_conform_address, is_conform_control, is_conform_transfer};
-ghost use Rattle.swd_conform.specs.Aims.{is_conform_unsettling};
+ghost use Rattle.swd_conform.specs.Aims.{ConformUnrefused, is_conform_answer, is_conform_unsettling};
 
 use swd_bits::{Ack, Reg4, Request, word_of};
 use swd_port::Cue;
@@ -97,6 +97,26 @@ impl Aim {
             },
             Cue::Lead { .. } | Cue::Take | Cue::Pass => self,
         }
+    }
+
+    /// Returns whether a call shows that a transfer at the address without memory was no bus error.
+    pub(crate) fn denies(self, cue: Cue, seen: u64) -> bool
+        ensures { (bounds : BoundsType) (calls : List CallType) → result ≡ true → IsConformAim bounds self calls
+            → ConformUnrefused bounds (record { cue = cue; seen = seen } ∷ calls) }
+    {
+        let Aim::Behind { used, .. } = self else {
+            return false;
+        };
+        let Cue::Ask(request) = cue else {
+            return false;
+        };
+        if !used {
+            return false;
+        }
+        if seen != 1 {
+            return false;
+        }
+        is_answer(request)
     }
 
     // Returns what is known after a request. Where a write of TAR is accepted, its data phase tells.
@@ -190,6 +210,13 @@ pub(crate) fn is_transfer(request: Request) -> bool
     ensures { result ≡ is_conform_transfer request }
 {
     request.ap && matches!(request.addr, Reg4::RC)
+}
+
+// Returns whether it is a read of the access port or of RDBUFF.
+fn is_answer(request: Request) -> bool
+    ensures { result ≡ is_conform_answer request }
+{
+    request.read && (request.ap || matches!(request.addr, Reg4::RC))
 }
 
 // Returns whether it is a write of TAR.

@@ -14,5 +14,5 @@ mod steps;
 
 pub use over_wire::conform;
 pub use plan::{LEAST_WORDS, MOST_STEPS, Plan, Step, Without};
-pub use run::{ConformRun, Conformed, REQUESTS_PER_STEP};
+pub use run::{ConformRun, Conformed, REQUESTS_PER_STEP, Stop};
 pub use session::{SessionCheck, over_checked_line};

@@ -30,13 +30,12 @@ pub enum Step {
     },
     /// Sends a request once. A write has the word 0. On a lost line, a line reset comes before it.
     Once(Request),
-    /// Sends a read until it doesn't get WAIT. The transfer before it was at the address without memory, so it isn't to
-    /// get OK.
-    Refused(Request),
     /// Sends a write once, with a line reset in place of its data phase.
     Cut(Request),
     /// Sends a line reset.
     Reset,
+    /// Sends reads of CTRL/STAT, with idle cycles between them, up to one that acknowledges both powers.
+    Power,
 }
 
 /// What a plan leaves out, since its memory and its addresses don't allow it.
@@ -74,8 +73,9 @@ const EMPTY: Group = Group {
 /// memory. [`ConformRun`](crate::ConformRun) leaves out those that could be elsewhere.
 #[derive(Clone, Copy)]
 pub struct Plan {
-    // What is left of the text, of the round, and the group.
+    // What is left of the text, the rule that the group reaches, what is left of the round, and the group.
     text: &'static str,
+    pub(crate) rule: &'static str,
     round: &'static str,
     group: Group,
     memory: u32,
@@ -111,6 +111,7 @@ impl Plan {
         }
         let mut plan = Plan {
             text: STEPS,
+            rule: "",
             round: "",
             group: EMPTY,
             memory: first_of(base),
@@ -184,9 +185,9 @@ impl Plan {
                 damaged: true,
             },
             Send::Once(request) => Step::Once(request),
-            Send::Refused(request) => Step::Refused(request),
             Send::Cut(request) => Step::Cut(request),
             Send::Reset => Step::Reset,
+            Send::Power => Step::Power,
         }
     }
 
@@ -237,6 +238,7 @@ impl Plan {
             self.text = text;
             let (name, words) = word_in(line);
             match name {
+                "#" => self.rule = words,
                 "needs" => is_sent = self.has(words),
                 "first" => group.first = words,
                 "second" => group.seconds = words,

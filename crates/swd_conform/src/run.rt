@@ -6,8 +6,8 @@ ghost use Rattle.swd_recorder.specs.Calls.{IsRecordedCue, recorded_call_items};
 ghost use Rattle.swd_check.specs.Watched.{CheckTakes};
 ghost use Rattle.swd_recorder.specs.Items.{recorded_in_hand_by};
 ghost use Rattle.swd_port.specs.declared.cue.Cue.TheVariants.{Ask};
-ghost use Rattle.swd_conform.specs.Aims.{ConformMayMake, ConformStays, IsConformAim};
-ghost use Rattle.swd_conform.specs.Calls.{conform_asked, conform_requests_by};
+ghost use Rattle.swd_conform.specs.Aims.{ConformMayMake, ConformStays, ConformUnrefused, IsConformAim};
+ghost use Rattle.swd_conform.specs.Calls.{conform_asked, conform_requests_by, conform_saw, conform_sees};
 
 use crate::aim::{Aim, Bounds, is_transfer};
 use crate::plan::{Plan, Step};
@@ -31,10 +31,18 @@ const STATUS: Request = Request {
 };
 
 // How often a request is sent while it gets WAIT.
-const TRIES: u32 = 8;
+const TRIES: u32 = 64;
 
-/// The most requests of one step: eight tries, each with a read of CTRL/STAT, and as many to bring a lost line back.
-pub const REQUESTS_PER_STEP: u64 = 32;
+/// The most requests of one step: 64 tries, each with a read of CTRL/STAT, and as many to bring a lost line back.
+pub const REQUESTS_PER_STEP: u64 = 256;
+
+// How often CTRL/STAT is read for the powers, and the idle cycles behind each read.
+const READS: u32 = 32;
+
+const PAUSE: u32 = 100;
+
+// The bits of CTRL/STAT that acknowledge the powers: CDBGPWRUPACK and CSYSPWRUPACK.
+const POWERS: u64 = 1 << 29 | 1 << 31;
 
 // The ones of a line reset, which also resets inside a transaction.
 const ONES: u32 = 100;
@@ -49,6 +57,15 @@ const WAITS: u64 = 2;
 
 // The bit of a data phase that is the parity.
 const PARITY: u64 = 1 << 32;
+
+/// Why a conformance run ended before the last step of its plan, though no item broke a rule.
+#[derive(Clone, Copy, Debug, PartialEq, Eq)]
+pub enum Stop {
+    /// A request was answered WAIT 64 times.
+    Waits,
+    /// No read of CTRL/STAT acknowledged both powers.
+    Power,
+}
 
 /// What a conformance run found.
 #[derive(Clone, Copy, Debug, PartialEq, Eq)]
@@ -65,6 +82,10 @@ pub struct Conformed {
     pub waited: bool,
     /// Whether a transfer at the address without memory was no bus error.
     pub unrefused: bool,
+    /// Why it ended early, if it did.
+    pub stop: Option<Stop>,
+    /// The rule that the last requests were to reach.
+    pub rule: &'static str,
 }
 
 // A request of a run.
@@ -88,12 +109,17 @@ pub struct ConformRun<A: Allocator> {
     answered: bool,
     waited: bool,
     unrefused: bool,
-    // The three bits that were seen last in answer to a request of a step.
+    stop: Option<Stop>,
+    // The three bits that were seen last in answer to a request of a step, and the bits of the data phase of a read.
     answer: u64,
+    bits: u64,
     pub(crate) noted: NotedCalls,
     ghost held: { in_hand ≡ recorded_in_hand_by noted.calls },
-    ghost bounded: { requests + 32 * plan.left ≤ 64000 },
+    ghost bounded: { requests + 256 * plan.left ≤ 512000 },
     ghost counted: { requests ≡ conform_requests_by noted.calls },
+    ghost heard: { answered ≡ conform_saw 1 noted.calls },
+    ghost denied: { unrefused ≡ true → ∥ ConformUnrefused bounds noted.calls ∥₁ },
+    ghost slowed: { waited ≡ conform_saw 2 noted.calls },
     ghost aimed: { ∥ IsConformAim bounds aim noted.calls ∥₁ },
     ghost stays: { ∥ ConformStays bounds noted.calls ∥₁ },
 }
@@ -117,14 +143,16 @@ impl<A: Allocator + Copy> ConformRun<A> {
             answered: false,
             waited: false,
             unrefused: false,
+            stop: None,
             answer: 0,
+            bits: 0,
             noted: NotedCalls::new(),
         }
     }
 
     /// Sends the next step of the plan to a target that was in its reset state when the run began. After the last step
-    /// it sends idle cycles. Returns whether another step follows: not after the last one, and not once an item broke a
-    /// rule.
+    /// it sends idle cycles. Returns whether another step follows: not after the last one, not once an item broke a rule,
+    /// and not where the rest can't be reached ([`Stop`]).
     pub fn turn<W: Wire>(&mut self, wire: &mut W) -> bool
         ensures goes { ConformGoes W.notes wire.old self.old wire.new self.new }
         ensures bound { ConformSpends self.old self.new }
@@ -132,12 +160,12 @@ impl<A: Allocator + Copy> ConformRun<A> {
     {
         match self.plan.next() {
             None => {
-                self.rest(wire);
+                self.idle(wire, ZEROS);
                 false
             }
             Some(step) => {
                 self.send(wire, step);
-                !self.items.is_broken()
+                !self.items.is_broken() && self.stop.is_none()
             }
         }
     }
@@ -153,13 +181,15 @@ impl<A: Allocator + Copy> ConformRun<A> {
             answered: self.answered,
             waited: self.waited,
             unrefused: self.unrefused,
+            stop: self.stop,
+            rule: self.plan.rule,
         }
     }
 
     // Sends a step.
     fn send<W: Wire>(&mut self, wire: &mut W, step: Step)
-        requires { ConformHasRoom 32 self.old }
-        ensures { ConformMakes W.notes 32 wire.old self.old wire.new self.new }
+        requires { ConformHasRoom 256 self.old }
+        ensures { ConformMakes W.notes 256 wire.old self.old wire.new self.new }
     {
         match step {
             Step::Ask {
@@ -177,20 +207,16 @@ impl<A: Allocator + Copy> ConformRun<A> {
             Step::Once(request) => {
                 let _ = self.transact(wire, zero_of(request));
             }
-            Step::Refused(request) => {
-                let used = matches!(self.aim, Aim::Behind { used: true, .. });
-                self.ask_live(wire, zero_of(request));
-                self.unrefused |= used && self.answer == OKAY;
-            }
             Step::Cut(request) => self.cut(wire, request),
             Step::Reset => self.reset(wire),
+            Step::Power => self.power(wire),
         }
     }
 
     // Sends a request until it doesn't get WAIT. A lost line is brought back before.
     fn ask_live<W: Wire>(&mut self, wire: &mut W, asked: Asked)
-        requires { ConformHasRoom 32 self.old }
-        ensures { ConformMakes W.notes 32 wire.old self.old wire.new self.new }
+        requires { ConformHasRoom 256 self.old }
+        ensures { ConformMakes W.notes 256 wire.old self.old wire.new self.new }
     {
         if self.revive(wire) {
             self.ask(wire, asked);
@@ -199,8 +225,8 @@ impl<A: Allocator + Copy> ConformRun<A> {
 
     // Brings a lost line back by a read of DPIDR. Returns whether no item broke a rule.
     fn revive<W: Wire>(&mut self, wire: &mut W) -> bool
-        requires { ConformHasRoom 16 self.old }
-        ensures { ConformMakes W.notes 16 wire.old self.old wire.new self.new }
+        requires { ConformHasRoom 128 self.old }
+        ensures { ConformMakes W.notes 128 wire.old self.old wire.new self.new }
     {
         if !is_lost(wire) {
             return true;
@@ -211,14 +237,42 @@ impl<A: Allocator + Copy> ConformRun<A> {
 
     // Sends a request until it doesn't get WAIT.
     fn ask<W: Wire>(&mut self, wire: &mut W, asked: Asked)
-        requires { ConformHasRoom 16 self.old }
-        ensures { ConformMakes W.notes 16 wire.old self.old wire.new self.new }
+        requires { ConformHasRoom 128 self.old }
+        ensures { ConformMakes W.notes 128 wire.old self.old wire.new self.new }
     {
         for tried in 0..TRIES {
             if !self.ask_once(wire, asked) {
                 return;
             }
         }
+        self.stop = Some(Stop::Waits);
+    }
+
+    // Reads CTRL/STAT until it acknowledges both powers.
+    fn power<W: Wire>(&mut self, wire: &mut W)
+        requires { ConformHasRoom 256 self.old }
+        ensures { ConformMakes W.notes 256 wire.old self.old wire.new self.new }
+    {
+        for read in 0..READS {
+            if self.reads_powers(wire) {
+                return;
+            }
+        }
+        self.stop = Some(Stop::Power);
+    }
+
+    // Reads CTRL/STAT, with idle cycles behind it. Returns whether it acknowledges both powers, or nothing more is to be
+    // read.
+    fn reads_powers<W: Wire>(&mut self, wire: &mut W) -> bool
+        requires { ConformHasRoom 1 self.old }
+        ensures { ConformMakes W.notes 1 wire.old self.old wire.new self.new }
+    {
+        let _ = self.transact(wire, zero_of(STATUS));
+        if self.answer != OKAY || self.items.is_broken() || self.bits & POWERS == POWERS {
+            return true;
+        }
+        self.idle(wire, PAUSE);
+        false
     }
 
     // Sends a request. After WAIT to a read, READOK is 0: now and then CTRL/STAT is read there. Returns whether the
@@ -268,8 +322,6 @@ impl<A: Allocator + Copy> ConformRun<A> {
         }
         let seen = self.step(wire, Cue::Ask(request));
         self.answer = seen;
-        self.answered |= seen == OKAY;
-        self.waited |= seen == WAITS;
         seen == WAITS
     }
 
@@ -278,7 +330,7 @@ impl<A: Allocator + Copy> ConformRun<A> {
         ensures { ConformMakes W.notes 0 wire.old self.old wire.new self.new }
     {
         if has_read(wire) {
-            self.call(wire, Cue::Take);
+            self.bits = self.step(wire, Cue::Take);
             return;
         }
         if has_write(wire) {
@@ -331,8 +383,9 @@ impl<A: Allocator + Copy> ConformRun<A> {
         );
     }
 
-    // Sends idle cycles, if nothing is due.
-    fn rest<W: Wire>(&mut self, wire: &mut W)
+    // Sends so many idle cycles, if nothing is due.
+    fn idle<W: Wire>(&mut self, wire: &mut W, zeros: u32)
+        requires { zeros ≤ 100 }
         ensures { ConformMakes W.notes 0 wire.old self.old wire.new self.new }
     {
         if is_free(wire) {
@@ -342,7 +395,7 @@ impl<A: Allocator + Copy> ConformRun<A> {
                     ones: 0,
                     undriven: 0,
                     switch: false,
-                    zeros: ZEROS,
+                    zeros,
                 },
             );
         }
@@ -387,9 +440,12 @@ impl<A: Allocator + Copy> ConformRun<A> {
         ensures bounds { self.new.bounds ≡ self.old.bounds }
     {
         self.items.take(self.in_hand, cue, seen);
+        self.unrefused = self.aim.denies(cue, seen) | self.unrefused;
         self.aim = self.aim.after(&self.bounds, self.in_hand, cue, seen);
         self.clocks = self.clocks.saturating_add(clocks_of(cue));
         self.requests += requests_of(cue);
+        self.answered = sees(OKAY, cue, seen) | self.answered;
+        self.waited = sees(WAITS, cue, seen) | self.waited;
         self.in_hand = in_hand_once(cue, seen);
         self.noted = self.noted.and(&Call { cue, seen });
     }
@@ -402,6 +458,16 @@ fn requests_of(cue: Cue) -> u64
     match cue {
         Cue::Ask(_) => 1,
         _ => 0,
+    }
+}
+
+// Returns whether a call is a request that was answered by these bits.
+fn sees(bits: u64, cue: Cue, seen: u64) -> bool
+    ensures { result ≡ conform_sees bits cue seen }
+{
+    match cue {
+        Cue::Ask(_) => seen == bits,
+        _ => false,
     }
 }
 

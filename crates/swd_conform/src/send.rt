@@ -7,7 +7,7 @@ use swd_bits::{Reg4, Request};
 pub(crate) enum Word {
     /// This one.
     Is(u32),
-    /// The address that is so many bytes behind that of the first word of memory that the plan uses.
+    /// The address that is so many bytes behind that of the first word of memory that the plan uses, modulo 2^32.
     Memory(u32),
     /// The address that is so many bytes behind that of the last word of 256 bytes which isn't the last of a kilobyte.
     Page(u32),
@@ -24,6 +24,9 @@ impl Word {
     fn of(text: &str) -> Option<Word> {
         if let Some((name, behind)) = text.split_once('+') {
             return Word::behind(name, behind.parse::<u32>().ok()?);
+        }
+        if let Some((name, before)) = text.split_once('-') {
+            return Word::behind(name, 0u32.wrapping_sub(before.parse::<u32>().ok()?));
         }
         match text {
             "hole" => Some(Word::Hole),
@@ -59,26 +62,25 @@ pub(crate) enum Send {
     Once(Request),
     /// A write with a line reset in place of its data phase.
     Cut(Request),
-    /// A read that isn't to get OK, since a transfer without memory is a bus error.
-    Refused(Request),
     /// A line reset.
     Reset,
+    /// Reads of CTRL/STAT, up to one that acknowledges both powers.
+    Power,
 }
 
 impl Send {
     /// Returns what a word of the text sends, if it is one.
     pub(crate) fn of(text: &str) -> Option<Send> {
-        if text == "reset" {
-            return Some(Send::Reset);
+        match text {
+            "reset" => return Some(Send::Reset),
+            "power" => return Some(Send::Power),
+            _ => {}
         }
         if let Some(name) = text.strip_suffix("=0?") {
             return Some(Send::Once(write_of(name)?));
         }
         if let Some(name) = text.strip_suffix('?') {
             return Some(Send::Once(read_of(name)?));
-        }
-        if let Some(name) = text.strip_suffix(":fault") {
-            return Some(Send::Refused(read_of(name)?));
         }
         match text.split_once('=') {
             Some((name, word)) => Send::written(write_of(name)?, word),

@@ -4,7 +4,7 @@ ghost use Rattle.clap.specs.Words.{found_of, rows_of};
 ghost use Rattle.swd_words.specs.Commands.{AreConformArguments};
 
 use crate::argument::{Argument, CommandRow, Form};
-use crate::check_words::{CLEAN, PLAIN, plain_in};
+use crate::check_words::{CLEAN, plain_in};
 use crate::fault::LineFault;
 use crate::lead_words::{FRAMED, PROBE, REMOTE, SPEED, lead_in};
 use crate::target_words::idr_in;
@@ -15,15 +15,15 @@ use std::alloc::Global;
 use swd_command_line::{ConformLine, PlainWords};
 
 const CONFORM_AFTER: &str = "\
-Sends some 1,600 requests that reach each rule to a port in its reset state, and
+Sends some 1,800 requests that reach each rule to a port in its reset state, and
 prints the verdict on what came, as swd check --made does. It stops at the first
 item that breaks a rule.
 
 It overwrites the memory that --plain names, once and at least 80 words. BASE is
 1 to 8 hexadecimal digits, after an optional 0x, and a multiple of 4. WORDS is
 decimal. It also writes CTRL/STAT, SELECT, CSW and TAR, and the same addresses
-in other banks and in access ports 1 and ff, where it reads address c, too. It
-ends without power.
+in other banks and in access port ff, where it reads address c of bank f, too.
+Of access port 1 it reads 0, 4 and 8. It ends without power.
 
 With --hole there are bus errors, at ADDR, 1 to 8 hexadecimal digits, a multiple
 of 4 and no word of the memory; without, this part is left out. All other
@@ -34,16 +34,25 @@ out where an event on the line leaves open at which address it would be.
 the line's, and the verdict is on standard error. For a server on a socket:
   swd-line localhost:4711 -- swd conform --remote ..
 Lines on standard error say how many requests and clocks were sent, and what was
-not reached: WAIT, if the port never answered it, and damage on the line.
+not reached: WAIT, if the port never answered it, and damage on the line. It ends
+early, undecided, where a request gets WAIT 64 times, or 32 reads of CTRL/STAT,
+100 clocks apart, don't acknowledge both powers.
 
 Status: 0 fits; 1 breaks, or a transfer at ADDR was no bus error; 2 crowded, an
-error, the other end went away, or the port answered no request.";
+error, the other end went away, the port answered no request, or it ended early.";
 
 const NO_TARGET: &str = "the target is missing: give --remote or --probe FILE";
 
 const ONE_MEMORY: &str = "give the memory that may be overwritten: --plain BASE WORDS, once";
 
 const HOLE_FORM: &str = "it is not 1 to 8 hexadecimal digits";
+
+// The memory of a run.
+const MEMORY: Argument = Argument {
+    name: "plain",
+    form: Form::Repeated(&["BASE", "WORDS"]),
+    help: "Memory to overwrite: WORDS words, 80 or more",
+};
 
 /// The command `conform`.
 pub(crate) const CONFORM: CommandRow = CommandRow {
@@ -55,7 +64,7 @@ pub(crate) const CONFORM: CommandRow = CommandRow {
         PROBE,
         SPEED,
         FRAMED,
-        PLAIN,
+        MEMORY,
         Argument {
             name: "hole",
             form: Form::Value("ADDR"),

@@ -60,7 +60,7 @@ impl Event {
     // Returns at how many requests it is.
     fn count(self) -> usize {
         match self {
-            Event::Busy => 8,
+            Event::Busy => 64,
             _ => 1,
         }
     }

@@ -7,7 +7,7 @@ abbrev pub invariant-steps : goal.invariant-steps
 invariant-steps g l = record {
   begins : ConformBegins l.fn.plan l.fn.check l.initial.run;
   goes : ConformGoes g.W.Wire.notes l.fn.wire l.initial.run l.wire l.run;
-  bound : l.run.requests + 32 * conform_run_left l.run ≤ 32 * conform_steps_left l.fn.plan;
+  bound : l.run.requests + 256 * conform_run_left l.run ≤ 256 * conform_steps_left l.fn.plan;
 }
 
 abbrev pub decreases-steps : goal.decreases-steps

@@ -2,7 +2,7 @@ use Rattle.std.proofs.Common.{refl, subst, inl, inr}
 use Rattle.swd_port.specs.declared.cue.Cue.TheVariants.{Ask}
 use Rattle.swd_conform.specs.declared.aim.Aim.{Aim}
 use Rattle.swd_conform.specs.declared.aim.Aim.TheVariants.{Behind}
-use Rattle.swd_conform.specs.Aims.{IsConformAim, left}
+use Rattle.swd_conform.specs.Aims.{IsConformAim, kept, left}
 use Rattle.swd_conform.proofs.AimLemmas.{conform_aim_left, conform_refused_leaves}
 use Rattle.swd_conform.proofs.aim.Aim.after_refusal.Goals as goal
 
@@ -21,6 +21,8 @@ returns-then-refused c = λ bounds calls h.
       left (Ask c.args.request) c.args.seen
           (conform_refused_leaves _ _ _ c.requires.settled c.requires.refused) k.3,
       λ is. inr (c.requires.settled, refl, k.4 is),
+      λ is. kept (Ask c.args.request) c.args.seen
+          (conform_refused_leaves _ _ _ c.requires.settled c.requires.refused) refl (k.5 is),
     )
 
 pub returns-else-refused : goal.returns-else-refused
@@ -33,4 +35,6 @@ returns-else-refused c = λ bounds calls h.
       left (Ask c.args.request) c.args.seen
           (conform_refused_leaves _ _ _ c.requires.settled c.requires.refused) k.3,
       λ is. inl is,
+      λ is. kept (Ask c.args.request) c.args.seen
+          (conform_refused_leaves _ _ _ c.requires.settled c.requires.refused) refl (k.5 is),
     )

@@ -11,8 +11,10 @@ loop-tried-preserved g c =
 
 pub returns-then-not-ask_once : goal.returns-then-not-ask_once
 returns-then-not-ask_once g c =
-    conform_makes_trans g.W.Wire.notes 16 _ 2 _ _ _ _ _ _ (omega arith) c.loop-tried.invariant c.ask_once.ensures
+    conform_makes_trans g.W.Wire.notes 128 _ 2 _ _ _ _ _ _ (omega arith) c.loop-tried.invariant c.ask_once.ensures
 
 pub returns : goal.returns
 returns g c =
-    conform_makes_more g.W.Wire.notes _ 16 _ _ _ _ (omega (arith, c.loop-tried.auto.tried-end)) c.loop-tried.invariant
+    conform_makes_trans g.W.Wire.notes 128 128 0 _ _ _ _ _ _ (omega arith)
+    (conform_makes_more g.W.Wire.notes _ 128 _ _ _ _ (omega (arith, c.loop-tried.auto.tried-end)) c.loop-tried.invariant)
+    (conform_makes_none g.W.Wire.notes _ _ _ refl refl refl refl refl)

@@ -5,7 +5,7 @@ use Rattle.swd_conform.proofs.run.ConformRun.turn.Goals as goal
 pub returns-in-None-clause-goes : goal.returns-in-None-clause-goes
 returns-in-None-clause-goes g c =
     conform_goes_trans g.W.Wire.notes _ _ _ _ _ _ (conform_goes_none g.W.Wire.notes _ _ _ refl refl refl)
-    c.rest.ensures.goes
+    c.idle.ensures.goes
 
 pub returns-in-Some-clause-goes : goal.returns-in-Some-clause-goes
 returns-in-Some-clause-goes g c =

@@ -1,6 +1,6 @@
 use Rattle.std.proofs.Common.{refl}
 use Rattle.swd_conform.proofs.RunLemmas.{conform_makes_none}
-use Rattle.swd_conform.proofs.run.ConformRun.rest.Goals as goal
+use Rattle.swd_conform.proofs.run.ConformRun.idle.Goals as goal
 
 pub returns-then-is_free : goal.returns-then-is_free
 returns-then-is_free g c = c.call.ensures.makes
