@@ -4,8 +4,8 @@
  *
  * Each byte that the program writes goes to the line, and each byte of the line to the program. A line whose other end is
  * gone, or that owes an answer for S seconds, is closed: the program then reads the end of its input. swd-line ends with
- * the program's status; with 128 + N where signal N ended it; with 2 where the line can't be opened, and 127 where the
- * program can't be started. A line owes one byte for each R
+ * the program's status; with 128 + N where signal N ended it; with 2 where the line can't be opened or another swd-line
+ * has the terminal or IN in use, and 127 where the program can't be started. A line owes one byte for each R
  * and c that was sent to it, the reads of TDO and SWDIO. */
 #define _GNU_SOURCE
 #include <errno.h>
@@ -19,6 +19,7 @@
 #include <stdio.h>
 #include <stdlib.h>
 #include <string.h>
+#include <sys/file.h>
 #include <sys/socket.h>
 #include <sys/wait.h>
 #include <termios.h>
@@ -157,12 +158,20 @@ static speed_t speed_of(long baud)
     return B0;
 }
 
+/* Refuses what another swd-line reads: each would take some of the other's levels. */
+static void lock(int file, const char *path)
+{
+    if (flock(file, LOCK_EX | LOCK_NB) && errno == EWOULDBLOCK)
+        fail("cannot open", path, "another swd-line has it in use");
+}
+
 /* Opens a terminal, and has it pass each byte as it is. */
 static void open_terminal(struct line *line, const char *path, const char *baud)
 {
     line->in = line->out = open(path, O_RDWR | O_NOCTTY | O_NONBLOCK | O_CLOEXEC);
     if (line->in < 0)
         fail("cannot open", path, strerror(errno));
+    lock(line->in, path);
     if (tcgetattr(line->in, &line->settings))
         fail("cannot open", path, "it is no terminal; two files are named IN,OUT");
     line->has_settings = 1;
@@ -184,6 +193,7 @@ static void open_files(struct line *line, const char *in, const char *out, long 
     line->in = open(in, O_RDONLY | O_NONBLOCK | O_CLOEXEC);
     if (line->in < 0)
         fail("cannot open", in, strerror(errno));
+    lock(line->in, in);
     while ((line->out = open(out, O_WRONLY | O_NONBLOCK | O_CLOEXEC)) < 0) {
         if (errno != ENXIO || (timeout && now() - began >= timeout))
             fail("cannot open", out, errno == ENXIO ? "nobody reads it" : strerror(errno));

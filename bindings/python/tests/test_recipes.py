@@ -1,7 +1,6 @@
-"""Tests of the scripts and functions of docs/RECIPES.md that program flash, over models of the controllers."""
+"""Tests of the scripts and functions of examples/flash that program flash, over models of the controllers."""
 import os
-import re
-import struct
+import runpy
 import unittest
 
 import controllers
@@ -15,26 +14,20 @@ FAMILIES = {
     "stm32g0": (controllers.Stm32G0, 0x08005000, True),
 }
 WORDS = [0xDEADBEEF, 0x00C0FFEE]
-
-
-def page():
-    with open(os.path.join(ROOT, "docs", "RECIPES.md"), encoding="utf-8") as opened:
-        return opened.read()
+FLASH = os.path.join(ROOT, "examples", "flash")
 
 
 def functions():
-    """The functions of the page."""
-    names = {"swd": swd, "struct": struct}
-    for program in re.findall(r"```python\n(.*?)```", page(), re.DOTALL):
-        exec(program, names)  # pylint: disable=exec-used
+    """The function of each family in examples/flash/by_words.py."""
+    names = runpy.run_path(os.path.join(FLASH, "by_words.py"))
     return {family: names[f"program_{family}"] for family in FAMILIES}
 
 
 def script(family):
-    """The words of each line of a family's script, without the first, which is for a simulated target."""
-    name = "flash" if family == "stm32g0" else family
-    text = re.search(rf"\$ cat >{name}\.script <<'END'\n(.*?)> END", page(), re.DOTALL).group(1)
-    return [line[2:].split("#")[0].split() for line in text.splitlines()][1:]
+    """The words of each line of a family's script, without `memory`, which is for a simulated target."""
+    with open(os.path.join(FLASH, f"{family}.script"), encoding="utf-8") as opened:
+        lines = [line.split("#")[0].split() for line in opened]
+    return [words for words in lines if words and words[0] != "memory"]
 
 
 def performed(session, lines):
@@ -52,7 +45,7 @@ def performed(session, lines):
 
 
 class Recipes(unittest.TestCase):
-    """What the page says that they do."""
+    """What docs/RECIPES.md says that they do."""
 
     def has(self, model, words, addr):
         """The words of a model's flash: these at the address, and the rest of what was erased."""
