@@ -7,7 +7,12 @@ returns-in-None-clause-goes g c =
     conform_goes_trans g.W.Wire.notes _ _ _ _ _ _ (conform_goes_none g.W.Wire.notes _ _ _ refl refl refl)
     c.idle.ensures.goes
 
-pub returns-in-Some-clause-goes : goal.returns-in-Some-clause-goes
-returns-in-Some-clause-goes g c =
+pub returns-then-not-is_broken-clause-goes : goal.returns-then-not-is_broken-clause-goes
+returns-then-not-is_broken-clause-goes g c =
+    conform_goes_trans g.W.Wire.notes _ _ _ _ _ _ (conform_goes_none g.W.Wire.notes _ _ _ refl refl refl)
+    c.send.ensures.goes
+
+pub returns-else-not-is_broken-clause-goes : goal.returns-else-not-is_broken-clause-goes
+returns-else-not-is_broken-clause-goes g c =
     conform_goes_trans g.W.Wire.notes _ _ _ _ _ _ (conform_goes_none g.W.Wire.notes _ _ _ refl refl refl)
     c.send.ensures.goes
