@@ -46,8 +46,9 @@ dap_answers_by {P} q seen s told next posted within is request sees goes waits =
       }) is;
 }
 
-dap_call_more : {P : Type 0} (Exchanged : List DapExchange → P → Type 0) (calls : List PortAttempt) (call : PortAttempt)
-    (s m t : DapTransport P) → DapCalls Exchanged calls s m → DapCallsAt m.fault call.told Exchanged call.cue m t
+-- a call behind calls
+pub dap_call_more : {P : Type 0} (Exchanged : List DapExchange → P → Type 0) (calls : List PortAttempt)
+    (call : PortAttempt) (s m t : DapTransport P) → DapCalls Exchanged calls s m → DapCallsAt m.fault call.told Exchanged call.cue m t
     → DapCalls Exchanged (calls ++ call ∷ []) s t
 dap_call_more Exchanged [] call s m t h one = (m, t, h, one, refl)
 dap_call_more Exchanged (first ∷ calls) call s m t h one =
@@ -63,7 +64,8 @@ dap_calls_one_more Exchanged calls call s t one h = ∥∥₁_map h (λ h. recor
   made = dap_call_more Exchanged calls call h.start s t h.made one;
 })
 
-dap_announce_after : {P : Type 0} (Exchanged : List DapExchange → P → Type 0) (calls : List PortAttempt)
+-- what is announced behind calls
+pub dap_announce_after : {P : Type 0} (Exchanged : List DapExchange → P → Type 0) (calls : List PortAttempt)
     (s m t : DapTransport P) → DapCalls Exchanged calls s m → t ≡ record m { plan = t.plan }
     → DapCalls Exchanged calls s t
 dap_announce_after {P} Exchanged [] s m t h e = e ∙ ap (λ (r : DapTransport P). record r { plan = t.plan }) h

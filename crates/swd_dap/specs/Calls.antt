@@ -1,6 +1,6 @@
 -- The calls of a transport over a probe: what each is answered from, and the packets that it exchanges.
-use Rattle.std.specs.Prelude.{ℕ, ◌≡◌, ◌≢◌, ◌<◌, ◌≤◌, ◌+◌, ◌==◌, Bool, true, false, List, [], ◌∷◌, length, take}
-use Rattle.std.specs.Prelude.{slice_index_or, if◌then◌else◌, Option, Some, None, Result, Ok, Err, ◌⊎◌}
+use Rattle.std.specs.Prelude.{ℕ, ◌≡◌, ◌≢◌, ◌<◌, ◌≤◌, ◌+◌, ◌==◌, Bool, true, false, ◌||◌, not, List, [], ◌∷◌}
+use Rattle.std.specs.Prelude.{length, take, slice_index_or, if◌then◌else◌, Option, Some, None, Result, Ok, Err, ◌⊎◌}
 use Rattle.swd_bits.specs.declared.request.Request.{Request}
 use Rattle.swd_bits.specs.declared.request.Reg4.TheVariants.{R0}
 use Rattle.swd_port.specs.declared.cue.Cue.{Cue}
@@ -19,6 +19,7 @@ use Rattle.swd_dap.specs.Sequences.{dap_ask_request, dap_take_request, dap_give_
 use Rattle.swd_dap.specs.Opening.{DapOpens}
 use Rattle.swd_dap.specs.Nexts.{dap_next_of, dap_next_by_clocks}
 use Rattle.swd_dap.specs.Leading.{DapReleases, DapClocksLead}
+use Rattle.swd_dap.specs.Doubts.{dap_drws, dap_with_pending}
 
 -- THE OPENING
 
@@ -71,6 +72,14 @@ pub record DapMakes {P : Type 0} (Exchanged : List DapExchange → P → Type 0)
       s.packets t.packets
   pub tells : DapTells s.plan.items b reply t.told.items
   pub after : t ≡ record s { packets = t.packets; told = t.told; asked = 0; plan = t.plan }
+
+-- A beginning of the plan went by one packet, whose reply tells these transactions.
+pub record DapHasSent {P : Type 0} (Exchanged : List DapExchange → P → Type 0) (b : Beginning) (told : List Told)
+    (s t : DapTransport P) : Type 0 where
+  pub reply : List ℕ
+  pub sends : DapSends Exchanged (dap_answered (dap_transfer_request (take b.requests s.plan.items)) reply ∷ [])
+      s.packets t.packets
+  pub tells : DapTells s.plan.items b reply told
 
 -- A request is sent by sequences.
 pub record DapAsksByClocks {P : Type 0} (Exchanged : List DapExchange → P → Type 0) (q : Request) (seen : ℕ)
@@ -191,3 +200,17 @@ pub record AreDapCallsMade {P : Type 0} (Exchanged : List DapExchange → P → 
   pub start : DapTransport P
   pub fresh : IsFreshDap Exchanged start
   pub made : DapCalls Exchanged calls start t
+
+-- The end of a connection: a probe that was told to drive its pins is told once to release them; else, and once an
+-- error came, nothing is sent. `told`: the error that ended it.
+abbrev pub DapHangsUp : {P : Type 0} → Option DapFault → Bool → (List DapExchange → P → Type 0) → P → P
+    → Option DapFault → Type 0
+DapHangsUp (Some fault) opened Exchanged s t told = (t ≡ s) × (told ≡ Some fault)
+DapHangsUp None false Exchanged s t told = (t ≡ s) × (told ≡ None)
+DapHangsUp None true Exchanged s t None = (reply : List ℕ) × DapDoes Exchanged (3 ∷ []) 2 reply s t
+DapHangsUp None true Exchanged s t (Some fault) = Unit {0}
+
+-- How many accesses the packet may have made that has no usable reply. Each request for DRW is of one, in order, from
+-- the current one on, or from the one behind it: where a word wasn't fetched, or the last transaction wasn't OK.
+abbrev pub dap_in_doubt : {P : Type 0} → DapTransport P → ℕ
+dap_in_doubt s = dap_with_pending (s.posted || not s.idled) (dap_drws (take s.unanswered s.plan.items))

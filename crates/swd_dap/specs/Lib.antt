@@ -4,4 +4,5 @@ pub mod Packets
 pub mod Opening
 pub mod Leading
 pub mod Nexts
+pub mod Doubts
 pub mod Calls

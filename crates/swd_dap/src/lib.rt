@@ -3,6 +3,7 @@
 #![tactic(auto)]
 
 mod beginning;
+mod doubt;
 mod packets;
 mod replies;
 mod reports;

@@ -1,5 +1,5 @@
 //! Packets over a reader and a writer.
-ghost use Rattle.std.specs.Prelude.{◌≤◌, ◌<◌, length, IfOk};
+ghost use Rattle.std.specs.Prelude.{◌≡◌, ◌≤◌, ◌<◌, length, IfOk};
 
 use crate::packets::{DapFault, LONGEST, Packets};
 use std::io::{Read, Write};
@@ -34,7 +34,10 @@ impl<R: Read, W: Write> Reports<R, W> {
     }
 
     /// Returns the reader and the writer.
-    pub fn into_parts(self) -> (R, W) {
+    pub fn into_parts(self) -> (R, W)
+        ensures reader { result.0 ≡ self.reader }
+        ensures writer { result.1 ≡ self.writer }
+    {
         let Reports { reader, writer, .. } = self;
         (reader, writer)
     }

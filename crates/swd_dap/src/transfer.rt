@@ -2,6 +2,7 @@
 ghost use Rattle.std.specs.Prelude.{◌≡◌, ◌&&◌, length};
 ghost use Rattle.swd_dap.specs.Transfers.{dap_code, dap_transfer_bytes, dap_posts, dap_reads_dp, dap_fetches};
 ghost use Rattle.swd_dap.specs.Transfers.{dap_posted_behind, dap_transfer_of, dap_reading};
+ghost use Rattle.swd_dap.specs.Doubts.{dap_is_drw};
 
 use swd_bits::{Reg4, Request};
 use swd_port::Coming;
@@ -82,6 +83,13 @@ impl Transfer {
         ensures { result ≡ (dap_reads_dp self.now.request && dap_fetches self.now.request.addr) }
     {
         self.reads_dp() && matches!(self.request.addr, Reg4::RC)
+    }
+
+    /// Returns whether it is a request for DRW.
+    pub(crate) fn is_drw(&self) -> bool
+        ensures { result ≡ dap_is_drw self.now.request }
+    {
+        self.request.ap && matches!(self.request.addr, Reg4::RC)
     }
 
     /// Returns whether a read of the access port has a word that wasn't fetched, behind this one, which was answered

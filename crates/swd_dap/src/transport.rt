@@ -1,9 +1,10 @@
 //! A probe's transfers as the transport of a wire.
-ghost use Rattle.std.specs.Prelude.{◌≡◌, ◌≤◌, ◌<◌, true, false, [], IfOk, OnOk, length};
+ghost use Rattle.std.specs.Prelude.{◌≡◌, ◌≤◌, ◌<◌, true, false, [], IfErr, IfOk, OnOk, length};
 ghost use Rattle.swd_dap.specs.Transfers.{IsDapBeginning};
 ghost use Rattle.swd_dap.specs.Nexts.{dap_next_of, dap_next_by_clocks};
 
 use crate::beginning::{Beginning, Plan, longest_beginning, plan_of};
+use crate::doubt::{drws, with_pending};
 use crate::packets::{DapFault, LONGEST, Packets};
 use crate::replies::{AllTold, Told, told_of};
 use crate::requests::transfer_request;
@@ -68,17 +69,20 @@ pub struct DapTransport<P> {
     posted: bool,
     // Whether the probe made idle cycles behind the last transaction.
     idled: bool,
+    // How many of the planned requests the packet has that has no usable reply.
+    unanswered: usize,
 }
 
 impl<P: Packets> DapTransport<P> {
-    ghost use Rattle.swd_dap.specs.declared.packets.DapFault.{DapFault as DapFaultType};
     ghost use Rattle.swd_dap.specs.Calls.{DapOpensBy, DapAsks, DapPlans, DapMakes, DapAnswers, DapAsksByClocks};
     ghost use Rattle.swd_dap.specs.Calls.{DapTakesBy, DapGivesBy, DapPassesBy, DapLeads, DapPerforms};
-    ghost use Rattle.swd_dap.specs.Calls.{AreDapCallsMade, dap_posted_after};
+    ghost use Rattle.swd_dap.specs.Calls.{DapCallsAt, DapHangsUp, DapHasSent, IsFreshDap};
+    ghost use Rattle.swd_dap.specs.Calls.{dap_in_doubt, dap_posted_after};
 
     /// Returns a transport over which nothing was sent yet. `speed` is that of the wire's clock in hertz.
     pub fn new(packets: P, speed: u32) -> DapTransport<P>
-        ensures { P.exchanged [] packets → ∥ AreDapCallsMade P.exchanged [] result ∥₁ }
+        ensures fresh { P.exchanged [] packets → IsFreshDap P.exchanged result }
+        ensures speed { result.speed ≡ speed }
     {
         DapTransport {
             packets,
@@ -92,6 +96,36 @@ impl<P: Packets> DapTransport<P> {
             next: Next::Nothing,
             posted: false,
             idled: false,
+            unanswered: 0,
+        }
+    }
+
+    /// Performs a cue, as [`Transport::step`] does.
+    ///
+    /// # Errors
+    ///
+    /// If an error came, now or before: then nothing more is sent.
+    pub fn call(&mut self, cue: Cue) -> Result<u64, Disconnected>
+        ensures { DapCallsAt self.old.fault result P.exchanged cue self.old self.new }
+    {
+        match self.fault {
+            Some(_) => Err(Disconnected),
+            None => match self.perform(cue) {
+                Ok(seen) => Ok(seen),
+                Err(fault) => {
+                    self.fault = Some(fault);
+                    Err(Disconnected)
+                }
+            },
+        }
+    }
+
+    /// Takes which transactions come next, as [`Transport::announce`] does.
+    pub fn foresee(&mut self, coming: &[Coming])
+        ensures { self.new ≡ record self.old { plan = self.new.plan } }
+    {
+        if !self.has_told() {
+            self.plan = plan_of(coming);
         }
     }
 
@@ -102,11 +136,20 @@ impl<P: Packets> DapTransport<P> {
         self.fault
     }
 
+    /// Returns how many accesses the packet may have made that has no usable reply, from the current one on. 0 if there
+    /// is no such packet.
+    pub fn in_doubt(&self) -> usize
+        ensures { result ≡ dap_in_doubt self.now }
+    {
+        let requests = self.plan.as_slice();
+        let unanswered = &requests[..self.unanswered.min(requests.len())];
+        with_pending(self.posted || !self.idled, drws(unanswered))
+    }
+
     /// Has the probe release its pins, unless nothing was sent or an error came. Returns the packets, and the error
     /// that ended the connection, if any.
     pub fn hang_up(self) -> (P, Option<DapFault>)
-        ensures kept { (fault : DapFaultType) → self.fault ≡ Some fault → result.1 ≡ Some fault }
-        ensures nothing { (fault : DapFaultType) → self.fault ≡ Some fault → result.0 ≡ self.packets }
+        ensures { DapHangsUp self.fault self.opened P.exchanged self.packets result.0 result.1 }
     {
         let DapTransport {
             mut packets,
@@ -203,15 +246,36 @@ impl<P: Packets> DapTransport<P> {
     // Has the probe make a beginning of the plan.
     fn make(&mut self, beginning: Beginning) -> Result<(), DapFault>
         requires { IsDapBeginning self.old.plan.items self.old.size.bytes self.old.posted beginning }
-        ensures { OnOk result (DapMakes P.exchanged beginning self.old self.new) }
+        ensures makes { OnOk result (DapMakes P.exchanged beginning self.old self.new) }
+        ensures doubt { IfErr result (λ fault. self.new ≡ record self.old {
+          packets = self.new.packets;
+          unanswered = beginning.requests;
+        }) }
+    {
+        match self.exchange(beginning) {
+            Ok(told) => {
+                self.told = told;
+                self.asked = 0;
+                self.plan.clear();
+                Ok(())
+            }
+            Err(fault) => {
+                self.unanswered = beginning.requests;
+                Err(fault)
+            }
+        }
+    }
+
+    // Sends a beginning of the plan, and returns the transactions that the reply tells.
+    fn exchange(&mut self, beginning: Beginning) -> Result<AllTold, DapFault>
+        requires { IsDapBeginning self.old.plan.items self.old.size.bytes self.old.posted beginning }
+        ensures tells { IfOk result (λ told. DapHasSent P.exchanged beginning told.items self.old self.new) }
+        ensures same { self.new ≡ record self.old { packets = self.new.packets } }
     {
         let packet = transfer_request(&self.plan.as_slice()[..beginning.requests]);
         let mut reply = [0u8; LONGEST];
         let length = self.packets.exchange(packet.as_slice(), &mut reply)?;
-        self.told = told_of(self.plan.as_slice(), beginning, &reply[..length])?;
-        self.asked = 0;
-        self.plan.clear();
-        Ok(())
+        told_of(self.plan.as_slice(), beginning, &reply[..length])
     }
 
     // Drops a plan that doesn't begin with this request: then the request alone is planned.
@@ -370,16 +434,7 @@ impl<P: Packets> Transport for DapTransport<P> {
     ghost tells = { λ made dap. ∥ AreDapCallsMade P.exchanged made dap ∥₁ };
 
     fn step(&mut self, cue: Cue) -> Result<u64, Disconnected> {
-        match self.fault {
-            Some(_) => Err(Disconnected),
-            None => match self.perform(cue) {
-                Ok(seen) => Ok(seen),
-                Err(fault) => {
-                    self.fault = Some(fault);
-                    Err(Disconnected)
-                }
-            },
-        }
+        self.call(cue)
     }
 
     fn looks_ahead(&self) -> bool {
@@ -387,9 +442,6 @@ impl<P: Packets> Transport for DapTransport<P> {
     }
 
     fn announce(&mut self, coming: &[Coming]) {
-        if self.has_told() {
-            return;
-        }
-        self.plan = plan_of(coming);
+        self.foresee(coming);
     }
 }

@@ -1,12 +1,14 @@
 //! Calls of a transport, the packets that they make, and what is seen.
 
 mod answers;
+mod doubted;
 mod expect;
 mod refused;
 mod rows;
 mod streams;
 
 use answers::Answers;
+use doubted::DOUBTED;
 use expect::{expect_at, expect_eq_at};
 use refused::REFUSED;
 use rows::{CASES, Case, Step};
@@ -52,5 +54,16 @@ fn packets_are_those_of_the_protocol(rt: HostRuntime) {
 fn connections_end(rt: HostRuntime) {
     for case in REFUSED {
         play(&rt, case);
+    }
+}
+
+#[test]
+fn accesses_in_doubt_are_counted(rt: HostRuntime) {
+    for (case, count) in DOUBTED {
+        let mut transport = DapTransport::new(Answers::new(case.packets), 1_000_000);
+        for step in case.steps {
+            call(&rt, case.name, &mut transport, step);
+        }
+        expect_eq_at(&rt, &case.name, &transport.in_doubt(), count);
     }
 }

@@ -17,6 +17,11 @@ use Rattle.swd_remote.specs.declared.line.Way.{Way}
 use Rattle.swd_remote.specs.declared.line.Way.TheVariants.{Characters, Packets}
 use Rattle.swd_remote.specs.Kept.{IsFreshRemote, AreRemoteCallsSent, RemoteWentWell, RemoteHangsUp}
 use Rattle.swd_remote.specs.Kept.{AreLineCallsSent, LinePerforms}
+use Rattle.swd_remote.specs.Probes.{HasProbeExchanged, AreProbeCallsMade}
+use Rattle.swd_dap.specs.declared.reports.Reports.{Reports}
+use Rattle.swd_dap.specs.declared.transport.DapTransport.{DapTransport}
+use Rattle.swd_dap.specs.Calls.{DapCallsAt}
+use Rattle.swd_dap.proofs.CallLemmas.{dap_call_more, dap_announce_after}
 use Rattle.swd_remote.proofs.RunLemmas.{remote_fault_not_none, remote_runs_exactly, remote_quits_exactly}
 
 made_more : {R W : Type 0} (remaining : R → Option (List ℕ)) (contents : W → Option (List ℕ)) (calls : List PortAttempt)
@@ -39,7 +44,42 @@ remote_calls_one_more remaining contents sent left calls call s t one h = record
   made = made_more remaining contents calls call h.start s.probe t.probe h.made one;
 }
 
+-- the same over packets
+probe_calls_one_more : {R W : Type 0} (speed : ℕ) (calls : List PortAttempt) (cue : Cue) (told : Result ℕ Disconnected)
+    (s t : DapTransport (Reports R W)) → DapCallsAt s.fault told HasProbeExchanged cue s t
+    → AreProbeCallsMade speed calls s → AreProbeCallsMade speed (calls ++ port_attempt cue told ∷ []) t
+probe_calls_one_more speed calls cue told s t one h = record {
+  made = record {
+    start = h.made.start;
+    fresh = h.made.fresh;
+    made = dap_call_more HasProbeExchanged calls (port_attempt cue told) h.made.start s t h.made.made one;
+  };
+  rate = h.rate;
+}
+
+-- what is announced is no call
+pub probe_calls_announced : {R W : Type 0} (speed : ℕ) (calls : List PortAttempt)
+    (s t : DapTransport (Reports R W)) → t ≡ record s { plan = t.plan } → AreProbeCallsMade speed calls s
+    → AreProbeCallsMade speed calls t
+probe_calls_announced speed calls s t e h = record {
+  made = record {
+    start = h.made.start;
+    fresh = h.made.fresh;
+    made = dap_announce_after HasProbeExchanged calls h.made.start s t h.made.made e;
+  };
+  rate = h.rate;
+}
+
 -- the same over a line
+pub line_calls_announced : {R W : Type 0} (remaining : R → Option (List ℕ)) (contents : W → Option (List ℕ)) (way : Way)
+    (sent left : Option (List ℕ)) (calls : List PortAttempt) (s t : DapTransport (Reports R W))
+    → t ≡ record s { plan = t.plan } → AreLineCallsSent way remaining contents sent left calls (Probe s)
+    → AreLineCallsSent way remaining contents sent left calls (Probe t)
+line_calls_announced remaining contents Characters sent left calls s t e h = absurd h
+line_calls_announced remaining contents (Packets speed framed) sent left calls s t e h =
+    probe_calls_announced speed calls s t e h
+
+-- one call more over a line
 pub line_calls_one_more : {R W : Type 0} (remaining : R → Option (List ℕ)) (contents : W → Option (List ℕ)) (way : Way)
     (sent left : Option (List ℕ)) (calls : List PortAttempt) (cue : Cue) (told : Result ℕ Disconnected)
     (s t : LineTransport R W) → LinePerforms remaining contents cue told s t
@@ -52,7 +92,8 @@ line_calls_one_more remaining contents Characters sent left calls cue told (Prob
 line_calls_one_more remaining contents (Packets speed framed) sent left calls cue told (Server s) t one h = absurd h
 line_calls_one_more remaining contents (Packets speed framed) sent left calls cue told (Probe s) (Server t) one h =
     absurd one
-line_calls_one_more remaining contents (Packets speed framed) sent left calls cue told (Probe s) (Probe t) one h = tt
+line_calls_one_more remaining contents (Packets speed framed) sent left calls cue told (Probe s) (Probe t) one h =
+    probe_calls_one_more speed calls cue told s t one h
 
 -- a line from a beginning that contracts know
 pub line_begins_at : {R W : Type 0} (remaining : R → Option (List ℕ)) (contents : W → Option (List ℕ)) (way known : Way)
@@ -97,8 +138,8 @@ pub remote_hung_up : {R W : Type 0} (remaining : R → Option (List ℕ)) (conte
     → AreRemoteCallsSent remaining contents sent left calls last → first ≡ last.probe
     → RemoteQuitsAt first.fault contents done first end
     → line.reader ≡ end.reader → line.writer ≡ end.outgoing.writer → line.fault ≡ end.fault
-    → RemoteHangsUp remaining contents sent left calls line
-remote_hung_up {R} {W} remaining contents sent left calls line last first end done h e q r w f =
+    → line.in_doubt ≡ 0 → RemoteHangsUp remaining contents sent left calls line
+remote_hung_up {R} {W} remaining contents sent left calls line last first end done h e q r w f none =
     let q' = subst (λ (p : Remote R W). RemoteQuitsAt p.fault contents done p end) e q in
     record {
       start = h.start;
@@ -112,6 +153,7 @@ remote_hung_up {R} {W} remaining contents sent left calls line last first end do
       reader = r;
       writer = w;
       fault = f;
+      in_doubt = none;
       well = λ well. went_well remaining contents sent left line calls h.start last.probe end done h.fresh h.made q' r
           w (sym f ∙ well);
     }

@@ -17,6 +17,8 @@ use Rattle.swd_remote.specs.Remotes.{RemoteQuitsAt}
 use Rattle.swd_remote.specs.Runs.{AreRemoteCallsMade, IsRemoteCallMade, RemoteExactUpTo, remote_all_levels}
 use Rattle.swd_remote.specs.Runs.{remote_connection_characters}
 use Rattle.swd_remote.specs.Ways.{IsOnRemoteWay}
+use Rattle.swd_remote.specs.Probes.{HasProbeExchanged, AreProbeCallsMade, ProbeHangsUp}
+use Rattle.swd_dap.specs.Calls.{DapCallsAt}
 
 -- nothing was sent or read yet but that the host drives SWDIO, which is on its way
 pub record IsFreshRemote {R W : Type 0} (remaining : R → Option (List ℕ)) (contents : W → Option (List ℕ))
@@ -56,14 +58,15 @@ pub record RemoteHangsUp {R W : Type 0} (remaining : R → Option (List ℕ)) (c
   pub reader : line.reader ≡ end.reader
   pub writer : line.writer ≡ end.outgoing.writer
   pub fault : line.fault ≡ end.fault
+  pub in_doubt : line.in_doubt ≡ 0
   pub well : line.fault ≡ None → RemoteWentWell remaining contents sent left calls line
 
--- these calls were made of the transport of a line since the beginning; nothing more is stated of packets
+-- these calls were made of the transport of a line since the beginning
 abbrev pub AreLineCallsSent : {R W : Type 0} → Way → (R → Option (List ℕ)) → (W → Option (List ℕ)) → Option (List ℕ)
     → Option (List ℕ) → List PortAttempt → LineTransport R W → Type 0
 AreLineCallsSent Characters remaining contents sent left calls (Server t) =
     AreRemoteCallsSent remaining contents sent left calls t
-AreLineCallsSent (Packets speed framed) remaining contents sent left calls (Probe t) = Unit {0}
+AreLineCallsSent (Packets speed framed) remaining contents sent left calls (Probe t) = AreProbeCallsMade speed calls t
 AreLineCallsSent way remaining contents sent left calls t = ⊥
 
 -- a call of it
@@ -71,11 +74,11 @@ abbrev pub LinePerforms : {R W : Type 0} → (R → Option (List ℕ)) → (W �
     → LineTransport R W → LineTransport R W → Type 0
 LinePerforms remaining contents cue told (Server s) (Server t) =
     IsRemoteCallMade remaining contents (port_attempt cue told) s.probe t.probe
-LinePerforms remaining contents cue told (Probe s) (Probe t) = Unit {0}
+LinePerforms remaining contents cue told (Probe s) (Probe t) = DapCallsAt s.fault told HasProbeExchanged cue s t
 LinePerforms remaining contents cue told s t = ⊥
 
--- these calls were made up to the end of a connection; nothing more is stated of packets
+-- these calls were made up to the end of a connection
 abbrev pub LineHangsUp : {R W : Type 0} → Way → (R → Option (List ℕ)) → (W → Option (List ℕ)) → Option (List ℕ)
     → Option (List ℕ) → List PortAttempt → RemoteStreams R W → Type 0
 LineHangsUp Characters remaining contents sent left calls line = RemoteHangsUp remaining contents sent left calls line
-LineHangsUp (Packets speed framed) remaining contents sent left calls line = Unit {0}
+LineHangsUp (Packets speed framed) remaining contents sent left calls line = ProbeHangsUp speed calls line

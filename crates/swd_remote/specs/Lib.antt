@@ -2,5 +2,6 @@ pub mod Packets
 pub mod Ways
 pub mod Remotes
 pub mod Runs
+pub mod Probes
 pub mod Kept
 pub mod WholeRuns

@@ -47,6 +47,9 @@ pub struct RemoteStreams<R, W> {
     pub fault: Option<Fault>,
     /// How far the session came in opening its target.
     pub opening: Opening,
+    /// How many accesses, from the first unanswered one on, the probe may have made by a packet that has no usable
+    /// reply: at most so many. A report's `begun` doesn't count them. 0 over characters.
+    pub in_doubt: usize,
 }
 
 impl<R, W> RemoteStreams<R, W> {
@@ -55,12 +58,14 @@ impl<R, W> RemoteStreams<R, W> {
         ensures reader { result.reader ≡ reader }
         ensures writer { result.writer ≡ writer }
         ensures fault { result.fault ≡ None }
+        ensures in_doubt { result.in_doubt ≡ 0 }
     {
         RemoteStreams {
             reader,
             writer,
             fault: None,
             opening: Opening::new(),
+            in_doubt: 0,
         }
     }
 }

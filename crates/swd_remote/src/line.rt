@@ -3,13 +3,14 @@ ghost use Rattle.std.specs.Prelude.{◌≡◌, [], List, ℕ, Option};
 ghost use Rattle.swd_port.specs.Transports.{PortAttempt};
 ghost use Rattle.swd_remote.specs.declared.line.Way.TheVariants.{Characters};
 ghost use Rattle.swd_remote.specs.Kept.{AreLineCallsSent, AreRemoteCallsSent, LineHangsUp, LinePerforms, RemoteHangsUp};
+ghost use Rattle.swd_remote.specs.Probes.{AreProbeCallsMade, ProbeHangsUp, probe_fault};
 
 use crate::kept::RemoteStreams;
 use crate::opening::Opening;
 use crate::probe_transport::ProbeTransport;
 use crate::remote::{Fault, Remote};
 use std::io::{Read, Write};
-use swd_dap::{DapTransport, Reports};
+use swd_dap::{DapFault, DapTransport, Reports};
 use swd_port::{Coming, Cue, Disconnected, Transport};
 
 /// What goes over a line.
@@ -73,8 +74,7 @@ impl<R: Read, W: Write> LineTransport<R, W> {
         match way {
             Way::Characters => LineTransport::Server(begun(reader, writer)),
             Way::Packets { speed, framed } => {
-                let packets = Reports::new(reader, writer, framed);
-                LineTransport::Probe(DapTransport::new(packets, speed))
+                LineTransport::Probe(begun_probe(reader, writer, speed, framed))
             }
         }
     }
@@ -86,7 +86,7 @@ impl<R: Read, W: Write> LineTransport<R, W> {
     {
         match self {
             LineTransport::Server(transport) => transport.step(cue),
-            LineTransport::Probe(transport) => transport.step(cue),
+            LineTransport::Probe(transport) => transport.call(cue),
         }
     }
 
@@ -106,7 +106,7 @@ impl<R: Read, W: Write> LineTransport<R, W> {
     {
         match self {
             LineTransport::Server(_) => {}
-            LineTransport::Probe(transport) => transport.announce(coming),
+            LineTransport::Probe(transport) => transport.foresee(coming),
         }
     }
 
@@ -130,6 +130,18 @@ fn begun<R: Read, W: Write>(reader: R, writer: W) -> ProbeTransport<Remote<R, W>
     ProbeTransport::new(Remote::new(reader, writer))
 }
 
+// Returns a transport of packets over which nothing was sent yet.
+fn begun_probe<R: Read, W: Write>(
+    reader: R,
+    writer: W,
+    speed: u32,
+    framed: bool,
+) -> DapTransport<Reports<R, W>>
+    ensures { AreProbeCallsMade speed [] result }
+{
+    DapTransport::new(Reports::new(reader, writer, framed), speed)
+}
+
 // Sends what is queued and `Q`, unless an error came before.
 fn end_server<R: Read, W: Write>(
     transport: ProbeTransport<Remote<R, W>>,
@@ -148,6 +160,7 @@ fn end_server<R: Read, W: Write>(
         writer,
         fault,
         opening,
+        in_doubt: 0,
     }
 }
 
@@ -155,13 +168,28 @@ fn end_server<R: Read, W: Write>(
 fn end_probe<R: Read, W: Write>(
     transport: DapTransport<Reports<R, W>>,
     opening: Opening,
-) -> RemoteStreams<R, W> {
+) -> RemoteStreams<R, W>
+    ensures { (speed : ℕ) (calls : List PortAttempt) → AreProbeCallsMade speed calls transport
+        → ProbeHangsUp speed calls result }
+{
+    let in_doubt = transport.in_doubt();
     let (packets, fault) = transport.hang_up();
     let (reader, writer) = packets.into_parts();
     RemoteStreams {
         reader,
         writer,
-        fault: fault.map(Fault::Probe),
+        fault: fault_of(fault),
         opening,
+        in_doubt,
+    }
+}
+
+// Returns the error of a line whose probe ended so.
+fn fault_of(fault: Option<DapFault>) -> Option<Fault>
+    ensures { result ≡ probe_fault fault }
+{
+    match fault {
+        Some(fault) => Some(Fault::Probe(fault)),
+        None => None,
     }
 }

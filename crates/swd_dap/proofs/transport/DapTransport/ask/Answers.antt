@@ -28,5 +28,5 @@ returns g c =
       opens = c.in_ok-open.ensures;
       asks = makes planned c.make.new.self b (c.has_told.ensures.none c.if-has_told.false) c.plan_begins_with.ensures
           (subst (λ (l : List Transfer). IsDapBeginning l planned.size.bytes planned.posted b) c.as_slice.ensures.value
-          c.longest_beginning-beginning.ensures) c.in_ok-make.ensures c.in_ok-seen-3.ensures;
+          c.longest_beginning-beginning.ensures) c.in_ok-make.ensures.makes c.in_ok-seen-3.ensures;
     }

@@ -1,24 +1,9 @@
-use Rattle.std.proofs.Common.{None, false, refl}
-use Rattle.std.proofs.lemmas.Grind.{merely}
-use Rattle.swd_dap.specs.declared.transport.Next.TheVariants.{Nothing}
+use Rattle.std.proofs.Common.{refl}
 use Rattle.swd_dap.proofs.transport.DapTransport.new.Goals as goal
 
 pub returns : goal.returns
-returns g c = λ h. merely (record {
-  start = record {
-    packets = c.args.packets;
-    speed = c.args.speed;
-    opened = false;
-    size = c.least.result;
-    fault = None;
-    plan = c.new.result;
-    told = c.new-2.result;
-    asked = 0;
-    next = Nothing;
-    posted = false;
-    idled = false;
-  };
-  fresh = record {
+returns g c = record {
+  fresh = λ h. record {
     nothing = h;
     closed = refl;
     none_told = c.new-2.ensures;
@@ -26,5 +11,5 @@ returns g c = λ h. merely (record {
     none_posted = refl;
     well = refl;
   };
-  made = refl;
-})
+  speed = refl;
+}

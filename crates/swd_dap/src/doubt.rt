@@ -1,0 +1,33 @@
+//! How many accesses a packet may have made that has no usable reply.
+ghost use Rattle.std.specs.Prelude.{◌≡◌, ◌≤◌, length};
+ghost use Rattle.swd_dap.specs.Doubts.{dap_drws, dap_with_pending};
+
+use crate::transfer::Transfer;
+
+/// Returns how many of these requests are for DRW.
+pub(crate) fn drws(requests: &[Transfer]) -> usize
+    ensures drws { result ≡ dap_drws requests.now }
+    ensures bound { result ≤ length requests.now }
+{
+    let mut count = 0;
+    for request in requests {
+        if request.is_drw() {
+            count += 1;
+        }
+    }
+    count
+}
+
+/// Returns how many accesses these requests for DRW are of, with one before them if that is pending: not confirmed yet.
+pub(crate) fn with_pending(pending: bool, drws: usize) -> usize
+    requires { drws ≤ 160 }
+    ensures { result ≡ dap_with_pending pending drws }
+{
+    if drws == 0 {
+        0
+    } else if pending {
+        drws + 1
+    } else {
+        drws
+    }
+}
