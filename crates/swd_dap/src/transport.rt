@@ -3,14 +3,14 @@ ghost use Rattle.std.specs.Prelude.{◌≡◌, ◌≤◌, ◌<◌, true, false, 
 ghost use Rattle.swd_dap.specs.Transfers.{IsDapBeginning};
 ghost use Rattle.swd_dap.specs.Nexts.{dap_next_of, dap_next_by_clocks};
 
-use crate::beginning::{Beginning, Plan, longest_beginning, plan_of};
+use crate::beginning::{HEAD, Plan, longest_beginning, plan_of, requests_of};
 use crate::packets::{DapFault, LONGEST, Packets};
 use crate::replies::{AllTold, Told, told_of};
 use crate::requests::transfer_request;
 use crate::sequences;
 use crate::transfer::Transfer;
 use swd_bits::Request;
-use swd_port::{Coming, Cue, Disconnected, Transport};
+use swd_port::{Coming, Cue, Disconnected, Pieces, Transport};
 
 // The least size of packets.
 const LEAST_SIZE: usize = 64;
@@ -29,6 +29,16 @@ impl PacketSize {
     // Returns the least size.
     fn least() -> PacketSize {
         PacketSize { bytes: LEAST_SIZE }
+    }
+
+    // Returns how much of a burst a packet holds: writes of five bytes each, between the write of TAR and the read of
+    // RDBUFF, or reads whose words have four bytes each.
+    fn pieces(self) -> Pieces {
+        let room = self.bytes - HEAD;
+        Pieces {
+            writes: (room - 1) / 5 - 1,
+            reads: room / 4,
+        }
     }
 }
 
@@ -54,6 +64,8 @@ enum Next {
 pub struct DapTransport<P> {
     packets: P,
     speed: u32,
+    // Whether replies may be padded.
+    padded: bool,
     // Whether the probe was told how to drive its pins.
     opened: bool,
     size: PacketSize,
@@ -78,11 +90,14 @@ impl<P: Packets> DapTransport<P> {
 
     /// Returns a transport over which nothing was sent yet. `speed` is that of the wire's clock in hertz.
     pub fn new(packets: P, speed: u32) -> DapTransport<P>
-        ensures { P.exchanged [] packets → ∥ AreDapCallsMade P.exchanged [] result ∥₁ }
+        ensures made { P.exchanged [] packets → ∥ AreDapCallsMade P.exchanged [] result ∥₁ }
+        ensures padded { result.padded ≡ P.pads packets }
     {
+        let padded = packets.is_padded();
         DapTransport {
             packets,
             speed,
+            padded,
             opened: false,
             size: PacketSize::least(),
             fault: None,
@@ -187,12 +202,17 @@ impl<P: Packets> DapTransport<P> {
             return Ok(seen);
         }
         self.plan_begins_with(request);
-        let beginning = longest_beginning(self.plan.as_slice(), self.size.bytes, self.posted);
-        if beginning.transactions == 0 {
+        let count = longest_beginning(
+            self.plan.as_slice(),
+            self.size.bytes,
+            self.padded,
+            self.posted,
+        );
+        if count == 0 {
             let seen = self.ask_by_clocks(request)?;
             return Ok(seen);
         }
-        self.make(beginning)?;
+        self.make(count)?;
         if !self.has_told() {
             return Err(DapFault::Unplanned);
         }
@@ -200,15 +220,16 @@ impl<P: Packets> DapTransport<P> {
         Ok(seen)
     }
 
-    // Has the probe make a beginning of the plan.
-    fn make(&mut self, beginning: Beginning) -> Result<(), DapFault>
-        requires { IsDapBeginning self.old.plan.items self.old.size.bytes self.old.posted beginning }
-        ensures { OnOk result (DapMakes P.exchanged beginning self.old self.new) }
+    // Has the probe make the first transactions of the plan.
+    fn make(&mut self, count: usize) -> Result<(), DapFault>
+        requires { IsDapBeginning self.old.plan.items self.old.size.bytes self.old.padded self.old.posted count }
+        ensures { OnOk result (DapMakes P.exchanged count self.old self.new) }
     {
-        let packet = transfer_request(&self.plan.as_slice()[..beginning.requests]);
+        let transactions = &self.plan.as_slice()[..count];
+        let packet = transfer_request(requests_of(transactions).as_slice());
         let mut reply = [0u8; LONGEST];
         let length = self.packets.exchange(packet.as_slice(), &mut reply)?;
-        self.told = told_of(self.plan.as_slice(), beginning, &reply[..length])?;
+        self.told = told_of(transactions, self.padded, &reply[..length])?;
         self.asked = 0;
         self.plan.clear();
         Ok(())
@@ -382,8 +403,11 @@ impl<P: Packets> Transport for DapTransport<P> {
         }
     }
 
-    fn looks_ahead(&self) -> bool {
-        !self.has_told()
+    fn looks_ahead(&self) -> Option<Pieces> {
+        if self.has_told() {
+            return None;
+        }
+        Some(self.size.pieces())
     }
 
     fn announce(&mut self, coming: &[Coming]) {

@@ -3,11 +3,12 @@ use Rattle.std.proofs.lemmas.Grind.{merely}
 use Rattle.swd_dap.specs.declared.transport.Next.TheVariants.{Nothing}
 use Rattle.swd_dap.proofs.transport.DapTransport.new.Goals as goal
 
-pub returns : goal.returns
-returns g c = λ h. merely (record {
+pub returns-clause-made : goal.returns-clause-made
+returns-clause-made g c = λ h. merely (record {
   start = record {
     packets = c.args.packets;
     speed = c.args.speed;
+    padded = c.is_padded-padded.result;
     opened = false;
     size = c.least.result;
     fault = None;
