@@ -8,12 +8,12 @@ use Rattle.swd_port.specs.declared.cue.Cue.TheVariants.{Lead, Ask, Take, Give, P
 use Rattle.swd_port.specs.declared.outside.Disconnected.{Disconnected}
 use Rattle.swd_port.specs.Transports.{PortAttempt}
 use Rattle.swd_dap.specs.declared.packets.DapFault.{DapFault}
-use Rattle.swd_dap.specs.declared.beginning.Beginning.{Beginning}
 use Rattle.swd_dap.specs.declared.replies.Told.{Told}
 use Rattle.swd_dap.specs.declared.transport.Next.{Next}
 use Rattle.swd_dap.specs.declared.transport.Next.TheVariants.{Nothing, Read, Written, Clocks}
 use Rattle.swd_dap.specs.declared.transport.DapTransport.{DapTransport}
-use Rattle.swd_dap.specs.Transfers.{IsDapBeginning, DapTells, dap_transfer_request, dap_posted_behind, dap_reading}
+use Rattle.swd_dap.specs.Transfers.{IsDapBeginning, DapTells, dap_transfer_request, dap_requests_of, dap_posted_behind}
+use Rattle.swd_dap.specs.Transfers.{dap_reading}
 use Rattle.swd_dap.specs.Packets.{DapExchange, DapSends, DapDoes, dap_answered, dap_seen_in, dap_bits_in}
 use Rattle.swd_dap.specs.Sequences.{dap_ask_request, dap_take_request, dap_give_request}
 use Rattle.swd_dap.specs.Opening.{DapOpens}
@@ -64,22 +64,24 @@ pub record DapPlans {P : Type 0} (q : Request) (s t : DapTransport P) : Type 0 w
   pub plan : (t.plan ≡ s.plan) ⊎ (t.plan.items ≡ dap_reading q ∷ [])
   pub after : t ≡ record s { plan = t.plan }
 
--- The probe makes a beginning of the plan by one packet, and its reply tells these transactions.
-pub record DapMakes {P : Type 0} (Exchanged : List DapExchange → P → Type 0) (b : Beginning) (s t : DapTransport P) :
-    Type 0 where
-  pub reply : List ℕ
-  pub sends : DapSends Exchanged (dap_answered (dap_transfer_request (take b.requests s.plan.items)) reply ∷ [])
-      s.packets t.packets
-  pub tells : DapTells s.plan.items b reply t.told.items
-  pub after : t ≡ record s { packets = t.packets; told = t.told; asked = 0; plan = t.plan }
+-- The probe makes so many transactions of the plan by one packet, and its reply tells what came of them.
+pub record DapMakes {P : Type 0} (Exchanged : List DapExchange → P → Type 0) (n : ℕ) (s t : DapTransport P) : Type 0
+  where
+    pub reply : List ℕ
+    pub sends : DapSends Exchanged
+        (dap_answered (dap_transfer_request (dap_requests_of false (take n s.plan.items))) reply ∷ [])
+        s.packets t.packets
+    pub tells : DapTells s.padded (take n s.plan.items) reply t.told.items
+    pub after : t ≡ record s { packets = t.packets; told = t.told; asked = 0; plan = t.plan }
 
--- A beginning of the plan went by one packet, whose reply tells these transactions.
-pub record DapHasSent {P : Type 0} (Exchanged : List DapExchange → P → Type 0) (b : Beginning) (told : List Told)
+-- So many transactions of the plan went by one packet, whose reply tells these.
+pub record DapHasSent {P : Type 0} (Exchanged : List DapExchange → P → Type 0) (n : ℕ) (told : List Told)
     (s t : DapTransport P) : Type 0 where
   pub reply : List ℕ
-  pub sends : DapSends Exchanged (dap_answered (dap_transfer_request (take b.requests s.plan.items)) reply ∷ [])
+  pub sends : DapSends Exchanged
+      (dap_answered (dap_transfer_request (dap_requests_of false (take n s.plan.items))) reply ∷ [])
       s.packets t.packets
-  pub tells : DapTells s.plan.items b reply told
+  pub tells : DapTells s.padded (take n s.plan.items) reply told
 
 -- A request is sent by sequences.
 pub record DapAsksByClocks {P : Type 0} (Exchanged : List DapExchange → P → Type 0) (q : Request) (seen : ℕ)
@@ -100,8 +102,9 @@ pub record DapAsksByClocks {P : Type 0} (Exchanged : List DapExchange → P → 
 pub data DapAsksOpened {P : Type 0} (Exchanged : List DapExchange → P → Type 0) (q : Request) (seen : ℕ)
     (s t : DapTransport P) : Type 0 where
   answers : DapAnswers q seen s t → DapAsksOpened Exchanged q seen s t
-  makes : (planned made : DapTransport P) (b : Beginning) → length s.told.items ≤ s.asked → DapPlans q s planned
-      → IsDapBeginning planned.plan.items planned.size.bytes planned.posted b → DapMakes Exchanged b planned made
+  makes : (planned made : DapTransport P) (n : ℕ) → length s.told.items ≤ s.asked → DapPlans q s planned
+      → IsDapBeginning planned.plan.items planned.size.bytes planned.padded planned.posted n
+      → DapMakes Exchanged n planned made
       → DapAnswers q seen made t → DapAsksOpened Exchanged q seen s t
   clocks : (planned : DapTransport P) → length s.told.items ≤ s.asked → DapPlans q s planned
       → DapAsksByClocks Exchanged q seen planned t → DapAsksOpened Exchanged q seen s t

@@ -1,6 +1,6 @@
 -- Requests of DAP_Transfer, the transactions that a probe makes of them, and the reply: the description of CMSIS-DAP,
 -- "DAP_Transfer".
-use Rattle.std.specs.Prelude.{ℕ, ◌≡◌, ◌+◌, ◌^◌, ◌<◌, ◌≤◌, ◌==◌, Bool, true, false, not, ◌&&◌, ◌||◌}
+use Rattle.std.specs.Prelude.{ℕ, ◌≡◌, ◌+◌, ◌-◌, ◌^◌, ◌<◌, ◌≤◌, ◌==◌, Bool, true, false, not, ◌&&◌, ◌||◌}
 use Rattle.std.specs.Prelude.{List, [], ◌∷◌, ◌++◌, length, take, drop, map, if◌then◌else◌, slice_get, Some}
 use Rattle.std.specs.Int.{w32, to_le_bytes, from_le_bytes}
 use Rattle.swd_bits.specs.declared.request.Request.{Request}
@@ -9,7 +9,6 @@ use Rattle.swd_bits.specs.declared.request.Reg4.TheVariants.{R0, R4, R8, RC}
 use Rattle.swd_bits.specs.Phases.{data_phase_number}
 use Rattle.swd_port.specs.declared.coming.Coming.{Coming}
 use Rattle.swd_dap.specs.declared.transfer.Transfer.{Transfer}
-use Rattle.swd_dap.specs.declared.beginning.Beginning.{Beginning}
 use Rattle.swd_dap.specs.declared.beginning.Filled.{Filled}
 use Rattle.swd_dap.specs.declared.replies.Told.{Told}
 
@@ -86,6 +85,22 @@ abbrev pub dap_posted_behind : Bool → Request → Bool
 dap_posted_behind posted q =
     if q.ap then q.read else posted && not (q.read && dap_fetches q.addr)
 
+-- The transactions that a probe makes of requests, without those that it makes by itself, behind a read of the access
+-- port (`posts`) or not: reads of RDBUFF directly behind one.
+abbrev pub dap_hides : Bool → Request → Bool
+dap_hides posts q = posts && (dap_reads_dp q && dap_fetches q.addr)
+
+abbrev pub dap_shown : Bool → Transfer → List Transfer
+dap_shown posts t = if dap_hides posts t.request then [] else t ∷ []
+
+abbrev pub dap_requests_of : Bool → List Transfer → List Transfer
+dap_requests_of posts [] = []
+dap_requests_of posts (t ∷ ts) = dap_shown posts t ++ dap_requests_of (dap_posts t.request) ts
+
+-- each request that reads has a word in the reply: four bytes
+abbrev pub dap_reply_room : Bool → Request → ℕ
+dap_reply_room posts q = if q.read && not (dap_hides posts q) then 4 else 0
+
 -- whether the reply to a packet doesn't have the word of a read that was made before it: that of the first read of the
 -- access port behind anything else
 abbrev pub dap_drops_word : Bool → Bool → List Request → Bool
@@ -93,36 +108,53 @@ dap_drops_word posted posts [] = false
 dap_drops_word posted posts (q ∷ qs) = (posted && not posts && dap_posts q)
     || dap_drops_word (dap_posted_behind posted q) (dap_posts q) qs
 
--- whether a request may follow in a packet: behind a read of the access port only another one, and a first one only
--- where no word waits
-abbrev pub dap_admits : Bool → Bool → Request → Bool
-dap_admits posts posted q = if dap_posts q then posts || not posted else not posts
-
--- what a packet has with one more request
-pub record DapFilledWith (f : Filled) (t : Transfer) (size : ℕ) (g : Filled) : Type 0 where
-  pub admits : dap_admits f.posts f.posted t.request ≡ true
-  pub bytes : g.bytes ≡ f.bytes + length (dap_transfer_bytes t)
-  pub fits : g.bytes ≤ size
-  pub reply : g.reply + 4 ≤ size
-  pub posts : g.posts ≡ dap_posts t.request
-  pub posted : g.posted ≡ dap_posted_behind f.posted t.request
-
--- A beginning of a plan that goes by one packet of this size: the probe makes of its requests exactly planned
--- transactions, and drops no word that was read before.
-pub record IsDapBeginning (plan : List Transfer) (size : ℕ) (posted : Bool) (b : Beginning) : Type 0 where
-  pub planned : b.transactions ≤ length plan
-  pub requests : b.requests ≤ b.transactions
-  pub few : b.requests ≤ 255
-  pub fits : length (dap_transfer_request (take b.requests plan)) ≤ size
-  pub exact : dap_made (map dap_request_of (take b.requests plan))
-      ≡ map dap_request_of (take b.transactions plan)
-  pub keeps : dap_drops_word posted false (map dap_request_of (take b.requests plan)) ≡ false
-
--- THE REPLY
-
 -- whether a word of the reply is that of this transaction, behind a read of the access port (`posts`) or not
 abbrev pub dap_has_word : Bool → Request → Bool
 dap_has_word posts q = posts || dap_reads_dp q
+
+-- the bytes of the words of these transactions, which are OK
+abbrev pub dap_word_length : Bool → ℕ
+dap_word_length true = 4
+dap_word_length false = 0
+
+abbrev pub dap_words_length : Bool → List Transfer → ℕ
+dap_words_length posts [] = 0
+dap_words_length posts (t ∷ ts) =
+    dap_word_length (dap_has_word posts t.request) + dap_words_length (dap_posts t.request) ts
+
+-- Whether a transaction may follow in a packet, behind what it has. Behind a read of RDBUFF that is no request none may
+-- where replies are padded, and no read of the access port: between two of them the probe makes no read of RDBUFF.
+-- Behind a read of the access port another one may, or that read of RDBUFF; a first one only where no word waits.
+abbrev pub dap_admits : Bool → Filled → Request → Bool
+dap_admits padded f q =
+    if f.hides then not padded && not (dap_posts q)
+    else (if dap_posts q then f.posts || not f.posted else not f.posts || (dap_reads_dp q && dap_fetches q.addr))
+
+-- what a packet has with one more transaction
+pub record DapFilledWith (padded : Bool) (f : Filled) (t : Transfer) (size : ℕ) (g : Filled) : Type 0 where
+  pub admits : dap_admits padded f t.request ≡ true
+  pub bytes : g.bytes ≡ f.bytes + length (dap_all_bytes (dap_shown f.posts t))
+  pub fits : g.bytes ≤ size
+  pub reply : g.reply ≡ f.reply + dap_reply_room f.posts t.request
+  pub replies : g.reply ≤ size
+  pub posts : g.posts ≡ dap_posts t.request
+  pub posted : g.posted ≡ dap_posted_behind f.posted t.request
+  pub hides : g.hides ≡ dap_hides f.posts t.request
+
+-- So many transactions of a plan go by one packet of this size: the probe makes of their requests exactly these
+-- transactions, its reply fits, and it drops no word that was read before. Where replies may be padded, the last
+-- transaction alone may be no request: else a reply wouldn't tell which one wasn't OK.
+pub record IsDapBeginning (plan : List Transfer) (size : ℕ) (padded posted : Bool) (n : ℕ) : Type 0 where
+  pub planned : n ≤ length plan
+  pub few : length (dap_requests_of false (take n plan)) ≤ 255
+  pub fits : length (dap_transfer_request (dap_requests_of false (take n plan))) ≤ size
+  pub replies : 3 + dap_words_length false (take n plan) ≤ size
+  pub exact : dap_made (map dap_request_of (dap_requests_of false (take n plan)))
+      ≡ map dap_request_of (take n plan)
+  pub keeps : dap_drops_word posted false (map dap_request_of (take n plan)) ≡ false
+  pub tells : padded ≡ true → dap_requests_of false (take (n - 1) plan) ≡ take (n - 1) plan
+
+-- THE REPLY
 
 abbrev pub dap_word_told : Bool → List ℕ → ℕ
 dap_word_told true words = from_le_bytes w32 words
@@ -162,24 +194,32 @@ dap_told_failed t value = if value == 8 then record { transfer = t; seen = 1; bi
   bits = 0;
 }
 
+-- Where a probe stopped that had done so many requests: behind so many transactions that were OK. Behind a read of the
+-- access port two places have as many requests before them, that of the read of RDBUFF which is no request and that of
+-- the next one: the number of words tells them apart, if replies aren't padded.
+pub record IsDapStop (padded : Bool) (ts : List Transfer) (done words okay : ℕ) : Type 0 where
+  pub within : okay < length ts
+  pub requests : length (dap_requests_of false (take okay ts)) ≡ done
+  pub counted : padded ≡ false → dap_words_length false (take okay ts) ≡ words
+
 -- the transactions before one that wasn't OK, and that one
-pub record DapTellsUpTo (plan : List Transfer) (done value : ℕ) (words : List ℕ) (told : List Told) : Type 0 where
+pub record DapTellsUpTo (ts : List Transfer) (okay value : ℕ) (words : List ℕ) (told : List Told) : Type 0 where
   pub last : Transfer
-  pub planned : slice_get plan done ≡ Some last
-  pub long : DapHasWords false (take done plan) words
-  pub is : told ≡ dap_told_of false (take done plan) words ++ dap_told_failed last value ∷ []
+  pub planned : slice_get ts okay ≡ Some last
+  pub long : DapHasWords false (take okay ts) words
+  pub is : told ≡ dap_told_of false (take okay ts) words ++ dap_told_failed last value ∷ []
 
 -- what the reply says, all being OK or not: `done` requests were done
-abbrev pub DapTellsBy : Bool → List Transfer → Beginning → ℕ → ℕ → List ℕ → List Told → Type 0
-DapTellsBy true plan b done value words told =
-    (done ≡ b.requests) × DapHasWords false (take b.transactions plan) words
-    × (told ≡ dap_told_of false (take b.transactions plan) words)
-DapTellsBy false plan b done value words told = (done < b.transactions) × DapTellsUpTo plan done value words told
+abbrev pub DapTellsBy : Bool → Bool → List Transfer → ℕ → ℕ → List ℕ → List Told → Type 0
+DapTellsBy true padded ts done value words told =
+    (done ≡ length (dap_requests_of false ts)) × DapHasWords false ts words × (told ≡ dap_told_of false ts words)
+DapTellsBy false padded ts done value words told =
+    (okay : ℕ) × IsDapStop padded ts done (length words) okay × DapTellsUpTo ts okay value words told
 
--- These are the transactions that the reply to a packet tells, of a beginning of a plan.
-pub record DapTells (plan : List Transfer) (b : Beginning) (reply : List ℕ) (told : List Told) : Type 0 where
+-- These are the transactions that the reply to a packet tells, of those that the packet was to make.
+pub record DapTells (padded : Bool) (ts : List Transfer) (reply : List ℕ) (told : List Told) : Type 0 where
   pub done : ℕ
   pub value : ℕ
   pub words : List ℕ
   pub is : reply ≡ 5 ∷ done ∷ value ∷ words
-  pub by : DapTellsBy (value == 1) plan b done value words told
+  pub by : DapTellsBy (value == 1) padded ts done value words told

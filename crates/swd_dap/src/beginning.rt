@@ -1,6 +1,6 @@
 //! How much of a plan goes by one packet of `DAP_Transfer`.
-ghost use Rattle.std.specs.Prelude.{◌≡◌, ◌≤◌, IfSome, map, take};
-ghost use Rattle.swd_dap.specs.Transfers.{IsDapBeginning, DapFilledWith, dap_admits, dap_transfer_of};
+ghost use Rattle.std.specs.Prelude.{◌≡◌, ◌≤◌, IfSome, false, length, map, take};
+ghost use Rattle.swd_dap.specs.Transfers.{IsDapBeginning, DapFilledWith, dap_admits, dap_requests_of, dap_transfer_of};
 
 use crate::transfer::Transfer;
 use arrayvec::ArrayVec;
@@ -29,63 +29,71 @@ pub(crate) fn plan_of(coming: &[Coming]) -> Plan
     plan
 }
 
-/// A beginning of a plan that the probe makes by one packet, with no transaction that isn't planned.
-#[derive(Clone, Copy, Debug, PartialEq, Eq)]
-pub(crate) struct Beginning {
-    /// How many requests the packet has: the first ones of the plan.
-    pub(crate) requests: usize,
-    /// How many transactions the probe makes: the requests, and behind a last read of the access port the planned read
-    /// of RDBUFF, which is no request.
-    pub(crate) transactions: usize,
+/// Returns the requests of a packet that makes these transactions: all but the reads of RDBUFF that the probe makes by
+/// itself.
+pub(crate) fn requests_of(transactions: &[Transfer]) -> Plan
+    requires { length transactions.now ≤ 160 }
+    ensures { result.items ≡ dap_requests_of false transactions.now }
+{
+    let mut requests = Plan::new();
+    let mut posts = false;
+    for next in transactions {
+        if !next.is_hidden(posts) {
+            requests.push(*next);
+        }
+        posts = next.posts();
+    }
+    requests
 }
 
 /// What a packet has before its next request.
 #[derive(Clone, Copy)]
 struct Filled {
-    // The bytes of the packet, and those of its reply.
+    // The bytes of the packet, and those of its reply, with a word for each read.
     bytes: usize,
     reply: usize,
-    // Whether the last request is a read of the access port.
+    // Whether the last transaction is a read of the access port.
     posts: bool,
     // Whether a read of the access port has a word that wasn't fetched.
     posted: bool,
+    // Whether the last transaction is a read of RDBUFF that is no request.
+    hides: bool,
 }
 
 impl Filled {
-    // Returns whether the probe makes no transaction between the last request and this one, and drops no word.
-    fn admits(&self, next: &Transfer) -> bool
-        ensures { result ≡ dap_admits self.now.posts self.now.posted next.now.request }
+    // Returns whether the probe makes no other transaction between the last one and this one, and drops no word. Behind
+    // a read of RDBUFF that is no request a padded reply wouldn't tell which of the two wasn't OK; between two reads of
+    // the access port the probe would leave it out.
+    fn admits(&self, next: &Transfer, padded: bool) -> bool
+        ensures { result ≡ dap_admits padded self.now next.now.request }
     {
+        if self.hides {
+            return !padded && !next.posts();
+        }
         if next.posts() {
             self.posts || !self.posted
         } else {
-            !self.posts
+            !self.posts || next.is_rdbuff()
         }
     }
 
-    // Returns how many bytes of the reply this request adds.
-    fn reply_bytes(&self, next: &Transfer) -> usize
-        ensures { result ≤ 4 }
-    {
-        if self.posts || next.reads_dp() { 4 } else { 0 }
-    }
-
-    // Returns what a packet has with one more request, or `None` if it doesn't fit or can't follow. A read of RDBUFF
-    // behind a read of the access port is none.
-    fn with(&self, next: &Transfer, size: usize) -> Option<Filled>
+    // Returns what a packet has with one more transaction, or `None` if it doesn't fit or can't follow.
+    fn with(&self, next: &Transfer, size: usize, padded: bool) -> Option<Filled>
         requires { (self.now.bytes ≤ 512) × (self.now.reply ≤ 512) }
-        ensures { IfSome result (DapFilledWith self.now next.now size) }
+        ensures { IfSome result (DapFilledWith padded self.now next.now size) }
     {
-        if !self.admits(next) {
+        if !self.admits(next, padded) {
             return None;
         }
+        let hides = next.is_hidden(self.posts);
         let filled = Filled {
-            bytes: self.bytes + next.len(),
-            reply: self.reply + self.reply_bytes(next),
+            bytes: self.bytes + next.request_bytes(self.posts),
+            reply: self.reply + next.reply_bytes(self.posts),
             posts: next.posts(),
             posted: next.leaves_posted(self.posted),
+            hides,
         };
-        if filled.bytes <= size && filled.reply + 4 <= size {
+        if filled.bytes <= size && filled.reply <= size {
             Some(filled)
         } else {
             None
@@ -93,40 +101,30 @@ impl Filled {
     }
 }
 
-/// Returns the longest beginning of a plan that goes by one packet of this size; one of no transactions if there is
-/// none. `posted`: whether a read of the access port has a word that wasn't fetched yet.
-pub(crate) fn longest_beginning(plan: &[Transfer], size: usize, posted: bool) -> Beginning
+/// Returns the length of the longest beginning of a plan that goes by one packet of this size; 0 if there is none.
+/// `padded`: whether replies may be padded. `posted`: whether a read of the access port has a word that wasn't fetched
+/// yet.
+pub(crate) fn longest_beginning(plan: &[Transfer], size: usize, padded: bool, posted: bool) -> usize
     requires { (64 ≤ size) × (size ≤ 512) }
-    ensures { IsDapBeginning plan.now size posted result }
+    ensures { IsDapBeginning plan.now size padded posted result }
 {
-    let mut best = Beginning {
-        requests: 0,
-        transactions: 0,
-    };
+    let mut longest = 0;
     let mut filled = Filled {
         bytes: HEAD,
         reply: HEAD,
         posts: false,
         posted,
+        hides: false,
     };
     for place in 0..plan.len().min(MOST_REQUESTS) {
         let next = &plan[place];
-        if filled.posts && next.is_rdbuff() {
-            return Beginning {
-                requests: place,
-                transactions: place + 1,
-            };
-        }
-        let Some(more) = filled.with(next, size) else {
-            return best;
+        let Some(more) = filled.with(next, size, padded) else {
+            return longest;
         };
         filled = more;
         if next.reads_dp() {
-            best = Beginning {
-                requests: place + 1,
-                transactions: place + 1,
-            };
+            longest = place + 1;
         }
     }
-    best
+    longest
 }

@@ -1,5 +1,5 @@
 //! Packets of CMSIS-DAP: a request there, a reply back.
-ghost use Rattle.std.specs.Prelude.{◌≤◌, ◌++◌, ◌∷◌, [], List, length, IfOk};
+ghost use Rattle.std.specs.Prelude.{◌≡◌, ◌≤◌, ◌++◌, ◌∷◌, [], Bool, true, List, length, IfOk};
 ghost use Rattle.swd_dap.specs.Packets.{DapExchange, dap_exchange};
 
 /// The most bytes of a packet.
@@ -38,6 +38,14 @@ pub enum DapFault {
 pub trait Packets {
     /// What a way states about the packets that were exchanged over it, the first one first. Optional.
     ghost exchanged: { List DapExchange → Self → Type 0 } = { λ _ _. Unit {0} };
+
+    /// Whether replies may be padded.
+    ghost pads: { Self → Bool } = { λ _. true };
+
+    /// Returns whether replies may be padded. Otherwise a reply has the length that the probe gave it, which tells how
+    /// many words it has.
+    fn is_padded(&self) -> bool
+        ensures { result ≡ pads self.now };
 
     /// Sends a request of at most [`LONGEST`] bytes and waits for the reply, whose length it returns. A reply may be
     /// padded, and has the length of its padding then, too.

@@ -1,10 +1,10 @@
 //! What replies say.
-ghost use Rattle.std.specs.Prelude.{◌≡◌, ◌==◌, ◌≢◌, ◌≤◌, ◌<◌, length, true, false, IfOk, OnOk};
+ghost use Rattle.std.specs.Prelude.{◌≡◌, ◌==◌, ◌≢◌, ◌≤◌, ◌<◌, length, true, false, IfOk, IfSome, OnOk};
 ghost use Rattle.swd_dap.specs.Packets.{IsDapReply};
 ghost use Rattle.swd_dap.specs.Transfers.{DapTells, dap_told_of, dap_told_okay, dap_told_failed, dap_word_told};
-ghost use Rattle.swd_dap.specs.Transfers.{dap_words_left, DapTellsBy, DapTellsUpTo, DapHasWords};
+ghost use Rattle.swd_dap.specs.Transfers.{dap_words_left, DapTellsBy, DapTellsUpTo, DapHasWords, IsDapStop};
 
-use crate::beginning::{Beginning, HEAD, MOST};
+use crate::beginning::{HEAD, MOST, requests_of};
 use crate::packets::DapFault;
 use crate::requests::TRANSFER;
 use crate::transfer::Transfer;
@@ -128,61 +128,88 @@ fn told_okay(done: &[Transfer], words: &[u8]) -> Result<AllTold, DapFault>
     Ok(told)
 }
 
-// Returns what a reply says that all was OK, or that the transaction behind `done` requests wasn't.
+// Returns behind how many transactions that were OK the probe stopped, where it had done so many requests and its reply
+// has so many bytes of words.
+fn stop_of(transactions: &[Transfer], padded: bool, done: usize, words: usize) -> Option<usize>
+    requires { length transactions.now ≤ 160 }
+    ensures { IfSome result (IsDapStop padded transactions.now done words) }
+{
+    let mut requests = 0;
+    let mut told = 0;
+    let mut posts = false;
+    for (place, next) in transactions.iter().enumerate() {
+        if requests == done && (padded || told == words) {
+            return Some(place);
+        }
+        if !next.is_hidden(posts) {
+            requests += 1;
+        }
+        told += next.word_bytes(posts);
+        posts = next.posts();
+    }
+    None
+}
+
+// Returns what a reply says: that all was OK, or that one transaction wasn't, where `done` requests were done.
 fn told_by(
-    plan: &[Transfer],
-    beginning: Beginning,
+    transactions: &[Transfer],
+    padded: bool,
     done: usize,
     value: u8,
     words: &[u8],
 ) -> Result<AllTold, DapFault>
-    requires few { length plan.now ≤ 160 }
-    requires planned { beginning.transactions ≤ length plan.now }
-    ensures { IfOk result (λ told. DapTellsBy (value == 1) plan.now beginning done value words.now told.items) }
+    requires { length transactions.now ≤ 160 }
+    ensures { IfOk result (λ told.
+        DapTellsBy (value == 1) padded transactions.now done value words.now told.items) }
 {
     if value == OK {
-        if done != beginning.requests {
+        if done != requests_of(transactions).len() {
             return Err(DapFault::Impossible);
         }
-        return told_okay(&plan[..beginning.transactions], words);
+        return told_okay(transactions, words);
     }
-    if done >= beginning.transactions {
+    let Some(okay) = stop_of(transactions, padded, done, words.len()) else {
         return Err(DapFault::Impossible);
-    }
-    told_up_to(plan, done, value, words)
+    };
+    told_up_to(transactions, okay, value, words)
 }
 
 // Returns the first transactions, which were answered OK, and the one behind them, which wasn't.
-fn told_up_to(plan: &[Transfer], done: usize, value: u8, words: &[u8]) -> Result<AllTold, DapFault>
-    requires few { length plan.now ≤ 160 }
-    requires planned { done < length plan.now }
+fn told_up_to(
+    transactions: &[Transfer],
+    okay: usize,
+    value: u8,
+    words: &[u8],
+) -> Result<AllTold, DapFault>
+    requires few { length transactions.now ≤ 160 }
+    requires planned { okay < length transactions.now }
     ensures not_okay { OnOk result (value ≢ 1) }
-    ensures told { IfOk result (λ told. DapTellsUpTo plan.now done value words.now told.items) }
+    ensures told { IfOk result (λ told. DapTellsUpTo transactions.now okay value words.now told.items) }
 {
-    let last = failed(plan[done], value)?;
-    let mut told = told_okay(&plan[..done], words)?;
+    let last = failed(transactions[okay], value)?;
+    let mut told = told_okay(&transactions[..okay], words)?;
     told.push(last);
     Ok(told)
 }
 
-/// Returns what the reply to a packet of `DAP_Transfer` says of the transactions of a beginning of a plan.
+/// Returns what the reply to a packet of `DAP_Transfer` says of the transactions that it was to make. `padded`: whether
+/// it may be padded.
 ///
 /// # Errors
 ///
 /// If it isn't a reply to that packet.
 pub(crate) fn told_of(
-    plan: &[Transfer],
-    beginning: Beginning,
+    transactions: &[Transfer],
+    padded: bool,
     reply: &[u8],
 ) -> Result<AllTold, DapFault>
-    requires few { length plan.now ≤ 160 }
-    requires planned { beginning.transactions ≤ length plan.now }
-    ensures { IfOk result (λ told. DapTells plan.now beginning reply.now told.items) }
+    requires { length transactions.now ≤ 160 }
+    ensures { IfOk result (λ told. DapTells padded transactions.now reply.now told.items) }
 {
     check_reply(TRANSFER, reply, HEAD)?;
     match reply {
         [TRANSFER, done, value, words @ ..] => {
-            told_by(plan, beginning, usize::from(*done), *value, words)
+            told_by(transactions, padded, usize::from(*done), *value, words)
         }
         _ => Err(DapFault::Short),
     }

@@ -1,5 +1,5 @@
 //! Packets over a reader and a writer.
-ghost use Rattle.std.specs.Prelude.{◌≡◌, ◌≤◌, ◌<◌, length, IfOk};
+ghost use Rattle.std.specs.Prelude.{◌≡◌, ◌≤◌, ◌<◌, not, length, IfOk};
 
 use crate::packets::{DapFault, LONGEST, Packets};
 use std::io::{Read, Write};
@@ -117,6 +117,12 @@ impl<R: Read, W: Write> Reports<R, W> {
 }
 
 impl<R: Read, W: Write> Packets for Reports<R, W> {
+    ghost pads = { λ reports. not reports.framed };
+
+    fn is_padded(&self) -> bool {
+        !self.framed
+    }
+
     fn exchange(&mut self, request: &[u8], reply: &mut [u8; 512]) -> Result<usize, DapFault> {
         let length = if self.framed {
             self.send_frame(request)?;

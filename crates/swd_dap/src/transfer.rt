@@ -1,7 +1,8 @@
 //! Transactions, as requests of `DAP_Transfer`.
 ghost use Rattle.std.specs.Prelude.{◌≡◌, ◌&&◌, length};
-ghost use Rattle.swd_dap.specs.Transfers.{dap_code, dap_transfer_bytes, dap_posts, dap_reads_dp, dap_fetches};
-ghost use Rattle.swd_dap.specs.Transfers.{dap_posted_behind, dap_transfer_of, dap_reading};
+ghost use Rattle.swd_dap.specs.Transfers.{dap_code, dap_all_bytes, dap_posts, dap_reads_dp, dap_fetches, dap_hides};
+ghost use Rattle.swd_dap.specs.Transfers.{dap_posted_behind, dap_transfer_of, dap_reading, dap_shown, dap_reply_room};
+ghost use Rattle.swd_dap.specs.Transfers.{dap_word_length, dap_has_word};
 ghost use Rattle.swd_dap.specs.Doubts.{dap_is_drw};
 
 use swd_bits::{Reg4, Request};
@@ -57,13 +58,6 @@ impl Transfer {
         port + direction + address
     }
 
-    /// Returns how many bytes of a request it takes.
-    pub(crate) fn len(&self) -> usize
-        ensures { result ≡ length (dap_transfer_bytes self.now) }
-    {
-        if self.request.read { 1 } else { 5 }
-    }
-
     /// Returns whether it is a read of the access port, whose word the next read returns.
     pub(crate) fn posts(&self) -> bool
         ensures { result ≡ dap_posts self.now.request }
@@ -90,6 +84,45 @@ impl Transfer {
         ensures { result ≡ dap_is_drw self.now.request }
     {
         self.request.ap && matches!(self.request.addr, Reg4::RC)
+    }
+
+    /// Returns whether the probe makes it by itself: a read of RDBUFF behind a read of the access port (`posts`).
+    pub(crate) fn is_hidden(&self, posts: bool) -> bool
+        ensures { result ≡ dap_hides posts self.now.request }
+    {
+        posts && self.is_rdbuff()
+    }
+
+    /// Returns how many bytes of a packet it takes, behind a read of the access port (`posts`) or not.
+    pub(crate) fn request_bytes(&self, posts: bool) -> usize
+        ensures { result ≡ length (dap_all_bytes (dap_shown posts self.now)) }
+    {
+        if self.is_hidden(posts) {
+            0
+        } else if self.request.read {
+            1
+        } else {
+            5
+        }
+    }
+
+    /// Returns for how many more bytes a reply needs room: each request that reads has a word.
+    pub(crate) fn reply_bytes(&self, posts: bool) -> usize
+        ensures { result ≡ dap_reply_room posts self.now.request }
+    {
+        if self.request.read && !self.is_hidden(posts) {
+            4
+        } else {
+            0
+        }
+    }
+
+    /// Returns how many bytes of a reply its word takes: that of a read of the debug port, or of the read of the access
+    /// port before it (`posts`).
+    pub(crate) fn word_bytes(&self, posts: bool) -> usize
+        ensures { result ≡ dap_word_length (dap_has_word posts self.now.request) }
+    {
+        if posts || self.reads_dp() { 4 } else { 0 }
     }
 
     /// Returns whether a read of the access port has a word that wasn't fetched, behind this one, which was answered

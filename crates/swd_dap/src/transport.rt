@@ -3,7 +3,7 @@ ghost use Rattle.std.specs.Prelude.{◌≡◌, ◌≤◌, ◌<◌, true, false, 
 ghost use Rattle.swd_dap.specs.Transfers.{IsDapBeginning};
 ghost use Rattle.swd_dap.specs.Nexts.{dap_next_of, dap_next_by_clocks};
 
-use crate::beginning::{Beginning, Plan, longest_beginning, plan_of};
+use crate::beginning::{HEAD, Plan, longest_beginning, plan_of, requests_of};
 use crate::doubt::{drws, with_pending};
 use crate::packets::{DapFault, LONGEST, Packets};
 use crate::replies::{AllTold, Told, told_of};
@@ -11,7 +11,7 @@ use crate::requests::transfer_request;
 use crate::sequences;
 use crate::transfer::Transfer;
 use swd_bits::Request;
-use swd_port::{Coming, Cue, Disconnected, Transport};
+use swd_port::{Coming, Cue, Disconnected, Pieces, Transport};
 
 // The least size of packets.
 const LEAST_SIZE: usize = 64;
@@ -30,6 +30,16 @@ impl PacketSize {
     // Returns the least size.
     fn least() -> PacketSize {
         PacketSize { bytes: LEAST_SIZE }
+    }
+
+    // Returns how much of a burst a packet holds: writes of five bytes each, between the write of TAR and the read of
+    // RDBUFF, or reads whose words have four bytes each.
+    fn pieces(self) -> Pieces {
+        let room = self.bytes - HEAD;
+        Pieces {
+            writes: (room - 1) / 5 - 1,
+            reads: room / 4,
+        }
     }
 }
 
@@ -55,6 +65,8 @@ enum Next {
 pub struct DapTransport<P> {
     packets: P,
     speed: u32,
+    // Whether replies may be padded.
+    padded: bool,
     // Whether the probe was told how to drive its pins.
     opened: bool,
     size: PacketSize,
@@ -83,10 +95,13 @@ impl<P: Packets> DapTransport<P> {
     pub fn new(packets: P, speed: u32) -> DapTransport<P>
         ensures fresh { P.exchanged [] packets → IsFreshDap P.exchanged result }
         ensures speed { result.speed ≡ speed }
+        ensures padded { result.padded ≡ P.pads packets }
     {
+        let padded = packets.is_padded();
         DapTransport {
             packets,
             speed,
+            padded,
             opened: false,
             size: PacketSize::least(),
             fault: None,
@@ -230,12 +245,17 @@ impl<P: Packets> DapTransport<P> {
             return Ok(seen);
         }
         self.plan_begins_with(request);
-        let beginning = longest_beginning(self.plan.as_slice(), self.size.bytes, self.posted);
-        if beginning.transactions == 0 {
+        let count = longest_beginning(
+            self.plan.as_slice(),
+            self.size.bytes,
+            self.padded,
+            self.posted,
+        );
+        if count == 0 {
             let seen = self.ask_by_clocks(request)?;
             return Ok(seen);
         }
-        self.make(beginning)?;
+        self.make(count)?;
         if !self.has_told() {
             return Err(DapFault::Unplanned);
         }
@@ -243,16 +263,16 @@ impl<P: Packets> DapTransport<P> {
         Ok(seen)
     }
 
-    // Has the probe make a beginning of the plan.
-    fn make(&mut self, beginning: Beginning) -> Result<(), DapFault>
-        requires { IsDapBeginning self.old.plan.items self.old.size.bytes self.old.posted beginning }
-        ensures makes { OnOk result (DapMakes P.exchanged beginning self.old self.new) }
+    // Has the probe make the first transactions of the plan.
+    fn make(&mut self, count: usize) -> Result<(), DapFault>
+        requires { IsDapBeginning self.old.plan.items self.old.size.bytes self.old.padded self.old.posted count }
+        ensures makes { OnOk result (DapMakes P.exchanged count self.old self.new) }
         ensures doubt { IfErr result (λ fault. self.new ≡ record self.old {
           packets = self.new.packets;
-          unanswered = beginning.requests;
+          unanswered = count;
         }) }
     {
-        match self.exchange(beginning) {
+        match self.exchange(count) {
             Ok(told) => {
                 self.told = told;
                 self.asked = 0;
@@ -260,22 +280,23 @@ impl<P: Packets> DapTransport<P> {
                 Ok(())
             }
             Err(fault) => {
-                self.unanswered = beginning.requests;
+                self.unanswered = count;
                 Err(fault)
             }
         }
     }
 
-    // Sends a beginning of the plan, and returns the transactions that the reply tells.
-    fn exchange(&mut self, beginning: Beginning) -> Result<AllTold, DapFault>
-        requires { IsDapBeginning self.old.plan.items self.old.size.bytes self.old.posted beginning }
-        ensures tells { IfOk result (λ told. DapHasSent P.exchanged beginning told.items self.old self.new) }
+    // Sends the first transactions of the plan, and returns those that the reply tells.
+    fn exchange(&mut self, count: usize) -> Result<AllTold, DapFault>
+        requires { IsDapBeginning self.old.plan.items self.old.size.bytes self.old.padded self.old.posted count }
+        ensures tells { IfOk result (λ told. DapHasSent P.exchanged count told.items self.old self.new) }
         ensures same { self.new ≡ record self.old { packets = self.new.packets } }
     {
-        let packet = transfer_request(&self.plan.as_slice()[..beginning.requests]);
+        let transactions = &self.plan.as_slice()[..count];
+        let packet = transfer_request(requests_of(transactions).as_slice());
         let mut reply = [0u8; LONGEST];
         let length = self.packets.exchange(packet.as_slice(), &mut reply)?;
-        told_of(self.plan.as_slice(), beginning, &reply[..length])
+        told_of(transactions, self.padded, &reply[..length])
     }
 
     // Drops a plan that doesn't begin with this request: then the request alone is planned.
@@ -437,8 +458,11 @@ impl<P: Packets> Transport for DapTransport<P> {
         self.call(cue)
     }
 
-    fn looks_ahead(&self) -> bool {
-        !self.has_told()
+    fn looks_ahead(&self) -> Option<Pieces> {
+        if self.has_told() {
+            return None;
+        }
+        Some(self.size.pieces())
     }
 
     fn announce(&mut self, coming: &[Coming]) {

@@ -1,6 +1,7 @@
 //! Calls of a transport, the packets that they make, and what is seen.
 
 mod answers;
+mod counted;
 mod doubted;
 mod expect;
 mod refused;
@@ -8,6 +9,7 @@ mod rows;
 mod streams;
 
 use answers::Answers;
+use counted::COUNTED;
 use doubted::DOUBTED;
 use expect::{expect_at, expect_eq_at};
 use refused::REFUSED;
@@ -31,9 +33,9 @@ fn call<R: Abort>(rt: &R, name: &'static str, transport: &mut DapTransport<Answe
     }
 }
 
-// Makes the calls of a case, and then hangs up.
-fn play<R: Abort>(rt: &R, case: &Case) {
-    let mut transport = DapTransport::new(Answers::new(case.packets), 1_000_000);
+// Makes the calls of a case, and then hangs up. `padded`: whether replies may be padded.
+fn play<R: Abort>(rt: &R, case: &Case, padded: bool) {
+    let mut transport = DapTransport::new(Answers::new(case.packets, padded), 1_000_000);
     for step in case.steps {
         call(rt, case.name, &mut transport, step);
     }
@@ -46,21 +48,28 @@ fn play<R: Abort>(rt: &R, case: &Case) {
 #[test]
 fn packets_are_those_of_the_protocol(rt: HostRuntime) {
     for case in CASES {
-        play(&rt, case);
+        play(&rt, case, true);
     }
 }
 
 #[test]
 fn connections_end(rt: HostRuntime) {
     for case in REFUSED {
-        play(&rt, case);
+        play(&rt, case, true);
+    }
+}
+
+#[test]
+fn packets_hold_more_where_lengths_are_known(rt: HostRuntime) {
+    for case in COUNTED {
+        play(&rt, case, false);
     }
 }
 
 #[test]
 fn accesses_in_doubt_are_counted(rt: HostRuntime) {
     for (case, count) in DOUBTED {
-        let mut transport = DapTransport::new(Answers::new(case.packets), 1_000_000);
+        let mut transport = DapTransport::new(Answers::new(case.packets, true), 1_000_000);
         for step in case.steps {
             call(&rt, case.name, &mut transport, step);
         }

@@ -474,8 +474,8 @@ asked_at_data e after q h rest saw give take =
 pub record EngineForeseesSoFar (e : Engine) (after : List Access) (found : List Coming) (room : ℕ) (f : Engine)
     (left : List Access) : Type 0
   where
-    pub count : length found + room ≡ 128
-    pub on : (more : List Coming) → EnginesForesee room f left more → EnginesForesee 128 e after (found ++ more)
+    pub count : length found + room ≡ 160
+    pub on : (more : List Coming) → EnginesForesee room f left more → EnginesForesee 160 e after (found ++ more)
 
 -- one more transaction
 pub foresees_more : (e f g : Engine) (after left rest : List Access) (found : List Coming) (next : Coming) (room : ℕ)
@@ -485,19 +485,19 @@ foresees_more e f g after left rest found next room some step so =
     let count = so.count in
     record {
       count = simp length-append (omega arith);
-      on = λ more h. subst (EnginesForesee 128 e after) (sym (append_assoc found (next ∷ []) more))
+      on = λ more h. subst (EnginesForesee 160 e after) (sym (append_assoc found (next ∷ []) more))
           (so.on (next ∷ more) (step room more h));
     }
 
 -- no room for more
 pub foresees_full : (e f : Engine) (after left : List Access) (found : List Coming) (room : ℕ) → room ≡ 0
-    → EngineForeseesSoFar e after found room f left → HostForesees 128 e after found
+    → EngineForeseesSoFar e after found room f left → HostForesees 160 e after found
 foresees_full e f after left found room is so =
-    subst (HostForesees 128 e after) (append-nil found) (so.on [] (λ o like. inl is) e (engine_alike_refl e))
+    subst (HostForesees 160 e after) (append-nil found) (so.on [] (λ o like. inl is) e (engine_alike_refl e))
 
 -- nothing comes next
 pub foresees_all : (e f : Engine) (after left : List Access) (found : List Coming) (room : ℕ)
-    → EnginesForeseeNone f left → EngineForeseesSoFar e after found room f left → HostForesees 128 e after found
+    → EnginesForeseeNone f left → EngineForeseesSoFar e after found room f left → HostForesees 160 e after found
 foresees_all e f after left found room none so =
-    subst (HostForesees 128 e after) (append-nil found)
+    subst (HostForesees 160 e after) (append-nil found)
     (so.on [] (λ o like. inr (none o like)) e (engine_alike_refl e))

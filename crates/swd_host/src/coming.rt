@@ -15,7 +15,7 @@ use swd_bits::{Request, data_bits};
 use swd_port::{Access, Coming, Cue, Wire};
 
 /// The most transactions that are told at once.
-pub(crate) const MOST_COMING: usize = 128;
+pub(crate) const MOST_COMING: usize = 160;
 
 // A transaction that comes next, with the engine after it, and the accesses that are left then.
 #[derive(Clone, Copy)]
@@ -27,11 +27,11 @@ struct Foreseen<'a> {
 
 impl Engine {
     /// Returns the transactions that come next, each as long as those before it are answered OK with right parity: up
-    /// to a read whose word decides what follows (of DPIDR, CTRL/STAT or CSW), up to 128, or up to the end of the last
+    /// to a read whose word decides what follows (of DPIDR, CTRL/STAT or CSW), up to 160, or up to the end of the last
     /// access. `after` are the accesses after the current one. Where a line reset, a data phase or a turnaround is due,
     /// there are none.
     pub fn coming(&self, after: &[Access]) -> ArrayVec<Coming, MOST_COMING>
-        ensures { HostForesees 128 self.now after.now result.items }
+        ensures { HostForesees 160 self.now after.now result.items }
     {
         let mut engine = *self;
         let mut left = after;
@@ -188,7 +188,7 @@ pub(crate) fn announce<W: Wire>(wire: &mut W, engine: &Engine, after: &[Access])
     ensures lawful { W.lawful wire.new → W.lawful wire.old }
     ensures notes { (calls : List Call) → W.notes calls wire.old → W.notes calls wire.new }
 {
-    if wire.looks_ahead() {
+    if wire.looks_ahead().is_some() {
         wire.announce(engine.coming(after).as_slice());
     }
 }

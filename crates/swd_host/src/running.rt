@@ -27,7 +27,7 @@ use crate::outcome::{End, Ending, Outcome, Refused, Report};
 use crate::sink::AnswerSink;
 use crate::task::Bursts;
 use std::alloc::Allocator;
-use swd_port::{Access, Answer, Cue, MOST_ACCESSES, Wire};
+use swd_port::{Access, Answer, Cue, MOST_ACCESSES, Pieces, Wire};
 
 impl Engine {
     /// Makes the one call of the wire that the engine's cue asks for, and passes the reply to the engine. Does nothing
@@ -169,16 +169,24 @@ pub(crate) fn open<W: Wire>(wire: &mut W, engine: &mut Engine) -> Result<(), End
     }
 }
 
-// Returns where the piece of a list ends that has the access at this index. Where a wire makes several transactions by
-// one exchange, a burst ends with its piece, so that packets of 64 bytes can hold it: 11 writes, or 15 reads.
+// Returns how many accesses a piece of a list has. Where a wire makes several transactions by one exchange, a burst
+// ends with its piece, so that one exchange can hold it; `None` where a list is one piece.
+fn piece_of(bursts: Bursts, held: Option<Pieces>) -> Option<usize> {
+    let held = held?;
+    match bursts {
+        Bursts::Writes => Some(held.writes),
+        Bursts::Reads => Some(held.reads),
+        Bursts::Never => None,
+    }
+}
+
+// Returns where the piece of a list ends that has the access at this index.
 #[inline(always)]
-fn piece_end(index: usize, count: usize, pieces: Option<Bursts>) -> usize {
-    let length = match pieces {
-        Some(Bursts::Writes) => 11,
-        Some(Bursts::Reads) => 15,
-        _ => return count,
-    };
-    count.min(index.saturating_add(length - index % length))
+fn piece_end(index: usize, count: usize, piece: Option<usize>) -> usize {
+    match piece {
+        Some(length) if length > 0 => count.min(index.saturating_add(length - index % length)),
+        _ => count,
+    }
 }
 
 // Returns the access after the one at this index, unless its piece ends there.
@@ -262,13 +270,9 @@ pub(crate) fn perform<W: Wire, K: AnswerSink>(
     ensures most { K.most sink.old ≤ K.most sink.new }
     ensures keeps { K.keeps sink.old sink.new }
 {
-    let pieces = if wire.looks_ahead() {
-        Some(engine.bursts)
-    } else {
-        None
-    };
+    let piece = piece_of(engine.bursts, wire.looks_ahead());
     for (index, next) in accesses.iter().enumerate() {
-        let end = piece_end(index, accesses.len(), pieces);
+        let end = piece_end(index, accesses.len(), piece);
         let following = following(accesses, index, end);
         let after = accesses.get(index + 1..end).unwrap_or(&[]);
         match access(wire, engine, *next, following, after) {

@@ -10,6 +10,15 @@ pub struct Coming {
     pub word: u32,
 }
 
+/// How much of a burst one exchange of a wire holds.
+#[derive(Clone, Copy, Debug, PartialEq, Eq)]
+pub struct Pieces {
+    /// The most writes, behind one of TAR.
+    pub writes: usize,
+    /// The most reads.
+    pub reads: usize,
+}
+
 /// A read of DPIDR.
 impl Default for Coming {
     fn default() -> Coming {

@@ -21,7 +21,7 @@ mod wire;
 pub use abort::Abort;
 pub use access::{Access, Answer, MOST_ACCESSES, Transfer, push_reads};
 pub use call::Call;
-pub use coming::Coming;
+pub use coming::{Coming, Pieces};
 pub use count::Count;
 pub use csw::Csw;
 pub use ctrl_stat::CtrlStat;

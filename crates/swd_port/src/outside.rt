@@ -7,7 +7,7 @@ ghost use Rattle.swd_port.specs.Transports.{PortTransportHas, PortTransportHasOv
 ghost use Rattle.swd_port.specs.declared.cue.Cue.TheVariants.{Ask, Take};
 
 use crate::call::Call;
-use crate::coming::Coming;
+use crate::coming::{Coming, Pieces};
 use crate::cue::Cue;
 use crate::noted::NotedCalls;
 use crate::wire::{Due, Wire};
@@ -44,9 +44,10 @@ pub trait Transport {
         ensures told { (made : List PortAttempt) → tells made self.old
             → tells (made ++ port_attempt cue result ∷ []) self.new };
 
-    /// Returns whether [`announce`](Transport::announce) is of use to this transport now.
-    fn looks_ahead(&self) -> bool {
-        false
+    /// Returns how much of a burst one exchange holds, if [`announce`](Transport::announce) is of use to this transport
+    /// now.
+    fn looks_ahead(&self) -> Option<Pieces> {
+        None
     }
 
     /// Tells which transactions come next, each as long as those before it are answered OK with right parity. It is no
@@ -120,8 +121,11 @@ impl<T: Transport, S: Story, K: Tie> Wire for TransportWire<T, S, K> {
         seen
     }
 
-    fn looks_ahead(&self) -> bool {
-        !self.gone && self.transport.looks_ahead()
+    fn looks_ahead(&self) -> Option<Pieces> {
+        if self.gone {
+            return None;
+        }
+        self.transport.looks_ahead()
     }
 
     fn announce(&mut self, coming: &[Coming]) {

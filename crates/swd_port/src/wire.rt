@@ -10,7 +10,7 @@ ghost use Rattle.swd_port.specs.Moving.{PortTakes, PortGives, PortPasses};
 ghost use Rattle.swd_port.specs.Stories.{PortMayStep, IsPortSeen, IsPortStep, port_due_once};
 ghost use Rattle.swd_port.specs.declared.call.Call.{Call};
 
-use crate::coming::Coming;
+use crate::coming::{Coming, Pieces};
 use crate::cue::Cue;
 use swd_bits::Request;
 
@@ -113,10 +113,10 @@ pub trait Wire {
         ensures notes { (calls : List Call) → notes calls self.old
             → notes (record { cue = cue; seen = result } ∷ calls) self.new };
 
-    /// Returns whether [`announce`](Wire::announce) is of use to this wire now.
+    /// Returns how much of a burst one exchange holds, if [`announce`](Wire::announce) is of use to this wire now.
     #[inline(always)]
-    fn looks_ahead(&self) -> bool {
-        false
+    fn looks_ahead(&self) -> Option<Pieces> {
+        None
     }
 
     /// Tells which transactions come next, each as long as those before it are answered OK with right parity. A wire
@@ -239,7 +239,7 @@ impl<W: Wire> Wire for &mut W {
     }
 
     #[inline(always)]
-    fn looks_ahead(&self) -> bool {
+    fn looks_ahead(&self) -> Option<Pieces> {
         (**self).looks_ahead()
     }
 

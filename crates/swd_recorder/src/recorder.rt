@@ -13,7 +13,7 @@ ghost use Rattle.swd_recorder.specs.Steps.{recorded_transactions, recorded_due_c
 
 use crate::recording::Recording;
 use std::alloc::{Allocator, Global};
-use swd_port::{Coming, Cue, Due, Wire};
+use swd_port::{Coming, Cue, Due, Pieces, Wire};
 use swd_trace::Item;
 
 /// A wire that forwards every call to another one. It keeps what the host sent and saw since the recorder was
@@ -131,7 +131,7 @@ impl<W: Wire, A: Allocator> Wire for Recorder<W, A> {
         seen
     }
 
-    fn looks_ahead(&self) -> bool {
+    fn looks_ahead(&self) -> Option<Pieces> {
         self.wire.looks_ahead()
     }
 

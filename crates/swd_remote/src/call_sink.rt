@@ -2,7 +2,7 @@
 ghost use Rattle.std.specs.Prelude.{◌∷◌, ◌++◌, [], List};
 ghost use Rattle.swd_port.specs.Transports.{PortAttempt, port_attempt};
 
-use swd_port::{Coming, Cue, Disconnected, Transport};
+use swd_port::{Coming, Cue, Disconnected, Pieces, Transport};
 
 /// What gets the calls that are made of a transport, each with its result.
 pub trait CallSink {
@@ -35,7 +35,7 @@ impl<T: Transport, K: CallSink> Transport for WatchedTransport<T, K> {
         told
     }
 
-    fn looks_ahead(&self) -> bool {
+    fn looks_ahead(&self) -> Option<Pieces> {
         self.transport.looks_ahead()
     }
 

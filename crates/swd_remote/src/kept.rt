@@ -9,7 +9,7 @@ use crate::opening::Opening;
 use crate::remote::Fault;
 use std::io::{Read, Write};
 use std::marker::{Brand, PhantomData};
-use swd_port::{Coming, Cue, Disconnected, Transport};
+use swd_port::{Coming, Cue, Disconnected, Pieces, Transport};
 
 /// What goes over a line, and what its writer holds and its reader has at the beginning of a connection. It is for
 /// contracts alone: a caller passes [`Brand`], and its proof gives the values.
@@ -115,7 +115,7 @@ impl<R: Read, W: Write, B: InitialStreams> Transport for RemoteTransport<R, W, B
         told
     }
 
-    fn looks_ahead(&self) -> bool {
+    fn looks_ahead(&self) -> Option<Pieces> {
         self.transport.looks_ahead()
     }
 

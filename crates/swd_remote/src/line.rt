@@ -11,7 +11,7 @@ use crate::probe_transport::ProbeTransport;
 use crate::remote::{Fault, Remote};
 use std::io::{Read, Write};
 use swd_dap::{DapFault, DapTransport, Reports};
-use swd_port::{Coming, Cue, Disconnected, Transport};
+use swd_port::{Coming, Cue, Disconnected, Pieces, Transport};
 
 /// What goes over a line.
 #[derive(Clone, Copy, Debug, PartialEq, Eq)]
@@ -90,10 +90,10 @@ impl<R: Read, W: Write> LineTransport<R, W> {
         }
     }
 
-    /// Returns whether it is of use to tell which transactions come next.
-    pub(crate) fn looks_ahead(&self) -> bool {
+    /// Returns how much of a burst one exchange holds, if it is of use to tell which transactions come next.
+    pub(crate) fn looks_ahead(&self) -> Option<Pieces> {
         match self {
-            LineTransport::Server(_) => false,
+            LineTransport::Server(_) => None,
             LineTransport::Probe(transport) => transport.looks_ahead(),
         }
     }

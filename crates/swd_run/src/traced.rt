@@ -19,7 +19,7 @@ use crate::trace_file::{write_settled, write_to};
 use std::alloc::Allocator;
 use std::io::Write;
 use std::marker::{Brand, PhantomData};
-use swd_port::{Coming, Cue, Due, Wire};
+use swd_port::{Coming, Cue, Due, Pieces, Wire};
 use swd_recorder::Recorder;
 
 /// The state of the port model at the start of a recorded run, the contents of the trace's writer, if there is one, and
@@ -114,7 +114,7 @@ impl<W: Wire, T: Write, A: Allocator, B: Origin> Wire for Traced<W, T, A, B> {
         seen
     }
 
-    fn looks_ahead(&self) -> bool {
+    fn looks_ahead(&self) -> Option<Pieces> {
         self.recorder.looks_ahead()
     }
 

@@ -10,12 +10,19 @@ pub(super) struct Row {
     pub(super) reply: &'static [u8],
 }
 
-/// What opens a connection at 1 MHz, to a probe whose packets have 64 bytes.
-pub(super) const OPENING: &[Row] = &[
-    Row {
-        request: &[0x00, 0xff],
-        reply: &[0x00, 0x02, 0x40, 0x00],
-    },
+// The size of packets: 64 bytes where replies are padded, else 512.
+const SHORT: Row = Row {
+    request: &[0x00, 0xff],
+    reply: &[0x00, 0x02, 0x40, 0x00],
+};
+
+const LONG: Row = Row {
+    request: &[0x00, 0xff],
+    reply: &[0x00, 0x02, 0x00, 0x02],
+};
+
+// What opens a connection at 1 MHz, behind the size of packets.
+const OPENING: &[Row] = &[
     Row {
         request: &[0x02, 0x01],
         reply: &[0x02, 0x01],
@@ -43,6 +50,7 @@ const CLOSING: Row = Row {
 #[derive(Drop)]
 pub(super) struct Answers {
     packets: &'static [Row],
+    padded: bool,
     // How many packets it got.
     got: usize,
     // Whether it got another packet.
@@ -51,9 +59,10 @@ pub(super) struct Answers {
 
 impl Answers {
     /// Returns a probe that got nothing yet.
-    pub(super) fn new(packets: &'static [Row]) -> Answers {
+    pub(super) fn new(packets: &'static [Row], padded: bool) -> Answers {
         Answers {
             packets,
+            padded,
             got: 0,
             strayed: false,
         }
@@ -61,7 +70,11 @@ impl Answers {
 
     /// Returns whether it got each packet, and no other; if no error came, the closing one, too.
     pub(super) fn is_done(&self, faulted: bool) -> bool {
-        let mut wanted = self.packets.len().saturating_add(OPENING.len());
+        let mut wanted = self
+            .packets
+            .len()
+            .saturating_add(OPENING.len())
+            .saturating_add(1);
         if !faulted {
             wanted = wanted.saturating_add(1);
         }
@@ -70,17 +83,26 @@ impl Answers {
 
     // Returns the packet that comes next.
     fn next(&self) -> Row {
-        match OPENING.get(self.got) {
+        let Some(behind) = self.got.checked_sub(1) else {
+            return if self.padded { SHORT } else { LONG };
+        };
+        match OPENING.get(behind) {
             Some(opening) => *opening,
             None => *self
                 .packets
-                .get(self.got.saturating_sub(OPENING.len()))
+                .get(behind.saturating_sub(OPENING.len()))
                 .unwrap_or(&CLOSING),
         }
     }
 }
 
 impl Packets for Answers {
+    ghost pads = { λ answers. answers.padded };
+
+    fn is_padded(&self) -> bool {
+        self.padded
+    }
+
     fn exchange(&mut self, request: &[u8], reply: &mut [u8; 512]) -> Result<usize, DapFault> {
         let next = self.next();
         self.got = self.got.saturating_add(1);

@@ -3,7 +3,7 @@
 use super::answers::Row;
 use swd_bits::{Reg4, Request};
 use swd_dap::DapFault;
-use swd_port::{Coming, Cue};
+use swd_port::{Coming, Cue, Pieces};
 
 /// A call of the transport.
 pub(super) enum Step {
@@ -13,8 +13,8 @@ pub(super) enum Step {
     Sees(Cue, u64),
     /// The cue ends the connection with this error.
     Ends(Cue, DapFault),
-    /// Whether an announcement is of use.
-    Looks(bool),
+    /// How much of a burst a packet holds, if an announcement is of use.
+    Looks(Option<Pieces>),
 }
 
 /// Calls of a transport, and the packets behind the opening ones.
@@ -96,6 +96,12 @@ pub(super) const DRW_WRITE: Request = Request {
     addr: Reg4::RC,
 };
 
+// What a packet of 64 bytes holds.
+const HELD: Pieces = Pieces {
+    writes: 11,
+    reads: 15,
+};
+
 /// Each is over a connection of its own.
 pub(super) const CASES: &[Case] = &[
     Case {
@@ -167,10 +173,10 @@ pub(super) const CASES: &[Case] = &[
                 },
             ]),
             Step::Sees(Cue::Ask(ABORT), 1),
-            Step::Looks(false),
+            Step::Looks(None),
             Step::Sees(Cue::Give(0x1e), 0),
             Step::Sees(Cue::Ask(CTRL_READ), 1),
-            Step::Looks(true),
+            Step::Looks(Some(HELD)),
             Step::Sees(Cue::Take, 0x0),
         ],
     },
@@ -327,7 +333,7 @@ pub(super) const CASES: &[Case] = &[
             Step::Sees(Cue::Ask(DRW_READ), 1),
             Step::Sees(Cue::Take, 0x3),
             Step::Sees(Cue::Ask(RDBUFF), 1),
-            Step::Looks(true),
+            Step::Looks(Some(HELD)),
             Step::Sees(Cue::Take, 0x100000004),
         ],
     },
@@ -364,7 +370,7 @@ pub(super) const CASES: &[Case] = &[
             Step::Sees(Cue::Ask(TAR_WRITE), 1),
             Step::Sees(Cue::Give(0x120000000), 0),
             Step::Sees(Cue::Ask(DRW_WRITE), 2),
-            Step::Looks(true),
+            Step::Looks(Some(HELD)),
             Step::Sees(Cue::Pass, 0),
             Step::Announce(&[
                 Coming {

@@ -153,9 +153,9 @@ fn accesses_are_foretold_to_the_end(rt: HostRuntime) -> Result<(), Fail> {
 
 // Each of these accesses writes TAR, so it takes three requests.
 #[test]
-fn at_most_128_transactions_are_foretold(rt: HostRuntime) -> Result<(), Fail> {
+fn at_most_160_transactions_are_foretold(rt: HostRuntime) -> Result<(), Fail> {
     let list = [Access::Write(BASE, 1), Access::Read(BASE)].repeat(rt.alloc(), 40)?;
     let engine = opened(Engine::new(8), 0x2300_0052);
-    expect_eq_at(&rt, &"a long list", &engine.coming(&list).len(), &128);
+    expect_eq_at(&rt, &"a long list", &engine.coming(&list).len(), &160);
     Ok(())
 }

@@ -1,4 +1,4 @@
-use Rattle.std.proofs.Common.{Option, List, ◌∙◌, ◌||◌, sym, ap, subst, arith}
+use Rattle.std.proofs.Common.{Option, List, ◌∙◌, sym, ap, subst, arith}
 use Rattle.std.proofs.Math.Logic.{∥∥₁_map, ∥∥₁_map₂}
 use Rattle.swd_port.specs.declared.call.Call.{Call}
 use Rattle.swd_check.specs.Watched.{CheckTakes}

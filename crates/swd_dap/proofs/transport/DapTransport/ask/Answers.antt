@@ -11,8 +11,8 @@ returns-then-has_told g c = record {
   asks = answers c.in_ok-seen.ensures;
 }
 
-pub returns-then-beginning-eq0 : goal.returns-then-beginning-eq0
-returns-then-beginning-eq0 g c = record {
+pub returns-then-count-eq0 : goal.returns-then-count-eq0
+returns-then-count-eq0 g c = record {
   opened = c.open.new.self;
   opens = c.in_ok-open.ensures;
   asks = clocks c.plan_begins_with.new.self (c.has_told.ensures.none c.if-has_told.false) c.plan_begins_with.ensures
@@ -22,11 +22,11 @@ returns-then-beginning-eq0 g c = record {
 pub returns : goal.returns
 returns g c =
     let planned = c.plan_begins_with.new.self in
-    let b = c.longest_beginning-beginning.result in
+    let n = c.longest_beginning-count.result in
     record {
       opened = c.open.new.self;
       opens = c.in_ok-open.ensures;
-      asks = makes planned c.make.new.self b (c.has_told.ensures.none c.if-has_told.false) c.plan_begins_with.ensures
-          (subst (λ (l : List Transfer). IsDapBeginning l planned.size.bytes planned.posted b) c.as_slice.ensures.value
-          c.longest_beginning-beginning.ensures) c.in_ok-make.ensures.makes c.in_ok-seen-3.ensures;
+      asks = makes planned c.make.new.self n (c.has_told.ensures.none c.if-has_told.false) c.plan_begins_with.ensures
+          (subst (λ (l : List Transfer). IsDapBeginning l planned.size.bytes planned.padded planned.posted n)
+          c.as_slice.ensures.value c.longest_beginning-count.ensures) c.in_ok-make.ensures.makes c.in_ok-seen-3.ensures;
     }
