@@ -46,5 +46,6 @@ mod SendingWords
 mod SendingTurns
 mod SendingRuns
 mod Listed
+pub mod StandIns
 pub mod Foreseeing
 pub mod Folding

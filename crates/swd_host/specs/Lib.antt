@@ -14,6 +14,7 @@ pub mod Steps
 pub mod Calls
 pub mod Coming
 pub mod Sent
+pub mod StandIns
 pub mod Sinks
 pub mod Stages
 pub mod Reports

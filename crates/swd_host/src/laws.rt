@@ -10,6 +10,8 @@ ghost use Rattle.swd_host.specs.Chains.{ResumedCallsAreChained, ResumeChainDoes,
 ghost use Rattle.swd_host.specs.PlainRuns.{FitsOverPlain, RunsOverPlain};
 ghost use Rattle.swd_host.specs.Sessions.{HostFindsMadeAtRest, HostLists, HostListsAreAsOne, HostSession};
 ghost use Rattle.swd_host.specs.Sessions.{HostSessionIsAsOne};
+ghost use Rattle.swd_host.specs.StandIns.{AreHostStandInsBothWays, EngineTurnedByStandIn, EngineTurnsByStandIns};
+ghost use Rattle.swd_host.specs.StandIns.{HostReportsStandIns};
 ghost use Rattle.swd_host.specs.Tracks.{EngineDueFits};
 ghost use Rattle.swd_host.specs.Turns.{EngineContinuesBurst, EngineStarts};
 
@@ -54,4 +56,16 @@ pub fn started()
     ensures { (a : Access) (following : Option Access) (e f : Engine) (s : Port) → EngineStarts a following e f
         → engine_may_start (engine_outcome e) ≡ true → EngineContinuesBurst e a → EngineDueFits e s
         → EngineDueFits f s }
+{}
+
+/// States that the bits of a read's data phase decide nothing where their parity is wrong. So a wire that doesn't know
+/// which bits of a damaged word arrived, as that over a CMSIS-DAP probe, may tell any others with wrong parity. The
+/// engine that made the calls with these stand-ins could have made those with the true bits, and is the same then. A
+/// report relates to the one list of calls exactly if it relates to the other. So the theorem holds for each story that
+/// the calls with the true bits fit (`swd_steps::laws::stand_ins`).
+pub fn stand_ins()
+    ensures both { AreHostStandInsBothWays }
+    ensures turned { EngineTurnedByStandIn }
+    ensures turns { EngineTurnsByStandIns }
+    ensures reports { HostReportsStandIns }
 {}

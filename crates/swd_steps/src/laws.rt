@@ -1,6 +1,7 @@
 //! The theorem of a run whose caller makes the calls. A function here does nothing: its contract is the law.
 ghost use Rattle.swd_steps.specs.Laws.{SteppedAlwaysCloses, SteppedRunEnds, SteppedRunsAreShown, SteppedResumeFits};
 ghost use Rattle.swd_steps.specs.Laws.{SteppedOpenFits, SteppedRunFits};
+ghost use Rattle.swd_steps.specs.StandIns.{SteppedRanByStandIns, SteppedRunFitsByStandIns};
 ghost use Rattle.swd_steps.specs.Reached.{SteppedOpenReaches, SteppedResumeReaches, SteppedRunReaches};
 
 /// States what the report of a run that ended says. Whatever came back, it matches the list and the calls that were
@@ -22,6 +23,15 @@ pub fn accesses()
     ensures runs { SteppedRunReaches }
     ensures opened { SteppedOpenReaches }
     ensures resumes { SteppedResumeReaches }
+{}
+
+/// States that a run could have come where it is by calls with other bits of damaged words, those read with wrong
+/// parity. So a caller that doesn't know which bits of such a word arrived may pass any with wrong parity. The report
+/// of a new run is then that of the theorem of `swd_host::run`, for each story with which the bits that arrived are
+/// consistent.
+pub fn stand_ins()
+    ensures ran { SteppedRanByStandIns }
+    ensures runs { SteppedRunFitsByStandIns }
 {}
 
 /// States that a run makes a bounded number of calls, whatever comes back.
