@@ -31,9 +31,9 @@ came_by (has_opened e came finished) others are = has_opened e (came_by came oth
 came_by (has_answered e answer came finished) others are = has_answered e answer (came_by came others are) finished
 came_by (has_started a e f came at starts) others are = has_started a e f (came_by came others are) at starts
 came_by (has_idled e came all) [] are = absurd are
-came_by {how} {list} {calls} {e} {stage} {answers} (has_idled e came all) (d ∷ others) are =
+came_by {how} {list} {calls} {e} {stage} {answers} (has_idled f came all) (d ∷ others) are =
     subst (λ (x : Call). SteppedCame how list (x ∷ others) e stage answers) (sym (idles_as d are.0))
-    (has_idled e (came_by came others are.1) all)
+    (has_idled f (came_by came others are.1) all)
 came_by (has_stopped e end came finished) others are = has_stopped e end (came_by came others are) finished
 
 accepted_by : (opened : Bool) (from : ℕ) (accesses : List Access) (calls others : List Call)
