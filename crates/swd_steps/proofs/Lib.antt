@@ -7,3 +7,4 @@ mod Reaching
 mod Ending
 mod Stepping
 mod Failing
+pub mod Planning

@@ -3,3 +3,4 @@ pub mod Laws
 pub mod Fields
 pub mod Reached
 pub mod Failing
+pub mod Plans
