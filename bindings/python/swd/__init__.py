@@ -47,13 +47,16 @@ from ._decoding import Bits, Cut, Decoder, Idle, Item, Junk, Reset, Switch, Tran
 from ._errors import (
     AccessFaulted, BusError, CallbackFailed, ConditionNotMet, DecoderFinished, ImageDiffers, ImageInterrupted,
     ImageStopped, Interrupted, LibraryMismatch, LibraryNotFound, LibraryNotProved, LibraryRefused, LineFailed, NotABit,
-    NotALine, NotAnAccess, NotAnItem, NotBytes, NotResumable, OutOfRange, Reentered, RunEnded, RunFailed, RunStopped,
-    SwdError, TooManyAccesses, Unaligned, report_of,
+    NotALine, NotAnAccess, NotAnItem, NotBytes, NotResumable, OutOfRange, ProbeFailed, Reentered, RunEnded, RunFailed,
+    RunStopped, SwdError, TooManyAccesses, Unaligned, report_of,
 )
 from ._hosts import Host, Session
 from ._identities import Identification, Opening
 from ._library import Library
 from ._lines import Line, SequenceLine, Sequences
+from ._packets import Packets
+from ._planned import Planned
+from ._probes import Probe
 from ._runs import Run
 from ._target import Bus, Target
 
@@ -65,7 +68,8 @@ __all__ = [
     "DecoderFinished", "Drive", "End", "Give", "Host", "Idle", "Identification", "ImageDiffers", "ImageInterrupted",
     "ImageStopped", "Interrupted", "Item", "Junk", "Lead", "Library", "LibraryMismatch", "LibraryNotFound",
     "LibraryNotProved", "LibraryRefused", "Line", "LineFailed", "MOST_ACCESSES", "NoBreakpointLeft", "NotABit",
-    "NotALine", "NotAnAccess", "NotAnItem", "NotBytes", "NotResumable", "Opening", "OutOfRange", "Pass", "Read",
+    "NotALine", "NotAnAccess", "NotAnItem", "NotBytes", "NotResumable", "Opening", "OutOfRange", "Packets", "Pass",
+    "Planned", "Probe", "ProbeFailed", "Read",
     "Reentered", "RegisterNotReady", "Release", "Report", "Reset", "Run", "RunEnded", "RunFailed", "RunStopped",
     "Sample", "Sequence", "SequenceLine", "Sequences", "Session", "SwdError", "Switch", "Take", "Target",
     "TooManyAccesses", "Transaction", "Unaligned", "Value", "Verdict", "Write", "Written", "block", "decode",

@@ -59,6 +59,10 @@ class NotALine(SwdError, TypeError):
     pair of functions."""
 
 
+class ProbeFailed(SwdError):
+    """There is no such probe, it can't be used, or not any more. The message says why, and what to do."""
+
+
 class NotResumable(SwdError, ValueError):
     """The report isn't one that `resume` continues. The message says why."""
 

@@ -3,7 +3,7 @@ import contextlib
 import time
 from dataclasses import replace
 from types import TracebackType
-from typing import Any, Callable, Iterable, Optional, Tuple, Type, TypeVar
+from typing import Any, Callable, Iterable, Optional, Tuple, Type, TypeVar, Union
 
 from . import _images
 from ._accesses import Access, Answer, End, Read, Report, Write, block, counts, listed_accesses
@@ -15,6 +15,8 @@ from ._identities import Identification, Opening, Watch
 from ._images import Buffer, OnProgress
 from ._library import REFUSED, REST, LibraryOrPath, library_functions
 from ._lines import AnyLine, Wire
+from ._pieces import PiecedRun
+from ._probes import Probe, ProbeWire
 from ._runs import OnAnswer, Run, accepted, failed, settling
 from ._uses import Claim
 
@@ -58,9 +60,9 @@ class _Driver:
     _opens_each = True
 
     def __init__(
-        self, line: AnyLine, tries: int = 8, *, bursts: bool = False, library: LibraryOrPath = None,
+        self, line: Union[AnyLine, Probe], tries: int = 8, *, bursts: bool = False, library: LibraryOrPath = None,
     ) -> None:
-        self._wire = Wire(line)
+        self._wire: Union[Wire, ProbeWire] = ProbeWire(line) if isinstance(line, Probe) else Wire(line)
         self.tries = tries
         # Whether writes are confirmed by the next one, in place of by RDBUFF.
         self.bursts = bursts
@@ -185,7 +187,11 @@ class _Driver:
         if self._last is not None and self._last is not End.ALL:
             self._settle(checked)
         opened = not self._opens_each and self._last is not None
-        return Run.of_checked(checked, self._tries, of_block or not self.bursts, opened, self._library)
+        reads = of_block or not self.bursts
+        ends = self._wire.ends(checked, reads)
+        if len(ends) > 1:
+            return PiecedRun(checked, ends, self._tries, block=reads, opened=opened, library=self._library)
+        return Run.of_checked(checked, self._tries, reads, opened, self._library)
 
     def _settle(self, accesses: Tuple[Access, ...]) -> None:
         """Brings a target to rest, and opens it, before a run of these accesses. What is raised has the report of that
@@ -214,6 +220,7 @@ class _Driver:
             with claim:
                 self._wire.use.begin(claim)
                 self._last, self._is_closed, self._newest = End.LOST, False, run
+                self._wire.begin(run)
                 if run.continues and self._inside:
                     _attempt(run, self._wire.leave)
                 self._inside = True

@@ -91,6 +91,8 @@ LAYOUTS = (
 REST, LEAD, ASK, TAKE, GIVE, PASS, REFUSED = 0, 1, 2, 3, 4, 5, 255
 # Kinds of outcomes.
 VALUE, WRITTEN, BUS_FAULT, WRONG_ID = 2, 3, 4, 8
+# The most transactions of a plan.
+MOST_PLANNED = 128
 # The level that says that the host drives none, and what a target returns in place of a bit.
 RELEASED = 2
 WANTS = 2

@@ -144,6 +144,13 @@ class Wire(Performer):
         # `over` is kept, lest another object gets its identity.
         self.use = use_of(tuple(map(_key, self.over)) if isinstance(self.over, tuple) else id(self.over))
 
+    def begin(self, run: object) -> None:
+        """Has the wire perform this run from here on: a line has nothing to plan."""
+
+    def ends(self, accesses: Sequence[object], reads: bool) -> Tuple[int, ...]:
+        """Returns where a list is cut: at its end alone."""
+        return (len(accesses),)
+
     def leave(self) -> None:
         """Leaves the cue inside which the line failed, before a run that continues: has the target drop the data phase
         of a write, and releases SWDIO up to the end of an acknowledgement."""

@@ -1,7 +1,8 @@
 """A run without I/O: it says what to send next, and takes what was seen."""
 import ctypes
 import struct
-from typing import Any, Callable, Iterable, Optional, Tuple, Type
+from dataclasses import replace
+from typing import Any, Callable, Iterable, List, Optional, Tuple, Type
 
 from ._accesses import (
     Access, Answer, BusFault, End, Report, Value, Write, Written, counts, listed_accesses, made_report, since,
@@ -9,11 +10,12 @@ from ._accesses import (
 from ._cues import Cue, cue_of
 from ._errors import CallbackFailed, LibraryRefused, NotResumable, OutOfRange, RunEnded, RunFailed, number
 from ._library import (
-    BUS_FAULT, REFUSED, REST, SILENCE, VALUE, WRITTEN, WRONG_ID, AccessStruct, LibraryOrPath, OutcomeStruct, RunStruct,
-    library_functions,
+    ASK, BUS_FAULT, GIVE, MOST_PLANNED, REFUSED, REST, SILENCE, VALUE, WRITTEN, WRONG_ID, AccessStruct, LibraryOrPath,
+    OutcomeStruct, RunStruct, library_functions,
 )
+from ._planned import Planned
 
-_ALL = 5
+_ALL, _OK, _WORD = 5, 1, 0xFFFF_FFFF
 _ENDS = {_ALL: End.ALL, 6: End.LOST, 7: End.TRIES, WRONG_ID: End.WRONG_ID, 9: End.CONFUSED}
 _BAD_REPLY = 2
 
@@ -69,6 +71,10 @@ class Run:
         # Whether a cue was performed.
         self.is_begun = False
         self._earlier: Optional[Report] = None
+        # The struct before the transactions that may have been made without a reply, and these.
+        self._doubt: Optional[Tuple[Any, Tuple[Planned, ...]]] = None
+        # The answers of copies, at which nobody looks.
+        self._scratch: Any = None
         count = len(accesses)
         # An array may not be empty, to be passed.
         packed = b"".join(map(_packed, accesses)) or bytes(_ACCESS.size)
@@ -145,6 +151,36 @@ class Run:
         self.is_begun = True
         return self.answers(first)
 
+    def plan(self) -> Tuple[Planned, ...]:
+        """Returns the transactions that come next, at most 128. The run asks for exactly these, as long as each is acknowledged
+        with OK and each word arrives with right parity, whatever words are read. They end behind a read whose word
+        decides what follows, and behind the last access. There are none where the cue isn't an `Ask`.
+
+        Two copies of the run are led on, by words of zeros and of ones."""
+        (_, zeros), (_, ones) = self._led(self._run), self._led(self._run)
+        cue, other = self._cue_struct(), self._cue_struct()
+        planned: List[Planned] = []
+        while cue.kind == ASK and bytes(cue) == bytes(other) and len(planned) < MOST_PLANNED:
+            request = cue.request
+            cue, other = zeros(_OK), ones(_OK)
+            planned.append(Planned(request, cue.bits & _WORD if cue.kind == GIVE else 0))
+            cue, other = zeros(0), ones(_WORD)
+        return tuple(planned)
+
+    def _led(self, run: Any) -> Tuple[Any, Callable[[int], Any]]:
+        """Returns a copy of a struct of this run, and what leads it on by a reply and returns the next cue."""
+        if self._scratch is None:
+            self._scratch = type(self._answers)()
+        copy, scratch = RunStruct.from_buffer_copy(run), ctypes.byref(self._scratch)
+        _, listed, count, _, room = self._passed
+        call, here = self._functions.swd_run_next, ctypes.byref(copy)
+        return copy, lambda reply: call(here, listed, count, scratch, room, _argument(reply))
+
+    def doubt(self, planned: Optional[Tuple[Planned, ...]]) -> None:
+        """Says that these transactions come next, and may be made without a reply; or that none of those before is in
+        doubt. A report before the end of the run counts the accesses as in flight that they begin."""
+        self._doubt = None if planned is None else (RunStruct.from_buffer_copy(self._run), planned)
+
     def first(self) -> Any:
         """Returns the struct of the first cue, before any step."""
         return self._cue_struct() if self._first is None else self._first
@@ -183,7 +219,17 @@ class Run:
         run, answers = RunStruct.from_buffer_copy(self._run), type(self._answers).from_buffer_copy(self._answers)
         self._fall_silent(run, answers)
         # With few tries the silence of a data phase ends a run before that of an acknowledgement.
-        return self._reported(run, answers, End.ALL if _ENDS[run.end.kind] is End.ALL else End.LOST)
+        report = self._reported(run, answers, End.ALL if _ENDS[run.end.kind] is End.ALL else End.LOST)
+        return report if self._doubt is None else self._doubted(report, *self._doubt)
+
+    def _doubted(self, report: Report, before: Any, planned: Tuple[Planned, ...]) -> Report:
+        """Returns the report with what these transactions begin, if each of them was made and was OK."""
+        run, step = self._led(before)
+        for _ in planned:
+            step(_OK)
+            step(0)
+        begun = max(report.begun, run.answered + run.begun - len(report.answers))
+        return replace(report, begun=begun, requests=max(report.requests, run.requests))
 
     def only_word(self) -> Optional[int]:
         """Returns the word of a run of one read that ended with `End.ALL`, or None of any other, without a report."""

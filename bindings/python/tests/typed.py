@@ -27,6 +27,14 @@ class Wire:
         return 1
 
 
+class Way:
+    def exchange(self, packet: bytes, size: int) -> bytes:
+        return packet[:size]
+
+    def close(self) -> None:
+        print()
+
+
 class Ram:
     def __init__(self) -> None:
         self.words = {0x20000000: 0}
@@ -63,6 +71,9 @@ def use() -> List[int]:
         print(registers, state, core.identify().name, core.wait(10))
         algorithm: swd.flash.Algorithm = swd.flash.Algorithm.read("a.FLM")
         swd.flash.Programmer(session, algorithm, ram=(0x20000000, 0x1000)).program(swd.flash.read_image("a.hex"))
+    with swd.Probe("/dev/hidraw0", speed=4_000_000) as probe, swd.Session(probe) as over_probe:
+        print(probe.size, over_probe.read(0x20000000))
+    swd.Host(swd.Probe.over(Way())).run_block(0x20000000, 4)
     host = swd.Host(Wire())
     accesses: List[swd.Access] = [swd.Read(0x20000000), swd.Write(0x20000000, 7)]
     try:
@@ -72,6 +83,8 @@ def use() -> List[int]:
     except swd.Interrupted as stop:
         report = stop.report
     run = swd.Run(accesses)
+    plan: List[int] = [planned.request for planned in run.plan()]
+    print(plan)
     cue = run.cue()
     if cue is not None:
         for step in cue.sequences():

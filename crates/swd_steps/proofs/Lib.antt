@@ -8,3 +8,4 @@ mod Ending
 mod Stepping
 mod Failing
 mod StandIns
+pub mod Planning

@@ -4,3 +4,4 @@ pub mod Fields
 pub mod Reached
 pub mod Failing
 pub mod StandIns
+pub mod Plans

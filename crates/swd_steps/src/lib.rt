@@ -5,8 +5,10 @@
 mod accesses;
 mod fields;
 pub mod laws;
+mod plan;
 mod run;
 
 pub use accesses::Accesses;
 pub use fields::RunFields;
+pub use plan::MOST_PLANNED;
 pub use run::{Answers, Refusal, Run};
