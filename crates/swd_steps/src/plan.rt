@@ -1,5 +1,5 @@
 //! The transactions that a run asks for next.
-ghost use Rattle.std.specs.Prelude.{◌≡◌, ◌≤◌, ◌+◌, drop, min, take};
+ghost use Rattle.std.specs.Prelude.{◌≡◌, ◌≤◌, ◌+◌, drop, length, min, take};
 ghost use Rattle.swd_steps.specs.Plans.{SteppedForesees};
 
 use crate::accesses::Accesses;
@@ -48,7 +48,8 @@ impl Run {
     /// are at most `room` and at most [`MOST_PLANNED`]. There are none where something else than a request is due, or
     /// nothing. Pass the same list as to [`next`](Run::next).
     pub fn coming<L: Accesses>(&self, accesses: &L, room: usize) -> ArrayVec<Coming, MOST_PLANNED>
-        ensures { SteppedForesees (min room 128) (L.list accesses.now) self.now result.items }
+        ensures foresees { SteppedForesees (min room 128) (L.list accesses.now) self.now result.items }
+        ensures few { length result.items ≤ room }
     {
         let mut planned = ArrayVec::new();
         let Stage::Driving = self.stage else {
