@@ -48,7 +48,8 @@ dap_answers_by {P} q seen s told next posted within is request sees goes waits =
 
 -- a call behind calls
 pub dap_call_more : {P : Type 0} (Exchanged : List DapExchange → P → Type 0) (calls : List PortAttempt)
-    (call : PortAttempt) (s m t : DapTransport P) → DapCalls Exchanged calls s m → DapCallsAt m.fault call.told Exchanged call.cue m t
+    (call : PortAttempt) (s m t : DapTransport P) → DapCalls Exchanged calls s m
+    → DapCallsAt m.fault call.told Exchanged call.cue m t
     → DapCalls Exchanged (calls ++ call ∷ []) s t
 dap_call_more Exchanged [] call s m t h one = (m, t, h, one, refl)
 dap_call_more Exchanged (first ∷ calls) call s m t h one =

@@ -1,5 +1,5 @@
 -- The calls of a transport over a probe: what each is answered from, and the packets that it exchanges.
-use Rattle.std.specs.Prelude.{ℕ, ◌≡◌, ◌≢◌, ◌<◌, ◌≤◌, ◌+◌, ◌==◌, Bool, true, false, ◌||◌, not, List, [], ◌∷◌}
+use Rattle.std.specs.Prelude.{ℕ, ◌≡◌, ◌≢◌, ◌<◌, ◌≤◌, ◌+◌, ◌==◌, Bool, true, false, List, [], ◌∷◌}
 use Rattle.std.specs.Prelude.{length, take, slice_index_or, if◌then◌else◌, Option, Some, None, Result, Ok, Err, ◌⊎◌}
 use Rattle.swd_bits.specs.declared.request.Request.{Request}
 use Rattle.swd_bits.specs.declared.request.Reg4.TheVariants.{R0}
@@ -19,7 +19,7 @@ use Rattle.swd_dap.specs.Sequences.{dap_ask_request, dap_take_request, dap_give_
 use Rattle.swd_dap.specs.Opening.{DapOpens}
 use Rattle.swd_dap.specs.Nexts.{dap_next_of, dap_next_by_clocks}
 use Rattle.swd_dap.specs.Leading.{DapReleases, DapClocksLead}
-use Rattle.swd_dap.specs.Doubts.{dap_drws, dap_with_pending}
+use Rattle.swd_dap.specs.Doubts.{dap_drws}
 
 -- THE OPENING
 
@@ -213,7 +213,6 @@ DapHangsUp None false Exchanged s t told = (t ≡ s) × (told ≡ None)
 DapHangsUp None true Exchanged s t None = (reply : List ℕ) × DapDoes Exchanged (3 ∷ []) 2 reply s t
 DapHangsUp None true Exchanged s t (Some fault) = Unit {0}
 
--- How many accesses the packet may have made that has no usable reply. Each request for DRW is of one, in order, from
--- the current one on, or from the one behind it: where a word wasn't fetched, or the last transaction wasn't OK.
+-- How many accesses the packet may have made that has no usable reply: each request for DRW is of one, in order.
 abbrev pub dap_in_doubt : {P : Type 0} → DapTransport P → ℕ
-dap_in_doubt s = dap_with_pending (s.posted || not s.idled) (dap_drws (take s.unanswered s.plan.items))
+dap_in_doubt s = dap_drws (take s.unanswered s.plan.items)

@@ -1,5 +1,5 @@
 -- How many accesses the requests of a packet are of.
-use Rattle.std.specs.Prelude.{ℕ, ◌+◌, ◌==◌, Bool, ◌&&◌, List, [], ◌∷◌, if◌then◌else◌}
+use Rattle.std.specs.Prelude.{ℕ, ◌+◌, Bool, ◌&&◌, List, [], ◌∷◌, if◌then◌else◌}
 use Rattle.swd_bits.specs.declared.request.Request.{Request}
 use Rattle.swd_dap.specs.declared.transfer.Transfer.{Transfer}
 use Rattle.swd_dap.specs.Transfers.{dap_fetches}
@@ -11,7 +11,3 @@ dap_is_drw q = q.ap && dap_fetches q.addr
 abbrev pub dap_drws : List Transfer → ℕ
 dap_drws [] = 0
 dap_drws (t ∷ ts) = (if dap_is_drw t.request then 1 else 0) + dap_drws ts
-
--- accesses of a packet, and before them one that may not be confirmed yet
-abbrev pub dap_with_pending : Bool → ℕ → ℕ
-dap_with_pending pending drws = if drws == 0 then 0 else (if pending then drws + 1 else drws)

@@ -1,6 +1,6 @@
 //! How many accesses a packet may have made that has no usable reply.
 ghost use Rattle.std.specs.Prelude.{◌≡◌, ◌≤◌, length};
-ghost use Rattle.swd_dap.specs.Doubts.{dap_drws, dap_with_pending};
+ghost use Rattle.swd_dap.specs.Doubts.{dap_drws};
 
 use crate::transfer::Transfer;
 
@@ -16,18 +16,4 @@ pub(crate) fn drws(requests: &[Transfer]) -> usize
         }
     }
     count
-}
-
-/// Returns how many accesses these requests for DRW are of, with one before them if that is pending: not confirmed yet.
-pub(crate) fn with_pending(pending: bool, drws: usize) -> usize
-    requires { drws ≤ 160 }
-    ensures { result ≡ dap_with_pending pending drws }
-{
-    if drws == 0 {
-        0
-    } else if pending {
-        drws + 1
-    } else {
-        drws
-    }
 }

@@ -4,7 +4,7 @@ ghost use Rattle.swd_dap.specs.Transfers.{IsDapBeginning};
 ghost use Rattle.swd_dap.specs.Nexts.{dap_next_of, dap_next_by_clocks};
 
 use crate::beginning::{HEAD, Plan, longest_beginning, plan_of, requests_of};
-use crate::doubt::{drws, with_pending};
+use crate::doubt::drws;
 use crate::packets::{DapFault, LONGEST, Packets};
 use crate::replies::{AllTold, Told, told_of};
 use crate::requests::transfer_request;
@@ -151,14 +151,13 @@ impl<P: Packets> DapTransport<P> {
         self.fault
     }
 
-    /// Returns how many accesses the packet may have made that has no usable reply, from the current one on. 0 if there
-    /// is no such packet.
+    /// Returns how many accesses the packet may have made that has no usable reply, behind those that were begun
+    /// before. 0 if there is no such packet.
     pub fn in_doubt(&self) -> usize
         ensures { result ≡ dap_in_doubt self.now }
     {
         let requests = self.plan.as_slice();
-        let unanswered = &requests[..self.unanswered.min(requests.len())];
-        with_pending(self.posted || !self.idled, drws(unanswered))
+        drws(&requests[..self.unanswered.min(requests.len())])
     }
 
     /// Has the probe release its pins, unless nothing was sent or an error came. Returns the packets, and the error

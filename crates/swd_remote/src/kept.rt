@@ -47,8 +47,8 @@ pub struct RemoteStreams<R, W> {
     pub fault: Option<Fault>,
     /// How far the session came in opening its target.
     pub opening: Opening,
-    /// How many accesses, from the first unanswered one on, the probe may have made by a packet that has no usable
-    /// reply: at most so many. A report's `begun` doesn't count them. 0 over characters.
+    /// How many accesses at most the probe may have made by a packet that has no usable reply, behind those that the
+    /// report's `begun` counts. 0 over characters.
     pub in_doubt: usize,
 }
 

@@ -92,7 +92,7 @@ pub(super) const DOUBTED: &[(Case, usize)] = &[
                 Step::Ends(Cue::Ask(DRW_WRITE), DapFault::Short),
             ],
         },
-        2,
+        1,
     ),
     (
         Case {
