@@ -18,8 +18,7 @@ use Rattle.swd_host.specs.Coming.{HostTakesUp, HostTakesUpSo}
 use Rattle.swd_host.specs.Engines.{engine_is_ahead, engine_may_start, engine_outcome, engine_outcome_at}
 use Rattle.swd_host.specs.Turns.{EngineStarts, engine_first_state}
 use Rattle.swd_steps.specs.declared.run.Run.{Run}
-use Rattle.swd_steps.specs.declared.run.Stage.{Stage}
-use Rattle.swd_steps.specs.declared.run.Stage.TheVariants.{Driving, Between, Ended}
+use Rattle.swd_steps.specs.declared.run.Stage.TheVariants.{Driving}
 use Rattle.swd_steps.specs.Plans.{SteppedForesees, SteppedForeseesAt}
 
 -- FEWER TRANSACTIONS
@@ -273,12 +272,6 @@ ahead_all list first place few short =
     take_all place (drop first list) all ∙ sym (take_all 517 (drop first list) (omega (arith, all, few)))
 
 -- WHAT A RUN PLANS
-pub steps_foresee_none : (stage : Stage) (room : ℕ) (list : List Access) (run : Run) (coming : List Coming)
-    → (stage ≡ Driving → ⊥) → coming ≡ [] → SteppedForeseesAt stage room list run coming
-steps_foresee_none Driving room list run coming not none = absurd (not refl)
-steps_foresee_none Between room list run coming not none = none
-steps_foresee_none (Ended end) room list run coming not none = none
-
 pub steps_foresee : (room most : ℕ) (list : List Access) (run : Run) (ahead : List Access) (found planned : List Coming)
     → run.stage ≡ Driving → ahead ≡ take 517 (drop (run.answered + 1) list) → HostForesees most run.engine ahead found
     → 128 ≤ most → planned ≡ take (min (min room 128) (length found)) found
