@@ -1,2 +1,3 @@
 pub mod SessionLemmas
 pub mod LineLemmas
+pub mod ClockLemmas

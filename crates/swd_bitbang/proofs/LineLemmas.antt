@@ -426,12 +426,12 @@ pub pins_served_up_to_quit : {D A : Type 0} (bus : D → Bus) (sequences : List 
     → (answers : List ℕ) × PinsWentBy bus sequences answers s t × Appends old new answers
 pins_served_up_to_quit bus sequences more old new s t between h =
     let text = all_sequence_characters s.drives sequences in
-    let whole = taken_whole bus text h.taken h.goes.levels h.byte more h.more s t
+    let whole = taken_whole bus text h.taken h.goes.answers h.byte more h.more s t
     (bitbang_sequences_stay_open s.drives sequences) h.goes.session
     h.ends h.is in (
-      h.goes.levels,
-      pins_read_sequences bus sequences s.drives h.goes.levels s t refl between
-          (subst (λ x. PinsSession bus x h.goes.levels s t) whole h.goes.session),
+      h.goes.answers,
+      pins_read_sequences bus sequences s.drives h.goes.answers s t refl between
+          (subst (λ x. PinsSession bus x h.goes.answers s t) whole h.goes.session),
       h.goes.gone,
     )
 
@@ -445,13 +445,13 @@ pins_served_once_driven bus sequences more old new s t between h =
     let text = all_sequence_characters true sequences in
     let stays = All-cons KeepsBitbangOpen (alphabet_byte (Drives true)) text (turn_on true)
     (bitbang_sequences_stay_open true sequences) in
-    let whole = taken_whole bus (alphabet_byte (Drives true) ∷ text) h.taken h.goes.levels h.byte more h.more s t stays
+    let whole = taken_whole bus (alphabet_byte (Drives true) ∷ text) h.taken h.goes.answers h.byte more h.more s t stays
     h.goes.session h.ends h.is in
-    let all = subst (λ x. PinsSession bus x h.goes.levels s t) whole h.goes.session in
+    let all = subst (λ x. PinsSession bus x h.goes.answers s t) whole h.goes.session in
     let driven = subst (λ m. PinsSession bus text all.2 m t) all.3.steps.1 all.4 in
     let went = pins_read_sequences bus sequences true all.2 (record s { drives = true }) t refl between driven in
     let silent = all.3.tells ∙ ap bitbang_answer_to_sign all.3.steps.0 in (
-      h.goes.levels,
+      h.goes.answers,
       record {
         levels = went.levels;
         goes = went.goes;

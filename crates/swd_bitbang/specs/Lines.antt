@@ -11,11 +11,19 @@ use Rattle.swd_sequences.specs.Clocks.{all_sequence_characters}
 use Rattle.swd_sequences.specs.Going.{SequencesGoBy}
 use Rattle.swd_bitbang.specs.declared.pins.Pins.{Pins}
 use Rattle.swd_bitbang.specs.declared.serving.Served.TheVariants as ends
+use Rattle.swd_bitbang.specs.Traces.{PinsTraceKeeps}
 use Rattle.swd_bitbang.specs.Sessions.{PinsSession, BitbangEndsAs}
 
 -- the next fall of SWCLK begins a clock: true at first, and after each clock
 abbrev pub ArePinsBetweenClocks : {D A : Type 0} → Pins D A → Type 0
 ArePinsBetweenClocks s = (if s.clock then None else s.seen) ≡ None
+
+-- One clock between two others: the cycle of the target, in which the host drives this level or none, and the bit on
+-- the line, which the trace keeps.
+pub record PinsClock {D A : Type 0} (bus : D → Bus) (drive : Option Bool) (bit : Bool) (s t : Pins D A) : Type 0 where
+  pub cycle : MarkedCycles bus drive bit s.target t.target
+  pub trace : PinsTraceKeeps bit s.trace t.trace
+  pub between : ArePinsBetweenClocks t
 
 -- Sequences were performed at the target of these pins, and their sampled levels were returned. The pins are
 -- between two clocks again.

@@ -3,11 +3,13 @@
 
 pub mod laws;
 mod pins;
+mod protocol;
 mod serving;
 mod trace;
 mod watch;
 
 pub use pins::{PinReply, Pins};
+pub use protocol::Protocol;
 pub use serving::{Served, serve, serve_watched};
 pub use trace::Trace;
 pub use watch::Watch;

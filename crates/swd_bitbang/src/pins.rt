@@ -48,6 +48,8 @@ pub struct Pins<D, A: Allocator = Global> {
 
 impl<D: Device, A: Allocator> Pins<D, A> {
     ghost use Rattle.swd_bitbang.specs.Steps.{pins_fallen, pins_driven, PinsStep, PinsShow, PinsSeenBy};
+    ghost use Rattle.swd_bitbang.specs.Lines.{ArePinsBetweenClocks, PinsClock};
+    ghost use Rattle.swd_bitbang.specs.Watching.{PinsReach};
 
     /// Returns the pins of a host that drives SWDIO high, with SWCLK low and no edge yet. The bits are kept
     /// in this trace.
@@ -107,6 +109,22 @@ impl<D: Device, A: Allocator> Pins<D, A> {
             Character::Quits => return PinReply::Quit,
         }
         PinReply::Silent
+    }
+
+    /// Makes one clock, as a host's characters do. Between a fall and a rise of SWCLK, SWDIO has this level, or the
+    /// host releases it. Returns the bit on the line. The pins have to be between two clocks, as at first and after
+    /// each clock; otherwise it is the last cycle's bit, and no cycle is made.
+    pub fn clock(&mut self, drive: Option<bool>) -> bool
+        ensures made { ArePinsBetweenClocks self.old → PinsClock D.bus drive result self.old self.new }
+        ensures reached { PinsReach D.bus self.old self.new }
+    {
+        let drives = drive.is_some();
+        let level = drive.unwrap_or(false);
+        self.drives = drives;
+        self.fall(level);
+        let bit = self.bit();
+        self.clock = true;
+        bit
     }
 
     fn fall(&mut self, level: bool)

@@ -1,7 +1,6 @@
 //! Serves a host at a target, and writes the target's log and trace while the session goes on.
 ghost use Rattle.std.specs.Prelude.{◌≡◌, ◌↔◌, drop, false, is_err, length, take, true};
-ghost use Rattle.swd_port.specs.Bus.{bus_of};
-ghost use Rattle.swd_bitbang.specs.Sessions.{BitbangServes};
+ghost use Rattle.swd_bitbang.specs.Protocols.{ProtocolServes};
 ghost use Rattle.swd_run.specs.GrowingFiles.{GrowingFileHas};
 ghost use Rattle.swd_run.specs.Records.{run_file_held};
 ghost use Rattle.swd_ends.specs.TargetLogs.{live_log_lines};
@@ -14,7 +13,7 @@ use crate::portions::{Characters, LogLines};
 use crate::target_log::counts_line;
 use std::alloc::Allocator;
 use std::io::{Read, Write};
-use swd_bitbang::{Pins, Served, Watch, serve_watched};
+use swd_bitbang::{Pins, Protocol, Served, Watch, serve_watched};
 use swd_port::Transfer;
 use swd_run::GrowingFile;
 use swd_target::Memory;
@@ -121,34 +120,34 @@ impl<M: Write> LiveFiles<M> {
     }
 }
 
-/// Serves a host as `serve` does, and writes the log of its target and the trace of its pins, each if there is a writer
-/// for it. After each piece of input, before the last of its answers are written and before the next read, the log has
-/// the line of each transfer that took effect so far, and the trace the bits of all cycles so far. At the end of the
-/// session the log gets its last line, and the trace its line feed. Transfers of the target from before the session
+/// Serves a host by any protocol, and writes the log of its target and the trace of its pins, each if there is a writer
+/// for it. After each piece of input, before the last of what it returns is written and before the next read, the log
+/// has the line of each transfer that took effect so far, and the trace the bits of all cycles so far. At the end of
+/// the session the log gets its last line, and the trace its line feed. Transfers of the target from before the session
 /// have no line.
 ///
 /// If the writer of a file fails, nothing is retried, nothing more is written to this file, and the session goes on.
 /// The file then has exactly the first bytes of the whole one. [`LiveFiles::are_whole`] says whether no writer failed.
-pub fn serve_logged<R: Read, W: Write, M: Write, A: Allocator>(
+pub fn serve_logged<R: Read, W: Write, M: Write, A: Allocator, P: Protocol<Memory<A>, A>>(
     reader: &mut R,
     writer: &mut W,
-    pins: Pins<Memory<A>, A>,
+    protocol: P,
     log: Option<M>,
     trace: Option<M>,
-) -> (Served, Pins<Memory<A>, A>, LiveFiles<M>)
-    ensures session { BitbangServes bus_of result.0 (R.remaining reader.old) (R.remaining reader.new)
-        (W.contents writer.old) (W.contents writer.new) pins result.1 }
-    ensures log { live_pins_sound pins → GrowingFileHas M.contents (run_file_held M.contents log) result.2.log
-        (live_log_whole (length (live_transfers_at pins)) result.1) }
-    ensures trace { live_pins_sound pins → GrowingFileHas M.contents (run_file_held M.contents trace) result.2.trace
-        (live_trace_whole result.1) }
+) -> (Served, P, LiveFiles<M>)
+    ensures session { ProtocolServes P.step P.end result.0 (R.remaining reader.old) (R.remaining reader.new)
+        (W.contents writer.old) (W.contents writer.new) protocol result.1 }
+    ensures log { live_pins_sound (P.pins_of protocol) → GrowingFileHas M.contents (run_file_held M.contents log)
+        result.2.log (live_log_whole (length (live_transfers_at (P.pins_of protocol))) (P.pins_of result.1)) }
+    ensures trace { live_pins_sound (P.pins_of protocol) → GrowingFileHas M.contents (run_file_held M.contents trace)
+        result.2.trace (live_trace_whole (P.pins_of result.1)) }
 {
     let files = LiveFiles {
-        skipped: pins.target().memory().log().len(),
+        skipped: protocol.pins().target().memory().log().len(),
         log: GrowingFile::new(log),
         trace: GrowingFile::new(trace),
     };
-    let (served, pins, mut files) = serve_watched(reader, writer, pins, files);
-    files.finish(&pins);
-    (served, pins, files)
+    let (served, protocol, mut files) = serve_watched(reader, writer, protocol, files);
+    files.finish(protocol.pins());
+    (served, protocol, files)
 }

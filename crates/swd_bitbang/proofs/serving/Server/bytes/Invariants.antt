@@ -1,5 +1,5 @@
 use Rattle.std.proofs.Common.{◌≡◌, ℕ, List, ◌++◌, take}
-use Rattle.swd_bitbang.specs.Serving.{BitbangBegin, BitbangTaken}
+use Rattle.swd_bitbang.specs.Serving.{ServingBegin, ServingTaken}
 use Rattle.swd_bitbang.specs.Watching.{PinsReach}
 use Rattle.swd_bitbang.proofs.serving.Server.bytes.Given as goal
 
@@ -8,8 +8,8 @@ invariant-loop-byte g l = record {
   writer : l.block.writer.ghost_name ≡ l.fn.block.writer.ghost_name;
   written : l.self.written ≡ l.fn.self.written;
   watch : l.self.watch ≡ l.fn.self.watch;
-  reaches : PinsReach g.D.Device.bus l.fn.self.pins l.self.pins;
-  goes : (begin : BitbangBegin g.row.D.Denot g.row.A.Denot) (seen : List ℕ)
-      → BitbangTaken g.D.Device.bus g.W.Write.contents begin l.fn.self l.fn.block seen
-      → BitbangTaken g.D.Device.bus g.W.Write.contents begin l.self l.block (seen ++ take l.byte-index l.piece);
+  reaches : PinsReach g.D.Device.bus (g.P.Protocol.pins_of l.fn.self.protocol) (g.P.Protocol.pins_of l.self.protocol);
+  goes : (begin : ServingBegin g.row.P.Denot) (seen : List ℕ)
+      → ServingTaken g.P.Protocol.step g.W.Write.contents begin l.fn.self l.fn.block seen
+      → ServingTaken g.P.Protocol.step g.W.Write.contents begin l.self l.block (seen ++ take l.byte-index l.piece);
 }
