@@ -410,3 +410,25 @@ pub check_skips : {A : Type 0} (check mid now : Check A) (count : ℕ)
 check_skips check mid now count first next =
     subst (λ l. CheckTakes l check now) (replicate_more count (Junk false))
     (sink_leads_join CheckHolds check mid now (replicate count (Junk false)) (Junk false ∷ []) first next)
+
+-- whether the bits of a damaged word are told changes nothing that is known of the items
+check_rules_untold : (start : CheckStart) (clean : Bool) (r : Rules) (untold : Bool) (items : List Item)
+    → CheckRulesHold start clean r items → CheckRulesHold start clean (record r { untold = untold }) items
+check_rules_untold start clean r untold items h = record {
+  holds = h.holds;
+  wire = h.wire;
+  gap = h.gap;
+  outside = h.outside;
+  left = h.left;
+  answered = h.answered;
+  fits = h.fits;
+}
+
+pub check_untold : {A : Type 0} (i : CheckIndex) (check : Check A) (untold : Bool) (items : List Item)
+    → CheckHolds i check items
+    → CheckHolds i (record check { rules = record check.rules { untold = untold } }) items
+check_untold i check untold items h = record {
+  rules = λ e. check_rules_untold i.start i.clean check.rules untold items (h.rules e);
+  unbroken = h.unbroken;
+  broke = h.broke;
+}

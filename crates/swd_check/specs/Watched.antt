@@ -1,7 +1,7 @@
 -- What a check knows of the items that it took, and what its verdict says of them.
-use Rattle.std.specs.Prelude.{◌≡◌, ◌⊎◌, ◌++◌, Bool, true, false, List, [], ◌∷◌, Option, None, Some}
+use Rattle.std.specs.Prelude.{◌≡◌, ◌⊎◌, ◌++◌, ◌&&◌, not, Bool, true, false, List, [], ◌∷◌, Option, None, Some}
 use Rattle.swd_bits.specs.declared.tx.TxEnd.{TxEnd}
-use Rattle.swd_bits.specs.declared.tx.TxEnd.TheVariants.{NoAck}
+use Rattle.swd_bits.specs.declared.tx.TxEnd.TheVariants.{Moved, NoAck}
 use Rattle.swd_bits.specs.declared.tx.Tx.{Tx as Transaction}
 use Rattle.swd_trace.specs.declared.item.Item.{Item}
 use Rattle.swd_trace.specs.declared.item.Item.TheVariants.{Tx}
@@ -50,6 +50,14 @@ pub record CheckBreaksAt (start : CheckStart) (clean : Bool) (items : List Item)
 abbrev pub is_checked_ack : TxEnd → Bool
 is_checked_ack (NoAck seen) = false
 is_checked_ack end = true
+
+-- The bits of its word aren't told: of a read's with wrong parity over a way that doesn't tell them.
+abbrev pub is_check_damaged : TxEnd → Bool
+is_check_damaged (Moved word parity_ok) = not parity_ok
+is_check_damaged end = false
+
+abbrev pub is_check_untold : Bool → Transaction → Bool
+is_check_untold untold tx = untold && tx.request.read && is_check_damaged tx.result
 
 abbrev pub IsCheckedAnswer : Item → Type 0
 IsCheckedAnswer item = (tx : Transaction) × (item ≡ Tx tx) × (is_checked_ack tx.result ≡ true)

@@ -72,6 +72,18 @@ impl<A: Allocator + Copy> Check<A> {
         Check::new(options, PlainMemory::new(alloc))
     }
 
+    /// Returns this check for a session over a way that doesn't tell the bits of a word that was read with wrong
+    /// parity, as a probe doesn't, if `untold` is true. No verdict rests on such bits: there the session leaves the
+    /// model.
+    pub fn with_untold(self, untold: bool) -> Check<A>
+        ensures { (i : CheckIndex) (seen : List Item) → CheckHolds i self seen → CheckHolds i result seen }
+    {
+        Check {
+            rules: self.rules.with_untold(untold),
+            ..self
+        }
+    }
+
     /// Takes the next item.
     pub fn watch(&mut self, item: &Item)
         ensures { CheckTakes (item.now ∷ []) self.old self.new }

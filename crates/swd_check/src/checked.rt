@@ -31,7 +31,8 @@ pub enum Checked {
     Crowded {
         place: u64,
     },
-    /// It isn't decided: at this place the session left the model, by overrun detection.
+    /// It isn't decided: at this place the session left the model, by overrun detection, or the bits of a word that was
+    /// read with wrong parity weren't told.
     Outside {
         place: u64,
     },

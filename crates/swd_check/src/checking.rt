@@ -21,14 +21,15 @@ pub struct Checking<W, A: Allocator> {
 }
 
 impl<W, A: Allocator + Copy> Checking<W, A> {
-    /// Returns a writer that checks the trace, of a session with a target that is at rest before it.
-    pub fn new(alloc: A, file: Option<W>) -> Checking<W, A>
+    /// Returns a writer that checks the trace, of a session with a target that is at rest before it. `untold` is that
+    /// of [`Check::with_untold`](crate::Check::with_untold).
+    pub fn new(alloc: A, file: Option<W>, untold: bool) -> Checking<W, A>
         ensures has { CheckingHas result [] }
         ensures file { checking_file result ≡ file }
     {
         Checking {
             file,
-            check: Some(TextCheck::new(alloc)),
+            check: Some(TextCheck::new(alloc, untold)),
         }
     }
 

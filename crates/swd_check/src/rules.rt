@@ -5,6 +5,7 @@ ghost use Rattle.swd_trace.specs.declared.item.Item.{Item};
 ghost use Rattle.swd_checker.specs.Standing.{CheckerWatches, CheckerLeaves};
 ghost use Rattle.swd_checker.specs.Fitting.{CheckerFollows};
 ghost use Rattle.swd_check.specs.Watched.{CheckRulesHold, CheckRulesTake, IsCheckedAnswer, is_checked_ack};
+ghost use Rattle.swd_check.specs.Watched.{is_check_untold};
 
 use crate::check::CheckOptions;
 use crate::overrun::Overrun;
@@ -24,6 +25,8 @@ pub(crate) struct Rules {
     is_outside: bool,
     /// Whether the target acknowledged a request that was checked.
     is_answered: bool,
+    /// Whether the bits of a read's word with wrong parity aren't told.
+    untold: bool,
 }
 
 /// Where a transaction stands.
@@ -50,7 +53,16 @@ impl Rules {
             outside: None,
             is_outside: false,
             is_answered: false,
+            untold: false,
         }
+    }
+
+    /// Returns these rules for a session in which the bits of a read's word with wrong parity aren't told, if `untold`
+    /// is true.
+    pub(crate) fn with_untold(self, untold: bool) -> Rules
+        ensures { result ≡ record self { untold = untold } }
+    {
+        Rules { untold, ..self }
     }
 
     /// Takes the next item, which is no transaction.
@@ -70,8 +82,9 @@ impl Rules {
     pub(crate) fn transact(&mut self, tx: &Tx, place: u64) -> Stand
         ensures takes { CheckRulesTake (Item.Tx tx.now) self.old self.new }
         ensures broken { (result ≡ Stand.Inside → ⊥) → self.new.checker.broken ≡ self.old.checker.broken }
+        ensures untold { is_check_untold self.old.untold tx.now ≡ true → result ≡ Stand.Inside → ⊥ }
     {
-        let leaves = self.overrun.leaves(tx);
+        let leaves = self.overrun.leaves(tx) | is_untold(self.untold, tx);
         if self.is_outside {
             return Stand::Outside;
         }
@@ -192,6 +205,16 @@ impl Rules {
         self.origins = Origins::new();
         self.outside = self.outside.or(Some(place));
         self.is_outside = true;
+    }
+}
+
+// Returns whether the bits of a transaction's word aren't told.
+fn is_untold(untold: bool, tx: &Tx) -> bool
+    ensures { result ≡ is_check_untold untold tx.now }
+{
+    match tx.result {
+        TxEnd::Moved { parity_ok, .. } => untold && tx.request.read && !parity_ok,
+        _ => false,
     }
 }
 

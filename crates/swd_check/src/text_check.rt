@@ -58,12 +58,12 @@ fn read_if<A: Allocator + Copy>(
 impl<A: Allocator + Copy> TextCheck<A> {
     ghost use Rattle.swd_check.specs.Checkings.{TextCheckHas};
 
-    /// Returns a check that was given no bytes.
-    pub fn new(alloc: A) -> TextCheck<A>
+    /// Returns a check that was given no bytes. `untold` is that of [`Check::with_untold`].
+    pub fn new(alloc: A, untold: bool) -> TextCheck<A>
         ensures { TextCheckHas result [] }
     {
         let parts = CheckedParts {
-            check: Check::of_session(alloc),
+            check: Check::of_session(alloc).with_untold(untold),
             parts: 0,
         };
         let first = PartReader::new(Reading::Trace, parts);

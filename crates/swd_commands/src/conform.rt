@@ -83,7 +83,8 @@ fn begun<A: Allocator + Copy, F, C, E: Write>(
         console.errors,
         "swd: overwrites {words} words from {base:08x} on"
     );
-    Ok(ConformRun::new(plan, Check::new(options, plain)))
+    let check = Check::new(options, plain).with_untold(conform.probe.is_some());
+    Ok(ConformRun::new(plan, check))
 }
 
 // Performs a run at the target to which these files lead. The verdict goes to `output`.

@@ -13,7 +13,7 @@ use std::io::{Read, Write};
 use swd_check::{Check, Checked, CheckedItems};
 use swd_port::{Cue, Disconnected, Story};
 use swd_recorder::{InHand, in_hand_once};
-use swd_remote::{CallSink, Line, LineJob, RemoteStreams, over_line, over_watched_line};
+use swd_remote::{CallSink, Line, LineJob, RemoteStreams, Way, over_line, over_watched_line};
 
 // The bits of an answer, and of a data phase.
 const ANSWERS: u64 = 1 << 3;
@@ -28,12 +28,12 @@ pub struct SessionCheck<A: Allocator> {
 }
 
 impl<A: Allocator + Copy> SessionCheck<A> {
-    /// Returns a check of a session in which no call was made.
-    pub fn new(alloc: A) -> SessionCheck<A>
+    /// Returns a check of a session in which no call was made. `untold` is that of [`Check::with_untold`].
+    pub fn new(alloc: A, untold: bool) -> SessionCheck<A>
         ensures { SessionHas [] result }
     {
         SessionCheck {
-            items: CheckedItems::new(Check::of_session(alloc)),
+            items: CheckedItems::new(Check::of_session(alloc).with_untold(untold)),
             in_hand: None,
         }
     }
@@ -53,6 +53,14 @@ impl<A: Allocator + Copy> CallSink for SessionCheck<A> {
         let shown = shown_by(cue, told);
         take_items(&mut self.items, self.in_hand, cue, shown);
         self.in_hand = in_hand_after(cue, shown);
+    }
+}
+
+/// Returns whether the bits of a word that is read with wrong parity aren't told over a line.
+pub fn tells_no_damage(way: Way) -> bool {
+    match way {
+        Way::Characters => false,
+        Way::Packets { .. } => true,
     }
 }
 
@@ -113,7 +121,7 @@ pub fn over_checked_line<P: Story, J: LineJob, R: Read, W: Write, A: Allocator +
         result.1 calls result.2 ∥₁ }
 {
     if check {
-        let session = SessionCheck::new(alloc);
+        let session = SessionCheck::new(alloc, tells_no_damage(line.way));
         let (answer, streams, session) = over_watched_line::<P, J, R, W, SessionCheck<A>>(
             job, line, session,
         );

@@ -6,27 +6,27 @@ use std::fmt::{Display, Formatter};
 use std::io::Write;
 use swd_bits::TxEnd;
 use swd_port::CtrlStat;
-use swd_remote::{Fault, Opening, RemoteStreams};
+use swd_remote::{Opening, RemoteStreams};
 
 /// Prints how far a session came that ended with this status before the target was open: one line, unless the target
-/// sent nothing. Of an open target behind a probe that failed it prints what isn't known.
+/// sent nothing. Of a probe that failed it prints how many accesses its last packet may have made.
 pub fn tell_session<E: Write, R, W>(errors: &mut E, status: u8, line: &RemoteStreams<R, W>) {
     if status == FAULT || status == DONE || tell_no_reply(errors, line) {
         return;
     }
     let opening = &line.opening;
     let _ = match line.fault {
-        Some(Fault::Probe(_)) if opening.is_open => writeln!(errors, "swd: {LAST_PACKET}"),
+        Some(_) if line.in_doubt > 0 => writeln!(
+            errors,
+            "swd: the probe's last packet may have made up to {} accesses more than begun counts",
+            line.in_doubt
+        ),
         _ if opening.last.is_some() && !opening.is_open => {
             writeln!(errors, "swd: {}", Reached(opening))
         }
         _ => Ok(()),
     };
 }
-
-// What is said of a probe that failed.
-const LAST_PACKET: &str =
-    "the accesses of the probe's last packet may have been made, also those that begun doesn't count";
 
 /// Prints what an info with this status read of its target, or how far the session came.
 pub fn tell_info<E: Write, R, W>(errors: &mut E, status: u8, line: &RemoteStreams<R, W>) {

@@ -12,16 +12,18 @@ use swd_text::TextFault;
 /// A file that a run writes beside its report. That of the trace may be checked.
 pub(crate) type RecordFile<W, A> = Watched<Checking<W, A>>;
 
-// Returns the writer of the trace, if it is wanted: for a file, or for a check.
+// Returns the writer of the trace, if it is wanted: for a file, or for a check. `untold` is that of
+// `Check::with_untold`.
 fn checked_trace<W, A: Allocator + Copy>(
     alloc: A,
     check: bool,
+    untold: bool,
     trace: Option<W>,
 ) -> Option<RecordFile<W, A>>
     ensures { is_some result ≡ (is_some trace || check) }
 {
     if check {
-        return Some(Watched::new(Checking::new(alloc, trace)));
+        return Some(Watched::new(Checking::new(alloc, trace, untold)));
     }
     unchecked(trace)
 }
@@ -36,10 +38,12 @@ fn unchecked<W, A: Allocator + Copy>(file: Option<W>) -> Option<RecordFile<W, A>
     }
 }
 
-/// Returns the writers of these files. If `check`, there is one for the trace, which is checked.
+/// Returns the writers of these files. If `check`, there is one for the trace, which is checked. `untold` is that of
+/// `Check::with_untold`.
 pub(crate) fn checked_records<W, I, A: Allocator + Copy>(
     alloc: A,
     check: bool,
+    untold: bool,
     records: Records<W, I>,
 ) -> Records<RecordFile<W, A>, I>
     ensures { AreCheckedRecords check records result }
@@ -51,7 +55,7 @@ pub(crate) fn checked_records<W, I, A: Allocator + Copy>(
         ..
     } = records;
     Records {
-        trace: checked_trace(alloc, check, trace),
+        trace: checked_trace(alloc, check, untold, trace),
         accesses: unchecked(accesses),
         printer,
         progress: (),

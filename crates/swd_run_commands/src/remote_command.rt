@@ -142,7 +142,7 @@ pub(crate) fn perform_remote<
     if let Err(status) = cut_off_records(run, &records, console) {
         return (status, RemoteStreams::unused(input, output));
     }
-    let records = checked_records(console.alloc, run.check, records);
+    let records = checked_records(console.alloc, run.check, run.probe.is_some(), records);
     let line = Line {
         reader: input,
         writer: output,

@@ -18,14 +18,19 @@ const OVERRUN: CheckOptions = CheckOptions {
     ..MADE
 };
 
-// What is said of a listing.
-fn checked(alloc: Global, options: CheckOptions, listing: &[u8]) -> Result<Checked, Fail> {
+// What is said of a listing; `untold`: of a way that doesn't tell the bits of a damaged word.
+fn checked(
+    alloc: Global,
+    options: CheckOptions,
+    untold: bool,
+    listing: &[u8],
+) -> Result<Checked, Fail> {
     let mut listing = listing;
     let mut trace = Vec::new(alloc);
     if encode_text(alloc, &mut listing, &mut trace).is_err() {
         return Err(Fail::from("no normal listing"));
     }
-    let check = Check::new(options, PlainMemory::new(alloc));
+    let check = Check::new(options, PlainMemory::new(alloc)).with_untold(untold);
     let mut text = trace.as_slice();
     match check_text(Reading::Trace, check, &mut text) {
         Ok(checked) => Ok(checked),
@@ -40,8 +45,21 @@ const AT_FIRST: &[(CheckOptions, &str)] = &[(OVERRUN, "outside @104"), (MADE, "f
 fn overrun_detection_is_on_at_first(rt: HostRuntime) -> Result<(), Fail> {
     let listing = b"reset 56\nidle 2\ndp 0 read ok 2ba01477\ndp c read wait\n".as_slice();
     for (options, said) in AT_FIRST {
-        let line = checked(rt.alloc(), *options, listing)?.line();
+        let line = checked(rt.alloc(), *options, false, listing)?.line();
         assert_eq!(rt; line.as_str(), *said);
+    }
+    Ok(())
+}
+
+const DAMAGED: &[(bool, &str)] = &[(true, "outside @104"), (false, "breaks @104")];
+
+// A word of zeros with wrong parity is none that DPIDR has become by one bit.
+#[test]
+fn bits_that_are_not_told_decide_nothing(rt: HostRuntime) -> Result<(), Fail> {
+    let listing = b"reset 56\nidle 2\ndp 0 read ok 2ba01477\ndp 0 read bad 00000000\n".as_slice();
+    for (untold, said) in DAMAGED {
+        let line = checked(rt.alloc(), MADE, *untold, listing)?.line();
+        assert!(rt; line.as_str().starts_with(said));
     }
     Ok(())
 }

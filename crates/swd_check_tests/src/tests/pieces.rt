@@ -65,7 +65,7 @@ fn a_cut_changes_no_verdict(rt: HostRuntime) -> Result<(), Fail> {
         let text = text_of(rt.alloc(), row.listing)?;
         for cut in 0..text.len() {
             let (first, last) = text.as_slice().split_at(cut);
-            let mut checking = Checking::new(rt.alloc(), None);
+            let mut checking = Checking::new(rt.alloc(), None, false);
             assert!(rt; checking.write(first)? == first.len(), "{}", row.name);
             assert!(rt; checking.write(last)? == last.len(), "{}", row.name);
             said_of(checking, &mut line)?;
@@ -87,7 +87,7 @@ fn a_file_gets_each_byte_once(rt: HostRuntime) -> Result<(), Fail> {
         let mut file = OneByteWriter {
             taken: Vec::new(rt.alloc()),
         };
-        let mut checking = Checking::new(rt.alloc(), Some(&mut file));
+        let mut checking = Checking::new(rt.alloc(), Some(&mut file), false);
         checking.write_all(text.as_slice())?;
         let Some(Ok(checked)) = checking.finish() else {
             return Err(Fail::from("no verdict"));
@@ -103,7 +103,7 @@ fn a_file_gets_each_byte_once(rt: HostRuntime) -> Result<(), Fail> {
 fn what_is_no_trace_is_said(rt: HostRuntime) -> Result<(), Fail> {
     for cut in 0..5usize {
         let (first, last) = b"01 x1y0".split_at(cut);
-        let mut checking: Checking<Vec<u8>, Global> = Checking::new(rt.alloc(), None);
+        let mut checking: Checking<Vec<u8>, Global> = Checking::new(rt.alloc(), None, false);
         checking.write_all(first)?;
         checking.write_all(last)?;
         let Some(Err(fault)) = checking.finish() else {
