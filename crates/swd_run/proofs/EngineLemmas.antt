@@ -40,7 +40,8 @@ use Rattle.swd_run.specs.Records.{no_run_files}
 use Rattle.swd_observer.specs.Explained.{ObservedLog}
 use Rattle.swd_observer.specs.Traces.{trace_observer_made, observed_in_trace}
 use Rattle.swd_run.specs.Running.{ScriptRunAnswers, IsPartOfTraceIn, IsTraceIn, IsTraceUpTo, RunsScript, full_room}
-use Rattle.swd_run.specs.Running.{script_bus, with_full_room}
+use Rattle.swd_run.specs.Running.{with_full_room}
+use Rattle.swd_run.specs.ScriptDevices.{script_bus}
 use Rattle.swd_run.specs.Sessions.{ScriptRun, RunsBatchFrom, IsBatchRefused, RunsBatches, batch_bursts, none}
 use Rattle.swd_run.specs.Sessions.{then, unresumed, unsent}
 use Rattle.swd_run.specs.Unfoldings.{AreBatchesDone, BatchRuns, IsCutShort, Unfolds, batch_again, calls_of, runs_of}
