@@ -1,13 +1,13 @@
 -- What one access does to a memory and a core with a log. For `LoggedCore`.
-use Rattle.std.proofs.Common.{◌≡◌, ◌∙◌, ℕ, List, ◌∷◌, ◌++◌, [], Bool, true, false, Option, Some, None, ap, refl}
+use Rattle.std.proofs.Common.{◌≡◌, ◌∙◌, ℕ, ◌∷◌, ◌++◌, [], Bool, true, false, Option, None, ap, refl}
 use Rattle.std.specs.Prelude.{if◌then◌else◌, is_some, unwrap_or}
 use Rattle.swd_port.specs.declared.access.Access.{Access}
 use Rattle.swd_port.specs.declared.access.Access.TheVariants.{Read, Write}
-use Rattle.swd_port.specs.declared.access.Transfer.{Transfer}
 use Rattle.swd_port.specs.Bus.{bus_after}
 use Rattle.swd_devices.specs.declared.core_target.CoreTarget.{CoreTarget}
-use Rattle.swd_devices.specs.Cores.{core_asks_reset, core_is_address}
-use Rattle.swd_devices.specs.CoreTargets.{core_target_after, core_target_answer}
+use Rattle.swd_port.specs.PlainMemory.{plain_after}
+use Rattle.swd_devices.specs.Cores.{core_after_read, core_after_write, core_asks_reset, core_is_address}
+use Rattle.swd_devices.specs.CoreTargets.{core_target_after, core_target_answer, core_target_reset}
 use Rattle.swd_devices.specs.LoggedCores.{LoggedCoreState, core_target_parts, logged_core_after, logged_core_answer}
 use Rattle.swd_devices.specs.LoggedCores.{logged_core_bus, logged_core_has_room}
 
@@ -25,11 +25,18 @@ logged_parts_answer (Write at word) s = refl
 
 pub logged_parts_after : {A : Type 0} (a : Access) (s : CoreTarget A)
     → core_target_parts (core_target_after a s) ≡ core_target_after a (core_target_parts s)
-logged_parts_after (Read at) s = if_parts (core_is_address at) _ _
-logged_parts_after (Write at word) s =
-    if_parts (core_is_address at) _ _
-    ∙ ap (λ x. if core_is_address at then x else core_target_after (Write at word) (core_target_parts s))
-    (if_parts (core_asks_reset at word) _ _)
+logged_parts_after {A} (Read at) s =
+    let first : CoreTarget A = record s { core = core_after_read at s.core } in
+    let other : CoreTarget A = record s { memory = plain_after (Read at) s.memory } in
+    if_parts (core_is_address at) first other
+logged_parts_after {A} (Write at word) s =
+    let reset : CoreTarget A = core_target_reset s in
+    let wrote : CoreTarget A = record s { core = core_after_write at word s.core } in
+    let other : CoreTarget A = record s { memory = plain_after (Write at word) s.memory } in
+    let first : CoreTarget A = if core_asks_reset at word then reset else wrote in
+    if_parts (core_is_address at) first other
+    ∙ ap (λ (x : CoreTarget (Unit {0})). if core_is_address at then x else core_target_parts other)
+    (if_parts (core_asks_reset at word) reset wrote)
 
 -- AN ACCESS
 

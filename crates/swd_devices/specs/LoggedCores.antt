@@ -1,13 +1,10 @@
 -- What one access does to a memory with a core beside it that keeps a log, and the bus that it is.
 use Rattle.std.specs.Prelude.{ℕ, ◌++◌, ◌∷◌, [], List, length, nat_lt, Bool, Option, None, is_some, if◌then◌else◌}
 use Rattle.swd_port.specs.declared.access.Access.{Access}
-use Rattle.swd_port.specs.declared.access.Access.TheVariants.{Read, Write}
 use Rattle.swd_port.specs.declared.access.Transfer.{Transfer}
 use Rattle.swd_port.specs.Bus.{Bus, bus_transfer_of}
-use Rattle.swd_port.specs.PlainMemory.{PlainMemory}
 use Rattle.swd_target.specs.Devices.{bus_by}
 use Rattle.swd_devices.specs.declared.core_target.CoreTarget.{CoreTarget}
-use Rattle.swd_devices.specs.declared.halting.Core.{Core}
 use Rattle.swd_devices.specs.declared.logged_core.LoggedCore.{LoggedCore}
 use Rattle.swd_devices.specs.CoreTargets.{core_target_after, core_target_answer}
 

@@ -67,7 +67,9 @@ impl<A: Allocator> LoggedCore<A> {
         if !self.has_room() {
             return None;
         }
-        let word = self.target.read(addr)?;
+        let Some(word) = self.target.read(addr) else {
+            return None;
+        };
         let transfer = Transfer {
             read: true,
             addr,
@@ -82,7 +84,10 @@ impl<A: Allocator> LoggedCore<A> {
         ensures done { result ≡ is_some (logged_core_answer (Write addr word) (logged_core_state self.old)) }
         ensures after { logged_core_state self.new ≡ logged_core_after (Write addr word) (logged_core_state self.old) }
     {
-        if !self.has_room() || !self.target.write(addr, word) {
+        if !self.has_room() {
+            return false;
+        }
+        if !self.target.write(addr, word) {
             return false;
         }
         let transfer = Transfer {

@@ -1,6 +1,5 @@
 //! What stands behind the access port of a script's simulated target.
 ghost use Rattle.std.specs.Prelude.{◌≡◌, IfSome};
-ghost use Rattle.swd_port.specs.Bus.{bus_of};
 ghost use Rattle.swd_script.specs.Laws.{IsScriptRunnable};
 ghost use Rattle.swd_script.specs.Readers.{read_script_meaning};
 ghost use Rattle.swd_run.specs.ScriptDevices.{script_bus, script_device_bus, script_memory};

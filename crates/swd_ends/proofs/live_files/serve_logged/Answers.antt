@@ -9,7 +9,7 @@ use Rattle.swd_ends.proofs.live_files.serve_logged.Goals as goal
 pub returns-clause-log : goal.returns-clause-log
 returns-clause-log g c = λ sound.
     let contents = g.M.Write.contents in
-    let bus = g.D.KeepsLog.Device.bus in
+    let bus = g.D.Device.bus in
     let s = c.args.pins in
     let t = c.serve_watched-served.result.1 in
     let n : ℕ = length c.log.result.now in

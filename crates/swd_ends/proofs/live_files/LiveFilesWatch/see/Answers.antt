@@ -11,7 +11,7 @@ pub returns : goal.returns
 returns g c = λ s reaches sound.
     let contents = g.M.Write.contents in
     let t = c.args.pins.now in
-    let bus = g.D.KeepsLog.Device.bus in
+    let bus = g.D.Device.bus in
     let later = live_pins_reached_grow bus s t sound reaches in
     let self = c.args.self.now in
     let old = live_log_at bus self.skipped s in
