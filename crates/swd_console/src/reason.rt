@@ -10,9 +10,10 @@ use swd_run::TextsFault;
 use swd_script::{ScriptFault, decimal_of, hex_of};
 
 // The commands of a script, with their arguments.
-const COMMANDS: [&str; 9] = [
+const COMMANDS: [&str; 10] = [
     "memory ADDR WORDS",
     "room COUNT",
+    "core ADDR",
     "r ADDR",
     "w ADDR VALUE",
     "rn ADDR COUNT",
@@ -58,6 +59,7 @@ fn place<W: fmt::Write>(f: &mut Formatter<W>, name: &str) -> fmt::Result {
     f.write_str(match name {
         "memory" => "there is one memory already",
         "room" => "room comes once, before the first access and before next",
+        "core" => "core comes once, before the first access and before next",
         _ => "a block is the only access of its call, and next starts another",
     })
 }
@@ -136,7 +138,7 @@ impl ScriptReason {
         let Some(form) = form_of(name) else {
             return write!(
                 f,
-                "'{name}' is no command; the commands are memory, room, r, w, rn, block, verify, until and next"
+                "'{name}' is no command; the commands are memory, room, core, r, w, rn, block, verify, until and next"
             );
         };
         if text.split_ascii_whitespace().count() == form.split_ascii_whitespace().count() {

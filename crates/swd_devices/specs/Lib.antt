@@ -3,3 +3,4 @@ pub mod CoreTargets
 pub mod Cores
 pub mod Flashes
 pub mod FourRegisters
+pub mod LoggedCores

@@ -3,7 +3,8 @@
 //!
 //! - [`Registers`]: a status, a key, a FIFO and a flag;
 //! - [`Flash`]: a flash controller with a page of one double word;
-//! - [`CoreTarget`]: a memory, and a [`Core`] with halting debug beside it.
+//! - [`CoreTarget`]: a memory, and a [`Core`] with halting debug beside it;
+//! - [`LoggedCore`]: the same as a device with a log.
 //!
 //! [`Peripheral`]: swd_target::Peripheral
 //! [`Attached`]: swd_target::Attached
@@ -12,11 +13,13 @@
 mod core_target;
 mod flash;
 mod halting;
+mod logged_core;
 mod registers;
 mod seen;
 
 pub use core_target::CoreTarget;
 pub use flash::{Flash, Lock};
 pub use halting::Core;
+pub use logged_core::LoggedCore;
 pub use registers::{Key, Registers};
 pub use seen::Seen;

@@ -19,8 +19,7 @@ use Rattle.swd_port.specs.declared.state.AfterAck.TheVariants as lines
 use Rattle.swd_port.specs.declared.state.Reply.{Reply}
 use Rattle.swd_port.specs.declared.state.Reply.TheVariants.{Okay, Waits, Faults, Silent}
 use Rattle.swd_port.specs.declared.mark.Mark.TheVariants.{Clean, Wait}
-use Rattle.swd_port.specs.PlainMemory.{PlainMemory}
-use Rattle.swd_port.specs.Bus.{Bus, bus_of, bus_succeeds, bus_transfer_of}
+use Rattle.swd_port.specs.Bus.{Bus, bus_succeeds, bus_transfer_of}
 use Rattle.swd_port.specs.Port.{Port, Target as State, PortTally, port_idle_link}
 use Rattle.swd_port.specs.Choices.{Choice, IsPortMark, is_port_deaf, is_port_wait}
 use Rattle.swd_port.specs.Completion.{PortCompletes, pending_access_at, memory_after_pending}
@@ -143,10 +142,10 @@ mark_for : (w : Bool) → (mark : Mark) × IsPortMark mark × (is_port_deaf mark
 mark_for true = (Wait, tt, refl, refl)
 mark_for false = (Clean, tt, refl, refl)
 
-answers_grow : (w : Bool) (q : Request) (s : Target PlainMemory) (reply : Reply) (phase : AfterAck)
-    (t : Target PlainMemory)
-    → TargetAnswers bus_of w q s reply phase t → LiveLogGrows s.device.log t.device.log
-answers_grow w q s reply phase t h =
+answers_grow : {D : Type 0} (bus : D → Bus) (w : Bool) (q : Request) (s : Target D) (reply : Reply) (phase : AfterAck)
+    (t : Target D)
+    → TargetAnswers bus w q s reply phase t → LiveLogGrows (bus s.device).log (bus t.device).log
+answers_grow bus w q s reply phase t h =
     let m = mark_for w in
     let none : PortTally = record { asked = 0; disturbed = 0; lost = 0 } in
     let asks = (h.under m.0 m.1 m.2 m.3).step port_idle_link none in
@@ -159,26 +158,29 @@ answers_grow w q s reply phase t h =
     live_log_grows_further _ a.target.memory.log _ before
     (live_log_grows_further _ b.target.memory.log _ (grows_same _ _ now) after)
 
-data_grows : (a : PortArrival) (s t : Target PlainMemory) → DataComes bus_of a s t → LiveLogGrows s.device.log
-    t.device.log
-data_grows a s t h = elim h.later [
+data_grows : {D : Type 0} (bus : D → Bus) (a : PortArrival) (s t : Target D) → DataComes bus a s t
+    → LiveLogGrows (bus s.device).log
+    (bus t.device).log
+data_grows bus a s t h = elim h.later [
   | inl e ↦ grows_same _ _ (ap (λ (x : State). x.memory.log) e)
-  | inr f ↦ subst (λ (l : List Transfer). LiveLogGrows s.device.log l) (sym (ap (λ (x : State). x.memory.log) f.2))
-      (memory_grows _ _ (bus_of s.device))
+  | inr f ↦ subst (λ (l : List Transfer). LiveLogGrows (bus s.device).log l) (sym (ap (λ
+      (x : State). x.memory.log) f.2))
+      (memory_grows _ _ (bus s.device))
 ]
 
 -- A CYCLE
 
 -- the log grew, and the frame is one that cycles lead to
-record After (s : Target PlainMemory) (t : Clocked PlainMemory) : Type 0 where
-  grows : LiveLogGrows s.device.log t.target.device.log
+record After {D : Type 0} (bus : D → Bus) (s : Target D) (t : Clocked D) : Type 0 where
+  grows : LiveLogGrows (bus s.device).log (bus t.target.device).log
   sound : IsLiveFrameSound t.frame
 
-moved : (f : Frame) (s : Target PlainMemory) (w : Bool) (t : Clocked PlainMemory) → IsLiveFrameSound f → FrameMoved f s
+moved : {D : Type 0} (bus : D → Bus) (f : Frame) (s : Target D) (w : Bool) (t : Clocked D) → IsLiveFrameSound f
+    → FrameMoved f s
     w t
-    → After s t
-moved f s w t sound h = record {
-  grows = grows_same _ _ (ap (λ (x : Target _). x.device.log) h.target);
+    → After bus s t
+moved bus f s w t sound h = record {
+  grows = grows_same _ _ (ap (λ (x : Target _). (bus x.device).log) h.target);
   sound = subst IsLiveFrameSound (sym h.frame) sound;
 }
 
@@ -202,36 +204,39 @@ sound_switched : (last : Bool) (place : ℕ) → IsLiveFrameSound (if last then 
 sound_switched true place = tt
 sound_switched false place = λ e. absurd (omega arith)
 
-byte_grows : (byte : ℕ) (s : Target PlainMemory) (w : Bool) (t : Clocked PlainMemory) → ClockedByteCame bus_of byte s w
-    t → After s t
-byte_grows byte s w t h = elim (request_or_none (low_bits 8 byte))
+byte_grows : {D : Type 0} (bus : D → Bus) (byte : ℕ) (s : Target D) (w : Bool) (t : Clocked D)
+    → ClockedByteCame bus byte s w
+    t → After bus s t
+byte_grows bus byte s w t h = elim (request_or_none (low_bits 8 byte))
     as (λ (_ : ((q : Request) × (bits_of_request q ≡ low_bits 8 byte))
-    ⊎ ((q : Request) → bits_of_request q ≢ low_bits 8 byte)). After s t) [
+    ⊎ ((q : Request) → bits_of_request q ≢ low_bits 8 byte)). After bus s t) [
       | inl q ↦ (let r = h.whole q.0 q.1 in record {
-        grows = answers_grow w q.0 s r.reply r.phase t.target r.answers;
+        grows = answers_grow bus w q.0 s r.reply r.phase t.target r.answers;
         sound = subst IsLiveFrameSound (sym r.frame) (sound_replied r.reply r.phase);
       })
-      | inr n ↦ moved _ s w t tt (h.broken n)
+      | inr n ↦ moved bus _ s w t tt (h.broken n)
     ]
 
-asks_on : (bits count : ℕ) (b : Bool) (s : Target PlainMemory) (w : Bool) (t : Clocked PlainMemory) → count < 8
-    → (count ≡ 0 → b ≡ true) → AsksCycle bus_of bits count b s w t → After s t
-asks_on bits count b s w t l first h = elim (cases_lt count 7) as (λ (_ : (count < 7) ⊎ (7 ≤ count)). After s t) [
-  | inl m ↦ moved _ s w t tt (h.more m first)
-  | inr g ↦ byte_grows _ s w t (h.whole (omega arith))
-]
+asks_on : {D : Type 0} (bus : D → Bus) (bits count : ℕ) (b : Bool) (s : Target D) (w : Bool) (t : Clocked D) → count < 8
+    → (count ≡ 0 → b ≡ true) → AsksCycle bus bits count b s w t → After bus s t
+asks_on bus bits count b s w t l first h = elim (cases_lt count 7) as (λ (_ : (count < 7)
+    ⊎ (7 ≤ count)). After bus s t) [
+      | inl m ↦ moved bus _ s w t tt (h.more m first)
+      | inr g ↦ byte_grows bus _ s w t (h.whole (omega arith))
+    ]
 
-asks_grow : (bits count : ℕ) (b : Bool) (s : Target PlainMemory) (w : Bool) (t : Clocked PlainMemory) → count < 8
-    → AsksCycle bus_of bits count b s w t → After s t
-asks_grow bits count true s w t l h = asks_on bits count true s w t l (λ e. refl) h
-asks_grow bits zero false s w t l h = moved idle_frame s w t tt (h.quiet refl refl)
-asks_grow bits (suc n) false s w t l h = asks_on bits (suc n) false s w t l (λ e. absurd (omega arith)) h
+asks_grow : {D : Type 0} (bus : D → Bus) (bits count : ℕ) (b : Bool) (s : Target D) (w : Bool) (t : Clocked D)
+    → count < 8
+    → AsksCycle bus bits count b s w t → After bus s t
+asks_grow bus bits count true s w t l h = asks_on bus bits count true s w t l (λ e. refl) h
+asks_grow bus bits zero false s w t l h = moved bus idle_frame s w t tt (h.quiet refl refl)
+asks_grow bus bits (suc n) false s w t l h = asks_on bus bits (suc n) false s w t l (λ e. absurd (omega arith)) h
 
-lost_grow : (ones : ℕ) (b : Bool) (s : Target PlainMemory) (w : Bool) (t : Clocked PlainMemory) → ones < 50
-    → LostCycle bus_of ones b s w t → After s t
-lost_grow ones false s w t l h = moved _ s w t tt (h.low refl)
-lost_grow ones true s w t l h = elim (cases_lt ones 49) as (λ (_ : (ones < 49) ⊎ (49 ≤ ones)). After s t) [
-  | inl m ↦ moved _ s w t tt (h.more m refl)
+lost_grow : {D : Type 0} (bus : D → Bus) (ones : ℕ) (b : Bool) (s : Target D) (w : Bool) (t : Clocked D) → ones < 50
+    → LostCycle bus ones b s w t → After bus s t
+lost_grow bus ones false s w t l h = moved bus _ s w t tt (h.low refl)
+lost_grow bus ones true s w t l h = elim (cases_lt ones 49) as (λ (_ : (ones < 49) ⊎ (49 ≤ ones)). After bus s t) [
+  | inl m ↦ moved bus _ s w t tt (h.more m refl)
   | inr g ↦ (let r = h.whole (omega arith) refl in record {
     grows = grows_same _ _ (ap (λ (x : State). x.memory.log) r.reset.state);
     sound = subst IsLiveFrameSound (sym r.frame) tt;
@@ -244,16 +249,16 @@ IsHeard (Asks bits count) = count < 8
 IsHeard (Lost ones) = ones < 50
 IsHeard frame = ⊥
 
-heard_grow : (f : Frame) (b : Bool) (s : Target PlainMemory) (w : Bool) (t : Clocked PlainMemory) → IsHeard f
-    → HeardCycle bus_of f b s w t → After s t
-heard_grow (Asks bits count) b s w t l h = asks_grow bits count b s w t l h
-heard_grow (Lost ones) b s w t l h = lost_grow ones b s w t l h
-heard_grow High b s w t l h = absurd l
-heard_grow (Switches place) b s w t l h = absurd l
-heard_grow (Replies reply line place) b s w t l h = absurd l
-heard_grow (Drives bits left) b s w t l h = absurd l
-heard_grow (Awaits r bits place) b s w t l h = absurd l
-heard_grow Passes b s w t l h = absurd l
+heard_grow : {D : Type 0} (bus : D → Bus) (f : Frame) (b : Bool) (s : Target D) (w : Bool) (t : Clocked D) → IsHeard f
+    → HeardCycle bus f b s w t → After bus s t
+heard_grow bus (Asks bits count) b s w t l h = asks_grow bus bits count b s w t l h
+heard_grow bus (Lost ones) b s w t l h = lost_grow bus ones b s w t l h
+heard_grow bus High b s w t l h = absurd l
+heard_grow bus (Switches place) b s w t l h = absurd l
+heard_grow bus (Replies reply line place) b s w t l h = absurd l
+heard_grow bus (Drives bits left) b s w t l h = absurd l
+heard_grow bus (Awaits r bits place) b s w t l h = absurd l
+heard_grow bus Passes b s w t l h = absurd l
 
 -- a switch that turned out to be none leaves such a frame
 unswitched_heard : (place : ℕ) → place < 16 → (place ≡ 0 → ⊥) → IsHeard (unswitched_frame place)
@@ -284,46 +289,48 @@ unswitched_heard (suc (suc (suc (suc (suc (suc (suc (suc (suc (suc (suc (suc (su
 unswitched_heard (suc (suc (suc (suc (suc (suc (suc (suc (suc (suc (suc (suc (suc (suc (suc (suc n)))))))))))))))) l
     e = absurd (omega arith)
 
-switches_grow : (place : ℕ) (b : Bool) (s : Target PlainMemory) (w : Bool) (t : Clocked PlainMemory) → place < 16
-    → (place ≡ 0 → ⊥) → SwitchCycle bus_of place b s w t → After s t
-switches_grow place b s w t l sound h = elim (bool_same b (switch_cycle_bit place))
-    as (λ (_ : (b ≡ switch_cycle_bit place) ⊎ (b ≢ switch_cycle_bit place)). After s t) [
-      | inl e ↦ moved _ s w t (sound_switched (place == 15) place) (h.fits e)
-      | inr n ↦ heard_grow (unswitched_frame place) b s w t (unswitched_heard place l sound) (h.differs n)
+switches_grow : {D : Type 0} (bus : D → Bus) (place : ℕ) (b : Bool) (s : Target D) (w : Bool) (t : Clocked D)
+    → place < 16
+    → (place ≡ 0 → ⊥) → SwitchCycle bus place b s w t → After bus s t
+switches_grow bus place b s w t l sound h = elim (bool_same b (switch_cycle_bit place))
+    as (λ (_ : (b ≡ switch_cycle_bit place) ⊎ (b ≢ switch_cycle_bit place)). After bus s t) [
+      | inl e ↦ moved bus _ s w t (sound_switched (place == 15) place) (h.fits e)
+      | inr n ↦ heard_grow bus (unswitched_frame place) b s w t (unswitched_heard place l sound) (h.differs n)
     ]
 
-awaits_grow : (r : Register) (bits place : ℕ) (b : Bool) (s : Target PlainMemory) (w : Bool) (t : Clocked PlainMemory)
-    → place < 34 → AwaitsCycle bus_of r bits place b s w t → After s t
-awaits_grow r bits zero b s w t l h = moved _ s w t tt (h.turn refl)
-awaits_grow r bits (suc n) b s w t l h = elim (cases_lt (suc n) 33)
-    as (λ (_ : (suc n < 33) ⊎ (33 ≤ suc n)). After s t) [
-      | inl m ↦ moved _ s w t tt (h.more (λ e. absurd (omega arith)) m)
+awaits_grow : {D : Type 0} (bus : D → Bus) (r : Register) (bits place : ℕ) (b : Bool) (s : Target D) (w : Bool)
+    (t : Clocked D)
+    → place < 34 → AwaitsCycle bus r bits place b s w t → After bus s t
+awaits_grow bus r bits zero b s w t l h = moved bus _ s w t tt (h.turn refl)
+awaits_grow bus r bits (suc n) b s w t l h = elim (cases_lt (suc n) 33)
+    as (λ (_ : (suc n < 33) ⊎ (33 ≤ suc n)). After bus s t) [
+      | inl m ↦ moved bus _ s w t tt (h.more (λ e. absurd (omega arith)) m)
       | inr g ↦ (let d = h.whole (omega arith) in record {
-        grows = data_grows _ s t.target d.comes;
+        grows = data_grows bus _ s t.target d.comes;
         sound = subst IsLiveFrameSound (sym d.frame) tt;
       })
     ]
 
-drives_grow : (bits left : ℕ) (b answer : Bool) (s : Target PlainMemory) (w : Bool) (t : Clocked PlainMemory)
-    → DrivesCycle bits left b answer s w t → After s t
-drives_grow bits zero b answer s w t h = moved _ s w t tt (h.turn refl).1
-drives_grow bits (suc n) b answer s w t h = moved _ s w t tt (h.more (λ e. absurd (omega arith)))
+drives_grow : {D : Type 0} (bus : D → Bus) (bits left : ℕ) (b answer : Bool) (s : Target D) (w : Bool) (t : Clocked D)
+    → DrivesCycle bits left b answer s w t → After bus s t
+drives_grow bus bits zero b answer s w t h = moved bus _ s w t tt (h.turn refl).1
+drives_grow bus bits (suc n) b answer s w t h = moved bus _ s w t tt (h.more (λ e. absurd (omega arith)))
 
 if_high : (b : Bool) → IsLiveFrameSound (if b then High else Switches 1)
 if_high true = tt
 if_high false = λ e. absurd (omega arith)
 
-cycle_grows : (f : Frame) (b answer : Bool) (s : Target PlainMemory) (w : Bool) (t : Clocked PlainMemory)
-    → frame_place f < frame_limit f → IsLiveFrameSound f → Cycles bus_of f b answer s w t → After s t
-cycle_grows (Asks bits count) b answer s w t l sound h = asks_grow bits count b s w t l h.1
-cycle_grows (Lost ones) b answer s w t l sound h = lost_grow ones b s w t l h.1
-cycle_grows High b answer s w t l sound h = moved _ s w t (if_high b) h.1
-cycle_grows (Switches place) b answer s w t l sound h = switches_grow place b s w t l sound h.1
-cycle_grows (Replies reply line place) b answer s w t l sound h =
-    moved _ s w t (sound_reply (place == 3) reply line (place + 1)) h.frame
-cycle_grows (Drives bits left) b answer s w t l sound h = drives_grow bits left b answer s w t h
-cycle_grows (Awaits r bits place) b answer s w t l sound h = awaits_grow r bits place b s w t l h.1
-cycle_grows Passes b answer s w t l sound h = moved _ s w t tt h.1
+cycle_grows : {D : Type 0} (bus : D → Bus) (f : Frame) (b answer : Bool) (s : Target D) (w : Bool) (t : Clocked D)
+    → frame_place f < frame_limit f → IsLiveFrameSound f → Cycles bus f b answer s w t → After bus s t
+cycle_grows bus (Asks bits count) b answer s w t l sound h = asks_grow bus bits count b s w t l h.1
+cycle_grows bus (Lost ones) b answer s w t l sound h = lost_grow bus ones b s w t l h.1
+cycle_grows bus High b answer s w t l sound h = moved bus _ s w t (if_high b) h.1
+cycle_grows bus (Switches place) b answer s w t l sound h = switches_grow bus place b s w t l sound h.1
+cycle_grows bus (Replies reply line place) b answer s w t l sound h =
+    moved bus _ s w t (sound_reply (place == 3) reply line (place + 1)) h.frame
+cycle_grows bus (Drives bits left) b answer s w t l sound h = drives_grow bus bits left b answer s w t h
+cycle_grows bus (Awaits r bits place) b answer s w t l sound h = awaits_grow bus r bits place b s w t l h.1
+cycle_grows bus Passes b answer s w t l sound h = moved bus _ s w t tt h.1
 
 -- A CYCLE UNDER A PLAN
 
@@ -355,49 +362,52 @@ last_or_not (Drives bits left) b = inr (λ q l. l)
 last_or_not (Awaits r bits place) b = inr (λ q l. l)
 last_or_not Passes b = inr (λ q l. l)
 
-reached : {A : Type 0} (m : Mark) (w : Bool) (drive : Option Bool) (answer : Bool) (s t : FaultyClocked PlainMemory A)
-    → IsLiveFrameSound s.clocked.frame → marked.CycleReaches bus_of m w drive answer s t → After s.clocked.target
+reached : {D A : Type 0} (bus : D → Bus) (m : Mark) (w : Bool) (drive : Option Bool) (answer : Bool)
+    (s t : FaultyClocked D A)
+    → IsLiveFrameSound s.clocked.frame → marked.CycleReaches bus m w drive answer s t → After bus s.clocked.target
     t.clocked
-reached m w drive answer s t sound h =
-    cycle_grows s.clocked.frame _ h.bit s.clocked.target w t.clocked s.clocked.place sound h.cycles
+reached bus m w drive answer s t sound h =
+    cycle_grows bus s.clocked.frame _ h.bit s.clocked.target w t.clocked s.clocked.place sound h.cycles
 
-missed : {A : Type 0} (more : ℕ) (drive : Option Bool) (answer : Bool) (s t : FaultyClocked PlainMemory A)
-    → marked.CycleMisses more drive answer s t → After s.clocked.target t.clocked
-missed more drive answer s t h = moved idle_frame s.clocked.target s.clocked.waits t.clocked tt h.moved
+missed : {D A : Type 0} (bus : D → Bus) (more : ℕ) (drive : Option Bool) (answer : Bool) (s t : FaultyClocked D A)
+    → marked.CycleMisses more drive answer s t → After bus s.clocked.target t.clocked
+missed bus more drive answer s t h = moved bus idle_frame s.clocked.target s.clocked.waits t.clocked tt h.moved
 
-met : {A : Type 0} (deaf : Bool) (drive : Option Bool) (answer : Bool) (s t : FaultyClocked PlainMemory A)
+met : {D A : Type 0} (bus : D → Bus) (deaf : Bool) (drive : Option Bool) (answer : Bool) (s t : FaultyClocked D A)
     → is_port_deaf t.mark ≡ deaf
-    → IsLiveFrameSound s.clocked.frame → marked.CycleMeetsMark bus_of drive answer s t → After s.clocked.target
+    → IsLiveFrameSound s.clocked.frame → marked.CycleMeetsMark bus drive answer s t → After bus s.clocked.target
     t.clocked
-met true drive answer s t e sound h = missed 4 drive answer s t (h.deaf e)
-met false drive answer s t e sound h = reached t.mark (is_port_wait t.mark) drive answer s t sound (h.hears e)
+met bus true drive answer s t e sound h = missed bus 4 drive answer s t (h.deaf e)
+met bus false drive answer s t e sound h = reached bus t.mark (is_port_wait t.mark) drive answer s t sound (h.hears e)
 
-marked_grows : {A : Type 0} (drive : Option Bool) (answer : Bool) (s t : FaultyClocked PlainMemory A)
-    → IsLiveFrameSound s.clocked.frame → marked.MarkedCycles bus_of drive answer s t → After s.clocked.target t.clocked
-marked_grows drive answer s t sound h = elim (cases_lt 0 s.unseen)
-    as (λ (_ : (0 < s.unseen) ⊎ (s.unseen ≤ 0)). After s.clocked.target t.clocked) [
-      | inl m ↦ missed _ drive answer s t (h.missed (λ e. absurd (omega arith))).0
+marked_grows : {D A : Type 0} (bus : D → Bus) (drive : Option Bool) (answer : Bool) (s t : FaultyClocked D A)
+    → IsLiveFrameSound s.clocked.frame → marked.MarkedCycles bus drive answer s t → After bus s.clocked.target t.clocked
+marked_grows bus drive answer s t sound h = elim (cases_lt 0 s.unseen)
+    as (λ (_ : (0 < s.unseen) ⊎ (s.unseen ≤ 0)). After bus s.clocked.target t.clocked) [
+      | inl m ↦ missed bus _ drive answer s t (h.missed (λ e. absurd (omega arith))).0
       | inr z ↦ elim (last_or_not s.clocked.frame (unwrap_or drive true))
           as (λ (_ : ((q : Request) × IsLastRequestCycle s.clocked.frame (unwrap_or drive true) q)
-          ⊎ ((q : Request) → IsLastRequestCycle s.clocked.frame (unwrap_or drive true) q → ⊥)). After s.clocked.target
+          ⊎ ((q : Request) → IsLastRequestCycle s.clocked.frame (unwrap_or drive true) q
+          → ⊥)). After bus s.clocked.target
           t.clocked) [
-            | inl q ↦ met (is_port_deaf t.mark) drive answer s t refl sound (h.met (omega arith) q.0 q.1)
-            | inr n ↦ reached s.mark s.clocked.waits drive answer s t sound (h.other (omega arith) n).0
+            | inl q ↦ met bus (is_port_deaf t.mark) drive answer s t refl sound (h.met (omega arith) q.0 q.1)
+            | inr n ↦ reached bus s.mark s.clocked.waits drive answer s t sound (h.other (omega arith) n).0
           ]
     ]
 
 -- THE PINS
 
 -- the log and the trace at later pins, and their frame
-pub record LivePinsGrew {A : Type 0} (s t : Pins PlainMemory A) : Type 0 where
-  pub log : LiveLogGrows (live_transfers_at s) (live_transfers_at t)
+pub record LivePinsGrew {D A : Type 0} (bus : D → Bus) (s t : Pins D A) : Type 0 where
+  pub log : LiveLogGrows (live_transfers_at bus s) (live_transfers_at bus t)
   pub trace : LiveLogGrows (live_trace_at s) (live_trace_at t)
   pub sound : live_pins_sound t
 
-unchanged : {A : Type 0} (s t : Pins PlainMemory A) → live_pins_sound s → t.target ≡ s.target → t.trace ≡ s.trace
-    → LivePinsGrew s t
-unchanged s t sound e f = record {
-  log = grows_same _ _ (ap (λ (x : FaultyClocked _ _). x.clocked.target.device.log) e);
+unchanged : {D A : Type 0} (bus : D → Bus) (s t : Pins D A) → live_pins_sound s → t.target ≡ s.target → t.trace
+    ≡ s.trace
+    → LivePinsGrew bus s t
+unchanged bus s t sound e f = record {
+  log = grows_same _ _ (ap (λ (x : FaultyClocked _ _). (bus x.clocked.target.device).log) e);
   trace = grows_same _ _ (ap (λ (x : Trace _). traces.pins_kept_trace x) f);
   sound = subst (λ (x : FaultyClocked _ _). IsLiveFrameSound x.clocked.frame) (sym e) sound;
 }
@@ -411,58 +421,61 @@ trace_on true false bit s t e f h = elim (h.more e f) [
   | inr k ↦ grows_same _ _ k.0
 ]
 
-shown : {A : Type 0} (seen : Option Bool) (bit : Bool) (s t : Pins PlainMemory A) → live_pins_sound s → PinsShowBy
-    bus_of seen bit s t
-    → LivePinsGrew s t
-shown (Some b) bit s t sound h =
-    unchanged s t sound (ap (λ (x : Pins _ _). x.target) h.1) (ap (λ (x : Pins _ _). x.trace) h.1)
-shown None bit s t sound h =
-    let after = marked_grows (pins_driven s) bit s.target t.target sound h.cycle in
+shown : {D A : Type 0} (bus : D → Bus) (seen : Option Bool) (bit : Bool) (s t : Pins D A) → live_pins_sound s
+    → PinsShowBy
+    bus seen bit s t
+    → LivePinsGrew bus s t
+shown bus (Some b) bit s t sound h =
+    unchanged bus s t sound (ap (λ (x : Pins _ _). x.target) h.1) (ap (λ (x : Pins _ _). x.trace) h.1)
+shown bus None bit s t sound h =
+    let after = marked_grows bus (pins_driven s) bit s.target t.target sound h.cycle in
     record {
       log = after.grows;
       trace = trace_on s.trace.wanted s.trace.cut bit s.trace t.trace refl refl h.trace;
       sound = after.sound;
     }
 
-sees : {A : Type 0} (drives : Bool) (bit : Bool) (s t : Pins PlainMemory A) → live_pins_sound s → PinsSeenBy bus_of
+sees : {D A : Type 0} (bus : D → Bus) (drives : Bool) (bit : Bool) (s t : Pins D A) → live_pins_sound s → PinsSeenBy bus
     drives bit s t
-    → LivePinsGrew s t
-sees true bit s t sound h =
-    unchanged s t sound (ap (λ (x : Pins _ _). x.target) h.1) (ap (λ (x : Pins _ _). x.trace) h.1)
-sees false bit s t sound h = shown s.seen bit s t sound h
+    → LivePinsGrew bus s t
+sees bus true bit s t sound h =
+    unchanged bus s t sound (ap (λ (x : Pins _ _). x.target) h.1) (ap (λ (x : Pins _ _). x.trace) h.1)
+sees bus false bit s t sound h = shown bus s.seen bit s t sound h
 
-stepped : {A : Type 0} (found : Option Character) (sign : PinReply) (s t : Pins PlainMemory A) → live_pins_sound s
-    → PinsStep bus_of found s sign t → LivePinsGrew s t
-stepped (Some (Moves false level)) sign s t sound h =
-    unchanged s t sound (ap (λ (x : Pins _ _). x.target) h.1) (ap (λ (x : Pins _ _). x.trace) h.1)
-stepped (Some (Moves true level)) sign s t sound h =
-    let g = shown s.seen h.1.0 (record s { clock = true; level = level }) t sound h.1.1 in
+stepped : {D A : Type 0} (bus : D → Bus) (found : Option Character) (sign : PinReply) (s t : Pins D A)
+    → live_pins_sound s
+    → PinsStep bus found s sign t → LivePinsGrew bus s t
+stepped bus (Some (Moves false level)) sign s t sound h =
+    unchanged bus s t sound (ap (λ (x : Pins _ _). x.target) h.1) (ap (λ (x : Pins _ _). x.trace) h.1)
+stepped bus (Some (Moves true level)) sign s t sound h =
+    let g = shown bus s.seen h.1.0 (record s { clock = true; level = level }) t sound h.1.1 in
     record { log = g.log; trace = g.trace; sound = g.sound }
-stepped (Some Looks) sign s t sound h = sees s.drives h.0 s t sound h.2
-stepped (Some (Turns drives)) sign s t sound h =
-    unchanged s t sound (ap (λ (x : Pins _ _). x.target) h.1) (ap (λ (x : Pins _ _). x.trace) h.1)
-stepped (Some Quits) sign s t sound h =
-    unchanged s t sound (ap (λ (x : Pins _ _). x.target) h.1) (ap (λ (x : Pins _ _). x.trace) h.1)
-stepped (Some character) sign s t sound h =
-    unchanged s t sound (ap (λ (x : Pins _ _). x.target) h.1) (ap (λ (x : Pins _ _). x.trace) h.1)
-stepped None sign s t sound h =
-    unchanged s t sound (ap (λ (x : Pins _ _). x.target) h.1) (ap (λ (x : Pins _ _). x.trace) h.1)
+stepped bus (Some Looks) sign s t sound h = sees bus s.drives h.0 s t sound h.2
+stepped bus (Some (Turns drives)) sign s t sound h =
+    unchanged bus s t sound (ap (λ (x : Pins _ _). x.target) h.1) (ap (λ (x : Pins _ _). x.trace) h.1)
+stepped bus (Some Quits) sign s t sound h =
+    unchanged bus s t sound (ap (λ (x : Pins _ _). x.target) h.1) (ap (λ (x : Pins _ _). x.trace) h.1)
+stepped bus (Some character) sign s t sound h =
+    unchanged bus s t sound (ap (λ (x : Pins _ _). x.target) h.1) (ap (λ (x : Pins _ _). x.trace) h.1)
+stepped bus None sign s t sound h =
+    unchanged bus s t sound (ap (λ (x : Pins _ _). x.target) h.1) (ap (λ (x : Pins _ _). x.trace) h.1)
 
-session_grows : {A : Type 0} (text levels : List ℕ) (s t : Pins PlainMemory A) → live_pins_sound s → PinsSession bus_of
+session_grows : {D A : Type 0} (bus : D → Bus) (text levels : List ℕ) (s t : Pins D A) → live_pins_sound s
+    → PinsSession bus
     text levels s t
-    → LivePinsGrew s t
-session_grows [] levels s t sound h =
-    unchanged s t sound (ap (λ (x : Pins _ _). x.target) h.1) (ap (λ (x : Pins _ _). x.trace) h.1)
-session_grows (byte ∷ text) levels s t sound h =
-    let first = stepped _ h.3.sign s h.0 sound h.3.steps in
-    let rest = session_grows text h.2 h.0 t first.sound h.4 in
+    → LivePinsGrew bus s t
+session_grows bus [] levels s t sound h =
+    unchanged bus s t sound (ap (λ (x : Pins _ _). x.target) h.1) (ap (λ (x : Pins _ _). x.trace) h.1)
+session_grows bus (byte ∷ text) levels s t sound h =
+    let first = stepped bus _ h.3.sign s h.0 sound h.3.steps in
+    let rest = session_grows bus text h.2 h.0 t first.sound h.4 in
     record {
-      log = live_log_grows_further _ (live_transfers_at h.0) _ first.log rest.log;
+      log = live_log_grows_further _ (live_transfers_at bus h.0) _ first.log rest.log;
       trace = live_log_grows_further _ (live_trace_at h.0) _ first.trace rest.trace;
       sound = rest.sound;
     }
 
 -- at pins that were reached, log and trace have what they had before, and maybe more
-pub live_pins_reached_grow : {A : Type 0} (s t : Pins PlainMemory A) → live_pins_sound s → PinsReach bus_of s t
-    → LivePinsGrew s t
-live_pins_reached_grow s t sound h = session_grows h.0 h.1 s t sound h.2
+pub live_pins_reached_grow : {D A : Type 0} (bus : D → Bus) (s t : Pins D A) → live_pins_sound s → PinsReach bus s t
+    → LivePinsGrew bus s t
+live_pins_reached_grow bus s t sound h = session_grows bus h.0 h.1 s t sound h.2

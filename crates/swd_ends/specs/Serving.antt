@@ -1,8 +1,7 @@
 -- The simulated target of a script and a plan, for an external host.
 use Rattle.std.specs.Prelude.{ℕ, ◌≡◌, List, [], ◌∷◌, Option, None, true, false}
 use Rattle.swd_port.specs.declared.mark.Mark.{Mark}
-use Rattle.swd_port.specs.PlainMemory.{PlainMemory}
-use Rattle.swd_port.specs.Bus.{bus_of}
+use Rattle.swd_port.specs.Bus.{Bus}
 use Rattle.swd_port.specs.Port.{port_made_target}
 use Rattle.swd_clocked.specs.declared.marked.FaultyClocked.{FaultyClocked}
 use Rattle.swd_clocked.specs.Frames.{idle_frame}
@@ -14,14 +13,16 @@ use Rattle.swd_bitbang.specs.declared.pins.Pins.{Pins}
 use Rattle.swd_script.specs.Scripts.{ScriptListed, ScriptMeaning}
 use Rattle.swd_ends.specs.declared.serving.TargetFault.{TargetFault}
 use Rattle.swd_ends.specs.declared.serving.TargetFault.TheVariants.{Texts, Memory, Accesses}
-use Rattle.swd_run.specs.Running.{AreScriptAndPlan, AreRunTextsUnread, IsRunScriptInput, IsRunPlanInput, script_memory}
+use Rattle.swd_run.specs.declared.script_device.ScriptDevice.{ScriptDevice}
+use Rattle.swd_run.specs.ScriptDevices.{script_bus, script_device_bus}
+use Rattle.swd_run.specs.Running.{AreScriptAndPlan, AreRunTextsUnread, IsRunScriptInput, IsRunPlanInput}
 
--- a target before its first cycle, with this memory, the marks of a plan, and this IDR or none
-pub record IsTargetEndMade {A : Type 0} (memory : PlainMemory) (marks : List Mark) (idr : Option ℕ)
-    (target : FaultyClocked PlainMemory A) : Type 0 where
-  pub state : marked_clocked_state bus_of target ≡ port_made_target 0x2ba0_1477 (bus_of memory)
+-- a target before its first cycle, with this bus, the marks of a plan, and this IDR or none; `bus` is that of a device
+pub record IsTargetEndMade {D A : Type 0} (bus : D → Bus) (memory : Bus) (marks : List Mark) (idr : Option ℕ)
+    (target : FaultyClocked D A) : Type 0 where
+  pub state : marked_clocked_state bus target ≡ port_made_target 0x2ba0_1477 memory
   -- a transfer takes effect at once, TAR wraps at the end of a kilobyte, and a value that is unknown is 0
-  pub choices : (marked_clocked_simulation bus_of target).quirks
+  pub choices : (marked_clocked_simulation bus target).quirks
       ≡ record { wrap = true; late = false; filler = 0; idr = idr }
   pub frame : marked_clocked_frame target ≡ idle_frame
   pub unseen : marked_clocked_unseen target ≡ 0
@@ -30,7 +31,7 @@ pub record IsTargetEndMade {A : Type 0} (memory : PlainMemory) (marks : List Mar
   pub cycles : marked_clocked_cycles target ≡ 0
 
 -- the pins before the host moved any
-pub record AreTargetEndPinsAtRest {A : Type 0} (trace : Trace A) (pins : Pins PlainMemory A) : Type 0 where
+pub record AreTargetEndPinsAtRest {D A : Type 0} (trace : Trace A) (pins : Pins D A) : Type 0 where
   pub clock : pins.clock ≡ false
   pub level : pins.level ≡ true
   pub drives : pins.drives ≡ true
@@ -45,12 +46,12 @@ IsTargetEndScript (batch ∷ next ∷ batches) = ⊥
 
 -- the inputs are a script without accesses and a plan, and the pins have their target with this IDR or none
 pub record SimulatesTargetEnd {A : Type 0} (script plan : Option (List ℕ)) (idr : Option ℕ) (trace : Trace A)
-    (pins : Pins PlainMemory A) : Type 0 where
+    (pins : Pins (ScriptDevice A) A) : Type 0 where
   pub meaning : ScriptMeaning
   pub marks : List Mark
   pub read : AreScriptAndPlan script plan meaning marks
   pub no_access : IsTargetEndScript meaning.batches
-  pub made : IsTargetEndMade (script_memory meaning) marks idr pins.target
+  pub made : IsTargetEndMade script_device_bus (script_bus meaning) marks idr pins.target
   pub rests : AreTargetEndPinsAtRest trace pins
 
 -- the script has an access or further calls

@@ -4,8 +4,7 @@ use Rattle.std.specs.Prelude.{ℕ, ◌-◌, ◌^◌, min, List, [], ◌∷◌, �
 use Rattle.std.specs.Fmt.{decimal}
 use Rattle.swd_bits.specs.Listing.{hex8}
 use Rattle.swd_port.specs.declared.access.Transfer.{Transfer}
-use Rattle.swd_port.specs.PlainMemory.{PlainMemory}
-use Rattle.swd_port.specs.Bus.{bus_of}
+use Rattle.swd_port.specs.Bus.{Bus}
 use Rattle.swd_clocked.specs.declared.marked.FaultyClocked.{FaultyClocked}
 use Rattle.swd_clocked.specs.Marked.{marked_clocked_state, marked_clocked_tally, marked_clocked_cycles}
 
@@ -27,7 +26,7 @@ abbrev pub live_log_text : List Transfer → ℕ → ℕ → List ℕ
 live_log_text transfers cycles requests = live_log_lines transfers ++ (live_log_counts_line cycles requests ++ 10 ∷ [])
 
 -- the log of a target, behind so many transfers
-abbrev pub live_log_from : {A : Type 0} → ℕ → FaultyClocked PlainMemory A → List ℕ
-live_log_from skipped target =
-    live_log_text (drop skipped (marked_clocked_state bus_of target).memory.log) (marked_clocked_cycles target)
+abbrev pub live_log_from : {D A : Type 0} → (D → Bus) → ℕ → FaultyClocked D A → List ℕ
+live_log_from bus skipped target =
+    live_log_text (drop skipped (marked_clocked_state bus target).memory.log) (marked_clocked_cycles target)
     (min (marked_clocked_tally target).asked (2 ^ 64 - 1))

@@ -15,8 +15,7 @@ use std::alloc::Allocator;
 use std::io::{Read, Write};
 use swd_bitbang::{Pins, Protocol, Served, Watch, serve_watched};
 use swd_port::Transfer;
-use swd_run::GrowingFile;
-use swd_target::Memory;
+use swd_run::{GrowingFile, KeepsLog};
 
 /// The files of a session: the log of its target, and the trace of its pins, each if it is wanted.
 #[derive(Debug, Drop)]
@@ -74,38 +73,39 @@ impl<M> LiveFiles<M> {
     }
 }
 
-impl<A: Allocator, M: Write> Watch<Memory<A>, A> for LiveFiles<M> {
-    ghost follows = { LiveFilesFollow M.contents };
+impl<D: KeepsLog, A: Allocator, M: Write> Watch<D, A> for LiveFiles<M> {
+    ghost follows = { LiveFilesFollow D.Device.bus M.contents };
 
-    fn see(&mut self, pins: &Pins<Memory<A>, A>) {
+    fn see(&mut self, pins: &Pins<D, A>) {
         self.write(pins);
     }
 
-    ghost stays = { live_files_follow_nowhere M.contents };
+    ghost stays = { live_files_follow_nowhere D.Device.bus M.contents };
 
-    ghost goes_on = { live_files_follow_further M.contents };
+    ghost goes_on = { live_files_follow_further D.Device.bus M.contents };
 }
 
 impl<M: Write> LiveFiles<M> {
     // Writes what isn't written yet.
-    fn write<A: Allocator>(&mut self, pins: &Pins<Memory<A>, A>)
+    fn write<D: KeepsLog, A: Allocator>(&mut self, pins: &Pins<D, A>)
         ensures skipped { self.new.skipped ≡ self.old.skipped }
-        ensures log { LiveFileWrites M.contents (live_log_first self.old.skipped pins.now)
-            (length (live_log_at self.old.skipped pins.now)) self.old.log self.new.log }
+        ensures log { LiveFileWrites M.contents (live_log_first D.Device.bus self.old.skipped pins.now)
+            (length (live_log_at D.Device.bus self.old.skipped pins.now)) self.old.log self.new.log }
         ensures trace { LiveFileWrites M.contents (live_trace_first pins.now) (length (live_trace_at pins.now))
             self.old.trace self.new.trace }
     {
         log_on(
             &mut self.log,
-            transfers_since(pins.target().memory().log(), self.skipped),
+            transfers_since(pins.target().device().log(), self.skipped),
         );
         trace_on(&mut self.trace, pins.trace().text());
     }
 
     // Writes what isn't written yet, and the last lines.
-    fn finish<A: Allocator>(&mut self, pins: &Pins<Memory<A>, A>)
-        ensures log { LiveFileFinishes M.contents (live_log_first self.old.skipped pins.now)
-            (length (live_log_at self.old.skipped pins.now)) (live_log_whole self.old.skipped pins.now) self.old.log
+    fn finish<D: KeepsLog, A: Allocator>(&mut self, pins: &Pins<D, A>)
+        ensures log { LiveFileFinishes M.contents (live_log_first D.Device.bus self.old.skipped pins.now)
+            (length (live_log_at D.Device.bus self.old.skipped pins.now))
+            (live_log_whole D.Device.bus self.old.skipped pins.now) self.old.log
             self.new.log }
         ensures trace { LiveFileFinishes M.contents (live_trace_first pins.now) (length (live_trace_at pins.now))
             (live_trace_whole pins.now) self.old.trace self.new.trace }
@@ -128,7 +128,7 @@ impl<M: Write> LiveFiles<M> {
 ///
 /// If the writer of a file fails, nothing is retried, nothing more is written to this file, and the session goes on.
 /// The file then has exactly the first bytes of the whole one. [`LiveFiles::are_whole`] says whether no writer failed.
-pub fn serve_logged<R: Read, W: Write, M: Write, A: Allocator, P: Protocol<Memory<A>, A>>(
+pub fn serve_logged<R: Read, W: Write, D: KeepsLog, M: Write, A: Allocator, P: Protocol<D, A>>(
     reader: &mut R,
     writer: &mut W,
     protocol: P,
@@ -138,12 +138,13 @@ pub fn serve_logged<R: Read, W: Write, M: Write, A: Allocator, P: Protocol<Memor
     ensures session { ProtocolServes P.step P.end result.0 (R.remaining reader.old) (R.remaining reader.new)
         (W.contents writer.old) (W.contents writer.new) protocol result.1 }
     ensures log { live_pins_sound (P.pins_of protocol) → GrowingFileHas M.contents (run_file_held M.contents log)
-        result.2.log (live_log_whole (length (live_transfers_at (P.pins_of protocol))) (P.pins_of result.1)) }
+        result.2.log (live_log_whole D.Device.bus (length (live_transfers_at D.Device.bus (P.pins_of protocol)))
+        (P.pins_of result.1)) }
     ensures trace { live_pins_sound (P.pins_of protocol) → GrowingFileHas M.contents (run_file_held M.contents trace)
         result.2.trace (live_trace_whole (P.pins_of result.1)) }
 {
     let files = LiveFiles {
-        skipped: protocol.pins().target().memory().log().len(),
+        skipped: protocol.pins().target().device().log().len(),
         log: GrowingFile::new(log),
         trace: GrowingFile::new(trace),
     };

@@ -1,4 +1,4 @@
-//! Makes the simulated target of a memory, or of a script, and a plan for an external host.
+//! Makes the simulated target of a device, or of a script, and a plan for an external host.
 ghost use Rattle.std.specs.Prelude.{◌≡◌, ◌↔◌, true, map, IfOk, IfErr};
 ghost use Rattle.swd_script.specs.Readers.{script_batch_listed};
 ghost use Rattle.swd_target.specs.Marks.{IsLegalPlan};
@@ -10,9 +10,9 @@ use std::io::Read;
 use swd_bitbang::{Pins, Trace};
 use swd_clocked::FaultyClocked;
 use swd_port::Mark;
-use swd_run::{QUIRKS, Texts, TextsFault, read_texts, zero_memory};
+use swd_run::{QUIRKS, ScriptDevice, Texts, TextsFault, device_of, read_texts};
 use swd_script::Batch;
-use swd_target::{Memory, Quirks};
+use swd_target::{Device, Quirks};
 
 /// The error of making a target to serve.
 #[derive(Clone, Copy, Debug, PartialEq, Eq, Drop)]
@@ -25,25 +25,25 @@ pub enum TargetFault {
     Accesses,
 }
 
-/// Returns the pins of a simulated target with this memory and a plan of these marks, before the host moved any. The
+/// Returns the pins of a simulated target with this device and a plan of these marks, before the host moved any. The
 /// target's choices are those of `swd run`, but for its IDR. The pins record in `trace`.
-pub fn target_pins<A: Allocator>(
-    memory: Memory<A>,
+pub fn target_pins<D: Device, A: Allocator>(
+    device: D,
     plan: Vec<Mark, A>,
     idr: Option<u32>,
     trace: Trace<A>,
-) -> Pins<Memory<A>, A>
+) -> Pins<D, A>
     requires { IsLegalPlan plan.items }
-    ensures made { IsTargetEndMade memory plan.items idr result.target }
+    ensures made { IsTargetEndMade D.bus (D.bus device) plan.items idr result.target }
     ensures rests { AreTargetEndPinsAtRest trace result }
 {
     let quirks = Quirks { idr, ..QUIRKS };
-    Pins::new(FaultyClocked::new(memory, quirks, plan), trace)
+    Pins::new(FaultyClocked::new(device, quirks, plan), trace)
 }
 
 /// Reads a script and a plan, and returns the pins of the simulated target that they describe, before the host moved
-/// any. The target's memory has the script's words, all zero, its requests use the plan's marks, and it has this IDR or
-/// none. The pins record in `trace`.
+/// any. The target has the script's device (`swd_run::device_of`), its requests use the plan's marks, and it has this
+/// IDR or none. The pins record in `trace`.
 ///
 /// # Errors
 ///
@@ -55,7 +55,7 @@ pub fn read_target<S: Read, P: Read, A: Allocator + Copy>(
     plan: &mut P,
     idr: Option<u32>,
     trace: Trace<A>,
-) -> Result<Pins<Memory<A>, A>, TargetFault>
+) -> Result<Pins<ScriptDevice<A>, A>, TargetFault>
     ensures made { IfOk result (λ pins.
         SimulatesTargetEnd (S.remaining script.old) (P.remaining plan.old) idr trace pins) }
     ensures fault { IfErr result (λ fault. IsTargetEndFault fault (S.remaining script.old) (P.remaining plan.old)) }
@@ -67,10 +67,10 @@ pub fn read_target<S: Read, P: Read, A: Allocator + Copy>(
     if !is_bare(script.batches.as_slice()) {
         return Err(TargetFault::Accesses);
     }
-    let Some(memory) = zero_memory(alloc, &script) else {
+    let Some(device) = device_of(alloc, &script) else {
         return Err(TargetFault::Memory);
     };
-    Ok(target_pins(memory, plan, idr, trace))
+    Ok(target_pins(device, plan, idr, trace))
 }
 
 // Returns whether there is exactly one call, without accesses.

@@ -40,7 +40,8 @@ use Rattle.swd_run.specs.Records.{no_run_files}
 use Rattle.swd_observer.specs.Explained.{ObservedLog}
 use Rattle.swd_observer.specs.Traces.{trace_observer_made, observed_in_trace}
 use Rattle.swd_run.specs.Running.{ScriptRunAnswers, IsPartOfTraceIn, IsTraceIn, IsTraceUpTo, RunsScript, full_room}
-use Rattle.swd_run.specs.Running.{script_bus, with_full_room}
+use Rattle.swd_run.specs.Running.{with_full_room}
+use Rattle.swd_run.specs.ScriptDevices.{script_bus, script_bus_with, script_memory}
 use Rattle.swd_run.specs.Sessions.{ScriptRun, RunsBatchFrom, IsBatchRefused, RunsBatches, batch_bursts, none}
 use Rattle.swd_run.specs.Sessions.{then, unresumed, unsent}
 use Rattle.swd_run.specs.Unfoldings.{AreBatchesDone, BatchRuns, IsCutShort, Unfolds, batch_again, calls_of, runs_of}
@@ -439,6 +440,12 @@ all_calls : {W : Type 0} (wire : Ghosts W) (calls : List Call) (w : W) → wire.
     → wire.notes calls w
 all_calls wire calls w = subst (λ l. wire.notes l w) (append-nil calls)
 
+-- the bus of a script has no transfer yet
+nothing_logged_yet : (core : Option ℕ) (script : ScriptMeaning)
+    → (script_bus_with core script.room (script_memory script)).log ≡ []
+nothing_logged_yet None script = refl
+nothing_logged_yet (Some table) script = refl
+
 -- over a lawful wire to a target that was just made, where a plan bounds what is disturbed and lost, an answer states
 -- what the theorem of the host says for the script's memory, and whether its log is full
 pub script_run_answers : {W : Type 0} (wire : Ghosts W) (limits : Limits)
@@ -509,7 +516,8 @@ script_run_answers wire limits script marks s t is_made planned none_noted marke
             of_calls = is.of_calls made.0 (all_calls seen made.0 (h.0, t) made.1);
             explained = ∥∥₁_map (is.explained lawful rest 731911287 (script_bus script) begins)
                 (λ told. subst (λ (m : Bus). ObservedLog (observed_in_trace items trace_observer_made) m.log)
-                left_seen (subst (ObservedLog (observed_in_trace items trace_observer_made)) (sym told.now.is)
+                left_seen (subst (ObservedLog (observed_in_trace items trace_observer_made))
+                (sym (told.now.is ∙ ap (λ l. l ++ told.now.more) (nothing_logged_yet script.core script)))
                 told.now.explains));
             reported = λ whole. is.reported lawful rest whole 731911287 (script_bus script) begins;
           }))

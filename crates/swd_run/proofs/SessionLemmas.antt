@@ -16,7 +16,8 @@ use Rattle.swd_script.specs.Scripts.{ScriptListed, ScriptMeaning}
 use Rattle.swd_host.specs.declared.task.Bursts.{Bursts}
 use Rattle.swd_run.specs.declared.limits.Limits.{Limits}
 use Rattle.swd_run.specs.GoingOn.{script_calls_in_all}
-use Rattle.swd_run.specs.Running.{RunsScript, ScriptSession, script_bus, none as no_run, then as then_run}
+use Rattle.swd_run.specs.Running.{RunsScript, ScriptSession, none as no_run, then as then_run}
+use Rattle.swd_run.specs.ScriptDevices.{script_bus}
 use Rattle.swd_run.specs.Sessions.{batch_bursts, ScriptRun, RunsBatchFrom, RunsBatches, script_ended, none, then}
 use Rattle.swd_run.specs.Sessions.{script_is_open, script_requests}
 use Rattle.swd_run.specs.Starts.{ScriptStarts}

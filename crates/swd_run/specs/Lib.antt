@@ -12,6 +12,7 @@ pub mod Reports
 pub mod Reporting
 pub mod GrowingFiles
 pub mod Verified
+pub mod ScriptDevices
 pub mod Running
 pub mod Laws
 pub mod Counting

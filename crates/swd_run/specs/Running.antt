@@ -12,9 +12,7 @@ use Rattle.swd_observer.specs.Traces.{trace_observer_made, observed_in_trace}
 use Rattle.swd_port.specs.declared.call.Call.{Call}
 use Rattle.swd_port.specs.declared.mark.Mark.{Mark}
 use Rattle.swd_port.specs.Choices.{port_disturbed_among, port_lost_among}
-use Rattle.swd_port.specs.PlainMemory.{PlainMemory}
-use Rattle.swd_port.specs.Bus.{Bus, bus_of}
-use Rattle.swd_target.specs.MemoryWords.{target_zero_memory}
+use Rattle.swd_port.specs.Bus.{Bus}
 use Rattle.swd_host.specs.declared.outcome.End.{End}
 use Rattle.swd_host.specs.declared.outcome.End.TheVariants.{All, Lost, TriesOut, WrongId, Confused}
 use Rattle.swd_host.specs.declared.task.Bursts.{Bursts}
@@ -35,18 +33,12 @@ use Rattle.swd_run.specs.Engine.{Answers, AreItemsOfCalls, AreRunTraceItems, IsP
 use Rattle.swd_run.specs.GoingOn.{ScriptCallsReport, script_calls_in_all, script_resumed_bursts}
 use Rattle.swd_run.specs.declared.limits.Limits.{Limits}
 use Rattle.swd_run.specs.Records.{AreRunFilesLeft, RunFiles, IsRunFileLeft}
+use Rattle.swd_run.specs.ScriptDevices.{script_bus}
 use Rattle.swd_run.specs.Sessions.{ScriptRun, ScriptRunsReportCalls, script_ended, batch_bursts, script_is_open}
 use Rattle.swd_run.specs.Sessions.{script_requests}
 use Rattle.swd_run.specs.Starts.{script_most_requests, script_opening_requests}
 use Rattle.swd_run.specs.Transfers.{AreWholeRuns, report_transfers_in}
 use Rattle.swd_run.specs.Unfoldings.{BatchRuns, Unfolds, calls_of, ends_until, first_batch_again, runs_of}
-
--- the memory of a script before its run, and the bus that it is
-abbrev pub script_memory : ScriptMeaning → PlainMemory
-script_memory script = target_zero_memory script.base script.words script.room
-
-abbrev pub script_bus : ScriptMeaning → Bus
-script_bus script = bus_of (script_memory script)
 
 -- a run stops early only if a mark of the plan loses a request, or more marks disturb requests than the tries allow
 abbrev pub IsRunExcused : End → ℕ → List Mark → Type 0
@@ -56,7 +48,7 @@ IsRunExcused TriesOut tries marks = tries < port_disturbed_among marks
 IsRunExcused (WrongId word) tries marks = ⊥
 IsRunExcused Confused tries marks = ⊥
 
--- The result of a run over a memory with the marks of a plan. The report fits the memories before and after it. A run
+-- The result of a run over a bus with the marks of a plan. The report fits the bus before and after it. A run
 -- over a target that is open already (`opened`) has no request of an opening.
 pub record RunsAs (opened : Bool) (kind : Bursts) (tries : ℕ) (batch : ScriptListed) (before : Bus) (marks : List Mark)
     (told : HostReport) (after : Bus)
@@ -91,7 +83,7 @@ pub record RunsOn (opened : Bool) (limits : Limits) (batch : ScriptListed) (befo
       + event_requests (resumed_bursts (script_resumed_bursts
       (batch_bursts limits.bursts batch))) * port_disturbed_among marks)
 
--- The successive runs of a script over the plain memory. `RunsOn` holds of each run, from the memory that the one
+-- The successive runs of a script over its bus. `RunsOn` holds of each run, from the bus that the one
 -- before left. The first one opens the target. A later one starts only if the one before ended `All`, and goes over the
 -- target that this left open.
 pub data ScriptSession (limits : Limits) (marks : List Mark) (m : Bus) : List ScriptListed → List ScriptRun

@@ -6,22 +6,22 @@ ghost use Rattle.swd_script.specs.Laws.{IsScriptRunnable};
 ghost use Rattle.swd_target.specs.Marks.{IsLegalPlan};
 ghost use Rattle.swd_target.specs.Benches.{bench_port, bench_plan, bench_simulation};
 ghost use Rattle.swd_run.specs.Records.{run_files_of};
-ghost use Rattle.swd_port.specs.Bus.{bus_of};
-ghost use Rattle.swd_run.specs.Running.{ScriptRunAnswers, RunsText, full_room, script_bus, script_memory};
-ghost use Rattle.swd_run.specs.Running.{with_full_room};
+ghost use Rattle.swd_run.specs.ScriptDevices.{script_bus, script_device_bus};
+ghost use Rattle.swd_run.specs.Running.{ScriptRunAnswers, RunsText, full_room, with_full_room};
 
 use crate::engine::{Finished, run_batches};
 use crate::fault::{EngineFault, RunFault};
 use crate::limits::Limits;
 use crate::progress::Progress;
 use crate::records::Records;
+use crate::script_device::{KeepsLog, ScriptDevice, device_of};
 use crate::texts::{Texts, read_texts};
 use std::alloc::Allocator;
 use std::io::{Read, Write};
 use swd_port::Mark;
 use swd_script::Script;
 use swd_target::laws::marks_used;
-use swd_target::{Bench, MakeFault, Memory, Quirks};
+use swd_target::{Bench, Quirks};
 use swd_text::ItemsPrinter;
 
 /// The choices of the simulated target of a script.
@@ -32,24 +32,11 @@ pub const QUIRKS: Quirks = Quirks {
     idr: None,
 };
 
-/// Returns the memory that a script describes: its words, all zero, and the capacity of its log. Returns `None` if out
-/// of memory.
-pub fn zero_memory<A: Allocator + Copy>(alloc: A, script: &Script<A>) -> Option<Memory<A>>
-    requires { IsScriptRunnable (read_script_meaning script.now) }
-    ensures { IfSome result (λ memory. memory ≡ script_memory (read_script_meaning script.now)) }
+/// Returns the capacity of a device's log, if the log is full.
+fn full_room<A: Allocator>(device: &ScriptDevice<A>, room: u32) -> Option<u32>
+    ensures { result ≡ full_room room (script_device_bus device.now) }
 {
-    match Memory::new(alloc, script.base, script.words, script.room) {
-        Ok(memory) => Some(memory),
-        Err(MakeFault::Memory) => None,
-        Err(_) => unreachable!(),
-    }
-}
-
-/// Returns the capacity of a memory's log, if the log is full.
-fn full_room<A: Allocator>(memory: &Memory<A>, room: u32) -> Option<u32>
-    ensures { result ≡ full_room room (bus_of memory.now) }
-{
-    if memory.log().len() == room as usize {
+    if device.log().len() == room as usize {
         Some(room)
     } else {
         None
@@ -74,24 +61,25 @@ fn target_of<A: Allocator + Copy>(
     alloc: A,
     script: &Script<A>,
     plan: Vec<Mark, A>,
-) -> Option<Bench<Memory<A>, A>>
+) -> Option<Bench<ScriptDevice<A>, A>>
     requires script { IsScriptRunnable (read_script_meaning script.now) }
     requires plan { IsLegalPlan plan.items }
-    ensures port { IfSome result (λ bench. bench_port bus_of bench
+    ensures port { IfSome result (λ bench. bench_port script_device_bus bench
         ≡ port_made 0x2ba0_1477 (script_bus (read_script_meaning script.now))) }
     ensures plan { IfSome result (λ bench. bench_plan bench ≡ plan.items) }
     // A transfer takes effect at once, TAR wraps at the end of a kilobyte, and a value that is unknown is 0.
     ensures choices { IfSome result (λ bench.
-        (bench_simulation bus_of bench).quirks ≡ record { wrap = true; late = false; filler = 0; idr = None }) }
+        (bench_simulation script_device_bus bench).quirks
+        ≡ record { wrap = true; late = false; filler = 0; idr = None }) }
 {
-    let memory = zero_memory(alloc, script)?;
-    Some(Bench::new(memory, QUIRKS, plan))
+    let device = device_of(alloc, script)?;
+    Some(Bench::new(device, QUIRKS, plan))
 }
 
 /// Runs a script's calls by [`run_batches`](crate::run_batches) over a simulated target with the marks of a plan. The
-/// target is a `Bench` whose memory has the script's words, all zero.
+/// target is a `Bench` over the script's device (`device_of`).
 ///
-/// Allocates the memory before the first call. [`read_texts`](crate::read_texts) reads the script and the plan, and
+/// Allocates the device before the first call. [`read_texts`](crate::read_texts) reads the script and the plan, and
 /// [`run_text`] does both.
 ///
 /// # Errors
@@ -115,15 +103,15 @@ pub fn run_script<W: Write, T: Write + Drop, I: ItemsPrinter, A: Allocator + Cop
         return Err(EngineFault::Memory);
     };
     // The marks that a run uses are among those of the plan.
-    marks_used::<Memory<A>, A>();
+    marks_used::<ScriptDevice<A>, A>();
     let batches = script.batches.as_slice();
     let (answer, bench) = run_batches(alloc, bench, batches, limits, writer, records);
-    with_full(answer, full_room(bench.memory(), script.room))
+    with_full(answer, full_room(bench.device(), script.room))
 }
 
 /// Reads a script and a plan by [`read_texts`], and runs the script by [`run_script`] under the plan's marks.
 ///
-/// Allocates the accesses, the marks and the memory before the first call.
+/// Allocates the accesses, the marks and the device before the first call.
 ///
 /// # Errors
 ///

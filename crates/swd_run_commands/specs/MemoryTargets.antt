@@ -34,7 +34,7 @@ pub record TargetCommandHasBytes {A : Type 0} (base : ℕ) (bytes : List ℕ) (m
   pub memory : PlainMemory
   pub words : memory.words ≡ target_words_from base (image_end_words_in bytes)
   pub room : ImageEndHasRoom (length bytes / 4) (target_command_room (length bytes / 4)) memory
-  pub made : IsTargetEndMade memory marks idr pins.target
+  pub made : IsTargetEndMade bus_of (bus_of memory) marks idr pins.target
   pub rests : AreTargetEndPinsAtRest trace pins
 
 -- the status of a session, or that of an error in writing the memory back

@@ -3,11 +3,11 @@ use Rattle.std.specs.Prelude.{ℕ, ◌≡◌, ◌⊎◌, false, List, Option}
 use Rattle.swd_bitbang.specs.declared.serving.Served.{Served}
 use Rattle.swd_bitbang.specs.declared.serving.Served.TheVariants.{Quit, Ended}
 use Rattle.swd_bitbang.specs.declared.trace.Trace.{Trace}
-use Rattle.swd_port.specs.PlainMemory.{PlainMemory}
-use Rattle.swd_port.specs.Bus.{bus_of}
 use Rattle.swd_bitbang.specs.declared.pins.Pins.{Pins}
 use Rattle.swd_bitbang.specs.Sessions.{BitbangServes}
 use Rattle.swd_bitbang.specs.Traces.{is_pins_trace_cut_off}
+use Rattle.swd_run.specs.declared.script_device.ScriptDevice.{ScriptDevice}
+use Rattle.swd_run.specs.ScriptDevices.{script_device_bus}
 use Rattle.swd_ends.specs.Serving.{SimulatesTargetEnd}
 use Rattle.swd_console.specs.Statuses.{CommandNotOpened}
 
@@ -23,7 +23,8 @@ abbrev pub TargetCommandServesHost : (A : Type 0) → ℕ → Option (List ℕ) 
     → Option (List ℕ) → Option (List ℕ) → Option (List ℕ) → Type 0
 TargetCommandServesHost A status script plan idr text left old new =
     CommandNotOpened status old new
-    ⊎ ((served : Served) × (trace : Trace A) × (s : Pins PlainMemory A) × (t : Pins PlainMemory A) × SimulatesTargetEnd
+    ⊎ ((served : Served) × (trace : Trace A) × (s : Pins (ScriptDevice A) A) × (t : Pins (ScriptDevice A) A)
+    × SimulatesTargetEnd
     script plan idr trace s
-    × BitbangServes bus_of served text left old new s t
+    × BitbangServes script_device_bus served text left old new s t
     × IsServedCommandStatus served (is_pins_trace_cut_off t.trace ≡ false) status)

@@ -18,8 +18,8 @@ use swd_console::{
 };
 use swd_ends::{TargetFault, read_target, serve_logged};
 
-// What is wrong with a script that has more than the memory of a target.
-const ACCESSES: &str = "a target's script has the lines memory and room alone";
+// What is wrong with a script that has more than the device of a target.
+const ACCESSES: &str = "a target's script has the lines memory, room and core alone";
 
 /// Serves a host at a simulated target. Returns the status: 0 or 2.
 pub fn perform_target<

@@ -7,7 +7,7 @@ use Rattle.std.specs.Str.{bytes_eq}
 use Rattle.std.proofs.lemmas.Bool.Decides.{nat_tests}
 use Rattle.std.proofs.lemmas.List.{take_all, length-take-le}
 use Rattle.swd_script.specs.declared.command.Command.{Command}
-use Rattle.swd_script.specs.declared.command.Command.TheVariants.{Memory, Room, Read as ReadCommand}
+use Rattle.swd_script.specs.declared.command.Command.TheVariants.{Memory, Room, Core, Read as ReadCommand}
 use Rattle.swd_script.specs.declared.command.Command.TheVariants.{Write as WriteCommand, ReadMany, Block, Verify, Next}
 use Rattle.swd_script.specs.declared.command.Command.TheVariants.{Until as UntilLine}
 use Rattle.swd_script.specs.Numerals.{script_decimal_number, script_hex_number, is_script_hex_prefix}
@@ -67,18 +67,27 @@ decimal_cut word = numeral_cut 10 10 11 word (nat_le (length word) 11) refl (ome
 name_cut : (word name : List ℕ) → length name < 11 → bytes_eq (take 11 word) name ≡ bytes_eq word name
 name_cut word name h = same_name 11 word name h
 
+abbrev short_shape : Bool → Bool → Bool → Option ℕ → Option ℕ → Option Command
+short_shape room read core first count =
+    if room then Some (Room count) else
+    (if read then Some (ReadCommand first) else
+    (if core then Some (Core first) else None))
+
 short_cut : (name first : List ℕ) → script_short_command (take 11 name) (take 11 first)
     ≡ script_short_command name first
 short_cut name first =
-    ap (λ t. if t then Some (Room (script_decimal_number (take 11 first))) else
-    (if bytes_eq (take 11 name) (codes "r") then Some (ReadCommand (script_hex_number (take 11 first))) else None))
+    let kept = take 11 name in
+    let f = script_hex_number (take 11 first) in
+    let d = script_decimal_number (take 11 first) in
+    let room = bytes_eq name (codes "room") in
+    let read = bytes_eq name (codes "r") in
+    let core = bytes_eq name (codes "core") in
+    ap (λ t. short_shape t (bytes_eq kept (codes "r")) (bytes_eq kept (codes "core")) f d)
     (name_cut name (codes "room") (omega arith))
-    ∙ ap (λ t. if bytes_eq name (codes "room") then Some (Room (script_decimal_number (take 11 first))) else
-    (if t then Some (ReadCommand (script_hex_number (take 11 first))) else None))
-    (name_cut name (codes "r") (omega arith)) ∙ ap (λ n. if bytes_eq name (codes "room") then Some (Room n) else
-    (if bytes_eq name (codes "r") then Some (ReadCommand (script_hex_number (take 11 first))) else None))
-    (decimal_cut first) ∙ ap (λ n. if bytes_eq name (codes "room") then Some (Room (script_decimal_number first)) else
-    (if bytes_eq name (codes "r") then Some (ReadCommand n) else None)) (hex_cut first)
+    ∙ ap (λ t. short_shape room t (bytes_eq kept (codes "core")) f d) (name_cut name (codes "r") (omega arith))
+    ∙ ap (λ t. short_shape room read t f d) (name_cut name (codes "core") (omega arith))
+    ∙ ap (λ n. short_shape room read core n d) (hex_cut first)
+    ∙ ap (λ n. short_shape room read core (script_hex_number first) n) (decimal_cut first)
 
 abbrev long_shape : Bool → Bool → Bool → Bool → Bool → Option ℕ → Option ℕ → Option ℕ → Option Command
 long_shape memory write many block verify first second count =

@@ -16,8 +16,8 @@ use Rattle.swd_port.specs.declared.mark.Mark.{Mark}
 use Rattle.swd_port.specs.declared.mark.Mark.TheVariants.{Clean, Wait, Flip, Deaf, Mute}
 use Rattle.swd_port.specs.Choices.{IsPortMark}
 use Rattle.swd_script.specs.declared.command.Command.{Command}
-use Rattle.swd_script.specs.declared.command.Command.TheVariants.{Memory, Room, Read, Write, ReadMany, Block, Verify}
-use Rattle.swd_script.specs.declared.command.Command.TheVariants.{Next, Until as UntilLine}
+use Rattle.swd_script.specs.declared.command.Command.TheVariants.{Memory, Room, Core, Read, Write, ReadMany, Block}
+use Rattle.swd_script.specs.declared.command.Command.TheVariants.{Next, Until as UntilLine, Verify}
 use Rattle.swd_script.specs.declared.draft.Extent.{Extent}
 use Rattle.swd_script.specs.declared.fault.LineFault.{LineFault}
 use Rattle.swd_script.specs.declared.fault.LineFault.TheVariants.{Word, Range}
@@ -38,7 +38,7 @@ use Rattle.swd_script.specs.Scripts.{script_command_added, script_command_of, sc
 use Rattle.swd_script.specs.Scripts.{misplaced_script_command, script_nothing_listed, script_nothing_said, script_line}
 use Rattle.swd_script.specs.Scripts.{script_meaning, script_of, whole_script, script_with_accesses, script_with_memory}
 use Rattle.swd_script.specs.Scripts.{script_with_next, script_with_number, script_with_room, script_with_verified}
-use Rattle.swd_script.specs.Scripts.{script_without_memory}
+use Rattle.swd_script.specs.Scripts.{script_with_core, script_without_memory}
 use Rattle.swd_script.specs.Laws.{IsScriptBatch, IsScriptBlock, IsScriptRunnable, IsScriptUntil, is_script_word_access}
 
 and_left : (a b : Bool) → (a && b) ≡ true → a ≡ true
@@ -111,6 +111,12 @@ sound_room : (said next : ScriptSayings) (count : ℕ) → script_with_room said
     → IsSound next
 sound_room said next count e s =
     let ok = if_ok (nat_le count 65536) (record said { room = Some count }) Range next e in
+    subst IsSound ok.1 (record { memory = s.memory; earlier = s.earlier; batch = s.batch })
+
+sound_core : (said next : ScriptSayings) (table : ℕ) → script_with_core said table ≡ Ok next → IsSound said
+    → IsSound next
+sound_core said next table e s =
+    let ok = if_ok (table % 4 == 0) (record said { core = Some table }) Range next e in
     subst IsSound ok.1 (record { memory = s.memory; earlier = s.earlier; batch = s.batch })
 
 -- no block is there yet
@@ -344,6 +350,9 @@ sound_command line said next (Memory base words) e free s =
 sound_command line said next (Room count) e free s =
     let c = if_number count (λ count. script_with_room said count) next e in
     sound_room said next c.0 c.1 s
+sound_command line said next (Core table) e free s =
+    let t = if_number table (λ table. script_with_core said table) next e in
+    sound_core said next t.0 t.1 s
 sound_command line said next (Read addr) e free s =
     let now = script_further said in
     let a = if_number addr (λ addr. script_with_accesses now addr 1 (ReadAccess addr ∷ [])) next e in
@@ -451,6 +460,7 @@ meaning_runs (Some extent) said m w s e =
       base = extent.base;
       words = extent.words;
       room = unwrap_or said.room 65536;
+      core = said.core;
       batches = said.earlier ++ said.batch ∷ [];
     }) m e)
     (record {

@@ -31,20 +31,21 @@ script : script_of (fed (codes "memory 20000000 16") ++ fed (codes "w 20000000 d
       base = 536870912;
       words = 16;
       room = 65536;
+      core = None;
       batches = single (Write 536870912 3735928559 ∷ Read 536870912 ∷ Read 536870916 ∷ Read 805306368 ∷ []) ∷ [];
     })
 unfolding fed single
 script = refl
 
 memory_alone : script_of (codes "memory 20000000 1")
-    ≡ Ok (record { base = 536870912; words = 1; room = 65536; batches = single [] ∷ [] })
+    ≡ Ok (record { base = 536870912; words = 1; room = 65536; core = None; batches = single [] ∷ [] })
 unfolding single
 memory_alone = refl
 
 -- blanks, a comment at a word's end, carriage returns before line feeds
 laid_out : script_of (fed (codes "# a script" ++ 13 ∷ []) ++ fed (9 ∷ codes "memory  20000000 1#6" ++ 13 ∷ []) ++ fed []
     ++ codes "room 7 ") ≡
-    Ok (record { base = 536870912; words = 1; room = 7; batches = single [] ∷ [] })
+    Ok (record { base = 536870912; words = 1; room = 7; core = None; batches = single [] ∷ [] })
 unfolding fed single
 laid_out = refl
 
@@ -81,6 +82,7 @@ block : script_of (fed (codes "memory 20000000 2") ++ codes "block 20000000 3") 
       base = 536870912;
       words = 2;
       room = 65536;
+      core = None;
       batches = of_block ∷ [];
     })
 unfolding fed of_block
@@ -117,6 +119,7 @@ calls : script_of (fed (codes "memory 20000000 4") ++ fed (codes "w 20000000 5")
       base = 536870912;
       words = 4;
       room = 65536;
+      core = None;
       batches = single (Write 536870912 5 ∷ []) ∷ of_block ∷ record {
         accesses = Read 536870916 ∷ Read 536870912 ∷ [];
         block = None;
@@ -144,6 +147,7 @@ untils : script_of (fed (codes "memory 20000000 4") ++ fed (codes "w 20000000 5"
       base = 536870912;
       words = 4;
       room = 65536;
+      core = None;
       batches = single (Write 536870912 5 ∷ []) ∷ waits 536870916 15 7 1000000 ∷ waits 536870920 0 0 1
           ∷ single (Read 536870912 ∷ []) ∷ [];
     })
@@ -152,7 +156,7 @@ untils = refl
 
 -- first and last: no call is added
 until_alone : script_of (fed (codes "memory 20000000 4") ++ codes "until 20000004 1 1 2") ≡
-    Ok (record { base = 536870912; words = 4; room = 65536; batches = waits 536870916 1 1 2 ∷ [] })
+    Ok (record { base = 536870912; words = 4; room = 65536; core = None; batches = waits 536870916 1 1 2 ∷ [] })
 unfolding fed waits
 until_alone = refl
 
@@ -201,6 +205,33 @@ greatest_decimal = refl
 past_decimals : script_of (fed (codes "memory 0 1") ++ codes "rn 0 4294967296") ≡ Err (Number 2)
 unfolding fed
 past_decimals = refl
+
+-- a core beside the memory
+core : script_of (fed (codes "memory 20000000 2") ++ fed (codes "core 20000000") ++ codes "r e000ed00") ≡
+    Ok (record {
+      base = 536870912;
+      words = 2;
+      room = 65536;
+      core = Some 536870912;
+      batches = single (Read 3758157056 ∷ []) ∷ [];
+    })
+unfolding fed single
+core = refl
+
+second_core : script_of (fed (codes "memory 0 1") ++ fed (codes "core 0") ++ codes "core 0") ≡ Err (Word 3)
+unfolding fed
+second_core = refl
+
+late_core : script_of (fed (codes "memory 0 1") ++ fed (codes "r 0") ++ codes "core 0") ≡ Err (Word 3)
+unfolding fed
+late_core = refl
+
+core_before_the_memory : script_of (codes "core 0") ≡ Err (NoMemoryLine 1)
+core_before_the_memory = refl
+
+unaligned_core : script_of (fed (codes "memory 0 1") ++ codes "core 2") ≡ Err (Range 2)
+unfolding fed
+unaligned_core = refl
 
 plan : plan_of (fed (codes ".") ++ fed (codes "wait # not now") ++ fed (codes "flip 32") ++ fed (codes "deaf")
     ++ codes "mute 2") ≡ Ok (Clean ∷ Wait ∷ Flip 32 ∷ Deaf ∷ Mute 2 ∷ [])

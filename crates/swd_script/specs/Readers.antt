@@ -109,6 +109,7 @@ abbrev pub script_draft_sayings : {A : Type 0} → Draft A → ScriptSayings
 script_draft_sayings draft = record {
   memory = draft.memory;
   room = draft.room;
+  core = draft.core;
   earlier = map script_batch_listed draft.earlier.items;
   batch = script_batch_listed draft.batch;
 }
@@ -153,6 +154,7 @@ read_script_meaning script = record {
   base = script.base;
   words = script.words;
   room = script.room;
+  core = script.core;
   batches = map script_batch_listed script.batches.items;
 }
 

@@ -9,8 +9,8 @@ use Rattle.swd_port.specs.PlainMemory.{plain_reads}
 use Rattle.swd_script.specs.declared.command.Command.{Command}
 use Rattle.swd_script.specs.declared.batch.Expected.{Expected}
 use Rattle.swd_script.specs.declared.batch.Until.{Until}
-use Rattle.swd_script.specs.declared.command.Command.TheVariants.{Memory, Room, Read, Write, ReadMany, Block, Verify}
-use Rattle.swd_script.specs.declared.command.Command.TheVariants.{Next, Until as UntilLine}
+use Rattle.swd_script.specs.declared.command.Command.TheVariants.{Memory, Room, Core, Read, Write, ReadMany, Block}
+use Rattle.swd_script.specs.declared.command.Command.TheVariants.{Next, Until as UntilLine, Verify}
 use Rattle.swd_script.specs.declared.draft.Extent.{Extent}
 use Rattle.swd_script.specs.declared.fault.LineFault.{LineFault}
 use Rattle.swd_script.specs.declared.fault.LineFault.TheVariants.{Word, Number, Range, NoMemoryLine}
@@ -28,17 +28,19 @@ pub record ScriptListed : Type 0 where
   pub expected : List Expected
   pub until : Option Until
 
--- the memory, the room of its log, and the calls
+-- the memory, the room of its log, the address of the vector table if there is a core, and the calls
 pub record ScriptMeaning : Type 0 where
   pub base : ℕ
   pub words : ℕ
   pub room : ℕ
+  pub core : Option ℕ
   pub batches : List ScriptListed
 
 -- what the lines so far say: the complete calls, and the current one
 pub record ScriptSayings : Type 0 where
   pub memory : Option Extent
   pub room : Option ℕ
+  pub core : Option ℕ
   pub earlier : List ScriptListed
   pub batch : ScriptListed
 
@@ -46,7 +48,13 @@ abbrev pub script_nothing_listed : ScriptListed
 script_nothing_listed = record { accesses = []; block = None; expected = []; until = None }
 
 abbrev pub script_nothing_said : ScriptSayings
-script_nothing_said = record { memory = None; room = None; earlier = []; batch = script_nothing_listed }
+script_nothing_said = record {
+  memory = None;
+  room = None;
+  core = None;
+  earlier = [];
+  batch = script_nothing_listed;
+}
 
 -- a command without arguments
 abbrev pub script_bare_command : List ℕ → Option Command
@@ -56,7 +64,8 @@ script_bare_command name = if bytes_eq name (codes "next") then Some Next else N
 abbrev pub script_short_command : List ℕ → List ℕ → Option Command
 script_short_command name first =
     if bytes_eq name (codes "room") then Some (Room (script_decimal_number first)) else
-    (if bytes_eq name (codes "r") then Some (Read (script_hex_number first)) else None)
+    (if bytes_eq name (codes "r") then Some (Read (script_hex_number first)) else
+    (if bytes_eq name (codes "core") then Some (Core (script_hex_number first)) else None))
 
 -- a command with two arguments
 abbrev pub script_long_command : List ℕ → List ℕ → List ℕ → Option Command
@@ -109,12 +118,14 @@ script_without_memory said = if is_none said.memory then Some NoMemoryLine else 
 abbrev pub script_beside_block : ScriptSayings → Option LineFault
 script_beside_block said = if is_some said.batch.block then Some Word else script_without_memory said
 
--- why a command isn't allowed here: a second `memory`, a second `room` or one after an access or `next`,
+-- why a command isn't allowed here: a second `memory`, a second `room` or `core` or one after an access or `next`,
 -- another access in the call of a block, or no `memory` before it
 abbrev pub misplaced_script_command : ScriptSayings → Command → Option LineFault
 misplaced_script_command said (Memory base words) = if is_some said.memory then Some Word else None
 misplaced_script_command said (Room count) =
     if is_some said.room || script_has_calls said then Some Word else script_without_memory said
+misplaced_script_command said (Core table) =
+    if is_some said.core || script_has_calls said then Some Word else script_without_memory said
 misplaced_script_command said (Read addr) = script_beside_block said
 misplaced_script_command said (Write addr value) = script_beside_block said
 misplaced_script_command said (ReadMany addr count) = script_beside_block said
@@ -140,6 +151,10 @@ script_with_memory said base words =
 
 abbrev pub script_with_room : ScriptSayings → ℕ → Result ScriptSayings LineFault
 script_with_room said count = if nat_le count 65536 then Ok (record said { room = Some count }) else Err Range
+
+-- a core, whose vector table has this address
+abbrev pub script_with_core : ScriptSayings → ℕ → Result ScriptSayings LineFault
+script_with_core said table = if table % 4 == 0 then Ok (record said { core = Some table }) else Err Range
 
 -- `count` more accesses, from an address on; a call has at most 65,536
 abbrev pub script_with_accesses : ScriptSayings → ℕ → ℕ → List Access → Result ScriptSayings LineFault
@@ -188,6 +203,7 @@ abbrev pub script_command_added : ℕ → ScriptSayings → Command → Result S
 script_command_added line said (Memory base words) =
     script_with_number base (λ base. script_with_number words (λ words. script_with_memory said base words))
 script_command_added line said (Room count) = script_with_number count (λ count. script_with_room said count)
+script_command_added line said (Core table) = script_with_number table (λ table. script_with_core said table)
 script_command_added line said (Read addr) =
     script_with_number addr (λ addr. script_with_accesses (script_further said) addr 1 (ReadAccess addr ∷ []))
 script_command_added line said (Write addr value) =
@@ -232,6 +248,7 @@ script_meaning (Some extent) said =
       base = extent.base;
       words = extent.words;
       room = unwrap_or said.room 65536;
+      core = said.core;
       batches = said.earlier ++ said.batch ∷ [];
     })
 

@@ -19,6 +19,10 @@ pub(crate) enum Command {
     Room {
         count: Option<u32>,
     },
+    /// A core beside the memory: the address of its vector table.
+    Core {
+        table: Option<u32>,
+    },
     /// A read.
     Read {
         addr: Option<u32>,
@@ -99,6 +103,11 @@ fn short_command(name: &[u8], first: &[u8]) -> Option<Command>
     if name == b"r".as_slice() {
         return Some(Command::Read {
             addr: hex_of(first),
+        });
+    }
+    if name == b"core".as_slice() {
+        return Some(Command::Core {
+            table: hex_of(first),
         });
     }
     None

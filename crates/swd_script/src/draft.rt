@@ -31,6 +31,8 @@ pub struct Draft<A: Allocator> {
     alloc: A,
     pub(crate) memory: Option<Extent>,
     pub(crate) room: Option<u32>,
+    // the address of the vector table, if there is a core
+    pub(crate) core: Option<u32>,
     // the complete calls, and the current one
     pub(crate) earlier: Vec<Batch<A>, A>,
     pub(crate) batch: Batch<A>,
@@ -44,7 +46,7 @@ impl<A: Allocator + Copy> Draft<A> {
     ghost use Rattle.swd_script.specs.Scripts.{script_has_calls, misplaced_script_command, script_nothing_said};
     ghost use Rattle.swd_script.specs.Scripts.{script_line, script_meaning, script_with_accesses, script_with_memory};
     ghost use Rattle.swd_script.specs.Scripts.{script_with_next, script_further, script_with_room, script_with_until};
-    ghost use Rattle.swd_script.specs.Scripts.{script_with_verified};
+    ghost use Rattle.swd_script.specs.Scripts.{script_with_core, script_with_verified};
     ghost use Rattle.swd_script.specs.Readers.{IsScriptEndFault, IsScriptLineFault, read_script_meaning};
     ghost use Rattle.swd_script.specs.Readers.{script_draft_sayings};
     ghost use Rattle.swd_script.specs.Words.{texts_of};
@@ -57,6 +59,7 @@ impl<A: Allocator + Copy> Draft<A> {
             alloc,
             memory: None,
             room: None,
+            core: None,
             earlier: Vec::new(alloc),
             batch: Batch::new(alloc),
         }
@@ -97,6 +100,9 @@ impl<A: Allocator + Copy> Draft<A> {
             Command::Room { .. } if self.room.is_some() || self.has_begun() => {
                 Some(LineFault::Word)
             }
+            Command::Core { .. } if self.core.is_some() || self.has_begun() => {
+                Some(LineFault::Word)
+            }
             Command::Block { .. } if self.place() != 0 => Some(LineFault::Word),
             Command::Read { .. }
             | Command::Write { .. }
@@ -128,6 +134,7 @@ impl<A: Allocator + Copy> Draft<A> {
                 words: Some(words),
             } => self.set_memory(base, words),
             Command::Room { count: Some(count) } => self.set_room(count),
+            Command::Core { table: Some(table) } => self.set_core(table),
             Command::Read { addr: Some(addr) } => self.add(addr, Access::Read(addr)),
             Command::Write {
                 addr: Some(addr),
@@ -184,6 +191,19 @@ impl<A: Allocator + Copy> Draft<A> {
             return Err(LineFault::Range);
         }
         self.room = Some(count);
+        Ok(())
+    }
+
+    fn set_core(&mut self, table: u32) -> Result<(), LineFault>
+        ensures ok { OnOk result (script_with_core (script_draft_sayings self.old) table
+            ≡ Ok (script_draft_sayings self.new)) }
+        ensures err { IfErr result (λ fault. IsScriptLineFault fault
+            (script_with_core (script_draft_sayings self.old) table)) }
+    {
+        if table % 4 != 0 {
+            return Err(LineFault::Range);
+        }
+        self.core = Some(table);
         Ok(())
     }
 
@@ -332,6 +352,7 @@ impl<A: Allocator + Copy> Draft<A> {
             alloc: _,
             memory,
             room,
+            core,
             earlier: mut batches,
             batch,
         } = self;
@@ -345,6 +366,7 @@ impl<A: Allocator + Copy> Draft<A> {
             base: extent.base,
             words: extent.words,
             room: room.unwrap_or(MOST),
+            core,
             batches,
         })
     }

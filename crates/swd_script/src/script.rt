@@ -1,4 +1,4 @@
-//! Scripts: a memory, and calls with accesses of it.
+//! Scripts: a memory, maybe a core beside it, and calls with accesses of them.
 ghost use Rattle.std.specs.Prelude.{◌≡◌, [], ℕ, List, Ok, IfErr, IfOk, IfSome};
 ghost use Rattle.swd_io.specs.Pieces.{IsReaderText, IsUnreadByConsumer};
 ghost use Rattle.swd_script.specs.Readers.{IsScriptFault, read_script_meaning};
@@ -22,6 +22,8 @@ pub struct Script<A: Allocator> {
     pub words: u32,
     /// The number of transfers that fit in its log, at most 65,536.
     pub room: u32,
+    /// The address of the vector table of the core beside the memory, a multiple of 4, if there is a core.
+    pub core: Option<u32>,
     /// The calls in order, each with its accesses. There is at least one call; a call may have no accesses.
     pub batches: Vec<Batch<A>, A>,
 }

@@ -20,8 +20,8 @@ pins, c samples SWDIO, O and o drive or release it, Q ends. To listen on a
 socket:
   socat TCP-LISTEN:4711,nodelay EXEC:'swd target memory.script',nofork
 
-SCRIPT or --memory names the target's memory. SCRIPT has only the lines memory
-and room of swd run, and can't be standard input. Its words are all zero.
+SCRIPT or --memory names the target's memory. SCRIPT has only the lines memory,
+room and core of swd run, and can't be standard input. Its words are all zero.
 
 With --memory the memory has the words of FILE from --base on, the least
 significant byte first. Once the session has ended, FILE is replaced by a new

@@ -70,8 +70,8 @@ standard stream that is in use. Nothing is overwritten before that is known.
 With --remote the standard streams connect to a server of OpenOCD's
 remote_bitbang protocol for SWD, such as swd target. The report goes to the file
 that --report names, which is overwritten; with - it is appended to standard
-error. SCRIPT must be a file. There is no plan, and the script's memory and room
-are ignored. For a server on a socket, by the relay that comes with swd:
+error. SCRIPT must be a file. There is no plan, and the script's memory, room
+and core are ignored. For a server on a socket, by the relay that comes with swd:
   swd-line localhost:4711 -- swd run SCRIPT --remote --report FILE
 With --remote=IN,OUT these files take the place of the standard streams, such as
 two fifos; with --remote=DEVICE one file is both, such as a serial device that
@@ -98,6 +98,10 @@ of 4. WORDS, N and COUNT are 1 to 10 decimal digits.
   room N             once, before the first access or next: the target does N
                      transfers, 0 to 65536, and answers each later one with a
                      bus error. The default is 65536
+  core ADDR          once, before the first access or next: beside the memory
+                     the target has the debug registers of an Armv7-M core that
+                     executes nothing, from e0000000 to e00fffff. Its vector
+                     table is in the memory at ADDR, a multiple of 4
   w ADDR VALUE       writes a word
   r ADDR             reads a word
   rn ADDR COUNT      reads COUNT words, at least 1, each by its own access
@@ -175,7 +179,7 @@ is printed with its line, counted from 1, and with what was expected there:
   word            an unknown command or mark, or one in the wrong place
   number          not a number of 32 bits
   range           a number out of its range
-  no memory line  an access or room before memory
+  no memory line  an access, room or core before memory
   memory          out of memory at this line";
 
 const PROBES_AFTER: &str = "\

@@ -105,6 +105,40 @@ impl Stages {
     }
 }
 
+// A core beside the memory: the list of accesses grows at line 4.
+const CORE_SCRIPT: &[u8] = b"memory 20000000 1\ncore 20000000\nroom 8\nr e000ed00\n# the end\n";
+
+const CORE_REPORT: &[u8] = b"r e000ed00 410fc241\nend all 1\n";
+
+const CORE_STAGES: &[Stage] = &[Stage::Script, Stage::Run, Stage::Whole];
+
+// A word of 4 bytes, twice room for eight transfers of 12, and an answer of 8.
+const CORE_RUN_BYTES: usize = 4 + 2 * 8 * 12 + 8;
+
+#[test]
+fn a_run_with_a_core_where_memory_ends(rt: HostRuntime) -> Result<(), Fail> {
+    let mut stages = Stages::new(&rt);
+    for size in 1..40usize {
+        let heap = LocalHeap::new(rt.alloc(), size * STEP)?;
+        let mut report = Vec::new(rt.alloc());
+        let answer = reported(&heap, CORE_SCRIPT, b"", 0, &mut report);
+        let Some(stage) = stage_of(answer) else {
+            panic!(rt; "{size}: {answer:?}");
+        };
+        let written = if stage == Stage::Whole {
+            CORE_REPORT
+        } else {
+            b""
+        };
+        expect_eq_at(&rt, &size, &report.as_slice(), &written);
+        expect_eq(&rt, &heap.used(), &0);
+        stages.add(&rt, stage)?;
+    }
+    expect_eq(&rt, &stages.seen.as_slice(), &CORE_STAGES);
+    assert!(rt; stages.run >= CORE_RUN_BYTES / STEP);
+    Ok(())
+}
+
 #[test]
 fn a_run_where_memory_ends(rt: HostRuntime) -> Result<(), Fail> {
     let mut stages = Stages::new(&rt);

@@ -9,20 +9,21 @@ use Rattle.swd_ends.proofs.live_files.serve_logged.Goals as goal
 pub returns-clause-log : goal.returns-clause-log
 returns-clause-log g c = λ sound.
     let contents = g.M.Write.contents in
+    let bus = g.D.Device.bus in
     let s = g.P.Protocol.pins_of c.args.protocol in
     let t = g.P.Protocol.pins_of c.serve_watched-served.result.1 in
     let n : ℕ = length c.log.result.now in
-    let was : n ≡ length (live_transfers_at s) = search rules in
+    let was : n ≡ length (live_transfers_at bus s) = search rules in
     let watched = c.serve_watched-served.ensures.watched sound in
     let live = c.serve_watched-served.result.2 in
     let m : ℕ = live.skipped in
     let file = c.finish.new.self.log in
-    subst (λ k. GrowingFileHas contents (run_file_held contents c.args.log) file (live_log_whole k t))
+    subst (λ k. GrowingFileHas contents (run_file_held contents c.args.log) file (live_log_whole bus k t))
     (watched.skipped ∙ was)
-    (live_file_given contents (live_log_first n s) (live_log_first m t) (length (live_log_at n s))
-    (length (live_log_at m t)) (live_log_whole m t) c.args.log _ _ file refl c.new.ensures watched.log
-    (subst (λ p. LiveFileFinishes contents (live_log_first m p) (length (live_log_at m p)) (live_log_whole m p)
-    live.log file) c.pins-2.ensures c.finish.ensures.log))
+    (live_file_given contents (live_log_first bus n s) (live_log_first bus m t) (length (live_log_at bus n s))
+    (length (live_log_at bus m t)) (live_log_whole bus m t) c.args.log _ _ file refl c.new.ensures watched.log
+    (subst (λ p. LiveFileFinishes contents (live_log_first bus m p) (length (live_log_at bus m p))
+    (live_log_whole bus m p) live.log file) c.pins-2.ensures c.finish.ensures.log))
 
 pub returns-clause-trace : goal.returns-clause-trace
 returns-clause-trace g c = λ sound.

@@ -1,12 +1,13 @@
 use Rattle.std.proofs.Common.{◌≡◌, Bool, true, false, map, sym, subst}
-use Rattle.swd_port.specs.PlainMemory.{PlainMemory}
+use Rattle.swd_port.specs.Bus.{Bus}
+use Rattle.swd_run.specs.ScriptDevices.{script_device_bus}
 use Rattle.swd_script.specs.Readers.{script_batch_listed, read_script_meaning}
 use Rattle.swd_script.proofs.TextLaws.{script_is_runnable, plan_file_is_plan}
 use Rattle.swd_ends.specs.Serving.{IsTargetEndScript, IsTargetEndMade}
 use Rattle.swd_ends.proofs.serving.read_target.Goals as goal
 
-pub zero_memory-requires : goal.zero_memory-requires
-zero_memory-requires g c = let read = c.in-Ok.ensures.read in script_is_runnable read.script_text
+pub device_of-requires : goal.device_of-requires
+device_of-requires g c = let read = c.in-Ok.ensures.read in script_is_runnable read.script_text
     (read_script_meaning c.in-Ok.texts.script) read.means
 
 pub target_pins-requires : goal.target_pins-requires
@@ -39,7 +40,7 @@ returns-clause-made g c =
       read = c.in-Ok.ensures.read;
       no_access = subst (λ batches. IsTargetEndScript (map script_batch_listed batches)) c.as_slice.ensures.value
           (c.is_bare.ensures.0 c.if-not-is_bare.false);
-      made = subst (λ (m : PlainMemory). IsTargetEndMade m marks c.args.idr c.target_pins.result.target)
+      made = subst (λ (m : Bus). IsTargetEndMade script_device_bus m marks c.args.idr c.target_pins.result.target)
           c.in-Some.ensures
           pins.made;
       rests = pins.rests;

@@ -8,7 +8,8 @@ pub returns-clause-made : goal.returns-clause-made
 returns-clause-made g c =
     let target = c.new.ensures in
     let marks = c.args.plan.items in
-    let made : IsTargetEndMade c.args.memory marks c.args.idr c.new.result = record {
+    let bus = g.D.Device.bus in
+    let made : IsTargetEndMade bus (bus c.args.device) marks c.args.idr c.new.result = record {
       state = target.state;
       choices = ap (λ (s : Simulation). s.quirks) target.exact;
       frame = target.frame;
@@ -17,7 +18,8 @@ returns-clause-made g c =
       asked = target.requests;
       cycles = target.cycles;
     } in
-    subst (λ (t : FaultyClocked _ _). IsTargetEndMade c.args.memory marks c.args.idr t) (sym c.new-2.ensures.target)
+    subst (λ (t : FaultyClocked _ _). IsTargetEndMade bus (bus c.args.device) marks c.args.idr t)
+    (sym c.new-2.ensures.target)
     made
 
 pub returns-clause-rests : goal.returns-clause-rests

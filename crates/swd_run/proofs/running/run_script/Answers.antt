@@ -4,8 +4,6 @@ use Rattle.std.specs.Prelude.{All as Each}
 use Rattle.swd_port.specs.declared.mark.Mark.{Mark}
 use Rattle.swd_port.specs.declared.wire.Wire.{Ghosts}
 use Rattle.swd_port.specs.Choices.{port_disturbed_among, port_lost_among}
-use Rattle.swd_port.specs.Bus.{bus_of}
-use Rattle.swd_port.specs.PlainMemory.{PlainMemory}
 use Rattle.swd_target.specs.declared.bench.Bench.{Bench}
 use Rattle.swd_target.specs.Benches.{bench_plan, bench_port}
 use Rattle.swd_script.specs.Laws.{IsScriptBatch}
@@ -14,8 +12,10 @@ use Rattle.std.specs.Io.KnownBytes.{Appends}
 use Rattle.swd_run.specs.Engine.{BatchAnswersAt}
 use Rattle.swd_run.specs.Records.{run_files_of}
 use Rattle.swd_run.specs.Reports.{batch_report}
-use Rattle.swd_run.specs.Running.{IsTraceUpTo, ScriptRunAnswers, ScriptSession, full_room, script_bus, none}
+use Rattle.swd_run.specs.Running.{IsTraceUpTo, ScriptRunAnswers, ScriptSession, full_room, none}
 use Rattle.swd_run.specs.Running.{with_full_room}
+use Rattle.swd_run.specs.declared.script_device.ScriptDevice.{ScriptDevice}
+use Rattle.swd_run.specs.ScriptDevices.{script_bus, script_device_bus}
 use Rattle.swd_run.specs.Unfoldings.{no_batch}
 use Rattle.swd_run.proofs.ReportLemmas.{report_pairs_empty}
 use Rattle.swd_run.proofs.EngineLemmas.{no_call_run_files, no_items_read, script_run_answers}
@@ -24,9 +24,9 @@ use Rattle.swd_run.proofs.UnfoldingLemmas.{unfolded_calls_empty, unfolded_until_
 use Rattle.swd_run.proofs.running.run_script.Goals as goal
 
 -- the simulated target of a script, as a wire
-abbrev bench_wire : {A : Type 0} → Ghosts (Bench PlainMemory A)
+abbrev bench_wire : {A : Type 0} → Ghosts (Bench (ScriptDevice A) A)
 bench_wire {A} = record {
-  port = bench_port bus_of;
+  port = bench_port script_device_bus;
   plan = bench_plan;
   lawful = λ bench. Unit {0};
   notes = λ calls bench. Unit {0};
@@ -77,18 +77,18 @@ returns g c =
     let new = g.W.Write.contents ran.new.report in
     let before = run_files_of g.T.Write.contents g.I.ItemsPrinter.text c.args.records.now in
     let after = run_files_of g.T.Write.contents g.I.ItemsPrinter.text ran.new.records in
-    let memory = (bench_port bus_of ran.result.1).target.memory in
+    let memory = (bench_port script_device_bus ran.result.1).target.memory in
     let full : c.full_room.result ≡ full_room script.room memory = c.full_room.ensures
-    ∙ ap (full_room script.room) (sym c.memory.ensures) in
+    ∙ ap (full_room script.room) (sym c.device.ensures) in
     subst (λ answer. ScriptRunAnswers c.args.limits script c.args.plan.items answer old new
     before after)
     (sym (c.with_full.ensures ∙ ap (λ used. with_full_room used ran.result.0) full))
     (script_run_answers bench_wire c.args.limits script
     c.args.plan.items c.in-Some.bench ran.result.1 c.in-Some.ensures.port c.in-Some.ensures.plan tt
     (λ bench same. (
-      subst (λ (x : List Mark). (bench_port bus_of bench).tally.disturbed ≤ port_disturbed_among x) same
+      subst (λ (x : List Mark). (bench_port script_device_bus bench).tally.disturbed ≤ port_disturbed_among x) same
           (c.marks_used.ensures.disturbed_most bench),
-      subst (λ (x : List Mark). (bench_port bus_of bench).tally.lost ≤ port_lost_among x) same
+      subst (λ (x : List Mark). (bench_port script_device_bus bench).tally.lost ≤ port_lost_among x) same
           (c.marks_used.ensures.lost_most bench),
     )) tt memory refl ran.result.0 old new before after
     (subst (λ batches. BatchAnswersAt bench_wire c.args.limits

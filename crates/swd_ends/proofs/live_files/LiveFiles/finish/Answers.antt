@@ -13,12 +13,14 @@ returns-clause-log g c =
     let contents = g.M.Write.contents in
     let t = c.args.pins.now in
     let self = c.args.self.now in
-    let log = live_log_at self.skipped t in
+    let bus = g.D.Device.bus in
+    let log = live_log_at bus self.skipped t in
     let between = c.write.new.self.log in
     let last = live_log_counts_line (marked_clocked_cycles t.target)
     (min (marked_clocked_tally t.target).asked (2 ^ 64 - 1)) ++ 10 ∷ [] in
     let line : c.as_bytes.result.now ≡ last = search rules in
-    live_file_finishes contents (live_log_first self.skipped t) (length log) last (live_log_whole self.skipped t)
+    live_file_finishes contents (live_log_first bus self.skipped t) (length log) last
+    (live_log_whole bus self.skipped t)
     self.log between c.add.new.self (ap (λ l. live_log_lines l ++ last) (take_all (length log) log (omega arith)))
     c.write.ensures.log (subst (λ x. GrowingFileAdds contents x between c.add.new.self) line c.add.ensures.adds)
 

@@ -8,8 +8,9 @@ pub returns-clause-log : goal.returns-clause-log
 returns-clause-log g c =
     let contents = g.M.Write.contents in
     let self = c.args.self.now in
-    let all : c.log.result.now ≡ live_transfers_at c.args.pins.now = search rules in
-    let log : c.transfers_since.result.now ≡ live_log_at self.skipped c.args.pins.now =
+    let bus = g.D.Device.bus in
+    let all : c.log.result.now ≡ live_transfers_at bus c.args.pins.now = search rules in
+    let log : c.transfers_since.result.now ≡ live_log_at bus self.skipped c.args.pins.now =
     c.transfers_since.ensures ∙ ap (drop self.skipped) all in
     subst (λ (l : List Transfer). LiveFileWrites contents (λ n. live_log_lines (take n l)) (length l) self.log
     c.log_on.new.file) log c.log_on.ensures
