@@ -238,6 +238,28 @@ uint64_t swd_give_rest(uint64_t bits, uint32_t made, uint32_t failed);
 struct swd_cue swd_run_cue(const struct swd_run *run);
 
 /*
+ * A transaction that comes next.
+ */
+struct swd_planned {
+	uint32_t word; /* the word that a write sends; 0 for a read */
+	uint8_t request; /* the eight bits of the request, with the fields of SWD_REQUEST_AP and the others */
+};
+
+/* The most transactions of a plan. */
+#define SWD_MOST_PLANNED 128
+
+/*
+ * Plans ahead: stores the transactions that come next in `plan`, which has `room` objects, and returns how many, at most
+ * SWD_MOST_PLANNED. As long as each is acknowledged with OK, and each word arrives with correct parity, the run asks for
+ * exactly these, whatever words are read. A plan ends behind a read whose word decides what follows, of DPIDR, CTRL/STAT or
+ * CSW, and behind the last access. Nothing of the run changes. Pass the same list as to swd_run_next.
+ *
+ * Returns 0 where the cue isn't SWD_ASK, and if *run is invalid, or has more than 65,536 answers. *plan is unchanged then.
+ */
+uint32_t swd_run_plan(const struct swd_run *run, const struct swd_access *accesses, size_t count,
+                      struct swd_planned *plan, size_t room);
+
+/*
  * Takes the reply to the cue, and returns the next cue. `reply` is the three bits sampled at SWD_ASK (an undriven line
  * reads 1), or the 33 bits sampled at SWD_TAKE; at any other kind it is ignored. If the line failed inside the cue, call
  * swd_run_fail in place of this: bits that were sampled before and after a failure may pass for a word. The answer of each
@@ -584,6 +606,16 @@ struct swd_run_layout {
 };
 
 void swd_run_layout(struct swd_run_layout *layout);
+
+/*
+ * The same for struct swd_planned, with the numbers from 1 on.
+ */
+struct swd_plan_layout {
+	struct swd_planned planned;
+	uint64_t planned_size, layout_size;
+};
+
+void swd_plan_layout(struct swd_plan_layout *layout);
 
 /*
  * The same for the structs of the checker, with the numbers from 1 on. Each of the worlds of `check` is `world`.

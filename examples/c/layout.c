@@ -145,6 +145,17 @@ static void check_run_fields(void)
 	same("struct swd_run_layout", sizeof(struct swd_run_layout), layout.layout_size);
 }
 
+static void check_plan_fields(void)
+{
+	struct swd_plan_layout layout;
+	memset(&layout, 0xee, sizeof layout);
+	swd_plan_layout(&layout);
+	CHECK(planned.word, 1);
+	CHECK(planned.request, 2);
+	same("struct swd_planned", sizeof(struct swd_planned), layout.planned_size);
+	same("struct swd_plan_layout", sizeof(struct swd_plan_layout), layout.layout_size);
+}
+
 static void check_checker_fields(void)
 {
 	static struct swd_check_layout layout;
@@ -450,6 +461,7 @@ int main(void)
 {
 	check_fields();
 	check_run_fields();
+	check_plan_fields();
 	check_checker_fields();
 	check_version();
 	check_cues();

@@ -52,6 +52,7 @@ RunStruct = _struct(
     "RunStruct", ("requests", _u64), ("engine", EngineStruct), ("end", OutcomeStruct), ("answered", _u32),
     *_bytes("begun stage"),
 )
+PlannedStruct = _struct("PlannedStruct", ("word", _u32), ("request", _u8))
 HeldStruct = _struct("HeldStruct", ("places", _u64), ("word", _u32), ("kind", _u8))
 IntervalStruct = _struct("IntervalStruct", ("first", _u32), *_bytes("more known"))
 WorldStruct = _struct(
@@ -84,6 +85,7 @@ def _layout(crossing: _Crossing) -> Any:
 LAYOUTS = (
     ("swd_layout", _CROSSING),
     ("swd_run_layout", (("run", RunStruct),)),
+    ("swd_plan_layout", (("planned", PlannedStruct),)),
     ("swd_check_layout", (("world", WorldStruct), ("check", CheckStruct), ("verdict", VerdictStruct))),
 )
 
@@ -106,6 +108,7 @@ _run = ctypes.POINTER(RunStruct)
 _FUNCTIONS: Dict[str, Tuple[Any, Optional[Tuple[Any, ...]]]] = {
     "swd_layout": (None, (ctypes.c_void_p,)),
     "swd_run_layout": (None, (ctypes.c_void_p,)),
+    "swd_plan_layout": (None, (ctypes.c_void_p,)),
     "swd_check_layout": (None, (ctypes.c_void_p,)),
     "swd_version": (_u32, ()),
     "swd_run_new": (None, (_run, _u32)),
@@ -114,6 +117,7 @@ _FUNCTIONS: Dict[str, Tuple[Any, Optional[Tuple[Any, ...]]]] = {
     "swd_run_again": (ctypes.c_bool, (_run, _u32)),
     "swd_run_cue": (CueStruct, (_run,)),
     "swd_run_next": (CueStruct, None),
+    "swd_run_plan": (_u32, None),
     "swd_decoder_new": (None, (ctypes.POINTER(DecoderStruct),)),
     "swd_decoder_take": (_u8, (ctypes.POINTER(DecoderStruct), _u64, _u8)),
     "swd_decoder_due": (ctypes.c_bool, (ctypes.POINTER(DecoderStruct), ctypes.POINTER(ItemStruct))),

@@ -2,7 +2,7 @@
 import ctypes
 import struct
 from dataclasses import replace
-from typing import Any, Callable, Iterable, List, Optional, Tuple, Type
+from typing import Any, Callable, Iterable, Optional, Tuple, Type
 
 from ._accesses import (
     Access, Answer, BusFault, End, Report, Value, Write, Written, counts, listed_accesses, made_report, since,
@@ -10,12 +10,12 @@ from ._accesses import (
 from ._cues import Cue, cue_of
 from ._errors import CallbackFailed, LibraryRefused, NotResumable, OutOfRange, RunEnded, RunFailed, number
 from ._library import (
-    ASK, BUS_FAULT, GIVE, MOST_PLANNED, REFUSED, REST, SILENCE, VALUE, WRITTEN, WRONG_ID, AccessStruct, LibraryOrPath,
-    OutcomeStruct, RunStruct, library_functions,
+    BUS_FAULT, MOST_PLANNED, REFUSED, REST, SILENCE, VALUE, WRITTEN, WRONG_ID, AccessStruct, LibraryOrPath,
+    OutcomeStruct, PlannedStruct, RunStruct, library_functions,
 )
 from ._planned import Planned
 
-_ALL, _OK, _WORD = 5, 1, 0xFFFF_FFFF
+_ALL, _OK = 5, 1
 _ENDS = {_ALL: End.ALL, 6: End.LOST, 7: End.TRIES, WRONG_ID: End.WRONG_ID, 9: End.CONFUSED}
 _BAD_REPLY = 2
 
@@ -154,18 +154,11 @@ class Run:
     def plan(self) -> Tuple[Planned, ...]:
         """Returns the transactions that come next, at most 128. The run asks for exactly these, as long as each is acknowledged
         with OK and each word arrives with right parity, whatever words are read. They end behind a read whose word
-        decides what follows, and behind the last access. There are none where the cue isn't an `Ask`.
-
-        Two copies of the run are led on, by words of zeros and of ones."""
-        (_, zeros), (_, ones) = self._led(self._run), self._led(self._run)
-        cue, other = self._cue_struct(), self._cue_struct()
-        planned: List[Planned] = []
-        while cue.kind == ASK and bytes(cue) == bytes(other) and len(planned) < MOST_PLANNED:
-            request = cue.request
-            cue, other = zeros(_OK), ones(_OK)
-            planned.append(Planned(request, cue.bits & _WORD if cue.kind == GIVE else 0))
-            cue, other = zeros(0), ones(_WORD)
-        return tuple(planned)
+        decides what follows, and behind the last access. There are none where the cue isn't an `Ask`."""
+        here, listed, count, _, _ = self._passed
+        room = (PlannedStruct * MOST_PLANNED)()
+        found = self._functions.swd_run_plan(here, listed, count, ctypes.byref(room), _argument(MOST_PLANNED))
+        return tuple([Planned(request, word) for word, request in _PLANNED.iter_unpack(bytes(room)[:8 * found])])
 
     def _led(self, run: Any) -> Tuple[Any, Callable[[int], Any]]:
         """Returns a copy of a struct of this run, and what leads it on by a reply and returns the next cue."""
@@ -297,6 +290,8 @@ _WRITTEN, _BUS_FAULT = Written(), BusFault()
 
 # The fields of an access: the address, the word and whether it is written.
 _ACCESS = struct.Struct("=IIB3x")
+# The fields of a transaction of a plan: the word and the request.
+_PLANNED = struct.Struct("=IB3x")
 # Takes the word and the kind out of an outcome, which is so many bytes.
 _outcome, _OUTCOME_SIZE = struct.Struct("=IB3x").unpack_from, ctypes.sizeof(OutcomeStruct)
 

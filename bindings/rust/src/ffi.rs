@@ -9,7 +9,7 @@ mod library;
 mod checks;
 
 pub(crate) use checks::Check;
-use library::{check, Layout, RunLayout};
+use library::{check, Layout, PlanLayout, RunLayout};
 
 #[repr(C)]
 #[derive(Clone, Copy, Debug, Default, PartialEq, Eq)]
@@ -98,6 +98,13 @@ pub(crate) struct Access {
     pub addr: u32,
     pub word: u32,
     pub write: u8,
+}
+
+#[repr(C)]
+#[derive(Clone, Copy, Debug, Default, PartialEq, Eq)]
+pub(crate) struct Planned {
+    pub word: u32,
+    pub request: u8,
 }
 
 #[repr(C)]
@@ -196,6 +203,7 @@ extern "C" {
     fn swd_version() -> u32;
     fn swd_layout(layout: *mut Layout);
     fn swd_run_layout(layout: *mut RunLayout);
+    fn swd_plan_layout(layout: *mut PlanLayout);
     fn swd_run_new(run: *mut Run, tries: u32);
     fn swd_run_blocks(run: *mut Run, tries: u32);
     fn swd_run_opened(run: *mut Run, accesses: *const Access, count: usize, blocks: u8, tries: u32) -> Cue;
@@ -210,6 +218,7 @@ extern "C" {
         room: usize,
         reply: u64,
     ) -> Cue;
+    fn swd_run_plan(run: *const Run, accesses: *const Access, count: usize, plan: *mut Planned, room: usize) -> u32;
     fn swd_target_new(target: *mut Target, wraps: u8, filler: u32);
     fn swd_target_cycle(target: *mut Target, drive: u8) -> u8;
     fn swd_target_wants(target: *const Target) -> Transfer;
@@ -233,6 +242,12 @@ pub(crate) fn stored(slots: &mut [crate::Slot]) -> &mut [Outcome] {
     unsafe { &mut *(slots as *mut [crate::Slot] as *mut [Outcome]) }
 }
 
+/// The transactions as the library writes them. Each content of the struct is one of a transaction.
+pub(crate) fn planned(room: &mut [crate::Planned]) -> &mut [Planned] {
+    // SAFETY: `crate::Planned` is `repr(transparent)` over the struct.
+    unsafe { &mut *(room as *mut [crate::Planned] as *mut [Planned]) }
+}
+
 impl Run {
     /// Makes a run at its beginning, for bursts of reads, or else of writes.
     pub fn beginning(blocks: bool, tries: u32) -> Run {
@@ -251,6 +266,15 @@ impl Run {
         // SAFETY: the pointers are of a whole struct that nobody else has, and of as many accesses as the count says.
         let cue = unsafe { swd_run_opened(&mut run, accesses.as_ptr(), accesses.len(), u8::from(blocks), tries) };
         (run, cue)
+    }
+
+    /// Stores the transactions that come next, and returns how many.
+    pub fn plan(&self, accesses: &[Access], room: &mut [Planned]) -> usize {
+        let (list, count) = (accesses.as_ptr(), accesses.len());
+        // SAFETY: the pointers are of a whole struct, of as many accesses as the count says, and of as many objects as
+        // the room says, which nobody else has.
+        let found = unsafe { swd_run_plan(self, list, count, room.as_mut_ptr(), room.len()) };
+        found as usize
     }
 
     /// Makes the run that continues this one, where it ended so that it can be continued.

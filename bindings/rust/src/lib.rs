@@ -119,7 +119,7 @@ pub use host::{Host, Session};
 pub use identity::{Identification, Opening};
 pub use image::ImageError;
 pub use line::{Broken, Line};
-pub use run::{Run, Step};
+pub use run::{Planned, Run, Step, MOST_PLANNED};
 pub use target::{Bus, BusError, Target};
 
 /// What does nothing unless it is used is a warning where it isn't.

@@ -1,7 +1,7 @@
 //! Runs without a line, whose steps the caller makes: for lines whose calls are futures, or that somebody else drives.
 
 use crate::cut::{Cut, DATA_CLOCKS};
-use crate::ffi::{listed, stored};
+use crate::ffi::{listed, planned, stored};
 use crate::host::{check, REQUEST_REST};
 use crate::wire::{ASK, GIVE, LEAD, PASS, REST, SWITCH_BITS, TAKE};
 use crate::{ffi, Access, Refused, Report, Slot};
@@ -108,6 +108,49 @@ impl Steps {
         if let Some(step) = self.0.iter_mut().find(is_next) {
             *step = step.of_count(step.count().saturating_sub(MOST_CLOCKS));
         }
+    }
+}
+
+/// The most transactions of a [plan](Run::plan).
+pub const MOST_PLANNED: usize = 128;
+
+/// A transaction that comes next if each before it is OK.
+#[repr(transparent)]
+#[derive(Clone, Copy, Debug, Default, PartialEq, Eq)]
+pub struct Planned(pub(crate) ffi::Planned);
+
+impl Planned {
+    /// A place of a plan without a transaction.
+    pub const EMPTY: Planned = Planned(ffi::Planned { word: 0, request: 0 });
+
+    /// The eight bits of the request, the first in time least significant.
+    #[must_use]
+    pub const fn request(self) -> u8 {
+        self.0.request
+    }
+
+    /// The word that a write sends; 0 for a read.
+    #[must_use]
+    pub const fn word(self) -> u32 {
+        self.0.word
+    }
+
+    /// Whether it goes to the access port.
+    #[must_use]
+    pub const fn is_ap(self) -> bool {
+        self.0.request & 2 != 0
+    }
+
+    /// Whether it is a read.
+    #[must_use]
+    pub const fn is_read(self) -> bool {
+        self.0.request & 4 != 0
+    }
+
+    /// The address of the register: 0, 4, 8 or 12.
+    #[must_use]
+    pub const fn addr(self) -> u8 {
+        self.0.request >> 1 & 12
     }
 }
 
@@ -224,6 +267,18 @@ impl<'a> Run<'a> {
         if self.steps.now().is_none() {
             self.next();
         }
+    }
+
+    /// Stores the transactions that come next, and returns them: as many as there is room for, at most
+    /// [`MOST_PLANNED`]. As long as each is acknowledged with OK and each word arrives with right parity, the steps are
+    /// those of exactly these, whatever words are read. They end behind a read whose word decides what follows, and behind
+    /// the last access. There are none where no request comes next. The first one is that of the step at hand.
+    ///
+    /// A probe that makes whole transactions, as by `DAP_Transfer` of CMSIS-DAP, is told of as many of them as a packet
+    /// takes. Where it stops at the first that isn't OK, its reply has the levels of the steps up to there.
+    pub fn plan<'r>(&self, room: &'r mut [Planned]) -> &'r [Planned] {
+        let count = self.run.plan(listed(self.accesses), planned(room));
+        &room[..count]
     }
 
     /// Goes on with the next cue that has a clock.

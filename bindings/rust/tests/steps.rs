@@ -8,7 +8,7 @@ use std::future::Future;
 use std::pin::{pin, Pin};
 use std::sync::Arc;
 use std::task::{Context, Poll, Wake, Waker};
-use swd::{Access, Answer, End, Host, Line, Refused, Run, Slot, Step};
+use swd::{Access, Answer, End, Host, Line, Planned, Refused, Run, Slot, Step, MOST_PLANNED};
 
 struct Nobody;
 
@@ -180,4 +180,57 @@ fn steps_have_at_most_64_clocks() {
     // Nobody answers the first request.
     assert_eq!(steps.last(), Some(&Step::Sample { count: 3 }));
     assert_eq!(run.report().ended, End::Lost);
+}
+
+/// The requests of a write, of RDBUFF and of two reads in a burst, with the words that are written.
+const PLANNED: [(u8, u32); 7] = [(0x8b, BASE), (0xbb, WORD), (0xbd, 0), (0x8b, BASE), (0x9f, 0), (0x9f, 0), (0xbd, 0)];
+
+/// Makes the steps of a cue that is acknowledged with OK, and of its data phase, of zeros.
+fn okay(run: &mut Run<'_>) {
+    for levels in [0, 0, 1] {
+        run.made(levels);
+    }
+    run.made(0);
+    run.made(0);
+}
+
+#[test]
+fn a_plan_is_what_the_run_asks_for() {
+    let accesses = [Access::write(BASE, WORD), Access::read(BASE), Access::read(BASE + 4)];
+    let (mut slots, mut room) = ([Slot::EMPTY; 3], [Planned::EMPTY; MOST_PLANNED]);
+    let mut run = Run::opened(&accesses, &mut slots, 8).unwrap();
+    for left in 0..PLANNED.len() {
+        let plan: Vec<_> = run.plan(&mut room).iter().map(|it| (it.request(), it.word())).collect();
+        assert_eq!(plan, PLANNED[left..]);
+        assert_eq!(run.step(), Some(Step::Drive { bits: u64::from(PLANNED[left].0), count: 8 }));
+        okay(&mut run);
+    }
+    assert_eq!(run.plan(&mut room), []);
+    run.made(0);
+    assert_eq!(run.report().ended, End::All);
+}
+
+#[test]
+fn a_plan_has_no_more_than_there_is_room_for() {
+    let accesses: Vec<_> = (0..200).map(|place| Access::read(BASE + 4 * place)).collect();
+    let (mut slots, mut room) = ([Slot::EMPTY; 200], [Planned::EMPTY; 2 * MOST_PLANNED]);
+    let run = Run::opened(&accesses, &mut slots, 8).unwrap();
+    assert_eq!(run.plan(&mut room).len(), MOST_PLANNED);
+    let plan = run.plan(&mut room[..3]);
+    assert_eq!(plan.len(), 3);
+    assert_eq!((plan[0].is_ap(), plan[0].is_read(), plan[0].addr(), plan[0].word()), (true, false, 4, BASE));
+    assert!(plan[1..].iter().all(|it| it.is_ap() && it.is_read() && it.addr() == 12));
+    assert_eq!(run.plan(&mut []), []);
+}
+
+#[test]
+fn a_run_that_leaves_a_cue_has_no_plan() {
+    let accesses = [Access::read(BASE)];
+    let (mut slots, mut room) = ([Slot::EMPTY; 1], [Planned::EMPTY; MOST_PLANNED]);
+    let mut run = Run::new(&accesses, &mut slots, 8).unwrap();
+    assert_eq!(run.plan(&mut room), []);
+    run.fail(0);
+    assert_eq!(run.plan(&mut room), []);
+    run.again(8).unwrap();
+    assert_eq!(run.plan(&mut room), []);
 }

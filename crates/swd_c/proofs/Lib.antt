@@ -1,6 +1,7 @@
 mod Checks
 mod Cues
 mod Gives
+mod Plans
 pub mod Items
 mod Refusals
 pub mod Targets

@@ -21,6 +21,7 @@ use Rattle.swd_checker.specs.declared.fields.IntervalFields.{IntervalFields}
 use Rattle.swd_checker.specs.declared.fields.WorldFields.{WorldFields}
 use Rattle.swd_c.specs.declared.check.SwdVerdict.{SwdVerdict}
 use Rattle.swd_c.specs.declared.cue.SwdCue.{SwdCue}
+use Rattle.swd_c.specs.declared.plan.SwdPlanned.{SwdPlanned}
 use Rattle.swd_c.specs.declared.access.SwdAccess.{SwdAccess}
 use Rattle.swd_c.specs.declared.item.SwdItem.{SwdItem}
 use Rattle.swd_c.specs.declared.layout.SwdCheckLayout.{SwdCheckLayout}
@@ -128,6 +129,9 @@ abbrev pub c_run_layout : RunFields → List CStructField
 c_run_layout run =
     c_engine_layout run.engine ++ (double run.requests ∷ (c_outcome_layout run.end ++
     (word run.answered ∷ byte run.begun ∷ byte run.stage ∷ [])))
+
+abbrev pub c_planned_layout : SwdPlanned → List CStructField
+c_planned_layout planned = word planned.word ∷ byte planned.request ∷ []
 
 abbrev pub c_held_layout : HeldFields → List CStructField
 c_held_layout held = double held.places ∷ word held.word ∷ byte held.kind ∷ []

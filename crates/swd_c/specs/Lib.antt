@@ -2,6 +2,7 @@ pub mod Cues
 pub mod Gives
 pub mod Accesses
 pub mod Runs
+pub mod Plans
 pub mod Items
 pub mod Decoders
 pub mod Checks

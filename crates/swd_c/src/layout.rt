@@ -4,12 +4,13 @@ ghost use Rattle.swd_c.specs.Layouts.{CStructIsNumbered, c_access_layout, c_cont
 ghost use Rattle.swd_c.specs.Layouts.{c_decoder_layout, c_engine_layout, c_frame_layout, c_item_layout, c_whole_layout};
 ghost use Rattle.swd_c.specs.Layouts.{c_struct_repeated_byte, c_run_layout, c_target_layout, c_transfer_layout};
 ghost use Rattle.swd_c.specs.Layouts.{c_check_layout, c_checker_layout, c_held_layout, c_verdict_layout};
-ghost use Rattle.swd_c.specs.Layouts.{c_world_layout};
+ghost use Rattle.swd_c.specs.Layouts.{c_planned_layout, c_world_layout};
 
 use crate::access::SwdAccess;
 use crate::check::SwdVerdict;
 use crate::cue::SwdCue;
 use crate::item::SwdItem;
+use crate::plan::SwdPlanned;
 use crate::target::SwdTransfer;
 use std::mem::size_of;
 use swd_checker::{CheckerFields, HeldFields, IntervalFields, WorldFields};
@@ -275,6 +276,31 @@ pub extern "C" fn swd_run_layout(layout: &mut SwdRunLayout)
         },
         run_size: size_of::<RunFields>() as u64,
         layout_size: size_of::<SwdRunLayout>() as u64,
+    };
+}
+
+/// The struct of a transaction of a plan, and its size in bytes.
+#[repr(C)]
+#[derive(Clone, Copy, Debug, PartialEq, Eq)]
+pub struct SwdPlanLayout {
+    pub planned: SwdPlanned,
+    pub planned_size: u64,
+    pub layout_size: u64,
+}
+
+/// Writes a number of its own to each field of a transaction of a plan, the same to all of its bytes: 1 and 2. Also
+/// writes the sizes.
+#[unsafe(no_mangle)]
+pub extern "C" fn swd_plan_layout(layout: &mut SwdPlanLayout)
+    ensures { CStructIsNumbered 1 (c_planned_layout layout.new.planned) }
+{
+    *layout = SwdPlanLayout {
+        planned: SwdPlanned {
+            word: word(1),
+            request: 2,
+        },
+        planned_size: size_of::<SwdPlanned>() as u64,
+        layout_size: size_of::<SwdPlanLayout>() as u64,
     };
 }
 

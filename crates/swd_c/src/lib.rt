@@ -13,6 +13,7 @@ mod give;
 mod item;
 mod layout;
 mod nowhere;
+mod plan;
 mod run;
 mod target;
 
@@ -23,10 +24,11 @@ pub use decoder::{swd_decoder_due, swd_decoder_last, swd_decoder_new, swd_decode
 pub use give::swd_give_rest;
 pub use item::SwdItem;
 pub use layout::{
-    SwdCheckLayout, SwdLayout, SwdRunLayout, swd_check_layout, swd_layout, swd_run_layout,
-    swd_version,
+    SwdCheckLayout, SwdLayout, SwdPlanLayout, SwdRunLayout, swd_check_layout, swd_layout,
+    swd_plan_layout, swd_run_layout, swd_version,
 };
 pub use nowhere::Nowhere;
+pub use plan::{SwdPlanned, swd_run_plan};
 pub use run::{
     swd_run_again, swd_run_blocks, swd_run_cue, swd_run_fail, swd_run_new, swd_run_next,
     swd_run_opened,

@@ -30,8 +30,8 @@ const NO_ROOM: u8 = 6;
 
 // The accesses of a list.
 #[derive(Clone, Copy)]
-struct AccessArray<'a> {
-    accesses: &'a [SwdAccess],
+pub(crate) struct AccessArray<'a> {
+    pub(crate) accesses: &'a [SwdAccess],
 }
 
 impl Accesses for AccessArray<'_> {

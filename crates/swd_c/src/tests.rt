@@ -5,6 +5,7 @@ mod driver;
 mod expect;
 mod failing;
 mod items;
+mod planning;
 mod refusals;
 mod sessions;
 mod target;

@@ -1,7 +1,7 @@
 //! Whether the library that is linked is the one that this crate is for.
 
-use super::{swd_layout, swd_run_layout, swd_version};
-use super::{Access, Cue, Decoder, Engine, Item, Run, Target, Transfer};
+use super::{swd_layout, swd_plan_layout, swd_run_layout, swd_version};
+use super::{Access, Cue, Decoder, Engine, Item, Planned, Run, Target, Transfer};
 use core::fmt;
 use core::mem::MaybeUninit;
 use core::ptr;
@@ -75,7 +75,8 @@ fn compare() -> Result<(), Difference> {
         return Err(Difference::Version(version));
     }
     written(swd_layout).and_then(|layout| compare_layout(&layout))?;
-    written(swd_run_layout).and_then(|layout| compare_run_layout(&layout))
+    written(swd_run_layout).and_then(|layout| compare_run_layout(&layout))?;
+    written(swd_plan_layout).and_then(|layout| compare_plan_layout(&layout))
 }
 
 #[repr(C)]
@@ -103,6 +104,14 @@ pub(super) struct Layout {
 pub(super) struct RunLayout {
     run: Run,
     run_size: u64,
+    layout_size: u64,
+}
+
+#[repr(C)]
+#[derive(Clone, Copy, Debug)]
+pub(super) struct PlanLayout {
+    planned: Planned,
+    planned_size: u64,
     layout_size: u64,
 }
 
@@ -200,6 +209,14 @@ fn compare_run_layout(layout: &RunLayout) -> Result<(), Difference> {
     ])
 }
 
+fn compare_plan_layout(layout: &PlanLayout) -> Result<(), Difference> {
+    compare_fields(&fields![layout; planned.word, planned.request])?;
+    compare_sizes(&[
+        ("planned", layout.planned_size, size_of::<Planned>()),
+        ("plan_layout", layout.layout_size, size_of::<PlanLayout>()),
+    ])
+}
+
 #[cfg(test)]
 mod tests {
     use super::*;
@@ -240,6 +257,9 @@ mod tests {
         other = of_run;
         other.run_size = 8;
         assert_eq!(compare_run_layout(&other), Err(Difference::Size { name: "run", size: 8 }));
+        let mut other = written(swd_plan_layout).unwrap();
+        other.planned.request = 1;
+        assert_eq!(compare_plan_layout(&other), Err(Difference::Field("planned.request")));
     }
 
     #[test]
