@@ -1,0 +1,19 @@
+//! The command processor of a CMSIS-DAP probe for serial wire: packets of a host, as clocks of a line. For firmware, and
+//! for a simulated probe. Nothing allocates, and nothing is read or written but by the two calls of a [`ProbeLine`].
+#![tactic(auto)]
+
+mod block;
+mod clocks;
+mod command;
+mod line;
+mod packet;
+mod processor;
+mod reply;
+mod sequences;
+mod settings;
+mod shape;
+mod transaction;
+mod transfers;
+
+pub use line::ProbeLine;
+pub use processor::{LONGEST, Processor};
