@@ -1,0 +1,5 @@
+pub mod ClockLemmas
+pub mod CommandLemmas
+pub mod ItemLemmas
+pub mod ReplyLemmas
+pub mod SequenceLemmas

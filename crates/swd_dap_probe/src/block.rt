@@ -1,4 +1,7 @@
 //! `DAP_TransferBlock`: many transactions of one request.
+ghost use Rattle.std.specs.Prelude.{◌≡◌, ◌≤◌, ◌<◌, ◌+◌, ◌*◌, [], length};
+ghost use Rattle.swd_dap_probe.specs.Shapes.{dap_block_shape};
+ghost use Rattle.swd_dap_probe.specs.Packets.{DapAppends, IsDapReplyOf};
 
 use crate::line::ProbeLine;
 use crate::reply::{Reply, put};
@@ -9,7 +12,9 @@ use crate::transfers::{Done, read_word, request_of, word_at};
 use swd_bits::Request;
 
 // Returns the request of a read. Of the access port, the last is a read of RDBUFF.
-fn read_at(request: Request, place: u16, count: u16) -> Request {
+fn read_at(request: Request, place: u16, count: u16) -> Request
+    requires { place < count }
+{
     if request.ap && place + 1 == count {
         RDBUFF
     } else {
@@ -33,7 +38,11 @@ fn read_block<L: ProbeLine>(
     request: Request,
     count: u16,
     words: &mut Reply,
-) -> Done {
+) -> Done
+    requires { length words.old.items + 4 * count ≤ 512 }
+    ensures room { length words.new.items ≤ length words.old.items + 4 * count }
+    ensures count { result.count ≤ count }
+{
     let mut value = post(line, settings, request);
     if value != OK {
         return Done { count: 0, value };
@@ -57,7 +66,10 @@ fn write_block<L: ProbeLine>(
     request: Request,
     count: u16,
     bytes: &[u8],
-) -> Done {
+) -> Done
+    requires { 4 * count ≤ length bytes.now }
+    ensures count { result.count ≤ count }
+{
     for place in 0..count {
         let word = word_at(bytes, 4 * usize::from(place));
         let value = persist(line, settings, request, word).value();
@@ -80,7 +92,11 @@ pub(crate) fn transfer_block<L: ProbeLine>(
     settings: &Settings,
     request: &[u8],
     reply: &mut Reply,
-) {
+)
+    requires whole { (dap_block_shape request.now).request ≤ length request.now }
+    requires room { length reply.old.items + (dap_block_shape request.now).reply ≤ 512 }
+    ensures told { DapAppends (IsDapReplyOf 6) (dap_block_shape request.now).reply reply.old.items reply.new.items }
+{
     let mut words = Reply::new();
     let count = block_count(request);
     let asked = request_of(request[4]);

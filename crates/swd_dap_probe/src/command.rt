@@ -1,7 +1,9 @@
 //! The commands of a host, by their first byte.
+ghost use Rattle.std.specs.Prelude.{◌≡◌};
+ghost use Rattle.swd_dap_probe.specs.Commands.{dap_command_of};
 
 /// A command.
-#[derive(Clone, Copy, Debug, PartialEq, Eq)]
+#[derive(Clone, Copy)]
 pub(crate) enum Command {
     /// `DAP_Info`.
     Info,
@@ -43,7 +45,9 @@ pub(crate) enum Command {
 
 impl Command {
     /// Returns the command with this number.
-    pub(crate) fn of(number: u8) -> Command {
+    pub(crate) fn of(number: u8) -> Command
+        ensures { result ≡ dap_command_of number }
+    {
         match number {
             0x00 => Command::Info,
             0x01 => Command::HostStatus,

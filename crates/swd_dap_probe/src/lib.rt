@@ -12,8 +12,10 @@ mod reply;
 mod sequences;
 mod settings;
 mod shape;
+mod size;
 mod transaction;
 mod transfers;
 
 pub use line::ProbeLine;
-pub use processor::{LONGEST, Processor};
+pub use processor::Processor;
+pub use size::LONGEST;

@@ -1,23 +1,14 @@
 //! A probe: packets of a host, and their replies.
+ghost use Rattle.std.specs.Prelude.{◌≡◌, ◌≤◌, true, false, [], length, min, max, slice_index, take};
+ghost use Rattle.swd_dap_probe.specs.Shapes.{IsDapTaken, IsDapRefused};
+ghost use Rattle.swd_dap_probe.specs.Packets.{dap_refusal};
 
 use crate::line::ProbeLine;
 use crate::packet;
 use crate::reply::{Reply, put};
 use crate::settings::Settings;
 use crate::shape::packet_shape;
-
-/// The most bytes of a packet.
-pub const LONGEST: usize = 512;
-
-/// The least bytes of a packet.
-const LEAST: usize = 64;
-
-/// How many bytes a packet has at most.
-#[derive(Clone, Copy)]
-pub(crate) struct PacketSize {
-    pub(crate) bytes: usize,
-    ghost sized: { (64 ≤ bytes) × (bytes ≤ 512) },
-}
+use crate::size::PacketSize;
 
 /// A probe: what a host's commands set, and the line.
 #[derive(Drop)]
@@ -32,14 +23,17 @@ pub struct Processor<L> {
 }
 
 impl<L: ProbeLine> Processor<L> {
+    ghost use Rattle.swd_dap_probe.specs.Packets.{DapTakes, IsDapReplyTo, processor_line, processor_size};
+    ghost use Rattle.swd_dap_probe.specs.Packets.{IsDapBegun};
+
     /// Returns a probe over this line, for packets of at most so many bytes. A size below 64 is 64, one above
     /// [`LONGEST`] is that.
-    pub fn new(line: L, size: usize) -> Processor<L> {
+    pub fn new(line: L, size: usize) -> Processor<L>
+        ensures { IsDapBegun line (min (max size 64) 512) result }
+    {
         Processor {
             line,
-            size: PacketSize {
-                bytes: size.max(LEAST).min(LONGEST),
-            },
+            size: PacketSize::of(size),
             settings: Settings::first(),
             mask: 0,
             reset: true,
@@ -51,39 +45,61 @@ impl<L: ProbeLine> Processor<L> {
     ///
     /// A packet that is malformed, or whose reply might be longer than the size, makes no clock. It is answered with
     /// the command and ff.
-    pub fn take(&mut self, request: &[u8], reply: &mut [u8; 512]) -> usize {
+    pub fn take(&mut self, request: &[u8], reply: &mut [u8; 512]) -> usize
+        ensures size { (result ≤ processor_size self.old) × (result ≤ 512) }
+        ensures takes { DapTakes L.clocks L.resets request.now (take result reply.new) self.old self.new }
+        ensures answers { IsDapReplyTo (slice_index request.now 0) (take result reply.new) }
+    {
         let mut out = Reply::new();
-        if self.accepts(request) {
-            packet::perform(self, request, &mut out);
-        } else {
-            refuse(request, &mut out);
-        }
+        self.answer(request, &mut out);
         reply[..out.len()].copy_from_slice(out.as_slice());
         out.len()
     }
 
-    // Returns whether a packet is whole, and its reply as short as the size.
-    fn accepts(&self, request: &[u8]) -> bool {
-        match packet_shape(request) {
-            Some(shape) => shape.reply <= self.size.bytes,
-            None => false,
+    // Performs a packet or refuses it.
+    fn answer(&mut self, request: &[u8], reply: &mut Reply)
+        requires { reply.old.items ≡ [] }
+        ensures takes { DapTakes L.clocks L.resets request.now reply.new.items self.old self.new }
+        ensures short { length reply.new.items ≤ self.old.size.bytes }
+    {
+        if self.accepts(request) {
+            packet::perform(self, request, reply);
+        } else {
+            refuse(request, reply);
         }
     }
 
+    // Returns whether a packet is whole, and its reply as short as the size.
+    fn accepts(&self, request: &[u8]) -> bool
+        ensures taken { result ≡ true → IsDapTaken self.now.size.bytes request.now }
+        ensures refused { result ≡ false → IsDapRefused self.now.size.bytes request.now }
+    {
+        let shape = packet_shape(request);
+        shape.request <= request.len() && shape.reply <= self.size.bytes
+    }
+
     /// Returns the line.
-    pub fn line(&self) -> &L {
+    pub fn line(&self) -> &L
+        ensures { result.now ≡ processor_line self.now }
+    {
         &self.line
     }
 
     /// Consumes the probe, and returns its line.
-    pub fn into_line(self) -> L {
+    pub fn into_line(self) -> L
+        ensures { result ≡ processor_line self }
+    {
         let Processor { line, .. } = self;
         line
     }
 }
 
 // Answers a packet that isn't performed.
-fn refuse(request: &[u8], reply: &mut Reply) {
+fn refuse(request: &[u8], reply: &mut Reply)
+    requires { reply.old.items ≡ [] }
+    ensures refusal { reply.new.items ≡ dap_refusal request.now }
+    ensures short { length reply.new.items ≤ 2 }
+{
     if let Some(command) = request.first() {
         put(reply, &[*command]);
     }

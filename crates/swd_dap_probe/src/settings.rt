@@ -1,7 +1,9 @@
 //! What the commands of a host set.
+ghost use Rattle.std.specs.Prelude.{◌≡◌};
+ghost use Rattle.swd_dap_probe.specs.Plain.{dap_settings_before};
 
 /// How transactions are made: what DAP_TransferConfigure and DAP_SWD_Configure set.
-#[derive(Clone, Copy, Debug, PartialEq, Eq)]
+#[derive(Clone, Copy)]
 pub(crate) struct Settings {
     /// Cycles behind a transaction that was OK, driven low.
     pub(crate) idle: u8,
@@ -17,7 +19,9 @@ pub(crate) struct Settings {
 
 impl Settings {
     /// Returns those before the first command.
-    pub(crate) fn first() -> Settings {
+    pub(crate) fn first() -> Settings
+        ensures { result ≡ dap_settings_before }
+    {
         Settings {
             idle: 0,
             retries: 100,

@@ -1,4 +1,5 @@
 //! Transactions of serial wire, by the probe itself.
+ghost use Rattle.std.specs.Prelude.{◌<◌, ◌^◌};
 
 use crate::clocks::{drive, hold, release, sample};
 use crate::line::ProbeLine;
@@ -23,7 +24,7 @@ pub(crate) const ABORT: Request = Request {
 };
 
 /// How a transaction was answered.
-#[derive(Clone, Copy, Debug, PartialEq, Eq)]
+#[derive(Clone, Copy)]
 pub(crate) enum Answer {
     /// OK, and the word of a read, whose parity is right; 0 for a write.
     Okay(u32),
@@ -51,17 +52,27 @@ impl Answer {
 }
 
 // Sends a request, and returns the three bits of the acknowledgement.
-fn ask<L: ProbeLine>(line: &mut L, settings: &Settings, request: Request) -> u8 {
+fn ask<L: ProbeLine>(line: &mut L, settings: &Settings, request: Request) -> u8
+    ensures bound { result < 8 }
+{
     drive(line, u64::from(request.bits()), 8);
     release(line, settings.turnaround);
     sample(line, 3) as u8
 }
 
-// Reads a word, and passes the turnaround and the idle cycles.
-fn take<L: ProbeLine>(line: &mut L, settings: &Settings) -> Answer {
+// Samples a data phase, and passes the turnaround and the idle cycles.
+fn take_bits<L: ProbeLine>(line: &mut L, settings: &Settings) -> u64
+    ensures bound { result < 2 ^ 33 }
+{
     let sent = sample(line, 33);
     release(line, settings.turnaround);
     hold(line, false, settings.idle);
+    sent
+}
+
+// Reads a word.
+fn take<L: ProbeLine>(line: &mut L, settings: &Settings) -> Answer {
+    let sent = take_bits(line, settings);
     match word_of(sent) {
         Some(word) => Answer::Okay(word),
         None => Answer::Damaged,
@@ -76,25 +87,41 @@ fn give<L: ProbeLine>(line: &mut L, settings: &Settings, word: u32) -> Answer {
     Answer::Okay(0)
 }
 
+// Releases the line for a data phase and for the turnaround.
+fn pass_phase<L: ProbeLine>(line: &mut L, settings: &Settings) {
+    release(line, 33);
+    release(line, settings.turnaround);
+}
+
+// Passes the turnaround, and drives a data phase low.
+fn pass_low<L: ProbeLine>(line: &mut L, settings: &Settings) {
+    release(line, settings.turnaround);
+    hold(line, false, 33);
+}
+
 // Passes the turnaround behind WAIT and FAULT, and the data phase, if there is one.
 fn pass<L: ProbeLine>(line: &mut L, settings: &Settings, read: bool) {
-    if settings.data_phase && read {
-        release(line, 33);
-    }
-    release(line, settings.turnaround);
-    if settings.data_phase && !read {
-        hold(line, false, 33);
+    match (settings.data_phase, read) {
+        (true, true) => pass_phase(line, settings),
+        (true, false) => pass_low(line, settings),
+        (false, _) => release_turnaround(line, settings),
     }
 }
 
-/// Makes one transaction. `word` is that of a write.
-pub(crate) fn transact<L: ProbeLine>(
+// Passes the turnaround.
+fn release_turnaround<L: ProbeLine>(line: &mut L, settings: &Settings) {
+    release(line, settings.turnaround);
+}
+
+// Makes what follows the acknowledgement of these three bits.
+fn behind<L: ProbeLine>(
     line: &mut L,
     settings: &Settings,
     request: Request,
     word: u32,
+    seen: u8,
 ) -> Answer {
-    match ask(line, settings, request) {
+    match seen {
         1 if request.read => take(line, settings),
         1 => give(line, settings, word),
         2 => {
@@ -105,11 +132,22 @@ pub(crate) fn transact<L: ProbeLine>(
             pass(line, settings, request.read);
             Answer::Fault
         }
-        seen => {
-            release(line, settings.turnaround + 33);
+        _ => {
+            pass_phase(line, settings);
             Answer::Missing(seen)
         }
     }
+}
+
+/// Makes one transaction. `word` is that of a write.
+pub(crate) fn transact<L: ProbeLine>(
+    line: &mut L,
+    settings: &Settings,
+    request: Request,
+    word: u32,
+) -> Answer {
+    let seen = ask(line, settings, request);
+    behind(line, settings, request, word, seen)
 }
 
 /// Makes a transaction, and again at each WAIT, up to the number of repeats.

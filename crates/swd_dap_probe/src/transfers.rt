@@ -1,9 +1,16 @@
 //! `DAP_Transfer`: a list of transactions.
+ghost use Rattle.std.specs.Prelude.{◌≡◌, ◌≤◌, ◌<◌, ◌+◌, ◌*◌, [], length, slice_index, IfSome};
+ghost use Rattle.std.specs.Int.{w32, from_le_bytes};
+ghost use Rattle.swd_dap_probe.specs.Plain.{dap_word};
+ghost use Rattle.swd_dap_probe.specs.Shapes.{dap_item_shape, dap_items_shape, dap_reads};
+ghost use Rattle.swd_dap_probe.specs.Transfers.{dap_asked_bytes, dap_pending_bytes};
+ghost use Rattle.swd_dap_probe.specs.Packets.{DapAppends, IsDapReplyOf};
+ghost use Rattle.swd_dap_probe.specs.declared.shape.Items.{Items};
 
 use crate::line::ProbeLine;
 use crate::reply::{Reply, put, put_word};
 use crate::settings::Settings;
-use crate::shape::{matches, reads, transfer_shape};
+use crate::shape::{Items, item_shape, matches, reads, skip};
 use crate::transaction::{Answer, OK, RDBUFF, persist};
 use swd_bits::{Reg4, Request};
 
@@ -11,7 +18,7 @@ use swd_bits::{Reg4, Request};
 const MISMATCH: u8 = 0x11;
 
 /// A request of `DAP_Transfer`.
-#[derive(Clone, Copy, Debug, PartialEq, Eq)]
+#[derive(Clone, Copy)]
 enum Asked {
     /// A read, whose word is returned.
     Read(Request),
@@ -24,7 +31,7 @@ enum Asked {
 }
 
 // What earlier requests of the packet left to do.
-#[derive(Clone, Copy, Debug, PartialEq, Eq)]
+#[derive(Clone, Copy)]
 enum Pending {
     Nothing,
     // The word of a read of the access port.
@@ -34,7 +41,7 @@ enum Pending {
 }
 
 // How far a packet came.
-#[derive(Clone, Copy, Debug, PartialEq, Eq)]
+#[derive(Clone, Copy)]
 pub(crate) struct Done {
     // How many requests were done.
     pub(crate) count: u16,
@@ -43,7 +50,9 @@ pub(crate) struct Done {
 }
 
 /// Returns the register of a transaction's code: APnDP, RnW, A[2], A[3], the first in bit 0.
-pub(crate) fn request_of(code: u8) -> Request {
+pub(crate) fn request_of(code: u8) -> Request
+    ensures { result.read ≡ dap_reads code }
+{
     Request {
         ap: code % 2 == 1,
         read: reads(code),
@@ -57,7 +66,10 @@ pub(crate) fn request_of(code: u8) -> Request {
 }
 
 /// Returns the word of these four bytes, the first least significant.
-pub(crate) fn word_at(bytes: &[u8], place: usize) -> u32 {
+pub(crate) fn word_at(bytes: &[u8], place: usize) -> u32
+    requires { place + 4 ≤ length bytes.now }
+    ensures { result ≡ dap_word bytes.now place }
+{
     u32::from_le_bytes([
         bytes[place],
         bytes[place + 1],
@@ -67,7 +79,10 @@ pub(crate) fn word_at(bytes: &[u8], place: usize) -> u32 {
 }
 
 // Returns the request at the head of these bytes.
-fn asked_of(bytes: &[u8]) -> Asked {
+fn asked_of(bytes: &[u8]) -> Asked
+    requires { (dap_item_shape Items.Transfers bytes.now).request ≤ length bytes.now }
+    ensures { dap_asked_bytes result ≡ (dap_item_shape Items.Transfers bytes.now).reply }
+{
     let code = bytes[0];
     let request = request_of(code);
     if reads(code) {
@@ -89,7 +104,10 @@ pub(crate) fn read_word<L: ProbeLine>(
     settings: &Settings,
     request: Request,
     words: &mut Reply,
-) -> u8 {
+) -> u8
+    requires { length words.old.items + 4 ≤ 512 }
+    ensures room { length words.new.items ≤ length words.old.items + 4 }
+{
     let answer = persist(line, settings, request, 0);
     if let Answer::Okay(word) = answer {
         put_word(words, word);
@@ -123,19 +141,25 @@ fn seek<L: ProbeLine>(
 }
 
 // What the requests of a packet set.
-#[derive(Clone, Copy, Debug, PartialEq, Eq)]
+#[derive(Clone, Copy)]
 struct Run {
     mask: u32,
     pending: Pending,
 }
 
 // What is pending behind a transaction that was answered so.
-fn pending_behind(value: u8, then: Pending) -> Pending {
+fn pending_behind(value: u8, then: Pending) -> Pending
+    ensures { dap_pending_bytes result ≤ dap_pending_bytes then }
+{
     if value == OK { then } else { Pending::Nothing }
 }
 
 // Fetches the word of a read that was made before, if there is one.
-fn fetch<L: ProbeLine>(line: &mut L, settings: &Settings, run: &mut Run, words: &mut Reply) -> u8 {
+fn fetch<L: ProbeLine>(line: &mut L, settings: &Settings, run: &mut Run, words: &mut Reply) -> u8
+    requires { length words.old.items + dap_pending_bytes run.old.pending ≤ 512 }
+    ensures none { dap_pending_bytes run.new.pending ≡ 0 }
+    ensures room { length words.new.items ≤ length words.old.items + dap_pending_bytes run.old.pending }
+{
     match run.pending {
         Pending::Word => {
             run.pending = Pending::Nothing;
@@ -152,7 +176,12 @@ fn perform<L: ProbeLine>(
     run: &mut Run,
     asked: Asked,
     words: &mut Reply,
-) -> u8 {
+) -> u8
+    requires none { dap_pending_bytes run.old.pending ≡ 0 }
+    requires room { length words.old.items + dap_asked_bytes asked ≤ 512 }
+    ensures room { length words.new.items + dap_pending_bytes run.new.pending
+        ≤ length words.old.items + dap_asked_bytes asked }
+{
     match asked {
         Asked::Mask(word) => {
             run.mask = word;
@@ -179,6 +208,36 @@ fn perform<L: ProbeLine>(
     }
 }
 
+// Returns the request of a read of the access port, if it returns the word of the one before it.
+fn read_again(pending: Pending, asked: Asked) -> Option<Request>
+    ensures { IfSome result (λ _. dap_asked_bytes asked ≡ 4) }
+{
+    match asked {
+        Asked::Read(request) if request.ap && matches!(pending, Pending::Word) => Some(request),
+        _ => None,
+    }
+}
+
+// Fetches the word of a read that was made before, if there is one, and performs a request if that was OK.
+fn fetch_and_perform<L: ProbeLine>(
+    line: &mut L,
+    settings: &Settings,
+    run: &mut Run,
+    asked: Asked,
+    words: &mut Reply,
+) -> u8
+    requires { length words.old.items + dap_pending_bytes run.old.pending + dap_asked_bytes asked ≤ 512 }
+    ensures { length words.new.items + dap_pending_bytes run.new.pending
+        ≤ length words.old.items + dap_pending_bytes run.old.pending + dap_asked_bytes asked }
+{
+    let value = fetch(line, settings, run, words);
+    if value == OK {
+        perform(line, settings, run, asked, words)
+    } else {
+        value
+    }
+}
+
 // Performs the next request.
 fn next<L: ProbeLine>(
     line: &mut L,
@@ -186,19 +245,14 @@ fn next<L: ProbeLine>(
     run: &mut Run,
     asked: Asked,
     words: &mut Reply,
-) -> u8 {
-    match asked {
-        Asked::Read(request) if request.ap && matches!(run.pending, Pending::Word) => {
-            read_word(line, settings, request, words)
-        }
-        _ => {
-            let value = fetch(line, settings, run, words);
-            if value == OK {
-                perform(line, settings, run, asked, words)
-            } else {
-                value
-            }
-        }
+) -> u8
+    requires { length words.old.items + dap_pending_bytes run.old.pending + dap_asked_bytes asked ≤ 512 }
+    ensures { length words.new.items + dap_pending_bytes run.new.pending
+        ≤ length words.old.items + dap_pending_bytes run.old.pending + dap_asked_bytes asked }
+{
+    match read_again(run.pending, asked) {
+        Some(request) => read_word(line, settings, request, words),
+        None => fetch_and_perform(line, settings, run, asked, words),
     }
 }
 
@@ -208,7 +262,10 @@ fn finish<L: ProbeLine>(
     settings: &Settings,
     pending: Pending,
     words: &mut Reply,
-) -> u8 {
+) -> u8
+    requires { length words.old.items + dap_pending_bytes pending ≤ 512 }
+    ensures room { length words.new.items ≤ length words.old.items + dap_pending_bytes pending }
+{
     match pending {
         Pending::Nothing => OK,
         Pending::Word => read_word(line, settings, RDBUFF, words),
@@ -223,7 +280,16 @@ fn perform_all<L: ProbeLine>(
     mask: &mut u32,
     request: &[u8],
     words: &mut Reply,
-) -> Done {
+) -> Done
+    requires whole { (dap_items_shape (dap_item_shape Items.Transfers) 3 3 (slice_index request.now 2) request.now).request
+        ≤ length request.now }
+    requires room { (dap_items_shape (dap_item_shape Items.Transfers) 3 3 (slice_index request.now 2) request.now).reply
+        ≤ 512 }
+    requires none { words.old.items ≡ [] }
+    ensures room { 3 + length words.new.items
+        ≤ (dap_items_shape (dap_item_shape Items.Transfers) 3 3 (slice_index request.now 2) request.now).reply }
+    ensures count { result.count ≤ slice_index request.now 2 }
+{
     let mut run = Run {
         mask: *mask,
         pending: Pending::Nothing,
@@ -239,7 +305,7 @@ fn perform_all<L: ProbeLine>(
                 value,
             };
         }
-        rest = &rest[transfer_shape(rest).request..];
+        rest = skip(rest, item_shape(Items::Transfers, rest).request);
     }
     if value == OK {
         value = finish(line, settings, run.pending, words);
@@ -257,7 +323,15 @@ pub(crate) fn transfer<L: ProbeLine>(
     mask: &mut u32,
     request: &[u8],
     reply: &mut Reply,
-) {
+)
+    requires whole { (dap_items_shape (dap_item_shape Items.Transfers) 3 3 (slice_index request.now 2) request.now).request
+        ≤ length request.now }
+    requires room { length reply.old.items
+        + (dap_items_shape (dap_item_shape Items.Transfers) 3 3 (slice_index request.now 2) request.now).reply ≤ 512 }
+    ensures told { DapAppends (IsDapReplyOf 5)
+        (dap_items_shape (dap_item_shape Items.Transfers) 3 3 (slice_index request.now 2) request.now).reply
+        reply.old.items reply.new.items }
+{
     let mut words = Reply::new();
     let done = perform_all(line, settings, mask, request, &mut words);
     put(reply, &[0x05, (done.count % 256) as u8, done.value]);
