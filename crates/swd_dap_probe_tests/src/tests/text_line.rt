@@ -33,7 +33,7 @@ impl TextLine {
         let left = self.clocks.get(self.gone..)?;
         for (place, character) in left.iter().enumerate() {
             if counts(*character) {
-                self.gone += place + 1;
+                self.gone = self.gone.saturating_add(place + 1);
                 return Some(*character);
             }
         }
