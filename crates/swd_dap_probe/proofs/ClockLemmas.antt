@@ -13,16 +13,19 @@ abbrev pub ClocksLead : {L : Type 0} → SequenceClock L → List (Option Bool) 
 ClocksLead {L} clock left all s0 s = (seen : List Bool) (t : L) → SequenceClocksGoBy clock left seen s t
     → (levels : List Bool) × SequenceClocksGoBy clock all levels s0 t
 
+-- before the first clock
 pub clocks_lead_first : {L : Type 0} (clock : SequenceClock L) (left all : List (Option Bool)) (s : L) → left ≡ all
     → ClocksLead clock left all s s
 clocks_lead_first clock left all s e seen t h = (seen, subst (λ x. SequenceClocksGoBy clock x seen s t) e h)
 
+-- one clock more
 pub clocks_lead_next : {L : Type 0} (clock : SequenceClock L) (left more all : List (Option Bool)) (drive : Option Bool)
     (level : Bool) (s0 s m : L) → left ≡ drive ∷ more → clock drive level s m → ClocksLead clock left all s0 s
     → ClocksLead clock more all s0 m
 clocks_lead_next clock left more all drive level s0 s m e one leads seen t h =
     leads (level ∷ seen) t (subst (λ x. SequenceClocksGoBy clock x (level ∷ seen) s t) (sym e) (m, one, h))
 
+-- once no clock is left
 pub clocks_lead_last : {L : Type 0} (clock : SequenceClock L) (left all : List (Option Bool)) (s0 s : L) → left ≡ []
     → ClocksLead clock left all s0 s → (levels : List Bool) × SequenceClocksGoBy clock all levels s0 s
 clocks_lead_last clock left all s0 s e leads =
@@ -38,12 +41,14 @@ low_bits_next count place rest l =
     let e : count - place ≡ suc n = omega arith in
     ap (λ k. map Some (low_bits k rest)) e
 
+-- none is left once all went by
 pub low_bits_none : (count place rest : ℕ) → count ≤ place → map Some (low_bits (count - place) rest) ≡ []
 unfolding low_bits
 low_bits_none count place rest l =
     let e : count - place ≡ 0 = omega arith in
     ap (λ k. map Some (low_bits k rest)) e
 
+-- all are left at first
 pub low_bits_all : (count bits : ℕ) → map Some (low_bits (count - 0) bits) ≡ map Some (low_bits count bits)
 low_bits_all count bits =
     let e : count - 0 ≡ count = omega arith in
@@ -57,11 +62,13 @@ alike_next count place drive l =
     let e : count - place ≡ suc n = omega arith in
     ap (λ k. replicate k drive) e
 
+-- none is left once all went by
 pub alike_none : (count place : ℕ) (drive : Option Bool) → count ≤ place → replicate (count - place) drive ≡ []
 alike_none count place drive l =
     let e : count - place ≡ 0 = omega arith in
     ap (λ k. replicate k drive) e
 
+-- all are left at first
 pub alike_all : (count : ℕ) (drive : Option Bool) → replicate (count - 0) drive ≡ replicate count drive
 alike_all count drive =
     let e : count - 0 ≡ count = omega arith in
@@ -89,6 +96,7 @@ abbrev pub AllLevelsLead : {L : Type 0} → SequenceClock L → ℕ → ℕ → 
 AllLevelsLead {L} clock count place number s0 s = (seen : List Bool) (t : L)
     → SequenceClocksGoBy clock (replicate (count - place) None) seen s t → LevelsLead clock count place number seen s0 t
 
+-- before the first level
 pub levels_lead_first : {L : Type 0} (clock : SequenceClock L) (count : ℕ) (s : L) → AllLevelsLead clock count 0 0 s s
 levels_lead_first clock count s seen t h = record {
   levels = seen;
@@ -97,6 +105,7 @@ levels_lead_first clock count s seen t h = record {
   is = grind arith;
 }
 
+-- the next power
 pub pow_next : (place : ℕ) → 2 ^ (place + 1) ≡ 2 * 2 ^ place
 pow_next place = ap (λ n. 2 ^ n) (add-one place) ∙ pow-succ' 2 place
 
@@ -116,11 +125,13 @@ level_above place false n l e =
     let z : 0 * 2 ^ place ≡ 0 = omega arith in
     ap (λ x. x * 2 ^ place % 2 ^ 64) e ∙ ap (λ x. x % 2 ^ 64) z ∙ sym z
 
+-- a level more is below the next power
 pub level_bound : (place number : ℕ) (level : Bool) → number < 2 ^ place
     → number + bit level * 2 ^ place < 2 ^ (place + 1)
 level_bound place number true l = let p = pow_next place in omega (arith, p, l)
 level_bound place number false l = let p = pow_next place in omega (arith, p, l)
 
+-- one level more
 pub levels_lead_next : {L : Type 0} (clock : SequenceClock L) (count place number : ℕ) (level : Bool) (s0 s m : L)
     → place < count → clock None level s m → AllLevelsLead clock count place number s0 s
     → AllLevelsLead clock count (place + 1) (number + bit level * 2 ^ place) s0 m
@@ -134,6 +145,7 @@ levels_lead_next clock count place number level s0 s m l one leads seen t h =
       is = level_number place number (bit level) (bits_number seen) (bits_number all.levels) all.is;
     }
 
+-- once no level is left
 pub levels_lead_last : {L : Type 0} (clock : SequenceClock L) (count number : ℕ) (s0 s : L)
     → AllLevelsLead clock count count number s0 s → LevelsLead clock count count number [] s0 s
 levels_lead_last clock count number s0 s leads =

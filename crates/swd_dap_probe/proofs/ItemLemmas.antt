@@ -1,5 +1,5 @@
 -- Laws of items, one after the other: what is left of them makes all of them whole.
-use Rattle.std.proofs.Common.{◌≡◌, ℕ, zero, suc, ◌+◌, ◌-◌, ◌<◌, ◌≤◌, List, [], ◌∷◌, ◌++◌, length, drop, refl, sym, ap, ◌∙◌}
+use Rattle.std.proofs.Common.{◌≡◌, ℕ, suc, ◌+◌, ◌-◌, ◌<◌, ◌≤◌, List, [], ◌++◌, length, drop, refl, sym, ap, ◌∙◌}
 use Rattle.std.proofs.Common.{subst, arith, append-nil, append_assoc, length-append, length-drop, take, inl, inr}
 use Rattle.swd_dap_probe.specs.declared.shape.Shape.{Shape}
 use Rattle.std.specs.Prelude.{min}
@@ -17,6 +17,7 @@ pub record ItemsLead {T : Type 0} (Go : ℕ → List ℕ → List ℕ → T → 
   pub whole : dap_long one left rest ≤ length rest
   pub room : length now + dap_most one left rest ≤ length before + dap_most one count bytes
 
+-- before the first item
 pub items_first : {T : Type 0} (Go : ℕ → List ℕ → List ℕ → T → T → Type 0) (one : List ℕ → Shape) (count : ℕ)
     (bytes before : List ℕ) (s : T) → dap_long one count bytes ≤ length bytes
     → ItemsLead Go one count bytes before s (count - 0) bytes before s
@@ -37,6 +38,7 @@ items_whole one n rest h =
     = length-drop (one rest).request rest in
     (omega arith, omega (arith, e))
 
+-- one item more
 pub items_next : {T : Type 0} (Go : ℕ → List ℕ → List ℕ → T → T → Type 0) (one : List ℕ → Shape) (count : ℕ)
     (bytes before : List ℕ) (s0 : T) (n : ℕ) (rest now : List ℕ) (s : T) (first now1 : List ℕ) (m : T)
     → ((told : List ℕ) (t : T) → Go n (drop (one rest).request rest) told m t → Go (suc n) rest (first ++ told) s t)
@@ -46,7 +48,8 @@ pub items_next : {T : Type 0} (Go : ℕ → List ℕ → List ℕ → T → T �
 items_next Go one count bytes before s0 n rest now s first now1 m goes is short lead = record {
   leads = λ told t h.
       let all = lead.leads (first ++ told) t (goes told t h) in
-      let e : now ++ (first ++ told) ≡ now1 ++ told = sym (append_assoc now first told) ∙ ap (λ x. x ++ told) (sym is) in
+      let e : now ++ (first ++ told) ≡ now1 ++ told =
+      sym (append_assoc now first told) ∙ ap (λ x. x ++ told) (sym is) in
       (all.0, all.1, all.2 ∙ e);
   whole = (items_whole one n rest lead.whole).1;
   room =
@@ -65,6 +68,7 @@ items_left Go one count bytes before s0 place rest now s l lead =
     let e : count - place ≡ suc (count - (place + 1)) = omega arith in
     subst (λ k. ItemsLead Go one count bytes before s0 k rest now s) e lead
 
+-- once no item is left
 pub items_last : {T : Type 0} (Go : ℕ → List ℕ → List ℕ → T → T → Type 0) (one : List ℕ → Shape) (count : ℕ)
     (bytes before : List ℕ) (s0 : T) (place : ℕ) (rest now : List ℕ) (s : T) → count ≤ place → Go 0 rest [] s s
     → ItemsLead Go one count bytes before s0 (count - place) rest now s
@@ -85,6 +89,7 @@ pub record ShapesLead (one : List ℕ → Shape) (before told count : ℕ) (byte
   pub request : shape.request + dap_long one left rest ≡ before + dap_long one count (drop before bytes)
   pub reply : shape.reply + dap_most one left rest ≡ told + dap_most one count (drop before bytes)
 
+-- before the first item
 pub shapes_first : (one : List ℕ → Shape) (before told count : ℕ) (bytes rest : List ℕ) → rest ≡ drop before bytes
     → ShapesLead one before told count bytes (count - 0) rest (dap_shape before told)
 shapes_first one before told count bytes rest e =
@@ -92,6 +97,7 @@ shapes_first one before told count bytes rest e =
     subst (λ k. ShapesLead one before told count bytes k rest (dap_shape before told)) z
     (record { request = ap (λ r. before + dap_long one count r) e; reply = ap (λ r. told + dap_most one count r) e })
 
+-- one item more
 pub shapes_next : (one : List ℕ → Shape) (before told count : ℕ) (bytes : List ℕ) (place : ℕ) (rest behind : List ℕ)
     (shape next : Shape) → place < count → next ≡ one rest → behind ≡ drop next.request rest
     → ShapesLead one before told count bytes (count - place) rest shape
@@ -110,6 +116,7 @@ shapes_next one before told count bytes place rest behind shape next l is e lead
     let y : dap_most one n behind ≡ dap_most one n (drop (one rest).request rest) = ap (dap_most one n) r in
     record { request = omega (arith, a, p, x); reply = omega (arith, b, q, y) }
 
+-- once no item is left
 pub shapes_last : (one : List ℕ → Shape) (before told count : ℕ) (bytes : List ℕ) (place : ℕ) (rest : List ℕ)
     (shape : Shape) → count ≤ place → ShapesLead one before told count bytes (count - place) rest shape
     → shape ≡ dap_items_shape one before told count bytes

@@ -27,13 +27,16 @@ bits_next bytes count place l =
     let e : count - place ≡ suc n = omega arith in
     ap (λ k. map Some (dap_bits bytes place k)) e
 
+-- none is left once all went by
 pub bits_none : (bytes : List ℕ) (count place : ℕ) → count ≤ place
     → map Some (dap_bits bytes place (count - place)) ≡ []
 bits_none bytes count place l =
     let e : count - place ≡ 0 = omega arith in
     ap (λ k. map Some (dap_bits bytes place k)) e
 
-pub bits_all : (bytes : List ℕ) (count : ℕ) → map Some (dap_bits bytes 0 (count - 0)) ≡ map Some (dap_bits bytes 0 count)
+-- all are left at first
+pub bits_all : (bytes : List ℕ) (count : ℕ)
+    → map Some (dap_bits bytes 0 (count - 0)) ≡ map Some (dap_bits bytes 0 count)
 bits_all bytes count =
     let e : count - 0 ≡ count = omega arith in
     ap (λ k. map Some (dap_bits bytes 0 k)) e
@@ -86,7 +89,8 @@ pub level_bytes_next : (left now : ℕ) (first rest : List Bool) → 0 < left �
     → length rest ≡ left - now → dap_level_bytes (first ++ rest) ≡ bits_number first ∷ dap_level_bytes rest
 level_bytes_next left now first rest some is a b =
     elim (cases_lt left 8) [
-      | inl l ↦ level_bytes_last first rest (omega (arith, some, is, a, l)) (omega (arith, is, a, l)) (omega (arith, is, a, b, l))
+      | inl l ↦ level_bytes_last first rest (omega (arith, some, is, a, l)) (omega (arith, is, a, l))
+          (omega (arith, is, a, b, l))
       | inr l ↦ level_bytes_full first rest (omega (arith, is, a, l))
     ]
 
@@ -111,10 +115,12 @@ abbrev pub AllBytesLead : {L : Type 0} → SequenceClock L → ℕ → List ℕ 
 AllBytesLead {L} clock count before left now s0 s = (seen : List Bool) (t : L)
     → SequenceClocksGoBy clock (replicate left None) seen s t → BytesLead clock count before now seen s0 t
 
+-- before the first byte
 pub bytes_lead_first : {L : Type 0} (clock : SequenceClock L) (count : ℕ) (before : List ℕ) (s : L)
     → AllBytesLead clock count before count before s s
 bytes_lead_first clock count before s seen t h = record { levels = seen; goes = h; is = refl }
 
+-- one byte more
 pub bytes_lead_next : {L : Type 0} (clock : SequenceClock L) (count : ℕ) (before : List ℕ) (left now : ℕ)
     (was becomes : List ℕ) (number : ℕ) (s0 s m : L) → 0 < left → now ≡ min left 8
     → DapSampled clock now number s m → becomes ≡ was ++ number ∷ []
@@ -131,10 +137,12 @@ bytes_lead_next clock count before left now was becomes number s0 s m some is on
     ∙ length-replicate (left - now) None in
     let bytes = level_bytes_next left now first seen some is one.long long in
     let e : was ++ (bits_number first ∷ dap_level_bytes seen) ≡ becomes ++ dap_level_bytes seen
-    = ap (λ x. was ++ (x ∷ dap_level_bytes seen)) (sym one.is) ∙ sym (append_assoc was (number ∷ []) (dap_level_bytes seen))
+    = ap (λ x. was ++ (x ∷ dap_level_bytes seen)) (sym one.is)
+    ∙ sym (append_assoc was (number ∷ []) (dap_level_bytes seen))
     ∙ ap (λ x. x ++ dap_level_bytes seen) (sym put) in
     record { levels = all.levels; goes = all.goes; is = all.is ∙ ap (λ x. was ++ x) bytes ∙ e }
 
+-- once no level is left
 pub bytes_lead_last : {L : Type 0} (clock : SequenceClock L) (count : ℕ) (before now : List ℕ) (left : ℕ) (s0 s : L)
     → left ≤ 0 → AllBytesLead clock count before left now s0 s → DapLevelsSampled clock count before now s0 s
 bytes_lead_last clock count before now left s0 s none leads =
@@ -154,16 +162,13 @@ length-dap_bytes_of (suc n) bits =
     let e : length (dap_bytes_of n (drop 8 bits)) ≡ n = length-dap_bytes_of n (drop 8 bits) in
     omega (arith, e)
 
--- what is left of some bytes behind so many
-pub rest_behind : (xs : List ℕ) (k : ℕ) → take (length xs - k) (drop k xs) ≡ drop k xs
-rest_behind xs k = ap (λ n. take n (drop k xs)) (sym (length-drop k xs)) ∙ take-length (drop k xs)
-
 told_short_by : {L : Type 0} (clock : SequenceClock L) (b : Bool) (clocks : ℕ) (bits levels : List Bool) (s t : L)
     → SequenceClocksGoBy clock (dap_sequence_drives (if b then Samples clocks else Drives bits)) levels s t
     → length (dap_sequence_told (if b then Samples clocks else Drives bits) levels)
     ≤ (if b then dap_shape 1 (dap_bytes_for clocks) else dap_shape (1 + dap_bytes_for clocks) 0).reply
 told_short_by clock true clocks bits levels s t h =
-    let e : length levels ≡ clocks = clocks_length clock (replicate clocks None) levels s t h ∙ length-replicate clocks None in
+    let e : length levels ≡ clocks =
+    clocks_length clock (replicate clocks None) levels s t h ∙ length-replicate clocks None in
     let f : length (dap_level_bytes levels) ≡ (length levels + 7) / 8
     = length-dap_bytes_of ((length levels + 7) / 8) levels in
     omega (arith, e, f)

@@ -69,20 +69,21 @@ pub record DapSets {L : Type 0} (command : Command) (bytes told : List ℕ) (s t
   pub after : t ≡ record s { settings = dap_settings_after command bytes s.settings }
   pub is : told ≡ dap_plain_reply command s.size.bytes bytes
 
-abbrev pub DapDoes : {L : Type 0} → SequenceClock L → (Bool → L → L → Type 0) → Command → List ℕ → List ℕ
+abbrev pub ProbeDoes : {L : Type 0} → SequenceClock L → (Bool → L → L → Type 0) → Command → List ℕ → List ℕ
     → Processor L → Processor L → Type 0
-DapDoes clock resets DriveSequence bytes told s t = DapDrives clock bytes told s t
-DapDoes clock resets WireSequence bytes told s t = DapSequencesMade clock bytes told s t
-DapDoes clock resets Transfer bytes told s t = DapTransacts Transfer told s t
-DapDoes clock resets TransferBlock bytes told s t = DapTransacts TransferBlock told s t
-DapDoes clock resets WriteAbort bytes told s t = DapTransacts WriteAbort told s t
-DapDoes clock resets Pins bytes told s t = DapSetsPins resets bytes told s t
-DapDoes clock resets command bytes told s t = DapSets command bytes told s t
+ProbeDoes clock resets DriveSequence bytes told s t = DapDrives clock bytes told s t
+ProbeDoes clock resets WireSequence bytes told s t = DapSequencesMade clock bytes told s t
+ProbeDoes clock resets Transfer bytes told s t = DapTransacts Transfer told s t
+ProbeDoes clock resets TransferBlock bytes told s t = DapTransacts TransferBlock told s t
+ProbeDoes clock resets WriteAbort bytes told s t = DapTransacts WriteAbort told s t
+ProbeDoes clock resets Pins bytes told s t = DapSetsPins resets bytes told s t
+ProbeDoes clock resets command bytes told s t = DapSets command bytes told s t
 
 -- the command at the head of some bytes
 abbrev pub DapCommandGoes : {L : Type 0} → SequenceClock L → (Bool → L → L → Type 0) → List ℕ → List ℕ
     → Processor L → Processor L → Type 0
-DapCommandGoes clock resets bytes told s t = DapDoes clock resets (dap_command_of (slice_index bytes 0)) bytes told s t
+DapCommandGoes clock resets bytes told s t =
+    ProbeDoes clock resets (dap_command_of (slice_index bytes 0)) bytes told s t
 
 -- so many commands, one after the other, and their replies
 abbrev pub DapCommandsGo : {L : Type 0} → SequenceClock L → (Bool → L → L → Type 0) → ℕ → List ℕ → List ℕ
@@ -96,12 +97,12 @@ DapCommandsGo {L} clock resets (suc n) bytes told s t = (m : Processor L) × (fi
 -- PACKETS
 
 -- a packet that is performed
-abbrev pub DapPerforms : {L : Type 0} → SequenceClock L → (Bool → L → L → Type 0) → Command → List ℕ → List ℕ
+abbrev pub ProbePerforms : {L : Type 0} → SequenceClock L → (Bool → L → L → Type 0) → Command → List ℕ → List ℕ
     → Processor L → Processor L → Type 0
-DapPerforms clock resets Execute bytes told s t = (replies : List ℕ)
+ProbePerforms clock resets Execute bytes told s t = (replies : List ℕ)
     × DapCommandsGo clock resets (slice_index bytes 1) (drop 2 bytes) replies s t
     × (told ≡ 0x7f ∷ slice_index bytes 1 ∷ replies)
-DapPerforms clock resets command bytes told s t = DapDoes clock resets command bytes told s t
+ProbePerforms clock resets command bytes told s t = ProbeDoes clock resets command bytes told s t
 
 -- what a packet is answered that isn't performed: its command, if it has one, and ff
 abbrev pub dap_refusal : List ℕ → List ℕ
@@ -112,7 +113,7 @@ dap_refusal (command ∷ rest) = command ∷ 255 ∷ []
 pub data DapTakes {L : Type 0} (clock : SequenceClock L) (resets : Bool → L → L → Type 0) (bytes told : List ℕ)
     (s t : Processor L) : Type 0 where
   performs : IsDapTaken s.size.bytes bytes
-      → DapPerforms clock resets (dap_command_of (slice_index bytes 0)) bytes told s t
+      → ProbePerforms clock resets (dap_command_of (slice_index bytes 0)) bytes told s t
       → DapTakes clock resets bytes told s t
   refuses : IsDapRefused s.size.bytes bytes → t ≡ s → told ≡ dap_refusal bytes → DapTakes clock resets bytes told s t
 

@@ -1,4 +1,5 @@
--- DAP_SWJ_Sequence and DAP_SWD_Sequence: the sequences of clocks that a request asks for, and the bytes of their levels.
+-- DAP_SWJ_Sequence and DAP_SWD_Sequence: the sequences of clocks that a request asks for, and the bytes of their
+-- levels.
 use Rattle.std.specs.Prelude.{ℕ, zero, suc, ◌≡◌, ◌+◌, ◌/◌, ◌%◌, ◌^◌, ◌==◌, Bool, List, [], ◌∷◌, ◌++◌, length, map}
 use Rattle.std.specs.Prelude.{drop, replicate, slice_index, if◌then◌else◌, Option, Some, None}
 use Rattle.swd_sequences.specs.Going.{SequenceClock, SequenceClocksGoBy}

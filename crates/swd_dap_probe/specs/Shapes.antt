@@ -1,7 +1,7 @@
 -- How long a command is, and how long its reply may be, as its own bytes tell: the description of CMSIS-DAP. Where the
 -- bytes end before the command does, those that are missing stand here as zeros.
-use Rattle.std.specs.Prelude.{ℕ, zero, suc, ◌+◌, ◌*◌, ◌/◌, ◌%◌, ◌<◌, ◌≤◌, ◌==◌, Bool, true, false, not, ◌&&◌}
-use Rattle.std.specs.Prelude.{List, [], ◌∷◌, length, drop, slice_index, if◌then◌else◌, ◌⊎◌}
+use Rattle.std.specs.Prelude.{ℕ, zero, suc, ◌+◌, ◌*◌, ◌/◌, ◌%◌, ◌<◌, ◌≤◌, ◌==◌, Bool, not, ◌&&◌}
+use Rattle.std.specs.Prelude.{List, length, drop, slice_index, if◌then◌else◌, ◌⊎◌}
 use Rattle.swd_dap_probe.specs.declared.command.Command.{Command}
 use Rattle.swd_dap_probe.specs.declared.command.Command.TheVariants.{Info, HostStatus, Connect, Disconnect}
 use Rattle.swd_dap_probe.specs.declared.command.Command.TheVariants.{TransferConfigure, Transfer, TransferBlock}

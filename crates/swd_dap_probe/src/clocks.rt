@@ -1,6 +1,5 @@
 //! Clocks of a line, one after the other.
-ghost use Rattle.std.specs.Prelude.{ℕ, ◌≡◌, ◌≤◌, ◌<◌, ◌^◌, Bool, List, [], length};
-ghost use Rattle.swd_bits.specs.Bits.{bits_number};
+ghost use Rattle.std.specs.Prelude.{◌≤◌, ◌<◌, ◌^◌, []};
 ghost use Rattle.swd_sequences.specs.declared.sequence.Sequence.{Sequence};
 ghost use Rattle.swd_sequences.specs.Going.{SequenceGoesBy};
 ghost use Rattle.swd_dap_probe.specs.Moves.{DapSampled};

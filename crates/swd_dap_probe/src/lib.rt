@@ -1,5 +1,5 @@
-//! The command processor of a CMSIS-DAP probe for serial wire: packets of a host, as clocks of a line. For firmware, and
-//! for a simulated probe. Nothing allocates, and nothing is read or written but by the two calls of a [`ProbeLine`].
+//! The command processor of a CMSIS-DAP probe for serial wire: packets of a host, as clocks of a line. For firmware,
+//! and for a simulated probe. Nothing allocates. A [`ProbeLine`] is all that is read and written.
 #![tactic(auto)]
 
 mod block;

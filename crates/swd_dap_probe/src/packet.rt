@@ -1,8 +1,8 @@
 //! The commands of a packet, each by what it does.
-ghost use Rattle.std.specs.Prelude.{◌≡◌, ◌≤◌, ◌+◌, [], drop, length, slice_index};
+ghost use Rattle.std.specs.Prelude.{◌≡◌, ◌≤◌, ◌+◌, [], length, slice_index};
 ghost use Rattle.swd_dap_probe.specs.Shapes.{dap_shape_by, dap_fixed_shape, dap_command_shape, dap_packet_shape};
 ghost use Rattle.swd_dap_probe.specs.Shapes.{dap_packet_shape_by, dap_long, dap_most};
-ghost use Rattle.swd_dap_probe.specs.Packets.{DapAppends, DapDoes, DapCommandGoes, DapCommandsGo, DapPerforms};
+ghost use Rattle.swd_dap_probe.specs.Packets.{DapAppends, ProbeDoes, DapCommandGoes, DapCommandsGo, ProbePerforms};
 ghost use Rattle.swd_dap_probe.specs.Packets.{DapTransacts, DapDrives, DapSequencesMade, DapSetsPins, DapSets};
 ghost use Rattle.swd_dap_probe.specs.Plain.{dap_info_reply, dap_settings_after};
 ghost use Rattle.swd_dap_probe.specs.Commands.{dap_command_of};
@@ -24,8 +24,8 @@ pub(crate) fn perform<L: ProbeLine>(probe: &mut Processor<L>, request: &[u8], re
     requires whole { (dap_packet_shape request.now).request ≤ length request.now }
     requires room { (dap_packet_shape request.now).reply ≤ 512 }
     requires first { reply.old.items ≡ [] }
-    ensures { DapAppends (λ told. DapPerforms L.clocks L.resets (dap_command_of (slice_index request.now 0)) request.now
-        told probe.old probe.new) (dap_packet_shape request.now).reply reply.old.items reply.new.items }
+    ensures { DapAppends (λ told. ProbePerforms L.clocks L.resets (dap_command_of (slice_index request.now 0))
+        request.now told probe.old probe.new) (dap_packet_shape request.now).reply reply.old.items reply.new.items }
 {
     match Command::of(byte_at(request, 0)) {
         Command::Execute => execute(probe, request, reply),
@@ -38,7 +38,7 @@ fn execute<L: ProbeLine>(probe: &mut Processor<L>, request: &[u8], reply: &mut R
     requires whole { (dap_packet_shape_by Command.Execute request.now).request ≤ length request.now }
     requires room { (dap_packet_shape_by Command.Execute request.now).reply ≤ 512 }
     requires first { reply.old.items ≡ [] }
-    ensures { DapAppends (λ told. DapPerforms L.clocks L.resets Command.Execute request.now
+    ensures { DapAppends (λ told. ProbePerforms L.clocks L.resets Command.Execute request.now
         told probe.old probe.new) (dap_packet_shape_by Command.Execute request.now).reply reply.old.items
         reply.new.items }
 {
@@ -79,7 +79,7 @@ fn command<L: ProbeLine>(
 )
     requires whole { (dap_shape_by command bytes.now).request ≤ length bytes.now }
     requires room { length reply.old.items + (dap_shape_by command bytes.now).reply ≤ 512 }
-    ensures { DapAppends (λ told. DapDoes L.clocks L.resets command bytes.now told probe.old probe.new)
+    ensures { DapAppends (λ told. ProbeDoes L.clocks L.resets command bytes.now told probe.old probe.new)
         (dap_shape_by command bytes.now).reply reply.old.items reply.new.items }
 {
     match command {

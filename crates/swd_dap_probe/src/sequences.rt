@@ -1,5 +1,6 @@
 //! Sequences of clocks: `DAP_SWJ_Sequence` and `DAP_SWD_Sequence`.
-ghost use Rattle.std.specs.Prelude.{ℕ, ◌≡◌, ◌≤◌, ◌+◌, ◌*◌, ◌∷◌, ◌++◌, [], Bool, List, Some, length, map, drop, slice_index};
+ghost use Rattle.std.specs.Prelude.{ℕ, ◌≡◌, ◌≤◌, ◌+◌, ◌*◌, ◌++◌, Bool, List, Some, length, map, drop};
+ghost use Rattle.std.specs.Prelude.{slice_index};
 ghost use Rattle.swd_sequences.specs.Going.{SequenceClocksGoBy};
 ghost use Rattle.swd_dap_probe.specs.Shapes.{dap_drive_clocks, dap_item_shape, dap_long, dap_most, dap_bytes_for};
 ghost use Rattle.swd_dap_probe.specs.Sequences.{dap_bits, dap_sequences, DapSequencesGo, DapSequenceGoes};

@@ -1,10 +1,10 @@
 //! `DAP_Transfer`: a list of transactions.
 ghost use Rattle.std.specs.Prelude.{◌≡◌, ◌≤◌, ◌<◌, ◌+◌, ◌*◌, [], length, slice_index, IfSome};
-ghost use Rattle.std.specs.Int.{w32, from_le_bytes};
 ghost use Rattle.swd_dap_probe.specs.Plain.{dap_word};
-ghost use Rattle.swd_dap_probe.specs.Shapes.{dap_item_shape, dap_items_shape, dap_reads};
+ghost use Rattle.swd_dap_probe.specs.Shapes.{dap_item_shape, dap_shape_by, dap_reads};
 ghost use Rattle.swd_dap_probe.specs.Transfers.{dap_asked_bytes, dap_pending_bytes};
 ghost use Rattle.swd_dap_probe.specs.Packets.{DapAppends, IsDapReplyOf};
+ghost use Rattle.swd_dap_probe.specs.declared.command.Command.{Command};
 ghost use Rattle.swd_dap_probe.specs.declared.shape.Items.{Items};
 
 use crate::line::ProbeLine;
@@ -281,13 +281,13 @@ fn perform_all<L: ProbeLine>(
     request: &[u8],
     words: &mut Reply,
 ) -> Done
-    requires whole { (dap_items_shape (dap_item_shape Items.Transfers) 3 3 (slice_index request.now 2) request.now).request
+    requires whole { (dap_shape_by Command.Transfer request.now).request
         ≤ length request.now }
-    requires room { (dap_items_shape (dap_item_shape Items.Transfers) 3 3 (slice_index request.now 2) request.now).reply
+    requires room { (dap_shape_by Command.Transfer request.now).reply
         ≤ 512 }
     requires none { words.old.items ≡ [] }
     ensures room { 3 + length words.new.items
-        ≤ (dap_items_shape (dap_item_shape Items.Transfers) 3 3 (slice_index request.now 2) request.now).reply }
+        ≤ (dap_shape_by Command.Transfer request.now).reply }
     ensures count { result.count ≤ slice_index request.now 2 }
 {
     let mut run = Run {
@@ -324,12 +324,12 @@ pub(crate) fn transfer<L: ProbeLine>(
     request: &[u8],
     reply: &mut Reply,
 )
-    requires whole { (dap_items_shape (dap_item_shape Items.Transfers) 3 3 (slice_index request.now 2) request.now).request
+    requires whole { (dap_shape_by Command.Transfer request.now).request
         ≤ length request.now }
     requires room { length reply.old.items
-        + (dap_items_shape (dap_item_shape Items.Transfers) 3 3 (slice_index request.now 2) request.now).reply ≤ 512 }
+        + (dap_shape_by Command.Transfer request.now).reply ≤ 512 }
     ensures told { DapAppends (IsDapReplyOf 5)
-        (dap_items_shape (dap_item_shape Items.Transfers) 3 3 (slice_index request.now 2) request.now).reply
+        (dap_shape_by Command.Transfer request.now).reply
         reply.old.items reply.new.items }
 {
     let mut words = Reply::new();

@@ -2,7 +2,7 @@ use Rattle.std.proofs.Common.{◌≡◌, ◌≤◌, ◌+◌, length, sym, ap, �
 use Rattle.std.specs.Prelude.{slice_index}
 use Rattle.swd_dap_probe.specs.Commands.{dap_command_of}
 use Rattle.swd_dap_probe.specs.Shapes.{dap_shape_by}
-use Rattle.swd_dap_probe.specs.Packets.{DapAppends, DapDoes}
+use Rattle.swd_dap_probe.specs.Packets.{DapAppends, ProbeDoes}
 use Rattle.swd_dap_probe.proofs.packet.command_at.Goals as goal
 
 pub command-requires : goal.command-requires
@@ -18,6 +18,6 @@ pub returns : goal.returns
 returns g c =
     let bytes = c.args.bytes.now in
     let e : c.of.result ≡ dap_command_of (slice_index bytes 0) = c.of.ensures ∙ ap dap_command_of c.byte_at.ensures in
-    subst (λ k. DapAppends (λ told. DapDoes g.L.ProbeLine.clocks g.L.ProbeLine.resets k bytes told c.args.probe.now
+    subst (λ k. DapAppends (λ told. ProbeDoes g.L.ProbeLine.clocks g.L.ProbeLine.resets k bytes told c.args.probe.now
     c.command.new.probe) (dap_shape_by k bytes).reply c.args.reply.now.items c.command.new.reply.items) e
     c.command.ensures

@@ -26,5 +26,5 @@ loop-place-preserved c =
 pub returns-clause-shape : goal.returns-clause-shape
 returns-clause-shape c =
     let l = c.loop-place in
-    shapes_last (dap_item_shape c.args.items) c.args.before c.args.before c.args.count c.args.bytes.now l.place l.rest.now
-    l.shape c.loop-place-test.false l.invariant.sums
+    shapes_last (dap_item_shape c.args.items) c.args.before c.args.before c.args.count c.args.bytes.now l.place
+    l.rest.now l.shape c.loop-place-test.false l.invariant.sums
