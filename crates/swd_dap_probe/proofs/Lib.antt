@@ -1,0 +1,4 @@
+pub mod ClockLemmas
+pub mod ItemLemmas
+pub mod ReplyLemmas
+pub mod SequenceLemmas
