@@ -78,7 +78,7 @@ complete -c swd -n '__fish_seen_subcommand_from conform' -l remote -d 'The targe
 complete -c swd -n '__fish_seen_subcommand_from conform' -l probe -r -F -d 'The target is behind a probe, such as /dev/hidraw0'
 complete -c swd -n '__fish_seen_subcommand_from conform' -l speed -x -d 'With --probe: the frequency of SWCLK; else 1000000'
 complete -c swd -n '__fish_seen_subcommand_from conform' -l framed -d 'With --probe: each packet has its length before it'
-complete -c swd -n '__fish_seen_subcommand_from conform' -l plain -x -d 'There is memory: WORDS words from BASE on'
+complete -c swd -n '__fish_seen_subcommand_from conform' -l plain -x -d 'Memory to overwrite: WORDS words, 80 or more'
 complete -c swd -n '__fish_seen_subcommand_from conform' -l hole -x -d 'There is no memory at ADDR, hexadecimal'
 complete -c swd -n '__fish_seen_subcommand_from conform' -l clean -d 'Nothing is damaged or lost, as in a simulation'
 complete -c swd -n '__fish_seen_subcommand_from conform' -s h -l help -d 'Print help'
