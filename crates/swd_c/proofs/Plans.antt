@@ -19,10 +19,10 @@ plan_stores_more place coming before value d small fits is =
     let count : length (map c_api_planned (take place coming)) ≡ place =
     length-map (take place coming) c_api_planned ∙ length-take-le place coming (omega (arith, small)) in
     let old = drop_more before place value (omega (arith, small, fits)) in
+    let first = map c_api_planned (take place coming) in
+    let rest = drop (place + 1) before in
     let more = map_more c_api_planned coming place d small in
-    ap (λ l. set (map c_api_planned (take place coming) ++ l) place value) old
-    ∙ (subst (λ n. set (map c_api_planned (take place coming) ++ (get_or before place value ∷ drop (place + 1) before)) n
-    value ≡ map c_api_planned (take place coming) ++ value ∷ drop (place + 1) before) count
-    (set-append_seam (map c_api_planned (take place coming)) (get_or before place value) (drop (place + 1) before) value)
-    ∙ (sym (append_assoc (map c_api_planned (take place coming)) (value ∷ []) (drop (place + 1) before))
-    ∙ ap (λ l. l ++ drop (place + 1) before) (ap (λ x. map c_api_planned (take place coming) ++ x ∷ []) is ∙ sym more)))
+    ap (λ l. set (first ++ l) place value) old
+    ∙ (subst (λ n. set (first ++ (get_or before place value ∷ rest)) n value ≡ first ++ value ∷ rest) count
+    (set-append_seam first (get_or before place value) rest value)
+    ∙ (sym (append_assoc first (value ∷ []) rest) ∙ ap (λ l. l ++ rest) (ap (λ x. first ++ x ∷ []) is ∙ sym more)))

@@ -424,6 +424,7 @@ check_rules_untold start clean r untold items h = record {
   fits = h.fits;
 }
 
+-- whether words that weren't told leave the model doesn't touch what a check holds
 pub check_untold : {A : Type 0} (i : CheckIndex) (check : Check A) (untold : Bool) (items : List Item)
     → CheckHolds i check items
     → CheckHolds i (record check { rules = record check.rules { untold = untold } }) items

@@ -58,8 +58,8 @@ abbrev command_status_of_stop : Option Stop → ℕ
 command_status_of_stop None = 0
 command_status_of_stop (Some stop) = 2
 
--- The same of a conformance run: 2 if the port answered no request, so that nothing was checked, 1 if a transfer without
--- memory was no bus error, and 2 if the run ended early.
+-- The same of a conformance run: 2 if the port answered no request, so that nothing was checked, 1 if a transfer
+-- without memory was no bus error, and 2 if the run ended early.
 abbrev pub command_status_of_conform : Bool → Bool → Option Stop → Checked → ℕ
 command_status_of_conform answered unrefused stop (Fits items from faults gaps) =
     if answered then (if unrefused then 1 else command_status_of_stop stop) else 2

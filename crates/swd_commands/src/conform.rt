@@ -216,8 +216,8 @@ fn has_faults(checked: &Checked) -> bool {
     }
 }
 
-// Returns the status of a run whose other end stayed: that of the verdict, but for `fits` 1 where a transfer at HOLE was
-// no bus error, and else 2 where no request was answered, or the run ended early.
+// Returns the status of a run whose other end stayed: that of the verdict, but for `fits` 1 where a transfer at HOLE
+// was no bus error, and else 2 where no request was answered, or the run ended early.
 fn conformed_status(conformed: &Conformed) -> u8
     ensures { result ≡ status_of conformed.now.answered conformed.now.unrefused conformed.now.stop
         conformed.now.checked }

@@ -151,8 +151,8 @@ impl<A: Allocator + Copy> ConformRun<A> {
     }
 
     /// Sends the next step of the plan to a target that was in its reset state when the run began. After the last step
-    /// it sends idle cycles. Returns whether another step follows: not after the last one, not once an item broke a rule,
-    /// and not where the rest can't be reached ([`Stop`]).
+    /// it sends idle cycles. Returns whether another step follows: not after the last one, not once an item broke a
+    /// rule, and not where the rest can't be reached ([`Stop`]).
     pub fn turn<W: Wire>(&mut self, wire: &mut W) -> bool
         ensures goes { ConformGoes W.notes wire.old self.old wire.new self.new }
         ensures bound { ConformSpends self.old self.new }
@@ -261,8 +261,8 @@ impl<A: Allocator + Copy> ConformRun<A> {
         self.stop = Some(Stop::Power);
     }
 
-    // Reads CTRL/STAT, with idle cycles behind it. Returns whether it acknowledges both powers, or nothing more is to be
-    // read.
+    // Reads CTRL/STAT, with idle cycles behind it. Returns whether it acknowledges both powers, or nothing more is to
+    // be read.
     fn reads_powers<W: Wire>(&mut self, wire: &mut W) -> bool
         requires { ConformHasRoom 1 self.old }
         ensures { ConformMakes W.notes 1 wire.old self.old wire.new self.new }

@@ -18,11 +18,13 @@ if_parts : {A : Type 0} (b : Bool) (x y : CoreTarget A)
 if_parts true x y = refl
 if_parts false x y = refl
 
+-- the parts of a target answer as it does
 pub logged_parts_answer : {A : Type 0} (a : Access) (s : CoreTarget A)
     → core_target_answer a s ≡ core_target_answer a (core_target_parts s)
 logged_parts_answer (Read at) s = refl
 logged_parts_answer (Write at word) s = refl
 
+-- and change as it does
 pub logged_parts_after : {A : Type 0} (a : Access) (s : CoreTarget A)
     → core_target_parts (core_target_after a s) ≡ core_target_after a (core_target_parts s)
 logged_parts_after {A} (Read at) s =
@@ -40,10 +42,12 @@ logged_parts_after {A} (Write at word) s =
 
 -- AN ACCESS
 
+-- without room for another access there is no answer
 pub logged_full_answer : (a : Access) (s : LoggedCoreState) → logged_core_has_room s ≡ false
     → logged_core_answer a s ≡ None
 logged_full_answer a s e = ap (λ b. if b then core_target_answer a s.target else None) e
 
+-- and nothing changes
 pub logged_full_after : (a : Access) (s : LoggedCoreState) → logged_core_has_room s ≡ false → logged_core_after a s ≡ s
 logged_full_after (Read at) s e =
     ap (λ b. record s {
@@ -59,10 +63,12 @@ logged_full_after (Write at word) s e =
           then s.log ++ record { read = false; addr = at; word = word } ∷ [] else s.log;
     }) e
 
+-- with room the answer is the target's
 pub logged_room_answer : (a : Access) (s : LoggedCoreState) → logged_core_has_room s ≡ true
     → logged_core_answer a s ≡ core_target_answer a s.target
 logged_room_answer a s e = ap (λ b. if b then core_target_answer a s.target else None) e
 
+-- the state and the log behind a read
 pub logged_read_after : (at : ℕ) (s : LoggedCoreState) (o : Option ℕ) → logged_core_has_room s ≡ true
     → core_target_answer (Read at) s.target ≡ o
     → logged_core_after (Read at) s ≡ record s {
@@ -84,6 +90,7 @@ logged_read_after at s o e f =
       log = if is_some x then s.log ++ record { read = true; addr = at; word = unwrap_or x 0 } ∷ [] else s.log;
     }) f
 
+-- and behind a write
 pub logged_write_after : (at word : ℕ) (s : LoggedCoreState) (k : Bool) → logged_core_has_room s ≡ true
     → is_some (core_target_answer (Write at word) s.target) ≡ k
     → logged_core_after (Write at word) s ≡ record s {

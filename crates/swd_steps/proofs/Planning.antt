@@ -247,7 +247,8 @@ pub ahead_more : (room list : List Access) (first place : ℕ) (a : Access) → 
     → take (place + 1) (set room place a) ≡ take (place + 1) (drop first list)
 ahead_more room list first place a small is so =
     let within : first + place < length list = slice_get_within list (first + place) a is in
-    let more : take (place + 1) (drop first list) ≡ take place (drop first list) ++ get_or (drop first list) place a ∷ [] =
+    let more : take (place + 1) (drop first list)
+    ≡ take place (drop first list) ++ get_or (drop first list) place a ∷ [] =
     take_more (drop first list) place a (omega (arith, within, length-drop first list)) in
     let found : get_or (drop first list) place a ≡ a =
     get_or-drop first list place a ∙ get_or_from_slice_get list (first + place) a a is in
@@ -260,6 +261,7 @@ past_by : (list : List Access) (place : ℕ) → ((a : Access) → slice_get lis
 past_by list place none (inl here) = absurd (none here.0 here.2)
 past_by list place none (inr past) = past.0
 
+-- a place at which no access stands is past the end
 pub ahead_past : (list : List Access) (place : ℕ) → ((a : Access) → slice_get list place ≡ Some a → ⊥)
     → length list ≤ place
 ahead_past list place none = past_by list place none (slice_get_cases list place).1

@@ -16,5 +16,6 @@ returns-then-not-ask_once g c =
 pub returns : goal.returns
 returns g c =
     conform_makes_trans g.W.Wire.notes 128 128 0 _ _ _ _ _ _ (omega arith)
-    (conform_makes_more g.W.Wire.notes _ 128 _ _ _ _ (omega (arith, c.loop-tried.auto.tried-end)) c.loop-tried.invariant)
+    (conform_makes_more g.W.Wire.notes _ 128 _ _ _ _ (omega (arith, c.loop-tried.auto.tried-end))
+    c.loop-tried.invariant)
     (conform_makes_none g.W.Wire.notes _ _ _ refl refl refl refl refl)

@@ -1,4 +1,4 @@
-use Rattle.std.proofs.Common.{arith, rules, sym}
+use Rattle.std.proofs.Common.{arith, rules}
 use Rattle.swd_steps.proofs.Planning.{steps_foresee}
 use Rattle.swd_steps.proofs.run.Run.coming.Goals as goal
 
