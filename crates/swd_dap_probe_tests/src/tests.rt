@@ -1,15 +1,26 @@
 //! Packets, their replies, and the clocks that they make.
 
+mod acknowledgements;
+mod blocks;
 mod expect;
+mod full;
+mod matches;
 mod refused;
-mod rows;
+mod sequences;
+mod settings;
 mod target_line;
 mod text_line;
+mod transfers;
 mod worked;
 
+use acknowledgements::ACKNOWLEDGEMENTS;
+use blocks::BLOCKS;
 use expect::{expect_at, expect_eq_at};
+use full::FULL;
+use matches::MATCHES;
 use refused::REFUSED;
-use rows::ROWS;
+use sequences::SEQUENCES;
+use settings::SETTINGS;
 use std::alloc::Global;
 use std::process::Abort;
 use swd_clocked::FaultyClocked;
@@ -17,6 +28,7 @@ use swd_dap_probe::{LONGEST, ProbeLine, Processor};
 use swd_target::{Memory, Quirks};
 use target_line::TargetLine;
 use text_line::TextLine;
+use transfers::TRANSFERS;
 use worked::WORKED;
 
 /// A packet, and what it is answered.
@@ -55,8 +67,50 @@ fn play<R: Abort>(rt: &R, case: &Case) {
 }
 
 #[test]
-fn packets_make_their_clocks(rt: HostRuntime) {
-    for case in ROWS {
+fn settings_make_their_clocks(rt: HostRuntime) {
+    for case in SETTINGS {
+        play(&rt, case);
+    }
+}
+
+#[test]
+fn sequences_make_their_clocks(rt: HostRuntime) {
+    for case in SEQUENCES {
+        play(&rt, case);
+    }
+}
+
+#[test]
+fn transfers_make_their_clocks(rt: HostRuntime) {
+    for case in TRANSFERS {
+        play(&rt, case);
+    }
+}
+
+#[test]
+fn acknowledgements_make_their_clocks(rt: HostRuntime) {
+    for case in ACKNOWLEDGEMENTS {
+        play(&rt, case);
+    }
+}
+
+#[test]
+fn matches_make_their_clocks(rt: HostRuntime) {
+    for case in MATCHES {
+        play(&rt, case);
+    }
+}
+
+#[test]
+fn blocks_make_their_clocks(rt: HostRuntime) {
+    for case in BLOCKS {
+        play(&rt, case);
+    }
+}
+
+#[test]
+fn full_packets_make_their_clocks(rt: HostRuntime) {
+    for case in FULL {
         play(&rt, case);
     }
 }

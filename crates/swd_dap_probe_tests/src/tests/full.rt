@@ -1,0 +1,83 @@
+//! Packets of several commands, and packets that are full.
+
+use super::{Case, Exchange};
+
+pub(super) const FULL: &[Case] = &[
+    Case {
+        name: "several commands",
+        size: 64,
+        clocks: b"101 10100101 h hll hhlllllllllllllllllllllllllllllll h",
+        packets: &[Exchange {
+            request: &[
+                0x7f, 0x04, 0x04, 0x00, 0x00, 0x00, 0x00, 0x00, 0x12, 0x03, 0xfd, 0x05, 0x00, 0x01,
+                0x02, 0x03,
+            ],
+            reply: &[
+                0x7f, 0x04, 0x04, 0x00, 0x12, 0x00, 0x05, 0x01, 0x01, 0x03, 0x00, 0x00, 0x00, 0x03,
+                0x00,
+            ],
+        }],
+    },
+    Case {
+        name: "several commands, of which one is none",
+        size: 64,
+        clocks: b"",
+        packets: &[Exchange {
+            request: &[0x7f, 0x03, 0x03, 0x80, 0x03],
+            reply: &[0x7f, 0x03, 0x03, 0x00, 0xff, 0x03, 0x00],
+        }],
+    },
+    Case {
+        name: "levels of 62 bytes",
+        size: 64,
+        clocks: b"llllllllllllllllllllllllllllllllllllllllllllllllllllllllllllllllllllllllllllllllllllllllll \
+            llllllllllllllllllllllllllllllllllllllllllllllllllllllllllllllllllllllllllllllllllllllllll \
+            llllllllllllllllllllllllllllllllllllllllllllllllllllllllllllllllllllllllllllllllllllllllll \
+            llllllllllllllllllllllllllllllllllllllllllllllllllllllllllllllllllllllllllllllllllllllllll \
+            llllllllllllllllllllllllllllllllllllllllllllllllllllllllllllllllllllllllllllllllllllllllll \
+            llllllllllllllllllllllllllllllllllllllllllllll",
+        packets: &[Exchange {
+            request: &[0x1d, 0x08, 0x80, 0x80, 0x80, 0x80, 0x80, 0x80, 0x80, 0xb0],
+            reply: &[
+                0x1d, 0x00, 0x00, 0x00, 0x00, 0x00, 0x00, 0x00, 0x00, 0x00, 0x00, 0x00, 0x00, 0x00,
+                0x00, 0x00, 0x00, 0x00, 0x00, 0x00, 0x00, 0x00, 0x00, 0x00, 0x00, 0x00, 0x00, 0x00,
+                0x00, 0x00, 0x00, 0x00, 0x00, 0x00, 0x00, 0x00, 0x00, 0x00, 0x00, 0x00, 0x00, 0x00,
+                0x00, 0x00, 0x00, 0x00, 0x00, 0x00, 0x00, 0x00, 0x00, 0x00, 0x00, 0x00, 0x00, 0x00,
+                0x00, 0x00, 0x00, 0x00, 0x00, 0x00, 0x00, 0x00,
+            ],
+        }],
+    },
+    Case {
+        name: "15 words",
+        size: 64,
+        clocks: b"10100101 h hll hlllllllllllllllllllllllllllllllh h 10100101 h hll \
+            hlllllllllllllllllllllllllllllllh h 10100101 h hll hlllllllllllllllllllllllllllllllh h \
+            10100101 h hll hlllllllllllllllllllllllllllllllh h 10100101 h hll \
+            hlllllllllllllllllllllllllllllllh h 10100101 h hll hlllllllllllllllllllllllllllllllh h \
+            10100101 h hll hlllllllllllllllllllllllllllllllh h 10100101 h hll \
+            hlllllllllllllllllllllllllllllllh h 10100101 h hll hlllllllllllllllllllllllllllllllh h \
+            10100101 h hll hlllllllllllllllllllllllllllllllh h 10100101 h hll \
+            hlllllllllllllllllllllllllllllllh h 10100101 h hll hlllllllllllllllllllllllllllllllh h \
+            10100101 h hll hlllllllllllllllllllllllllllllllh h 10100101 h hll \
+            hlllllllllllllllllllllllllllllllh h 10100101 h hll hlllllllllllllllllllllllllllllllh h",
+        packets: &[
+            Exchange {
+                request: &[0x04, 0x00, 0x00, 0x00, 0x00, 0x00],
+                reply: &[0x04, 0x00],
+            },
+            Exchange {
+                request: &[
+                    0x05, 0x00, 0x0f, 0x02, 0x02, 0x02, 0x02, 0x02, 0x02, 0x02, 0x02, 0x02, 0x02,
+                    0x02, 0x02, 0x02, 0x02, 0x02,
+                ],
+                reply: &[
+                    0x05, 0x0f, 0x01, 0x01, 0x00, 0x00, 0x00, 0x01, 0x00, 0x00, 0x00, 0x01, 0x00,
+                    0x00, 0x00, 0x01, 0x00, 0x00, 0x00, 0x01, 0x00, 0x00, 0x00, 0x01, 0x00, 0x00,
+                    0x00, 0x01, 0x00, 0x00, 0x00, 0x01, 0x00, 0x00, 0x00, 0x01, 0x00, 0x00, 0x00,
+                    0x01, 0x00, 0x00, 0x00, 0x01, 0x00, 0x00, 0x00, 0x01, 0x00, 0x00, 0x00, 0x01,
+                    0x00, 0x00, 0x00, 0x01, 0x00, 0x00, 0x00, 0x01, 0x00, 0x00, 0x00,
+                ],
+            },
+        ],
+    },
+];
