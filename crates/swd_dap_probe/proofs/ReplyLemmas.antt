@@ -13,8 +13,7 @@ use Rattle.swd_dap_probe.specs.declared.command.Command.TheVariants.{Pins, Clock
 use Rattle.swd_dap_probe.specs.declared.command.Command.TheVariants.{WireSequence, Execute, Unknown}
 use Rattle.swd_dap_probe.specs.declared.processor.Processor.{Processor}
 use Rattle.swd_dap_probe.specs.Commands.{dap_command_of, dap_command_among, dap_command_number, dap_commands}
-use Rattle.swd_dap_probe.specs.Plain.{dap_info_reply}
-use Rattle.swd_dap_probe.specs.Packets.{ProbeDoes, ProbePerforms, DapTakes}
+use Rattle.swd_dap_probe.specs.Packets.{ProbeDoes, DapPacketGoes, DapTakes}
 use Rattle.swd_dap_probe.specs.Packets.{IsDapReplyTo, dap_refusal, performs, refuses}
 
 -- one command of the list
@@ -93,7 +92,7 @@ does_reply clock resets number Unknown bytes told s t k h = told_first number 25
 -- that to a packet that is performed
 performs_reply : {L : Type 0} (clock : SequenceClock L) (resets : Bool → L → L → Type 0) (number : ℕ) (c : Command)
     (bytes told : List ℕ) (s t : Processor L) → (dap_command_number c ≡ number) ⊎ (c ≡ Unknown)
-    → ProbePerforms clock resets c bytes told s t → IsDapReplyTo number told
+    → DapPacketGoes clock resets c bytes told s t → IsDapReplyTo number told
 performs_reply clock resets number Execute bytes told s t k h = known number Execute told _ h.2 k
 performs_reply clock resets number c bytes told s t k h = does_reply clock resets number c bytes told s t k h
 

@@ -1,20 +1,20 @@
 -- Laws of sequences, and of levels as bytes.
-use Rattle.std.proofs.Common.{◌≡◌, ℕ, zero, suc, ◌+◌, ◌-◌, ◌*◌, ◌/◌, ◌%◌, ◌^◌, ◌<◌, ◌≤◌, Bool, true, false, List, []}
+use Rattle.std.proofs.Common.{◌≡◌, ℕ, zero, suc, ◌+◌, ◌-◌, ◌/◌, ◌%◌, ◌^◌, ◌<◌, ◌≤◌, Bool, true, false, List, []}
 use Rattle.std.proofs.Common.{◌∷◌, ◌++◌, length, map, drop, take, Option, Some, None, refl, sym, ap, ◌∙◌, subst, arith}
-use Rattle.std.proofs.Common.{length-append, length-drop, append_assoc, append-nil, inl, inr}
-use Rattle.std.specs.Prelude.{◌==◌, replicate, slice_index, ◌⊎◌, min, if◌then◌else◌}
-use Rattle.swd_bits.specs.Bits.{bit, bits_number}
+use Rattle.std.proofs.Common.{length-append, append_assoc, append-nil, inl, inr}
+use Rattle.std.specs.Prelude.{◌==◌, replicate, slice_index, min, if◌then◌else◌}
+use Rattle.swd_bits.specs.Bits.{bits_number}
 use Rattle.swd_dap.specs.Sequences.{dap_byte_of, dap_bytes_of}
 use Rattle.swd_sequences.specs.Going.{SequenceClock, SequenceClocksGoBy}
 use Rattle.swd_dap_probe.specs.declared.shape.Items.TheVariants.{Sequences}
 use Rattle.swd_dap_probe.specs.Shapes.{dap_bytes_for, dap_shape, dap_samples, dap_clocks, dap_item_shape}
-use Rattle.swd_dap_probe.specs.Sequences.{DapSequence, Samples, Drives, dap_bits, dap_level_bytes, dap_sequence_at}
+use Rattle.swd_dap_probe.specs.Sequences.{Samples, Drives, dap_bits, dap_level_bytes, dap_sequence_at}
 use Rattle.swd_dap_probe.specs.Sequences.{dap_sequence_drives, dap_sequence_told}
 use Rattle.swd_dap_probe.specs.Moves.{DapSampled}
 use Rattle.swd_dap_probe.specs.Sequences.{DapLevelsSampled}
 use Rattle.swd_dap_probe.proofs.ClockLemmas.{clocks_append}
 use Rattle.std.proofs.lemmas.List.{take_all, drop_all, replicate-append-replicate, length-replicate}
-use Rattle.std.proofs.Math.Seq.{take-append_seam, drop-append_seam, take-length}
+use Rattle.std.proofs.Math.Seq.{take-append_seam, drop-append_seam}
 use Rattle.std.proofs.lemmas.Bool.{cases_lt}
 
 -- the bits that are left

@@ -1,5 +1,5 @@
 -- Levels that are sampled.
-use Rattle.std.specs.Prelude.{ℕ, ◌≡◌, Bool, List, Option, None, length, replicate}
+use Rattle.std.specs.Prelude.{ℕ, ◌≡◌, Bool, List, None, length, replicate}
 use Rattle.swd_bits.specs.Bits.{bits_number}
 use Rattle.swd_sequences.specs.Going.{SequenceClock, SequenceClocksGoBy}
 

@@ -1,6 +1,6 @@
 -- What a probe does with a packet.
-use Rattle.std.specs.Prelude.{ℕ, zero, suc, ◌≡◌, ◌+◌, ◌≤◌, ◌==◌, Bool, true, false, List, [], ◌∷◌, ◌++◌, length, drop}
-use Rattle.std.specs.Prelude.{slice_index, if◌then◌else◌, nat_le, map, Option, Some, ◌⊎◌}
+use Rattle.std.specs.Prelude.{ℕ, zero, suc, ◌≡◌, ◌+◌, ◌≤◌, Bool, true, false, List, [], ◌∷◌, ◌++◌, length, drop}
+use Rattle.std.specs.Prelude.{slice_index, if◌then◌else◌, nat_le, map, Some, ◌⊎◌}
 use Rattle.swd_sequences.specs.Going.{SequenceClock, SequenceClocksGoBy}
 use Rattle.swd_dap_probe.specs.declared.command.Command.{Command}
 use Rattle.swd_dap_probe.specs.declared.command.Command.TheVariants.{Transfer, TransferBlock, WriteAbort, Pins}
@@ -97,12 +97,12 @@ DapCommandsGo {L} clock resets (suc n) bytes told s t = (m : Processor L) × (fi
 -- PACKETS
 
 -- a packet that is performed
-abbrev pub ProbePerforms : {L : Type 0} → SequenceClock L → (Bool → L → L → Type 0) → Command → List ℕ → List ℕ
+abbrev pub DapPacketGoes : {L : Type 0} → SequenceClock L → (Bool → L → L → Type 0) → Command → List ℕ → List ℕ
     → Processor L → Processor L → Type 0
-ProbePerforms clock resets Execute bytes told s t = (replies : List ℕ)
+DapPacketGoes clock resets Execute bytes told s t = (replies : List ℕ)
     × DapCommandsGo clock resets (slice_index bytes 1) (drop 2 bytes) replies s t
     × (told ≡ 0x7f ∷ slice_index bytes 1 ∷ replies)
-ProbePerforms clock resets command bytes told s t = ProbeDoes clock resets command bytes told s t
+DapPacketGoes clock resets command bytes told s t = ProbeDoes clock resets command bytes told s t
 
 -- what a packet is answered that isn't performed: its command, if it has one, and ff
 abbrev pub dap_refusal : List ℕ → List ℕ
@@ -113,7 +113,7 @@ dap_refusal (command ∷ rest) = command ∷ 255 ∷ []
 pub data DapTakes {L : Type 0} (clock : SequenceClock L) (resets : Bool → L → L → Type 0) (bytes told : List ℕ)
     (s t : Processor L) : Type 0 where
   performs : IsDapTaken s.size.bytes bytes
-      → ProbePerforms clock resets (dap_command_of (slice_index bytes 0)) bytes told s t
+      → DapPacketGoes clock resets (dap_command_of (slice_index bytes 0)) bytes told s t
       → DapTakes clock resets bytes told s t
   refuses : IsDapRefused s.size.bytes bytes → t ≡ s → told ≡ dap_refusal bytes → DapTakes clock resets bytes told s t
 

@@ -1,5 +1,5 @@
 -- Commands that make no clock: what they are answered, and what they set.
-use Rattle.std.specs.Prelude.{ℕ, ◌+◌, ◌*◌, ◌/◌, ◌%◌, ◌==◌, Bool, true, false, List, [], ◌∷◌, slice_index}
+use Rattle.std.specs.Prelude.{ℕ, ◌+◌, ◌/◌, ◌%◌, ◌==◌, false, List, [], ◌∷◌, slice_index}
 use Rattle.std.specs.Prelude.{if◌then◌else◌, nat_lt}
 use Rattle.std.specs.Int.{w16, w32, from_le_bytes}
 use Rattle.swd_dap_probe.specs.declared.command.Command.{Command}

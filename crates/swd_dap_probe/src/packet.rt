@@ -2,7 +2,7 @@
 ghost use Rattle.std.specs.Prelude.{◌≡◌, ◌≤◌, ◌+◌, [], length, slice_index};
 ghost use Rattle.swd_dap_probe.specs.Shapes.{dap_shape_by, dap_fixed_shape, dap_command_shape, dap_packet_shape};
 ghost use Rattle.swd_dap_probe.specs.Shapes.{dap_packet_shape_by, dap_long, dap_most};
-ghost use Rattle.swd_dap_probe.specs.Packets.{DapAppends, ProbeDoes, DapCommandGoes, DapCommandsGo, ProbePerforms};
+ghost use Rattle.swd_dap_probe.specs.Packets.{DapAppends, ProbeDoes, DapCommandGoes, DapCommandsGo, DapPacketGoes};
 ghost use Rattle.swd_dap_probe.specs.Packets.{DapTransacts, DapDrives, DapSequencesMade, DapSetsPins, DapSets};
 ghost use Rattle.swd_dap_probe.specs.Plain.{dap_info_reply, dap_settings_after};
 ghost use Rattle.swd_dap_probe.specs.Commands.{dap_command_of};
@@ -24,7 +24,7 @@ pub(crate) fn perform<L: ProbeLine>(probe: &mut Processor<L>, request: &[u8], re
     requires whole { (dap_packet_shape request.now).request ≤ length request.now }
     requires room { (dap_packet_shape request.now).reply ≤ 512 }
     requires first { reply.old.items ≡ [] }
-    ensures { DapAppends (λ told. ProbePerforms L.clocks L.resets (dap_command_of (slice_index request.now 0))
+    ensures { DapAppends (λ told. DapPacketGoes L.clocks L.resets (dap_command_of (slice_index request.now 0))
         request.now told probe.old probe.new) (dap_packet_shape request.now).reply reply.old.items reply.new.items }
 {
     match Command::of(byte_at(request, 0)) {
@@ -38,7 +38,7 @@ fn execute<L: ProbeLine>(probe: &mut Processor<L>, request: &[u8], reply: &mut R
     requires whole { (dap_packet_shape_by Command.Execute request.now).request ≤ length request.now }
     requires room { (dap_packet_shape_by Command.Execute request.now).reply ≤ 512 }
     requires first { reply.old.items ≡ [] }
-    ensures { DapAppends (λ told. ProbePerforms L.clocks L.resets Command.Execute request.now
+    ensures { DapAppends (λ told. DapPacketGoes L.clocks L.resets Command.Execute request.now
         told probe.old probe.new) (dap_packet_shape_by Command.Execute request.now).reply reply.old.items
         reply.new.items }
 {

@@ -1,4 +1,4 @@
-use Rattle.std.proofs.Common.{Some, None, refl}
+use Rattle.std.proofs.Common.{Some, refl}
 use Rattle.swd_dap_probe.proofs.ClockLemmas.{clocks_lead_first, clocks_lead_next, clocks_lead_last}
 use Rattle.swd_dap_probe.proofs.ClockLemmas.{alike_next, alike_none, alike_all}
 use Rattle.swd_dap_probe.proofs.clocks.hold.Goals as goal

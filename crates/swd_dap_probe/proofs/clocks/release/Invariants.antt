@@ -1,4 +1,4 @@
-use Rattle.std.proofs.Common.{◌-◌, Some, None}
+use Rattle.std.proofs.Common.{◌-◌, None}
 use Rattle.std.specs.Prelude.{replicate}
 use Rattle.swd_dap_probe.proofs.ClockLemmas.{ClocksLead}
 use Rattle.swd_dap_probe.proofs.clocks.release.Given as goal

@@ -1,4 +1,4 @@
-use Rattle.std.proofs.Common.{◌≡◌, ◌<◌, ◌+◌, ◌*◌, ◌^◌, ◌%◌, sym, subst, ap, arith, refl, ◌∙◌}
+use Rattle.std.proofs.Common.{◌≡◌, ◌<◌, ◌+◌, ◌*◌, ◌^◌, ◌%◌, sym, subst, ap, arith}
 use Rattle.swd_bits.specs.Bits.{bit}
 use Rattle.swd_dap_probe.proofs.ClockLemmas.{AllLevelsLead, levels_lead_first, levels_lead_next, levels_lead_last}
 use Rattle.swd_dap_probe.proofs.ClockLemmas.{level_above, level_bound}

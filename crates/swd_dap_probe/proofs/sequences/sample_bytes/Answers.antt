@@ -1,4 +1,4 @@
-use Rattle.std.proofs.Common.{◌≡◌, ◌≤◌, ◌+◌, ◌∷◌, ◌++◌, [], length, ap, arith, ◌∙◌, length-append}
+use Rattle.std.proofs.Common.{◌≡◌, ◌+◌, ◌∷◌, [], length, ap, arith, ◌∙◌, length-append}
 use Rattle.swd_dap_probe.proofs.SequenceLemmas.{bytes_lead_first, bytes_lead_next, bytes_lead_last}
 use Rattle.swd_dap_probe.proofs.sequences.sample_bytes.Goals as goal
 

@@ -1,4 +1,4 @@
-use Rattle.std.proofs.Common.{◌≡◌, ◌+◌, ◌-◌, List, ℕ, refl, sym, ap, ◌∙◌, subst, take, drop, length}
+use Rattle.std.proofs.Common.{◌≡◌, ◌+◌, ◌-◌, List, ℕ, refl, sym, ap, ◌∙◌, subst, drop}
 use Rattle.swd_dap_probe.specs.declared.shape.Items.TheVariants.{Sequences}
 use Rattle.swd_dap_probe.specs.Shapes.{dap_item_shape}
 use Rattle.swd_dap_probe.specs.Sequences.{dap_sequences, dap_sequence_at, dap_sequence_told, DapSequencesGo}

@@ -1,6 +1,6 @@
 use Rattle.std.proofs.Common.{arith, get_or}
 use Rattle.swd_dap_probe.specs.Shapes.{dap_command_shape}
-use Rattle.swd_dap_probe.proofs.ItemLemmas.{shapes_first, shapes_next, shapes_last}
+use Rattle.swd_dap_probe.proofs.ItemLemmas.{shapes_next, shapes_last}
 use Rattle.swd_dap_probe.proofs.shape.commands_shape.Goals as goal
 
 pub loop-place-preserved : goal.loop-place-preserved

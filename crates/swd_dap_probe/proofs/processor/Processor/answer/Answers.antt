@@ -1,4 +1,4 @@
-use Rattle.std.proofs.Common.{◌≡◌, ◌≤◌, ◌++◌, [], length, sym, ap, ◌∙◌, subst, refl, arith}
+use Rattle.std.proofs.Common.{◌≡◌, ◌++◌, length, sym, ap, ◌∙◌, subst, refl, arith}
 use Rattle.swd_dap_probe.specs.Packets.{DapTakes, performs, refuses}
 use Rattle.swd_dap_probe.proofs.processor.Processor.answer.Goals as goal
 

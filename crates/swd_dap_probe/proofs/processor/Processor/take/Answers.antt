@@ -1,4 +1,4 @@
-use Rattle.std.proofs.Common.{◌≡◌, ◌≤◌, length, sym, ◌∙◌, subst, arith}
+use Rattle.std.proofs.Common.{◌≡◌, length, sym, ◌∙◌, subst, arith}
 use Rattle.std.specs.Prelude.{slice_index}
 use Rattle.swd_dap_probe.specs.Packets.{DapTakes, IsDapReplyTo}
 use Rattle.swd_dap_probe.proofs.ReplyLemmas.{takes_reply, copied_first}
