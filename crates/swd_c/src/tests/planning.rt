@@ -1,5 +1,5 @@
 //! Plans of a run: what it asks for next as long as each request is answered OK.
-use super::driver::{ASK, NO_RUN, read, write};
+use super::driver::{ASK, NO_RUN, read};
 use super::expect::{expect_eq, expect_eq_at};
 use crate::{
     SwdAccess, SwdPlanned, swd_run_cue, swd_run_fail, swd_run_new, swd_run_next, swd_run_opened,
@@ -18,28 +18,71 @@ const UNUSED: SwdPlanned = SwdPlanned {
 
 const BASE: u32 = 0x2000_0000;
 
-const fn planned(request: u8, word: u32) -> SwdPlanned {
+fn planned(request: u8, word: u32) -> SwdPlanned {
     SwdPlanned { word, request }
 }
 
 // A burst of two writes, which RDBUFF confirms; a read at another address, and one at the next, by RDBUFF each.
 const LIST: &[SwdAccess] = &[
-    write(BASE, 5),
-    write(BASE + 4, 6),
-    read(BASE),
-    read(BASE + 4),
+    SwdAccess {
+        addr: BASE,
+        word: 5,
+        write: 1,
+    },
+    SwdAccess {
+        addr: BASE + 4,
+        word: 6,
+        write: 1,
+    },
+    SwdAccess {
+        addr: BASE,
+        word: 0,
+        write: 0,
+    },
+    SwdAccess {
+        addr: BASE + 4,
+        word: 0,
+        write: 0,
+    },
 ];
 
 const LIST_PLANNED: &[SwdPlanned] = &[
-    planned(0x8b, BASE),
-    planned(0xbb, 5),
-    planned(0xbb, 6),
-    planned(0xbd, 0),
-    planned(0x8b, BASE),
-    planned(0x9f, 0),
-    planned(0xbd, 0),
-    planned(0x9f, 0),
-    planned(0xbd, 0),
+    SwdPlanned {
+        word: BASE,
+        request: 0x8b,
+    },
+    SwdPlanned {
+        word: 5,
+        request: 0xbb,
+    },
+    SwdPlanned {
+        word: 6,
+        request: 0xbb,
+    },
+    SwdPlanned {
+        word: 0,
+        request: 0xbd,
+    },
+    SwdPlanned {
+        word: BASE,
+        request: 0x8b,
+    },
+    SwdPlanned {
+        word: 0,
+        request: 0x9f,
+    },
+    SwdPlanned {
+        word: 0,
+        request: 0xbd,
+    },
+    SwdPlanned {
+        word: 0,
+        request: 0x9f,
+    },
+    SwdPlanned {
+        word: 0,
+        request: 0xbd,
+    },
 ];
 
 const NO_ANSWER: OutcomeFields = OutcomeFields { word: 0, kind: 0 };
@@ -86,21 +129,57 @@ fn a_plan_has_no_more_than_there_is_room_for(rt: HostRuntime) {
 
 // In the opening a word decides: this is planned then, and then this word is read.
 const OPENING: &[(&[SwdPlanned], u32)] = &[
-    (&[planned(0xa5, 0)], 0x2ba0_1477),
-    (&[planned(0x81, 0x1e), planned(0x8d, 0)], 0),
+    (
+        &[SwdPlanned {
+            word: 0,
+            request: 0xa5,
+        }],
+        0x2ba0_1477,
+    ),
     (
         &[
-            planned(0xb1, 0),
-            planned(0xa9, 0x5000_0000),
-            planned(0x8d, 0),
+            SwdPlanned {
+                word: 0x1e,
+                request: 0x81,
+            },
+            SwdPlanned {
+                word: 0,
+                request: 0x8d,
+            },
+        ],
+        0,
+    ),
+    (
+        &[
+            SwdPlanned {
+                word: 0,
+                request: 0xb1,
+            },
+            SwdPlanned {
+                word: 0x5000_0000,
+                request: 0xa9,
+            },
+            SwdPlanned {
+                word: 0,
+                request: 0x8d,
+            },
         ],
         0xf000_0000,
     ),
     (
         &[
-            planned(0xa3, 0x2300_0012),
-            planned(0x87, 0),
-            planned(0xbd, 0),
+            SwdPlanned {
+                word: 0x2300_0012,
+                request: 0xa3,
+            },
+            SwdPlanned {
+                word: 0,
+                request: 0x87,
+            },
+            SwdPlanned {
+                word: 0,
+                request: 0xbd,
+            },
         ],
         0x2300_0052,
     ),
