@@ -90,7 +90,7 @@ const NO_ANSWER: OutcomeFields = OutcomeFields { word: 0, kind: 0 };
 // Ends the test where a run over the list plans anything else, with this much room.
 fn plans<R: Abort>(rt: &R, run: &RunFields, wanted: &[SwdPlanned], room: usize) {
     let mut plan = [UNUSED; 16];
-    let count = swd_run_plan(run, LIST, &mut plan[..room]) as usize;
+    let count = swd_run_plan(run, LIST, &mut plan[..room.min(16)]) as usize;
     expect_eq_at(rt, &room, &count, &wanted.len());
     for (place, next) in plan.iter().enumerate() {
         let told = wanted.get(place).copied().unwrap_or(UNUSED);
