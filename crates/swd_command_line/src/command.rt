@@ -27,8 +27,8 @@ pub enum CommandLine {
     Target(TargetLine),
     /// `swd info --remote[=IN,OUT] [--tries N]`.
     Info(InfoLine),
-    /// `swd core ACTION [NAME..] [--halt] --remote[=IN,OUT] [--tries N] [--resume N] [--trace FILE]`, or with `--script`
-    /// in place of a target.
+    /// `swd core ACTION [NAME..] [--halt] --remote[=IN,OUT] [--tries N] [--resume N] [--trace FILE]`, or with
+    /// `--script` in place of a target.
     Core(CoreLine),
     /// `swd conform --remote[=IN,OUT] --plain BASE WORDS [--hole ADDR] [--clean]`.
     Conform(ConformLine),

@@ -21,7 +21,7 @@ use swd_console::{
     tell_session, unnamed_file,
 };
 use swd_image_commands::perform_image;
-use swd_run_commands::{perform_core, perform_info, perform_run, perform_target};
+use swd_run_commands::{perform_core, perform_info, perform_run, perform_target, print_core};
 use swd_words::{LineFault, line};
 
 /// Carries out the arguments, the program's name first, and returns the status. Standard output gets the requested
@@ -286,7 +286,10 @@ fn perform<I: Read + KeepsError, O: Write + KeepsError, F: Files, C: Clock, E: W
             tell_info(console.errors, status, &line);
             status
         }
-        CommandLine::Core(core) => perform_core(core, input, output, console),
+        CommandLine::Core(core) if core.script => print_core(core, output, console),
+        CommandLine::Core(core) => perform_core::<Untold, _, _, _, _, _, _>(
+            core, input, output, console,
+        ).0,
         CommandLine::Probes => carry_out_probes(output, console),
     }
 }

@@ -55,9 +55,11 @@ core_writing_steps [] = []
 core_writing_steps (write ∷ more) = (Write 0xe000_edf8 write.word
     ∷ Write 0xe000_edf4 (bit_or 0x1_0000 write.register.number) ∷ core_waits_ready ∷ []) ++ core_writing_steps more
 
--- what is done at a halted core; one that was reset runs then, unless it is to be halted. C_MASKINTS is changed only while C_HALT is set.
+-- what is done at a halted core; one that was reset runs then, unless it is to be halted. C_MASKINTS is changed only
+-- while C_HALT is set.
 abbrev pub core_halted_steps : Bool → CoreAction → List CoreStep
-core_halted_steps halts Resume = Write 0xe000_ed30 0x1f ∷ Write 0xe000_edf0 0xa05f_0003 ∷ Write 0xe000_edf0 0xa05f_0001 ∷ []
+core_halted_steps halts Resume = Write 0xe000_ed30 0x1f ∷ Write 0xe000_edf0 0xa05f_0003
+    ∷ Write 0xe000_edf0 0xa05f_0001 ∷ []
 core_halted_steps halts Step = Write 0xe000_edf0 0xa05f_000b ∷ Write 0xe000_edf0 0xa05f_000d ∷ core_waits_halted 1000
     ∷ Write 0xe000_edf0 0xa05f_000b ∷ Write 0xe000_edf0 0xa05f_0003 ∷ []
 core_halted_steps halts (Regs registers) = core_reading_steps registers.items

@@ -185,8 +185,8 @@ fn put_writes<A: Allocator>(
     }
 }
 
-/// Returns the accesses of an action, in order. Nothing else is written. With `halts` the core is halted where the action
-/// needs a halted core, and by a reset before its first instruction.
+/// Returns the accesses of an action, in order. Nothing else is written. With `halts` the core is halted where the
+/// action needs a halted core, and by a reset before its first instruction.
 ///
 /// # Errors
 ///

@@ -1,4 +1,4 @@
-//! Work at a core of Armv6-M, Armv7-M or Armv8-M as a script: which registers of its halting debug are written, read and
+//! Work at a core of Armv6-M, Armv7-M or Armv8-M as a script: which registers of its debug are written, read and
 //! waited for, and what their words say.
 #![tactic(auto)]
 

@@ -12,7 +12,7 @@ mod session;
 mod target_command;
 mod unread;
 
-pub use core_command::perform_core;
+pub use core_command::{perform_core, print_core};
 pub use info_command::perform_info;
 pub use run_command::perform_run;
 pub use target_command::perform_target;

@@ -27,6 +27,8 @@ use Rattle.swd_command_line.specs.declared.command.ScriptLine.{ScriptLine}
 use Rattle.swd_command_line.specs.declared.command.ServedMemory.{ServedMemory}
 use Rattle.swd_command_line.specs.declared.command.ServedMemory.TheVariants.{Script, File}
 use Rattle.swd_command_line.specs.declared.command.TargetLine.{TargetLine}
+use Rattle.swd_core.specs.declared.action.CoreAction.{CoreAction}
+use Rattle.swd_core.specs.declared.action.CoreAction.TheVariants.{Id, Halt, Resume, Step, Reset, Regs, Set}
 use Rattle.swd_words.specs.Rules.{flag_rule, number_rule, optional_rule, place_rule, places_rule, repeated_rule}
 use Rattle.swd_words.specs.Rules.{value_rule}
 use Rattle.swd_words.specs.declared.fault.LineFault.{LineFault}
@@ -133,8 +135,8 @@ abbrev pub swd_app : App
 swd_app = commands_app bare_args_app ((codes "one", file_rules) ∷ (codes "decode", decode_rules)
     ∷ (codes "encode", file_rules) ∷ (codes "run", run_rules) ∷ (codes "target", target_rules)
     ∷ (codes "draw", draw_rules) ∷ (codes "check", check_rules) ∷ (codes "info", lead_rules ++ tries_rule ∷ [])
-    ∷ (codes "core", core_rules) ∷ (codes "conform", conform_rules) ∷ (codes "load", load_rules) ∷ (codes "verify", read_rules)
-    ∷ (codes "dump", dump_rules) ∷ (codes "probes", []) ∷ [])
+    ∷ (codes "core", core_rules) ∷ (codes "conform", conform_rules) ∷ (codes "load", load_rules)
+    ∷ (codes "verify", read_rules) ∷ (codes "dump", dump_rules) ∷ (codes "probes", []) ∷ [])
 
 -- --remote alone is read as --remote=-, so that the argument after it isn't its value
 abbrev pub remote_spelled_out : Text → Text
@@ -329,14 +331,28 @@ pub record AreTargetArguments (target : TargetLine) (rows : List Row) : Type 0 w
   pub trace : option_map string_bytes target.trace ≡ first_of (codes "trace") rows
   pub idr : IsIdrArgument target.idr (first_of (codes "idr") rows)
 
--- What the run of the script is: at the target, with the numbers and the trace that the arguments name. It is strict, so
--- that a bus error fails it.
+-- the word that names what is done at a core
+abbrev pub core_action_word : CoreAction → Text
+core_action_word Id = codes "id"
+core_action_word Halt = codes "halt"
+core_action_word Resume = codes "resume"
+core_action_word Step = codes "step"
+core_action_word Reset = codes "reset"
+core_action_word (Regs registers) = codes "regs"
+core_action_word (Set writes) = codes "set"
+
+-- What is done, and the run of its script: at the target, with the numbers and the trace that the arguments name. It is
+-- strict, so that a bus error fails it. A script that is printed has no target. Only tests show which registers are
+-- named.
 pub record AreCoreArguments (core : CoreLine) (rows : List Row) : Type 0 where
+  pub action : first_of (codes "ACTION") rows ≡ Some (core_action_word core.action)
+  pub halts : (core.halts ≡ true) ↔ (first_of (codes "halt") rows ≡ Some (codes "true"))
   pub script : (core.script ≡ true) ↔ (first_of (codes "script") rows ≡ Some (codes "true"))
   pub tries : IsTriesArgument core.run.tries (first_of (codes "tries") rows)
   pub resumes : IsResumeArgument core.run.resumes (first_of (codes "resume") rows)
   pub trace : option_map string_bytes core.run.trace ≡ first_of (codes "trace") rows
   pub remote : AreLeadArguments (option_map string_bytes core.run.remote) core.run.probe rows
+  pub printed : core.script ≡ true → (first_of (codes "remote") rows ≡ None) × (first_of (codes "probe") rows ≡ None)
   pub strict : core.run.strict ≡ true
   pub alone : core.run.accesses ≡ None
   pub unchecked : core.run.check ≡ false

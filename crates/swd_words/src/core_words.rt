@@ -1,7 +1,7 @@
 //! The arguments of `swd core`.
-ghost use Rattle.std.specs.Prelude.{IfOk};
-ghost use Rattle.clap.specs.Words.{found_of, rows_of};
-ghost use Rattle.swd_words.specs.Commands.{AreCoreArguments};
+ghost use Rattle.std.specs.Prelude.{◌≡◌, IfOk, IfSome, Some, codes};
+ghost use Rattle.clap.specs.Words.{first_of, found_of, rows_of};
+ghost use Rattle.swd_words.specs.Commands.{AreCoreArguments, core_action_word};
 
 use crate::argument::{Argument, CommandRow, Form};
 use crate::fault::LineFault;
@@ -53,6 +53,8 @@ debugged, a line says which, or if the run ended early or the other end went
 away, 2 at any other error.";
 
 const NO_TARGET: &str = "the target is missing: give --remote, --probe FILE or --script";
+
+const TWO_ENDS: &str = "--script prints the script, and takes no target";
 
 const NO_NAMES: &str = "this action takes no NAME";
 
@@ -143,7 +145,9 @@ fn writes_in(alloc: Global, arguments: &[&str]) -> Result<Vec<CoreWrite>, LineFa
 }
 
 // Returns an action without registers, or `None` for another word.
-fn plain_action(word: &str) -> Option<CoreAction> {
+fn plain_action(word: &str) -> Option<CoreAction>
+    ensures { IfSome result (λ action. core_action_word action ≡ word.now) }
+{
     match word {
         "id" => Some(CoreAction::Id),
         "halt" => Some(CoreAction::Halt),
@@ -154,37 +158,74 @@ fn plain_action(word: &str) -> Option<CoreAction> {
     }
 }
 
-// Returns what the arguments have done at the core.
-fn action_in(alloc: Global, matches: &ArgMatches<'_>) -> Result<CoreAction, LineFault> {
-    let word = matches.get_str("ACTION").unwrap_or("");
-    let names = match matches.get_strs("NAME") {
-        Some(names) => names,
-        None => &[],
-    };
+// Returns an action without registers. No names may be given with it.
+fn plain_in(alloc: Global, word: &str, names: &[&str]) -> Result<CoreAction, LineFault>
+    ensures { IfOk result (λ action. core_action_word action ≡ word.now) }
+{
+    match plain_action(word) {
+        Some(action) if names.is_empty() => Ok(action),
+        Some(_) => Err(refused(alloc, ErrorKind::ArgumentConflict, NO_NAMES)),
+        None => {
+            let kind = ErrorKind::InvalidValue;
+            Err(invalid(alloc, kind, Some(word), "<ACTION>", ACTION_FORM))
+        }
+    }
+}
+
+// Returns what this word has done at the core, with these names.
+fn action_of(alloc: Global, word: &str, names: &[&str]) -> Result<CoreAction, LineFault>
+    ensures { IfOk result (λ action. core_action_word action ≡ word.now) }
+{
     match word {
-        "regs" if names.is_empty() => Ok(CoreAction::Regs(registers_in(alloc, EACH)?)),
-        "regs" => Ok(CoreAction::Regs(registers_in(alloc, names)?)),
+        "regs" => {
+            let names = if names.is_empty() { EACH } else { names };
+            Ok(CoreAction::Regs(registers_in(alloc, names)?))
+        }
         "set" if names.is_empty() => {
             Err(refused(alloc, ErrorKind::MissingRequiredArgument, NO_WRITE))
         }
         "set" => Ok(CoreAction::Set(writes_in(alloc, names)?)),
-        _ => match plain_action(word) {
-            Some(action) if names.is_empty() => Ok(action),
-            Some(_) => Err(refused(alloc, ErrorKind::ArgumentConflict, NO_NAMES)),
-            None => {
-                let kind = ErrorKind::InvalidValue;
-                Err(invalid(alloc, kind, Some(word), "<ACTION>", ACTION_FORM))
-            }
-        },
+        _ => plain_in(alloc, word, names),
     }
 }
 
-/// Returns the arguments of `swd core`. Rejects those without a target, unless the script is printed.
+// Returns what this word has done at the core, with the names that the arguments have.
+fn named_action(
+    alloc: Global,
+    word: &str,
+    matches: &ArgMatches<'_>,
+) -> Result<CoreAction, LineFault>
+    ensures { IfOk result (λ action. core_action_word action ≡ word.now) }
+{
+    match matches.get_strs("NAME") {
+        Some(names) => action_of(alloc, word, names),
+        None => action_of(alloc, word, &[]),
+    }
+}
+
+// Returns what the arguments have done at the core.
+fn action_in(alloc: Global, matches: &ArgMatches<'_>) -> Result<CoreAction, LineFault>
+    ensures { IfOk result (λ action. first_of (codes "ACTION") (rows_of (found_of matches.now))
+        ≡ Some (core_action_word action)) }
+{
+    let Some(word) = matches.get_str("ACTION") else {
+        let kind = ErrorKind::MissingRequiredArgument;
+        return Err(invalid(alloc, kind, None, "<ACTION>", ACTION_FORM));
+    };
+    let action = named_action(alloc, word, matches)?;
+    Ok(action)
+}
+
+/// Returns the arguments of `swd core`. Rejects those without a target, unless the script is printed, and both.
 pub(crate) fn core_line(alloc: Global, matches: &ArgMatches<'_>) -> Result<CoreLine, LineFault>
     ensures { IfOk result (λ core. AreCoreArguments core (rows_of (found_of matches.now))) }
 {
     let script = is_set(matches, "script");
-    if !script && is_local(matches) {
+    let has_target = !is_local(matches);
+    if script && has_target {
+        return Err(refused(alloc, ErrorKind::ArgumentConflict, TWO_ENDS));
+    }
+    if !script && !has_target {
         let kind = ErrorKind::MissingRequiredArgument;
         return Err(refused(alloc, kind, NO_TARGET));
     }
