@@ -15,14 +15,14 @@ _swd() {
     if ((COMP_CWORD == 1)); then
         case $word in
         -*) words='--help --version -h -V' ;;
-        *) words='one decode encode run target draw check info conform load verify dump probes help' ;;
+        *) words='one decode encode run target draw check info core conform load verify dump probes help' ;;
         esac
         COMPREPLY=($(compgen -W "$words" -- "$word"))
         return
     fi
     case ${COMP_WORDS[1]} in
     help)
-        ((COMP_CWORD > 2)) || COMPREPLY=($(compgen -W 'one decode encode run target draw check info conform load verify dump probes help' -- "$word"))
+        ((COMP_CWORD > 2)) || COMPREPLY=($(compgen -W 'one decode encode run target draw check info core conform load verify dump probes help' -- "$word"))
         return
         ;;
     one)
@@ -48,6 +48,9 @@ _swd() {
         ;;
     info)
         words='--remote --probe --speed --framed --tries --help -h'
+        ;;
+    core)
+        words='--halt --script --tries --resume --trace --remote --probe --speed --framed --help -h'
         ;;
     conform)
         words='--remote --probe --speed --framed --plain --hole --clean --help -h'

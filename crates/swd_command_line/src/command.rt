@@ -1,6 +1,7 @@
 //! The commands of the command line.
 ghost use Rattle.std.specs.Prelude.{◌≡◌, ◌%◌};
 
+use swd_core::CoreAction;
 use swd_image_files::{ElfChoice, Format};
 
 /// A command of the program, with its arguments.
@@ -26,6 +27,9 @@ pub enum CommandLine {
     Target(TargetLine),
     /// `swd info --remote[=IN,OUT] [--tries N]`.
     Info(InfoLine),
+    /// `swd core ACTION [NAME..] [--halt] --remote[=IN,OUT] [--tries N] [--resume N] [--trace FILE]`, or with
+    /// `--script` in place of a target.
+    Core(CoreLine),
     /// `swd conform --remote[=IN,OUT] --plain BASE WORDS [--hole ADDR] [--clean]`.
     Conform(ConformLine),
     /// `swd probes`. In each command `--probe FILE [--speed HERTZ] [--framed]` may take the place of
@@ -184,6 +188,19 @@ pub struct InfoLine {
     pub probe: Option<ProbeLine>,
     /// The number of events that the opening may meet, at most 1,000.
     pub tries: u32,
+}
+
+/// The arguments of `swd core`.
+#[derive(Drop)]
+pub struct CoreLine {
+    /// What is done at the core.
+    pub action: CoreAction,
+    /// Whether the core is halted by it, where it needs a halted core, or after a reset.
+    pub halts: bool,
+    /// Whether the script is printed, and nothing is done.
+    pub script: bool,
+    /// The run of that script: at a target, unless it is printed.
+    pub run: RunLine,
 }
 
 /// The arguments of `swd conform`.

@@ -4,6 +4,6 @@
 mod command;
 
 pub use command::{
-    CheckLine, CommandLine, ConformLine, DecodeLine, DrawLine, ImageAction, ImageLine, InfoLine,
-    MemoryLine, PlainWords, ProbeLine, RunLine, ScriptLine, ServedMemory, TargetLine,
+    CheckLine, CommandLine, ConformLine, CoreLine, DecodeLine, DrawLine, ImageAction, ImageLine,
+    InfoLine, MemoryLine, PlainWords, ProbeLine, RunLine, ScriptLine, ServedMemory, TargetLine,
 };

@@ -6,7 +6,7 @@ use Rattle.std.specs.String.{string_bytes}
 use Rattle.swd_command_line.specs.declared.command.CommandLine.{CommandLine}
 use Rattle.swd_command_line.specs.declared.command.CommandLine.TheVariants.{One, Decode, Draw, Check, Encode, Run}
 use Rattle.swd_command_line.specs.declared.command.CommandLine.TheVariants.{Target}
-use Rattle.swd_command_line.specs.declared.command.CommandLine.TheVariants.{Image, Info, Conform, Probes}
+use Rattle.swd_command_line.specs.declared.command.CommandLine.TheVariants.{Image, Info, Core, Conform, Probes}
 use Rattle.swd_console.specs.Statuses.{CommandNotOpened}
 use Rattle.swd_run_commands.specs.Runs.{PerformsRunCommandWhere}
 use Rattle.swd_commands.specs.Inputs.{command_remote}
@@ -32,5 +32,6 @@ remote_command_ends (Run run) status text left old new h refused =
 remote_command_ends (Target target) status text left old new h refused = refused
 remote_command_ends (Image image) status text left old new h refused = refused
 remote_command_ends (Info info) status text left old new h refused = refused
+remote_command_ends (Core core) status text left old new h refused = refused
 remote_command_ends (Conform conform) status text left old new h refused = absurd cc
 remote_command_ends Probes status text left old new h refused = absurd cc

@@ -7,7 +7,7 @@ use Rattle.swd_command_line.specs.declared.command.ServedMemory.{ServedMemory}
 use Rattle.swd_command_line.specs.declared.command.ServedMemory.TheVariants.{Script, File}
 use Rattle.swd_command_line.specs.declared.command.CommandLine.TheVariants.{One, Decode, Draw, Check, Encode, Run}
 use Rattle.swd_command_line.specs.declared.command.CommandLine.TheVariants.{Target}
-use Rattle.swd_command_line.specs.declared.command.CommandLine.TheVariants.{Image, Info, Conform, Probes}
+use Rattle.swd_command_line.specs.declared.command.CommandLine.TheVariants.{Image, Info, Core, Conform, Probes}
 
 -- the file of a served memory: its script, or its bytes
 abbrev pub command_served_file : ServedMemory → List ℕ
@@ -26,6 +26,8 @@ command_named_file (Target target) = Some (command_served_file target.memory)
 command_named_file (Image image) = Some (string_bytes image.file)
 -- an info reads no file: no file has this name, and standard input hasn't either
 command_named_file (Info info) = Some []
+-- nor does what is done at a core
+command_named_file (Core core) = Some []
 -- nor does a conformance run
 command_named_file (Conform conform) = Some []
 -- nor does a list of probes
@@ -43,6 +45,7 @@ abbrev pub command_remote : CommandLine → Option (List ℕ)
 command_remote (Run run) = option_map string_bytes run.remote
 command_remote (Image image) = option_map string_bytes image.remote
 command_remote (Info info) = Some (string_bytes info.remote)
+command_remote (Core core) = option_map string_bytes core.run.remote
 command_remote _ = None
 
 -- files lead to it, not the standard streams, and the command reads no other file from standard input

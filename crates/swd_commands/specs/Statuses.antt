@@ -3,7 +3,7 @@ use Rattle.std.specs.Prelude.{ℕ, List, Option, is_some}
 use Rattle.swd_command_line.specs.declared.command.CommandLine.{CommandLine}
 use Rattle.swd_command_line.specs.declared.command.CommandLine.TheVariants.{One, Decode, Draw, Check, Encode, Run}
 use Rattle.swd_command_line.specs.declared.command.CommandLine.TheVariants.{Target}
-use Rattle.swd_command_line.specs.declared.command.CommandLine.TheVariants.{Image, Info, Conform, Probes}
+use Rattle.swd_command_line.specs.declared.command.CommandLine.TheVariants.{Image, Info, Core, Conform, Probes}
 use Rattle.swd_console.specs.Statuses.{CommandNotOpened}
 use Rattle.swd_run_commands.specs.Runs.{PerformsRunCommandWhere}
 use Rattle.swd_commands.specs.declared.conversion.Conversion.TheVariants.{One as OneTx, Encode as Bits}
@@ -27,6 +27,8 @@ PerformsCommand (Run run) status text left old new = PerformsRunCommandWhere (is
 PerformsCommand (Target target) status text left old new = CommandNotOpened status old new
 -- an info reads no file
 PerformsCommand (Info info) status text left old new = CommandNotOpened status old new
+-- nor does what is done at a core
+PerformsCommand (Core core) status text left old new = CommandNotOpened status old new
 -- nor does a conformance run
 PerformsCommand (Conform conform) status text left old new = CommandNotOpened status old new
 -- nor does a list of probes

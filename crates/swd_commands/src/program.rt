@@ -21,7 +21,7 @@ use swd_console::{
     tell_session, unnamed_file,
 };
 use swd_image_commands::perform_image;
-use swd_run_commands::{perform_info, perform_run, perform_target};
+use swd_run_commands::{perform_core, perform_info, perform_run, perform_target, print_core};
 use swd_words::{LineFault, line};
 
 /// Carries out the arguments, the program's name first, and returns the status. Standard output gets the requested
@@ -115,6 +115,7 @@ fn remote_of(line: &CommandLine) -> Option<&str>
         CommandLine::Run(run) => given(&run.remote),
         CommandLine::Image(image) => given(&image.remote),
         CommandLine::Info(info) => Some(info.remote.as_str()),
+        CommandLine::Core(core) => given(&core.run.remote),
         _ => None,
     }
 }
@@ -125,6 +126,7 @@ fn is_probe(line: &CommandLine) -> bool {
         CommandLine::Run(run) => run.probe.is_some(),
         CommandLine::Image(image) => image.probe.is_some(),
         CommandLine::Info(info) => info.probe.is_some(),
+        CommandLine::Core(core) => core.run.probe.is_some(),
         _ => false,
     }
 }
@@ -146,6 +148,7 @@ fn line_files(line: &CommandLine) -> Option<&str>
         CommandLine::Run(run) => files_beside(given(&run.remote), run.script.as_str()),
         CommandLine::Image(image) => files_beside(given(&image.remote), image.file.as_str()),
         CommandLine::Info(info) => files_beside(Some(info.remote.as_str()), ""),
+        CommandLine::Core(core) => files_beside(given(&core.run.remote), ""),
         _ => None,
     }
 }
@@ -283,6 +286,10 @@ fn perform<I: Read + KeepsError, O: Write + KeepsError, F: Files, C: Clock, E: W
             tell_info(console.errors, status, &line);
             status
         }
+        CommandLine::Core(core) if core.script => print_core(core, output, console),
+        CommandLine::Core(core) => perform_core::<Untold, _, _, _, _, _, _>(
+            core, input, output, console,
+        ).0,
         CommandLine::Probes => carry_out_probes(output, console),
     }
 }

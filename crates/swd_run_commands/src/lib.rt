@@ -2,6 +2,7 @@
 #![tactic(auto)]
 
 mod checked_records;
+mod core_command;
 mod info_command;
 mod memory_target;
 mod records;
@@ -11,6 +12,7 @@ mod session;
 mod target_command;
 mod unread;
 
+pub use core_command::{perform_core, print_core};
 pub use info_command::perform_info;
 pub use run_command::perform_run;
 pub use target_command::perform_target;

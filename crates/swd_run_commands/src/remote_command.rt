@@ -168,7 +168,7 @@ struct RemoteRan<'a, R, W, T> {
 }
 
 // Runs the script, and writes its report to a file.
-fn report_to_file<
+pub(crate) fn report_to_file<
     P: Story,
     I: Read + KeepsError + Drop,
     O: Write + KeepsError + Drop,

@@ -9,11 +9,12 @@ use Rattle.clap.specs.Words.{App, HasKind, Kinds, kind_of, Row, all_of, first_of
 use Rattle.clap.specs.Words.{with_subcommand}
 use Rattle.swd_command_line.specs.declared.command.CommandLine.{CommandLine}
 use Rattle.swd_command_line.specs.declared.command.CommandLine.TheVariants.{One, Decode, Draw, Check, Encode, Run}
-use Rattle.swd_command_line.specs.declared.command.CommandLine.TheVariants.{Target, Info, Image, Conform, Probes}
+use Rattle.swd_command_line.specs.declared.command.CommandLine.TheVariants.{Target, Info, Core, Image, Conform, Probes}
 use Rattle.swd_command_line.specs.declared.command.DecodeLine.{DecodeLine}
 use Rattle.swd_command_line.specs.declared.command.DrawLine.{DrawLine}
 use Rattle.swd_command_line.specs.declared.command.CheckLine.{CheckLine}
 use Rattle.swd_command_line.specs.declared.command.ConformLine.{ConformLine}
+use Rattle.swd_command_line.specs.declared.command.CoreLine.{CoreLine}
 use Rattle.swd_command_line.specs.declared.command.PlainWords.{PlainWords}
 use Rattle.swd_command_line.specs.declared.command.ProbeLine.{ProbeLine}
 use Rattle.swd_command_line.specs.declared.command.ImageAction.{ImageAction}
@@ -26,7 +27,10 @@ use Rattle.swd_command_line.specs.declared.command.ScriptLine.{ScriptLine}
 use Rattle.swd_command_line.specs.declared.command.ServedMemory.{ServedMemory}
 use Rattle.swd_command_line.specs.declared.command.ServedMemory.TheVariants.{Script, File}
 use Rattle.swd_command_line.specs.declared.command.TargetLine.{TargetLine}
-use Rattle.swd_words.specs.Rules.{flag_rule, number_rule, optional_rule, place_rule, repeated_rule, value_rule}
+use Rattle.swd_core.specs.declared.action.CoreAction.{CoreAction}
+use Rattle.swd_core.specs.declared.action.CoreAction.TheVariants.{Id, Halt, Resume, Step, Reset, Regs, Set}
+use Rattle.swd_words.specs.Rules.{flag_rule, number_rule, optional_rule, place_rule, places_rule, repeated_rule}
+use Rattle.swd_words.specs.Rules.{value_rule}
 use Rattle.swd_words.specs.declared.fault.LineFault.{LineFault}
 use Rattle.swd_words.specs.declared.fault.LineFault.TheVariants.{Clap, Memory}
 use Rattle.swd_image_files.specs.declared.elf.ElfChoice.{ElfChoice}
@@ -96,6 +100,10 @@ abbrev pub target_rules : List Rule
 target_rules = place_rule (codes "SCRIPT") false ∷ value_rule (codes "memory") ∷ value_rule (codes "base")
     ∷ value_rule (codes "plan") ∷ value_rule (codes "log") ∷ value_rule (codes "trace") ∷ value_rule (codes "idr") ∷ []
 
+abbrev pub core_rules : List Rule
+core_rules = place_rule (codes "ACTION") true ∷ places_rule (codes "NAME") ∷ flag_rule (codes "halt")
+    ∷ flag_rule (codes "script") ∷ tries_rule ∷ resume_rule ∷ value_rule (codes "trace") ∷ lead_rules
+
 abbrev pub conform_rules : List Rule
 conform_rules = lead_rules ++ plain_rule ∷ value_rule (codes "hole") ∷ flag_rule (codes "clean") ∷ []
 
@@ -127,8 +135,8 @@ abbrev pub swd_app : App
 swd_app = commands_app bare_args_app ((codes "one", file_rules) ∷ (codes "decode", decode_rules)
     ∷ (codes "encode", file_rules) ∷ (codes "run", run_rules) ∷ (codes "target", target_rules)
     ∷ (codes "draw", draw_rules) ∷ (codes "check", check_rules) ∷ (codes "info", lead_rules ++ tries_rule ∷ [])
-    ∷ (codes "conform", conform_rules) ∷ (codes "load", load_rules) ∷ (codes "verify", read_rules)
-    ∷ (codes "dump", dump_rules) ∷ (codes "probes", []) ∷ [])
+    ∷ (codes "core", core_rules) ∷ (codes "conform", conform_rules) ∷ (codes "load", load_rules)
+    ∷ (codes "verify", read_rules) ∷ (codes "dump", dump_rules) ∷ (codes "probes", []) ∷ [])
 
 -- --remote alone is read as --remote=-, so that the argument after it isn't its value
 abbrev pub remote_spelled_out : Text → Text
@@ -323,6 +331,32 @@ pub record AreTargetArguments (target : TargetLine) (rows : List Row) : Type 0 w
   pub trace : option_map string_bytes target.trace ≡ first_of (codes "trace") rows
   pub idr : IsIdrArgument target.idr (first_of (codes "idr") rows)
 
+-- the word that names what is done at a core
+abbrev pub core_action_word : CoreAction → Text
+core_action_word Id = codes "id"
+core_action_word Halt = codes "halt"
+core_action_word Resume = codes "resume"
+core_action_word Step = codes "step"
+core_action_word Reset = codes "reset"
+core_action_word (Regs registers) = codes "regs"
+core_action_word (Set writes) = codes "set"
+
+-- What is done, and the run of its script: at the target, with the numbers and the trace that the arguments name. It is
+-- strict, so that a bus error fails it. A script that is printed has no target. Only tests show which registers are
+-- named.
+pub record AreCoreArguments (core : CoreLine) (rows : List Row) : Type 0 where
+  pub action : first_of (codes "ACTION") rows ≡ Some (core_action_word core.action)
+  pub halts : (core.halts ≡ true) ↔ (first_of (codes "halt") rows ≡ Some (codes "true"))
+  pub script : (core.script ≡ true) ↔ (first_of (codes "script") rows ≡ Some (codes "true"))
+  pub tries : IsTriesArgument core.run.tries (first_of (codes "tries") rows)
+  pub resumes : IsResumeArgument core.run.resumes (first_of (codes "resume") rows)
+  pub trace : option_map string_bytes core.run.trace ≡ first_of (codes "trace") rows
+  pub remote : AreLeadArguments (option_map string_bytes core.run.remote) core.run.probe rows
+  pub printed : core.script ≡ true → (first_of (codes "remote") rows ≡ None) × (first_of (codes "probe") rows ≡ None)
+  pub strict : core.run.strict ≡ true
+  pub alone : core.run.accesses ≡ None
+  pub unchecked : core.run.check ≡ false
+
 -- what leads to the remote target, the one memory, the address without memory, and the flag
 pub record AreConformArguments (conform : ConformLine) (rows : List Row) : Type 0 where
   pub remote : AreLeadArguments (Some (string_bytes conform.remote)) conform.probe rows
@@ -377,6 +411,7 @@ IsLineOfArguments (Encode file) rows = HasFileArgument (codes "encode") (option_
 IsLineOfArguments (Run run) rows = IsSomeAnd rows (λ p. (p.0 ≡ codes "run") × AreRunArguments run p.1)
 IsLineOfArguments (Target target) rows = IsSomeAnd rows (λ p. (p.0 ≡ codes "target") × AreTargetArguments target p.1)
 IsLineOfArguments (Info info) rows = IsSomeAnd rows (λ p. (p.0 ≡ codes "info") × AreInfoArguments info p.1)
+IsLineOfArguments (Core core) rows = IsSomeAnd rows (λ p. (p.0 ≡ codes "core") × AreCoreArguments core p.1)
 IsLineOfArguments (Conform conform) rows =
     IsSomeAnd rows (λ p. (p.0 ≡ codes "conform") × AreConformArguments conform p.1)
 IsLineOfArguments Probes rows = IsSomeAnd rows (λ p. p.0 ≡ codes "probes")

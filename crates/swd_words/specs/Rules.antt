@@ -1,5 +1,5 @@
 -- The forms that arguments have.
-use Rattle.std.specs.Prelude.{ℕ, Bool, List, [], ◌∷◌, Some, length, pos}
+use Rattle.std.specs.Prelude.{ℕ, ◌-◌, ◌^◌, Bool, List, [], ◌∷◌, Some, length, pos}
 use Rattle.clap.specs.Words.{Rule, Text, new_rule}
 use Rattle.clap.specs.declared.builder.action.ArgAction.TheVariants.{Append, SetTrue}
 use Rattle.clap.specs.declared.builder.value_parser.ValueParser.TheVariants.{Signed}
@@ -7,6 +7,15 @@ use Rattle.clap.specs.declared.builder.value_parser.ValueParser.TheVariants.{Sig
 -- a value at its place, and whether it has to be given
 abbrev pub place_rule : Text → Bool → Rule
 place_rule name required = let rule = new_rule name in record rule { required = required }
+
+-- values at the last places, maybe none
+abbrev pub places_rule : Text → Rule
+places_rule name =
+    let rule = new_rule name in
+    record rule {
+      action = Some Append;
+      range = Some (record { start_inclusive = 0; end_inclusive = 2 ^ 64 - 1 });
+    }
 
 -- an option without a value
 abbrev pub flag_rule : Text → Rule

@@ -4,8 +4,10 @@ use Rattle.clap.specs.Words.{App, Rule, Text, new_app, with_rule, with_subcomman
 use Rattle.swd_words.specs.declared.argument.Argument.{Argument}
 use Rattle.swd_words.specs.declared.argument.CommandRow.{CommandRow}
 use Rattle.swd_words.specs.declared.argument.Form.{Form}
-use Rattle.swd_words.specs.declared.argument.Form.TheVariants.{Place, Flag, Value, Optional, Number, Repeated}
-use Rattle.swd_words.specs.Rules.{flag_rule, number_rule, optional_rule, place_rule, repeated_rule, value_rule}
+use Rattle.swd_words.specs.declared.argument.Form.TheVariants.{Place, Flag, Value, Optional, Number, Places}
+use Rattle.swd_words.specs.declared.argument.Form.TheVariants.{Repeated}
+use Rattle.swd_words.specs.Rules.{flag_rule, number_rule, optional_rule, place_rule, places_rule, repeated_rule}
+use Rattle.swd_words.specs.Rules.{value_rule}
 
 -- the rule of an argument of this name and form
 abbrev pub argument_form_rule : Text → Form → Rule
@@ -14,6 +16,7 @@ argument_form_rule name Flag = flag_rule name
 argument_form_rule name (Value called) = value_rule name
 argument_form_rule name (Optional called) = optional_rule name
 argument_form_rule name (Number least default) = number_rule name least default.now
+argument_form_rule name Places = places_rule name
 argument_form_rule name (Repeated values) = repeated_rule name values.now
 
 -- the rule of a row

@@ -2,7 +2,8 @@
 ghost use Rattle.std.specs.Prelude.{◌≡◌, IfOk, false};
 ghost use Rattle.clap.specs.Words.{app_of, rule_of, with_rule, with_subcommand};
 ghost use Rattle.clap.specs.declared.builder.command.Command.TheViews.{out-Command};
-ghost use Rattle.swd_words.specs.Rules.{flag_rule, number_rule, optional_rule, place_rule, repeated_rule, value_rule};
+ghost use Rattle.swd_words.specs.Rules.{flag_rule, number_rule, optional_rule, place_rule, places_rule, repeated_rule};
+ghost use Rattle.swd_words.specs.Rules.{value_rule};
 ghost use Rattle.swd_words.specs.Tables.{argument_rule, argument_rows_app, command_row_app, command_rows_app};
 
 use clap::{Arg, ArgAction, Command, value_parser};
@@ -21,6 +22,8 @@ pub(crate) enum Form {
     Optional(&'static str),
     /// An option with a number, which is this one or larger and at most 1,000, and the number without the option.
     Number(u32, &'static str),
+    /// Values at the last places, maybe none.
+    Places,
     /// An option that may be given repeatedly, each time with values of these names.
     Repeated(&'static [&'static str]),
 }
@@ -97,6 +100,17 @@ fn number<'a>(alloc: Global, name: &'a str, help: &'a str, least: u32, default: 
         .help(help)
 }
 
+// Returns values at the last places.
+fn places<'a>(alloc: Global, name: &'a str, help: &'a str) -> Arg<'a>
+    ensures rule { rule_of result ≡ places_rule name.now }
+    ensures local { result.global ≡ false }
+{
+    Arg::new(alloc, name)
+        .num_args(0..)
+        .action(ArgAction::Append)
+        .help(help)
+}
+
 // Returns an option that may be given repeatedly.
 fn repeated<'a>(alloc: Global, name: &'a str, help: &'a str, values: &'a [&'a str]) -> Arg<'a>
     ensures rule { rule_of result ≡ repeated_rule name.now values.now }
@@ -121,6 +135,7 @@ fn arg_of<'a>(alloc: Global, row: &Argument) -> Arg<'a>
         Form::Value(called) => value(alloc, name, help, called),
         Form::Optional(called) => optional(alloc, name, help, called),
         Form::Number(least, default) => number(alloc, name, help, least, default),
+        Form::Places => places(alloc, name, help),
         Form::Repeated(values) => repeated(alloc, name, help, values),
     }
 }

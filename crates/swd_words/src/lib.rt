@@ -4,6 +4,7 @@
 mod argument;
 mod check_words;
 mod conform_words;
+mod core_words;
 mod decode_words;
 mod draw_words;
 mod fault;

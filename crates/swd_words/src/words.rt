@@ -14,6 +14,7 @@ ghost use Rattle.swd_words.specs.Commands.{IsArgumentsErrorKind, AreRunArguments
 use crate::argument::{Argument, CommandRow, Form, with_commands};
 use crate::check_words::{CHECK, check_line};
 use crate::conform_words::{CONFORM, conform_line};
+use crate::core_words::{CORE, core_line};
 use crate::decode_words::{DECODE, decode_line};
 use crate::draw_words::{DRAW, ITEMS_OPTION, ITEMS_RANGE, draw_line};
 use crate::fault::LineFault;
@@ -354,8 +355,8 @@ const PROBES: CommandRow = CommandRow {
 };
 
 // The commands, in the order of the help.
-const COMMANDS: [CommandRow; 13] = [
-    ONE, DECODE, ENCODE, RUN, TARGET, DRAW, CHECK, INFO, CONFORM, LOAD, VERIFY, DUMP, PROBES,
+const COMMANDS: [CommandRow; 14] = [
+    ONE, DECODE, ENCODE, RUN, TARGET, DRAW, CHECK, INFO, CORE, CONFORM, LOAD, VERIFY, DUMP, PROBES,
 ];
 
 // Returns the program without its commands. One of them is required.
@@ -450,7 +451,7 @@ fn negative_or<'a>(
 fn negative_in<'a>(words: &[&'a str]) -> Option<Negative<'a>> {
     let name = words.get(1)?;
     match *name {
-        "run" | "info" | "load" | "verify" | "dump" => {
+        "run" | "info" | "core" | "load" | "verify" | "dump" => {
             let resume = negative_or(words, "--resume", RESUME_OPTION, NUMBER_RANGE, None);
             negative_or(words, "--tries", TRIES_OPTION, NUMBER_RANGE, resume)
         }
@@ -639,6 +640,10 @@ fn line_of(alloc: Global, matches: &ArgMatches<'_>) -> Result<CommandLine, LineF
         },
         "info" => match info_line(alloc, rest) {
             Ok(info) => Ok(CommandLine::Info(info)),
+            Err(fault) => Err(fault),
+        },
+        "core" => match core_line(alloc, rest) {
+            Ok(core) => Ok(CommandLine::Core(core)),
             Err(fault) => Err(fault),
         },
         "conform" => match conform_line(alloc, rest) {

@@ -22,3 +22,9 @@ returns-in-Info-clause-none c =
     line_files_none c.args.line.now (Some c.as_str-in-Info.result.now) [] c.files_beside-in-Info.result
     (ap command_remote c.in-Info.is ∙ ap Some (sym c.as_str-in-Info.ensures.value))
     (ap command_named_file c.in-Info.is) c.files_beside-in-Info.ensures.none
+
+pub returns-in-Core-clause-none : goal.returns-in-Core-clause-none
+returns-in-Core-clause-none c =
+    line_files_none c.args.line.now (option_map (λ s. s.now) c.given-in-Core.result) [] c.files_beside-in-Core.result
+    (ap command_remote c.in-Core.is ∙ sym c.given-in-Core.ensures)
+    (ap command_named_file c.in-Core.is) c.files_beside-in-Core.ensures.none

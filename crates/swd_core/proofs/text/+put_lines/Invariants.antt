@@ -1,0 +1,5 @@
+use Rattle.std.proofs.Common.{length}
+use Rattle.swd_core.proofs.text.+put_lines.Given as goal
+
+abbrev pub decreases-put_lines : goal.decreases-put_lines
+decreases-put_lines g l = length l.steps.now

@@ -1,0 +1,4 @@
+pub mod Actions
+pub mod Identities
+pub mod Steps
+pub mod Troubles
