@@ -71,8 +71,8 @@ standard stream that is in use. Nothing is overwritten before that is known.
 With --remote the standard streams connect to a server of OpenOCD's
 remote_bitbang protocol for SWD, such as swd target. The report goes to the file
 that --report names, which is overwritten; with - it is appended to standard
-error. SCRIPT must be a file. There is no plan, and the script's memory, room
-and core are ignored. For a server on a socket, by the relay that comes with swd:
+error. SCRIPT must be a file. There is no plan, and memory, room and core in it
+are ignored. For a server on a socket, by the relay that comes with swd:
   swd-line localhost:4711 -- swd run SCRIPT --remote --report FILE
 With --remote=IN,OUT these files take the place of the standard streams, such as
 two fifos; with --remote=DEVICE one file is both, such as a serial device that

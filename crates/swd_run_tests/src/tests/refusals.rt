@@ -118,7 +118,7 @@ const CORE_RUN_BYTES: usize = 4 + 2 * 8 * 12 + 8;
 #[test]
 fn a_run_with_a_core_where_memory_ends(rt: HostRuntime) -> Result<(), Fail> {
     let mut stages = Stages::new(&rt);
-    for size in 1..40usize {
+    for size in 1..80usize {
         let heap = LocalHeap::new(rt.alloc(), size * STEP)?;
         let mut report = Vec::new(rt.alloc());
         let answer = reported(&heap, CORE_SCRIPT, b"", 0, &mut report);
