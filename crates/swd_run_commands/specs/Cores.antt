@@ -1,5 +1,6 @@
 -- What `swd core` does at a remote target, and its status.
-use Rattle.std.specs.Prelude.{◌≡◌, ◌⊎◌, ◌++◌, ℕ, List, Option, Some, IsSomeAnd}
+use Rattle.std.specs.Prelude.{◌≡◌, ◌⊎◌, ℕ, List, Option, Some}
+use Rattle.std.specs.Io.KnownBytes.{Appends}
 use Rattle.swd_port.specs.Port.{Port}
 use Rattle.swd_remote.specs.declared.kept.RemoteStreams.{RemoteStreams}
 use Rattle.swd_remote.specs.WholeRuns.{IsUnusedRemote}
@@ -30,7 +31,7 @@ PerformsCore story core status remaining contents sent left line =
 -- the text was written, or a write failed
 abbrev pub PrintsText : List ℕ → ℕ → Option (List ℕ) → Option (List ℕ) → Type 0
 PrintsText text status old new =
-    (status ≡ 2) ⊎ ((status ≡ 0) × IsSomeAnd old (λ had. new ≡ Some (had ++ text)))
+    (status ≡ 2) ⊎ ((status ≡ 0) × Appends old new text)
 
 -- the script was written, or memory ran out, or a write failed
 abbrev pub PrintsCore : CoreLine → ℕ → Option (List ℕ) → Option (List ℕ) → Type 0
