@@ -34,12 +34,13 @@ out where an event on the line leaves open at which address it would be.
 the line's, and the verdict is on standard error. For a server on a socket:
   swd-line localhost:4711 -- swd conform --remote ..
 Lines on standard error say how many requests and clocks were sent, and what was
-not reached: WAIT, if the port never answered it, and damage on the line. It ends
-early, undecided, where a request gets WAIT 64 times, or 32 reads of CTRL/STAT,
-100 clocks apart, don't acknowledge both powers.
+not reached: WAIT, if the port never answered it, and damage on the line. It
+ends early, undecided, where a request gets WAIT 64 times, or 32 reads of
+CTRL/STAT, 100 clocks apart, don't acknowledge both powers.
 
 Status: 0 fits; 1 breaks, or a transfer at ADDR was no bus error; 2 crowded, an
-error, the other end went away, the port answered no request, or it ended early.";
+error, the other end went away, the port answered no request, or it ended
+early.";
 
 const NO_TARGET: &str = "the target is missing: give --remote or --probe FILE";
 
