@@ -20,6 +20,12 @@ report_to_file-ran-requires-clause-files g c =
 pub returns : goal.returns
 returns g c = inr (
   c.report_to_file-ran.result.0,
-  (core_line_text c.args.core.now, refl, read_script_meaning c.args.script.now, c.requires, c.report_to_file-ran.ensures),
+  (
+    core_line_text c.args.core.now,
+    refl,
+    read_script_meaning c.args.script.now,
+    c.requires,
+    c.report_to_file-ran.ensures,
+  ),
   c.tell_found-status.ensures,
 )
